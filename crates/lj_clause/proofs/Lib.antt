@@ -1,0 +1,5 @@
+pub mod Literals
+pub mod LiteralSets
+pub mod Searches
+pub mod Formulas
+pub mod Lemmas

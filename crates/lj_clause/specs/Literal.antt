@@ -1,0 +1,27 @@
+-- Literals (DIMACS). A literal is a nonzero whole number: v is the variable v, -v its negation, which is `neg_ℤ`.
+use Rattle.std.specs.Prelude.{ℕ, ◌+◌, ◌*◌, ◌<◌, ◌≤◌, ℤ, pos, negsuc, suc}
+use Rattle.std.specs.declared.cmp.Ordering.{Ordering}
+use Rattle.std.specs.Ordering.{nat_cmp}
+use Rattle.std.specs.Cmp.{IsTotalOrder, on_total, nat_cmp_total}
+use Rattle.lj_clause.specs.declared.lit.TheConstants.{MAX_VARIABLE}
+
+-- the variable that a literal speaks of
+abbrev pub variable_of : ℤ → ℕ
+variable_of (pos n) = n
+variable_of (negsuc n) = suc n
+
+-- a nonzero whole number within the limit of variables
+abbrev pub IsLiteral : ℤ → Type 0
+IsLiteral l = (0 < variable_of l) × (variable_of l ≤ MAX_VARIABLE)
+
+-- the place of a literal in the order of literals
+abbrev pub place_of : ℤ → ℕ
+place_of (pos n) = 2 * n
+place_of (negsuc n) = 2 * n + 3
+
+-- literals are ordered by variable, and for one variable the positive literal comes first
+abbrev pub lit_cmp : ℤ → ℤ → Ordering
+lit_cmp a b = nat_cmp (place_of a) (place_of b)
+
+pub lit_cmp_total : IsTotalOrder lit_cmp
+lit_cmp_total = on_total place_of nat_cmp_total

@@ -1,0 +1,98 @@
+//! Clauses.
+ghost use Rattle.std.specs.Prelude.{◌≡◌, ◌↔◌, IsTrue, IfOk};
+ghost use Rattle.std.specs.List.Sorted.{IsStrictlySortedBy};
+ghost use Rattle.lj_clause.specs.Literal.{lit_cmp};
+ghost use Rattle.lj_clause.specs.LiteralSet.{holds, literals, from_literals};
+
+use crate::lit::Lit;
+use crate::memory::NoMemory;
+use std::alloc::Global;
+use std::marker::Model;
+
+/// A clause: the finite set of its literals. It may hold a literal and its negation.
+#[derive(Debug, Drop)]
+pub struct Clause {
+    /// Each literal once, in strict order.
+    lits: Vec<Lit>,
+}
+
+impl Model for Clause {
+    ghost use Rattle.std.specs.List.Sorted.{IsStrictlySortedBy};
+    ghost use Rattle.lj_clause.specs.Literal.{lit_cmp};
+    ghost use Rattle.lj_clause.specs.LiteralSet.{LiteralSet, literal_set_code, from_literals};
+
+    ghost Value = { LiteralSet };
+
+    ghost coded = { literal_set_code };
+
+    ghost view = { λ c. from_literals c.lits.items };
+
+    ghost invariant = { λ c. IsStrictlySortedBy lit_cmp c.lits.items };
+}
+
+impl Clause {
+    /// The set of these literals, whatever their order and repeats. Takes O(n log n) time.
+    ///
+    /// # Errors
+    /// [`NoMemory`] where a growth was refused.
+    pub fn from_lits(alloc: Global, lits: &[Lit]) -> Result<Clause, NoMemory>
+        ensures { IfOk result (λ clause. clause ≡ from_literals lits.now) }
+    {
+        Ok(Clause {
+            lits: in_order(alloc, lits)?,
+        })
+    }
+
+    /// Whether the literal is in the clause. Takes O(log n) time.
+    pub fn holds(&self, lit: Lit) -> bool
+        ensures { result ≡ holds self.now lit }
+    {
+        found(&self.lits, lit)
+    }
+
+    /// Whether the two clauses are the same set.
+    pub fn same(&self, other: &Clause) -> bool
+        ensures { IsTrue result ↔ (self.now ≡ other.now) }
+    {
+        self.lits == other.lits
+    }
+
+    /// The literals, each once, in their order.
+    pub fn lits(&self) -> &[Lit]
+        ensures { result.now ≡ literals self.now }
+    {
+        &self.lits
+    }
+
+    /// A clause of its own with the same literals.
+    ///
+    /// # Errors
+    /// [`NoMemory`] where a growth was refused.
+    pub fn copy(&self) -> Result<Clause, NoMemory>
+        ensures { IfOk result (λ clause. clause ≡ self.now) }
+    {
+        let alloc = *self.lits.allocator();
+        Ok(Clause {
+            lits: Vec::from_slice(alloc, &self.lits)?,
+        })
+    }
+}
+
+/// The literals of a list, each once, in strict order.
+fn in_order(alloc: Global, lits: &[Lit]) -> Result<Vec<Lit>, NoMemory>
+    ensures rising { IfOk result (λ v. IsStrictlySortedBy lit_cmp v.items) }
+    ensures same { IfOk result (λ v. from_literals v.items ≡ from_literals lits.now) }
+{
+    let mut sorted = Vec::from_slice(alloc, lits)?;
+    sorted.sort_unstable();
+    sorted.dedup();
+    Ok(sorted)
+}
+
+/// Whether a list in strict order has the literal.
+fn found(lits: &[Lit], lit: Lit) -> bool
+    requires { IsStrictlySortedBy lit_cmp lits.now }
+    ensures { result ≡ holds (from_literals lits.now) lit }
+{
+    lits.binary_search(&lit).is_ok()
+}

@@ -1,0 +1,72 @@
+//! Lemmas.
+ghost use Rattle.std.specs.Prelude.{◌≡◌, IfOk};
+ghost use Rattle.lj_clause.specs.Lemma.{lemma_of, IsLemma};
+
+use crate::clause::Clause;
+use crate::lit::Lit;
+use crate::memory::NoMemory;
+use std::alloc::Global;
+use std::marker::Model;
+
+/// A lemma: a clause and its pivot, the first literal as it was written; none if the clause is empty.
+#[derive(Debug, Drop)]
+pub struct Lemma {
+    clause: Clause,
+    pivot: Option<Lit>,
+}
+
+impl Model for Lemma {
+    ghost use Rattle.lj_clause.specs.Lemma.{LemmaValue, lemma_code, IsLemma};
+
+    ghost Value = { LemmaValue };
+
+    ghost coded = { lemma_code };
+
+    ghost view = { λ l. record { clause = l.clause; pivot = l.pivot } };
+
+    ghost invariant = { λ l. IsLemma (record { clause = l.clause; pivot = l.pivot }) };
+}
+
+impl Lemma {
+    /// The lemma of these literals, whose pivot is the first of them. Takes O(n log n) time.
+    ///
+    /// # Errors
+    /// [`NoMemory`] where a growth was refused.
+    pub fn from_lits(alloc: Global, lits: &[Lit]) -> Result<Lemma, NoMemory>
+        ensures { IfOk result (λ lemma. lemma ≡ lemma_of lits.now) }
+    {
+        Ok(Lemma {
+            clause: Clause::from_lits(alloc, lits)?,
+            pivot: lits.first().copied(),
+        })
+    }
+
+    /// The set of its literals.
+    pub fn clause(&self) -> &Clause
+        ensures clause { result.now ≡ self.now.clause }
+        ensures lemma { IsLemma self.now }
+    {
+        &self.clause
+    }
+
+    /// The literal that was written first.
+    pub fn pivot(&self) -> Option<Lit>
+        ensures pivot { result ≡ self.now.pivot }
+        ensures lemma { IsLemma self.now }
+    {
+        self.pivot
+    }
+
+    /// A lemma of its own with the same literals and pivot.
+    ///
+    /// # Errors
+    /// [`NoMemory`] where a growth was refused.
+    pub fn copy(&self) -> Result<Lemma, NoMemory>
+        ensures { IfOk result (λ lemma. lemma ≡ self.now) }
+    {
+        Ok(Lemma {
+            clause: self.clause.copy()?,
+            pivot: self.pivot,
+        })
+    }
+}

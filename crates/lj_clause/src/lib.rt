@@ -1,0 +1,14 @@
+//! Literals, clauses, lemmas and formulas: a clause is the finite set of its literals.
+#![tactic(auto)]
+
+mod clause;
+mod formula;
+mod lemma;
+mod lit;
+mod memory;
+
+pub use clause::Clause;
+pub use formula::{Formula, MAX_CLAUSES};
+pub use lemma::Lemma;
+pub use lit::{Lit, MAX_VARIABLE};
+pub use memory::NoMemory;

@@ -1,0 +1,159 @@
+//! Literals.
+ghost use Rattle.std.specs.Prelude.{◌≡◌, ◌<◌, ◌≤◌, SomeIff, neg_ℤ};
+ghost use Rattle.lj_clause.specs.Literal.{IsLiteral, variable_of};
+
+use std::cmp::Ordering;
+use std::fmt;
+use std::marker::Model;
+
+/// The greatest variable.
+pub const MAX_VARIABLE: u32 = 134_217_727;
+
+/// A literal: a nonzero whole number, `v` for the variable v and `-v` for its negation.
+///
+/// Literals are ordered by variable, and for one variable the positive literal comes first.
+/// It takes four bytes.
+#[derive(Clone, Copy)]
+pub struct Lit {
+    /// Twice the variable, and one more for its negation, so that it can index an array.
+    code: u32,
+}
+
+impl Model for Lit {
+    ghost use Rattle.std.specs.Prelude.{ℤ};
+    ghost use Rattle.std.specs.Coded.{coded_ℤ};
+
+    ghost Value = { ℤ };
+
+    ghost coded = { coded_ℤ };
+
+    ghost use Rattle.lj_clause.specs.LitCode.{literal_of, IsCode, code_of, literal_back};
+
+    ghost view = { literal_of };
+
+    ghost invariant = { IsCode };
+
+    ghost inverse = { code_of };
+
+    ghost inverse_ok = { literal_back };
+}
+
+impl Lit {
+    /// The literal of a number: `None` for 0 and for a variable beyond [`MAX_VARIABLE`].
+    pub fn new(number: i32) -> Option<Lit>
+        ensures { SomeIff result (IsLiteral number) number }
+    {
+        let variable = number.unsigned_abs();
+        if variable == 0 || variable > MAX_VARIABLE {
+            return None;
+        }
+        let sign = u32::from(number < 0);
+        Some(Lit {
+            code: 2 * variable + sign,
+        })
+    }
+
+    /// The number of the literal.
+    pub fn get(self) -> i32
+        ensures number { result ≡ self }
+        ensures literal { IsLiteral result }
+    {
+        let variable = (self.code / 2) as i32;
+        if self.code % 2 == 0 {
+            variable
+        } else {
+            -variable
+        }
+    }
+
+    /// The variable that the literal speaks of.
+    pub fn variable(self) -> u32
+        ensures variable { result ≡ variable_of self }
+        ensures in_range { (0 < result) × (result ≤ MAX_VARIABLE) }
+    {
+        self.code / 2
+    }
+
+    /// The literal of the same variable that is true where this one isn't.
+    pub fn negated(self) -> Lit
+        ensures { result ≡ neg_ℤ self }
+    {
+        if self.code % 2 == 0 {
+            Lit {
+                code: self.code + 1,
+            }
+        } else {
+            Lit {
+                code: self.code - 1,
+            }
+        }
+    }
+}
+
+impl PartialEq for Lit {
+    ghost use Rattle.std.specs.Ordering.{eq_by_cmp};
+    ghost use Rattle.std.specs.Cmp.{partial_equiv_from_equiv, eq_by_cmp_equiv};
+    ghost use Rattle.lj_clause.specs.Literal.{lit_cmp, lit_cmp_total};
+
+    ghost eq = { eq_by_cmp lit_cmp };
+
+    ghost laws = { partial_equiv_from_equiv (eq_by_cmp_equiv lit_cmp_total) };
+
+    fn eq(&self, other: &Lit) -> bool {
+        self.code == other.code
+    }
+}
+
+impl Eq for Lit {
+    ghost use Rattle.std.specs.Cmp.{eq_by_cmp_equiv};
+    ghost use Rattle.lj_clause.specs.Literal.{lit_cmp_total};
+
+    ghost laws = { eq_by_cmp_equiv lit_cmp_total };
+}
+
+impl PartialOrd for Lit {
+    ghost use Rattle.std.proofs.Common.{rules};
+    ghost use Rattle.std.specs.Cmp.Rules.{comparing};
+    ghost use Rattle.std.specs.Ordering.{as_partial_cmp};
+    ghost use Rattle.lj_clause.specs.Literal.{lit_cmp, lit_cmp_total};
+
+    ghost partial_cmp = { as_partial_cmp lit_cmp };
+
+    ghost laws = { Prim.search (comparing, rules, lit_cmp_total) };
+
+    fn partial_cmp(&self, other: &Lit) -> Option<Ordering> {
+        Some(self.cmp(other))
+    }
+}
+
+impl Ord for Lit {
+    ghost use Rattle.std.proofs.Common.{rules};
+    ghost use Rattle.std.specs.Cmp.Rules.{comparing};
+    ghost use Rattle.lj_clause.specs.Literal.{lit_cmp, lit_cmp_total};
+
+    ghost cmp = { lit_cmp };
+
+    ghost total = { lit_cmp_total };
+
+    ghost matches_partial_cmp = { Prim.search (comparing, rules) };
+
+    ghost matches_eq = { Prim.search (comparing, rules) };
+
+    fn cmp(&self, other: &Lit) -> Ordering {
+        self.code.cmp(&other.code)
+    }
+}
+
+impl fmt::Display for Lit {
+    fn fmt<W: fmt::Write>(&self, f: &mut fmt::Formatter<W>) -> fmt::Result {
+        let number = self.get();
+        write!(f, "{number}")
+    }
+}
+
+impl fmt::Debug for Lit {
+    fn fmt<W: fmt::Write>(&self, f: &mut fmt::Formatter<W>) -> fmt::Result {
+        let number = self.get();
+        write!(f, "{number}")
+    }
+}
