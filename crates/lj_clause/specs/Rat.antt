@@ -1,5 +1,6 @@
 -- Resolution asymmetric tautologies (Cruz-Filipe et al., CADE 2017): the test of each clause that holds the pivot's negation.
-use Rattle.std.specs.Prelude.{ℕ, Bool, true, false, not, List, [], ◌∷◌, map, ℤ, neg_ℤ, Option, Some, None, filter, is_some, unwrap_or, if◌then◌else◌, ◌==◌}
+use Rattle.std.specs.Prelude.{ℕ, Bool, true, false, not, List, [], ◌∷◌, map, ℤ, neg_ℤ, Option, Some, None, filter, is_some, unwrap_or, if◌then◌else◌, ◌==◌, refl}
+use Rattle.std.specs.Coded.{Coded, code_by, coded×, coded_list, coded_ℕ}
 use Rattle.std.specs.Ordering.{eq_by_cmp}
 use Rattle.std.specs.FinMap.{entries}
 use Rattle.lj_clause.specs.Literal.{lit_cmp}
@@ -11,6 +12,10 @@ use Rattle.lj_clause.specs.Walk.{Walk, Closed, Open, Stuck, Hint, hints_in, walk
 pub record HintGroup : Type 0 where
   pub candidate : ℕ
   pub hints : List ℕ
+
+-- how a proof stores one
+abbrev pub hint_group_code : Coded HintGroup
+hint_group_code = code_by (ℕ × List ℕ) (coded× coded_ℕ (coded_list coded_ℕ)) (λ g. (g.candidate, g.hints)) (λ p. record { candidate = p.0; hints = p.1 }) (λ _. refl)
 
 -- The same, with the clauses that the hints name.
 pub record NamedGroup : Type 0 where
