@@ -3,3 +3,4 @@ pub mod LiteralSets
 pub mod Searches
 pub mod Formulas
 pub mod Lemmas
+pub mod Evaluation

@@ -78,7 +78,7 @@ literals-from_literals ls h =
 pub from_literals-same : (xs ys : List ℤ) → ((q : ℤ) → list_any (eq_by_cmp lit_cmp q) xs ≡ list_any (eq_by_cmp lit_cmp q) ys) → from_literals xs ≡ from_literals ys
 from_literals-same xs ys is = same_set _ _ (λ q. holds-from_literals xs q ∙ is q ∙ sym (holds-from_literals ys q))
 
-or_twice : (a b : Bool) → (a || b) ≡ (a || (a || b))
+pub or_twice : (a b : Bool) → (a || b) ≡ (a || (a || b))
 or_twice true b = refl
 or_twice false b = refl
 

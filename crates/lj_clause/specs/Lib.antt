@@ -6,3 +6,5 @@ pub mod Truth
 pub mod ClauseMap
 pub mod Walk
 pub mod Rat
+pub mod Listed
+pub mod Examples

@@ -2,6 +2,7 @@
 #![tactic(auto)]
 
 mod clause;
+pub mod examples;
 mod formula;
 mod lemma;
 mod lit;

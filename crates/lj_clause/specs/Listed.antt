@@ -1,0 +1,16 @@
+-- Clause maps that are written as lists, for examples.
+use Rattle.std.specs.Prelude.{ℕ, List, map, ℤ}
+use Rattle.std.specs.FinMap as fin
+use Rattle.lj_clause.specs.LiteralSet.{LiteralSet, from_literals}
+use Rattle.lj_clause.specs.ClauseMap.{ClauseMap}
+
+-- a number and the literals of its clause
+abbrev pub ListedClause : Type 0
+ListedClause = ℕ × List ℤ
+
+abbrev pub clause_of : ListedClause → ℕ × LiteralSet
+clause_of e = (e.0, from_literals e.1)
+
+-- the clauses under their numbers
+abbrev pub clauses_of : List ListedClause → ClauseMap
+clauses_of es = fin.from_entries (map clause_of es)
