@@ -96,7 +96,7 @@ find-listed : (q : ℕ) (es : List ListedClause) → find nat_cmp q (map clause_
 find-listed q [] = refl
 find-listed q (e ∷ es) = elim (eq_by_cmp nat_cmp q e.0) as (λ b. cond b (Some (from_literals e.1)) (find nat_cmp q (map clause_of es)) ≡ option_map from_literals (cond b (Some e.1) (find nat_cmp q es))) [ true ↦ refl | false ↦ find-listed q es ]
 
-get-listed : (es : List ListedClause) (q : ℕ) → fin.get (clauses_of es) q ≡ option_map from_literals (find nat_cmp q es)
+pub get-listed : (es : List ListedClause) (q : ℕ) → fin.get (clauses_of es) q ≡ option_map from_literals (find nat_cmp q es)
 get-listed es q = fin.get-from_entries nat_cmp_total (map clause_of es) q ∙ find-listed q es
 
 abbrev pub hints_listed : List ListedClause → List ℕ → List ListedHint

@@ -1,5 +1,5 @@
 -- What a refutation needs, and its trimmed list of steps.
-use Rattle.std.specs.Prelude.{ℕ, zero, suc, ◌==◌, nat_le, Bool, true, false, not, ◌&&◌, ◌||◌, List, [], ◌∷◌, ◌++◌, length, Option, Some, None, filter, filter_map, flat_map, if◌then◌else◌}
+use Rattle.std.specs.Prelude.{ℕ, zero, suc, nat_le, Bool, ◌||◌, List, [], ◌∷◌, ◌++◌, length, Option, Some, None, filter, filter_map, flat_map, if◌then◌else◌}
 use Rattle.std.specs.Ordering.{nat_cmp}
 use Rattle.std.specs.FinSet.{FinSet}
 use Rattle.std.specs.FinMap as fin

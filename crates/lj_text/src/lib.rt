@@ -1,6 +1,7 @@
 //! The texts: lines of LRAT proofs, DIMACS CNF, steps and their text, and the streams that bytes come from and go to.
 #![tactic(auto)]
 
+pub mod examples;
 mod line;
 mod numbers;
 mod step;
