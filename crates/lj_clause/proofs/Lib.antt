@@ -3,3 +3,7 @@ pub mod LiteralSets
 pub mod Searches
 pub mod Formulas
 pub mod Lemmas
+pub mod Among
+pub mod TruthLaws
+pub mod WalkLaws
+pub mod RatLaws

@@ -6,3 +6,4 @@ pub mod Truth
 pub mod ClauseMap
 pub mod Walk
 pub mod Rat
+pub mod Laws

@@ -3,6 +3,7 @@
 
 mod clause;
 mod formula;
+pub mod laws;
 mod lemma;
 mod lit;
 mod memory;
