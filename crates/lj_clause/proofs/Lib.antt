@@ -4,3 +4,7 @@ pub mod Searches
 pub mod Formulas
 pub mod Lemmas
 pub mod Evaluation
+pub mod Among
+pub mod TruthLaws
+pub mod WalkLaws
+pub mod RatLaws

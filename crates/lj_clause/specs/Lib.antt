@@ -8,3 +8,4 @@ pub mod Walk
 pub mod Rat
 pub mod Listed
 pub mod Examples
+pub mod Laws

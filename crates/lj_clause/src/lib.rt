@@ -4,6 +4,7 @@
 mod clause;
 pub mod examples;
 mod formula;
+pub mod laws;
 mod lemma;
 mod lit;
 mod memory;
