@@ -1,3 +1,4 @@
 pub mod Steps
 pub mod Needed
 pub mod Examples
+pub mod Laws

@@ -2,6 +2,7 @@
 #![tactic(auto)]
 
 pub mod examples;
+pub mod laws;
 mod line;
 mod numbers;
 mod step;

@@ -1,0 +1,25 @@
+-- The laws of steps, of replays and of refutations.
+use Rattle.std.specs.Prelude.{◌≡◌, true, List, Some}
+use Rattle.lj_clause.specs.ClauseMap.{ClauseMap, FormulaValue, formula_map}
+use Rattle.lj_clause.specs.Truth.{Assignment, SatisfiesAll, IsSatisfiable}
+use Rattle.lj_text.specs.declared.line.Addition.{Addition}
+use Rattle.lj_text.specs.declared.step.Step.{Step}
+use Rattle.lj_text.specs.declared.step.Step.TheVariants.{Add}
+use Rattle.lj_text.specs.Steps.{is_accepted, after, replay, refutes, recorded, IsRecorded}
+
+-- an accepted step leaves a satisfiable map satisfiable
+abbrev pub AcceptedKeepsSatisfiable : Type 0
+AcceptedKeepsSatisfiable = (p : ClauseMap) (step : Step) → is_accepted p step ≡ true → IsSatisfiable p → IsSatisfiable (after p step)
+
+-- and so does each list of steps that are accepted in turn
+abbrev pub ReplayKeepsSatisfiable : Type 0
+ReplayKeepsSatisfiable = (p q : ClauseMap) (steps : List Step) → replay p steps ≡ Some q → IsSatisfiable p → IsSatisfiable q
+
+-- no assignment satisfies a formula that a list of steps refutes
+abbrev pub RefutedIsUnsatisfiable : Type 0
+RefutedIsUnsatisfiable = (f : FormulaValue) (steps : List Step) → refutes f steps ≡ true → (a : Assignment) → SatisfiesAll a (formula_map f) → ⊥
+
+-- an accepted addition is accepted in its recorded form too, and leaves the same map
+abbrev pub RecordedLosesNothing : Type 0
+RecordedLosesNothing = (p : ClauseMap) (a : Addition) → is_accepted p (Add a) ≡ true
+    → IsRecorded p (recorded p a) × (is_accepted p (Add (recorded p a)) ≡ true) × (after p (Add (recorded p a)) ≡ after p (Add a))

@@ -1,0 +1,27 @@
+//! Laws of steps, for all clause maps, formulas and lists of steps: what a checker of steps may conclude. The functions
+//! do nothing.
+ghost use Rattle.lj_text.specs.Laws.{AcceptedKeepsSatisfiable, ReplayKeepsSatisfiable, RefutedIsUnsatisfiable, RecordedLosesNothing};
+
+/// A satisfiable clause map stays satisfiable after an accepted step.
+pub fn accepted_keeps_satisfiable()
+    ensures { AcceptedKeepsSatisfiable }
+{
+}
+
+/// A satisfiable clause map stays satisfiable after any list of steps that are accepted in turn.
+pub fn replay_keeps_satisfiable()
+    ensures { ReplayKeepsSatisfiable }
+{
+}
+
+/// No assignment satisfies a formula that a list of steps refutes.
+pub fn refuted_is_unsatisfiable()
+    ensures { RefutedIsUnsatisfiable }
+{
+}
+
+/// An accepted addition is accepted in its recorded form too, with the same clause map after it.
+pub fn recorded_loses_nothing()
+    ensures { RecordedLosesNothing }
+{
+}
