@@ -1,2 +1,3 @@
 pub mod Evaluation
 pub mod StepLaws
+pub mod NeededLaws

@@ -1,10 +1,12 @@
 -- The laws of steps, of replays and of refutations.
-use Rattle.std.specs.Prelude.{◌≡◌, true, List, Some}
+use Rattle.std.specs.Prelude.{◌≡◌, ℕ, true, List, Some}
+use Rattle.std.specs.List.{AllByRecursion}
 use Rattle.lj_clause.specs.ClauseMap.{ClauseMap, FormulaValue, formula_map}
 use Rattle.lj_clause.specs.Truth.{Assignment, SatisfiesAll, IsSatisfiable}
 use Rattle.lj_text.specs.declared.line.Addition.{Addition}
 use Rattle.lj_text.specs.declared.step.Step.{Step}
 use Rattle.lj_text.specs.declared.step.Step.TheVariants.{Add}
+use Rattle.lj_text.specs.Needed.{NumberSet, has, up_to_empty, additions, hints_of, empty_numbers, needed}
 use Rattle.lj_text.specs.Steps.{is_accepted, after, replay, refutes, recorded, IsRecorded}
 
 -- an accepted step leaves a satisfiable map satisfiable
@@ -23,3 +25,13 @@ RefutedIsUnsatisfiable = (f : FormulaValue) (steps : List Step) → refutes f st
 abbrev pub RecordedLosesNothing : Type 0
 RecordedLosesNothing = (p : ClauseMap) (a : Addition) → is_accepted p (Add a) ≡ true
     → IsRecorded p (recorded p a) × (is_accepted p (Add (recorded p a)) ≡ true) × (after p (Add (recorded p a)) ≡ after p (Add a))
+
+-- A set holds the number of the first addition of the empty clause and, with the number of each addition up to it, all
+-- the hints of that addition.
+pub record IsClosedSet (steps : List Step) (s : NumberSet) : Type 0 where
+  pub empty_clause : AllByRecursion (λ n. has s n ≡ true) (empty_numbers (up_to_empty steps))
+  pub hints : AllByRecursion (λ (a : Addition). has s a.number ≡ true → AllByRecursion (λ n. has s n ≡ true) (hints_of a)) (additions (up_to_empty steps))
+
+-- the needed set is such a set, and part of each other one
+abbrev pub NeededIsLeast : Type 0
+NeededIsLeast = (steps : List Step) → IsClosedSet steps (needed steps) × ((s : NumberSet) → IsClosedSet steps s → (n : ℕ) → has (needed steps) n ≡ true → has s n ≡ true)

@@ -1,6 +1,6 @@
 //! Laws of steps, for all clause maps, formulas and lists of steps: what a checker of steps may conclude. The functions
 //! do nothing.
-ghost use Rattle.lj_text.specs.Laws.{AcceptedKeepsSatisfiable, ReplayKeepsSatisfiable, RefutedIsUnsatisfiable, RecordedLosesNothing};
+ghost use Rattle.lj_text.specs.Laws.{AcceptedKeepsSatisfiable, ReplayKeepsSatisfiable, RefutedIsUnsatisfiable, RecordedLosesNothing, NeededIsLeast};
 
 /// A satisfiable clause map stays satisfiable after an accepted step.
 pub fn accepted_keeps_satisfiable()
@@ -23,5 +23,12 @@ pub fn refuted_is_unsatisfiable()
 /// An accepted addition is accepted in its recorded form too, with the same clause map after it.
 pub fn recorded_loses_nothing()
     ensures { RecordedLosesNothing }
+{
+}
+
+/// The needed set is the least set that holds the number of the first addition of the empty clause and, with each
+/// lemma in it, all the hints of that lemma.
+pub fn needed_is_least()
+    ensures { NeededIsLeast }
 {
 }
