@@ -145,4 +145,4 @@ impl<R: Read> Source for ReaderSource<R> {
 }
 
 #[cfg(test)]
-mod tests;
+pub(crate) mod tests;
