@@ -68,7 +68,7 @@ pub fn write_all<S: Sink>(sink: &mut S, bytes: &[u8]) -> Result<(), SinkFault>
 #[derive(Debug, Drop)]
 pub struct MemorySink {
     bytes: Vec<u8>,
-    failed: bool,
+    refused: bool,
 }
 
 impl Model for MemorySink {
@@ -76,7 +76,7 @@ impl Model for MemorySink {
 
     ghost Value = { List ℕ × ℕ };
 
-    ghost view = { λ sink. (sink.bytes.items, if sink.failed then 1 else 0) };
+    ghost view = { λ sink. (sink.bytes.items, if sink.refused then 1 else 0) };
 }
 
 impl MemorySink {
@@ -86,7 +86,7 @@ impl MemorySink {
     {
         MemorySink {
             bytes: Vec::new(alloc),
-            failed: false,
+            refused: false,
         }
     }
 
@@ -114,7 +114,7 @@ impl Sink for MemorySink {
         match self.bytes.extend_from_slice(piece) {
             Ok(()) => Ok(piece.len()),
             Err(_) => {
-                self.failed = true;
+                self.refused = true;
                 Err(SinkFault)
             }
         }
