@@ -2,11 +2,19 @@
 #![tactic(auto)]
 
 pub mod examples;
+mod failing;
+mod in_pieces;
 pub mod laws;
 mod line;
 mod numbers;
+mod sink;
+mod source;
 mod step;
 
+pub use failing::{FailingSink, FailingSource};
+pub use in_pieces::InPieces;
 pub use line::{Addition, Line};
 pub use numbers::{Group, Groups, Numbers};
+pub use sink::{MemorySink, Sink, SinkFault, WriterSink, write_all};
+pub use source::{MemorySource, ReaderSource, Source, SourceFault};
 pub use step::Step;

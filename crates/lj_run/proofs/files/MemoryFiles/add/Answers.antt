@@ -1,0 +1,7 @@
+use Rattle.std.proofs.Common.{arith}
+use Rattle.std.proofs.lemmas.Map.Text.{text_keys}
+use Rattle.lj_run.specs.Files.{bytes_at}
+use Rattle.lj_run.proofs.files.MemoryFiles.add.Goals as goal
+
+pub returns-clause-others : goal.returns-clause-others
+returns-clause-others c = λ other differs. grind (arith, text_keys)

@@ -1,0 +1,8 @@
+-- What files in memory tell.
+use Rattle.std.specs.Prelude.{ℕ, Option, List, option_map}
+use Rattle.std.specs.BTreeMap.{get_by_text}
+use Rattle.lj_run.specs.declared.files.MemoryFiles.{MemoryFiles}
+
+-- the bytes that were added at a path, unless it was created anew since
+abbrev pub bytes_at : MemoryFiles → List ℕ → Option (List ℕ)
+bytes_at files path = option_map (λ bytes. bytes.items) (get_by_text files.added path)

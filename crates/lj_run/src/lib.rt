@@ -1,0 +1,6 @@
+//! Runs of the checker over streams and files.
+#![tactic(auto)]
+
+pub mod files;
+
+pub use files::{Files, MachineFiles, MemoryFile, MemoryFiles};

@@ -1,0 +1,177 @@
+//! Where bytes go.
+ghost use Rattle.std.specs.Prelude.{◌≡◌, ℕ, ◌+◌, ◌<◌, Option, List, [], length, take, Some, OnOk, OnErr, IfOk};
+ghost use Rattle.std.specs.Io.{WritesAtMost};
+ghost use Rattle.std.specs.Io.KnownBytes.{Appends, Keeps};
+
+use std::alloc::Global;
+use std::io::Write;
+use std::marker::Model;
+use thiserror::Error;
+
+/// A write failed. The sink isn't given more.
+#[derive(Clone, Copy, Debug, PartialEq, Eq, Error)]
+#[error("a write failed")]
+pub struct SinkFault;
+
+/// What takes bytes in pieces.
+pub trait Sink {
+    /// The bytes taken so far, where the sink tells them.
+    ghost taken: { Self → Option (List ℕ) };
+
+    /// How often it has failed.
+    ghost failures: { Self → ℕ };
+
+    /// Takes bytes from the front of the piece and answers how many: one at least, where the piece
+    /// has any. One that has failed is given no more.
+    fn put(&mut self, piece: &[u8]) -> Result<usize, SinkFault>
+        requires { failures self.old ≡ 0 }
+
+        ensures bound { WritesAtMost result piece.now }
+        ensures some { IfOk result (λ n. 0 < length piece.now → 0 < n) }
+        ensures bytes { IfOk result (λ n. Appends (taken self.old) (taken self.new) (take n piece.now)) }
+        ensures ok { OnOk result (failures self.new ≡ failures self.old) }
+
+        ensures err { OnErr result (failures self.new ≡ failures self.old + 1) }
+        ensures kept { OnErr result (Keeps (taken self.old) (taken self.new)) };
+}
+
+impl<S: Sink> Sink for &mut S {
+    ghost taken = { λ sink. S.taken sink.now };
+
+    ghost failures = { λ sink. S.failures sink.now };
+
+    fn put(&mut self, piece: &[u8]) -> Result<usize, SinkFault> {
+        Sink::put(&mut **self, piece)
+    }
+}
+
+/// Puts all of the bytes. After a failure a beginning of them was taken, and not all.
+pub fn write_all<S: Sink>(sink: &mut S, bytes: &[u8]) -> Result<(), SinkFault>
+    requires { S.failures sink.old ≡ 0 }
+
+    ensures bytes { OnOk result (Appends (S.taken sink.old) (S.taken sink.new) bytes.now) }
+    ensures ok { OnOk result (S.failures sink.new ≡ S.failures sink.old) }
+
+    ensures beginning { OnErr result ((n : ℕ) × (n < length bytes.now)
+        × Appends (S.taken sink.old) (S.taken sink.new) (take n bytes.now)) }
+    ensures err { OnErr result (S.failures sink.new ≡ S.failures sink.old + 1) }
+{
+    let mut done = 0;
+    while done < bytes.len() {
+        done += sink.put(&bytes[done..])?;
+    }
+    Ok(())
+}
+
+/// Bytes in memory, seen as those taken so far and the count of failures. It fails where memory is
+/// refused.
+#[derive(Debug, Drop)]
+pub struct MemorySink {
+    bytes: Vec<u8>,
+    refused: bool,
+}
+
+impl Model for MemorySink {
+    ghost use Rattle.std.specs.Prelude.{ℕ, List, if◌then◌else◌};
+
+    ghost Value = { List ℕ × ℕ };
+
+    ghost view = { λ sink. (sink.bytes.items, if sink.refused then 1 else 0) };
+}
+
+impl MemorySink {
+    /// Nothing is taken yet, and it has not failed.
+    pub fn new(alloc: Global) -> Self
+        ensures { result ≡ ([], 0) }
+    {
+        MemorySink {
+            bytes: Vec::new(alloc),
+            refused: false,
+        }
+    }
+
+    /// The bytes taken so far.
+    pub fn bytes(&self) -> &[u8]
+        ensures { result.now ≡ self.now.0 }
+    {
+        &self.bytes
+    }
+
+    /// The bytes taken so far, by value.
+    pub fn into_bytes(self) -> Vec<u8>
+        ensures { result.items ≡ self.0 }
+    {
+        self.bytes
+    }
+}
+
+impl Sink for MemorySink {
+    ghost taken = { λ sink. Some sink.0 };
+
+    ghost failures = { λ sink. sink.1 };
+
+    fn put(&mut self, piece: &[u8]) -> Result<usize, SinkFault> {
+        match self.bytes.extend_from_slice(piece) {
+            Ok(()) => Ok(piece.len()),
+            Err(_) => {
+                self.refused = true;
+                Err(SinkFault)
+            }
+        }
+    }
+}
+
+/// A writer of std, seen as the writer and the count of failures. Each error of the writer is a
+/// failure, an interrupted write too, and so is a write that takes nothing of a piece that has bytes.
+/// A writer that keeps bytes back has to be flushed through `into_writer`.
+#[derive(Debug, Drop)]
+pub struct WriterSink<W> {
+    writer: W,
+    failed: bool,
+}
+
+impl<W> Model for WriterSink<W> {
+    ghost use Rattle.std.specs.Prelude.{ℕ, if◌then◌else◌};
+
+    ghost Value = { W × ℕ };
+
+    ghost view = { λ sink. (sink.writer, if sink.failed then 1 else 0) };
+}
+
+impl<W> WriterSink<W> {
+    /// The writer takes the bytes. It has not failed.
+    pub fn new(writer: W) -> Self
+        ensures { result ≡ (writer, 0) }
+    {
+        WriterSink {
+            writer,
+            failed: false,
+        }
+    }
+
+    /// The writer.
+    pub fn into_writer(self) -> W
+        ensures { result ≡ self.0 }
+    {
+        self.writer
+    }
+}
+
+impl<W: Write> Sink for WriterSink<W> {
+    ghost taken = { λ sink. W.contents sink.0 };
+
+    ghost failures = { λ sink. sink.1 };
+
+    fn put(&mut self, piece: &[u8]) -> Result<usize, SinkFault> {
+        match self.writer.write(piece) {
+            Ok(count) if count > 0 || piece.is_empty() => Ok(count),
+            _ => {
+                self.failed = true;
+                Err(SinkFault)
+            }
+        }
+    }
+}
+
+#[cfg(test)]
+mod tests;
