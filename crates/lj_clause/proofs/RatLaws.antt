@@ -284,6 +284,26 @@ candidates-get p pivot =
     both_filter (λ (e : ℕ × LiteralSet). fin.get p e.0 ≡ Some e.1) (λ e. holds e.1 (neg_ℤ pivot)) (fin.entries p)
     (all_weaker (λ (e : ℕ × LiteralSet). find nat_cmp e.0 (fin.entries p) ≡ Some e.1) (λ (e : ℕ × LiteralSet). fin.get p e.0 ≡ Some e.1) (fin.entries p) (λ e is. fin.get-entries p e.0 ∙ is) (each_found (fin.entries p) (fin.entries_sorted p)))
 
+find_filter : (test : LiteralSet → Bool) (n : ℕ) (d : LiteralSet) (es : List (ℕ × LiteralSet)) → find nat_cmp n es ≡ Some d → test d ≡ true → find nat_cmp n (filter (λ e. test e.1) es) ≡ Some d
+find_filter test n d [] h t = h
+find_filter test n d (e ∷ es) h t =
+    elim (eq_by_cmp nat_cmp n e.0) as (λ b. eq_by_cmp nat_cmp n e.0 ≡ b → cond b (Some e.1) (find nat_cmp n es) ≡ Some d → find nat_cmp n (cond (test e.1) (e ∷ filter (λ c. test c.1) es) (filter (λ c. test c.1) es)) ≡ Some d) [
+      | true ↦ λ b is.
+          let same : e.1 ≡ d = cc in
+          ap (λ r. find nat_cmp n (cond r (e ∷ filter (λ c. test c.1) es) (filter (λ c. test c.1) es))) (ap test same ∙ t)
+          ∙ ap (λ r. cond r (Some e.1) (find nat_cmp n (filter (λ c. test c.1) es))) b
+          ∙ is
+      | false ↦ λ b is.
+          elim (test e.1) as (λ r. find nat_cmp n (cond r (e ∷ filter (λ c. test c.1) es) (filter (λ c. test c.1) es)) ≡ Some d) [
+            | true ↦ ap (λ r. cond r (Some e.1) (find nat_cmp n (filter (λ c. test c.1) es))) b ∙ find_filter test n d es is t
+            | false ↦ find_filter test n d es is t
+          ]
+    ] refl h
+
+-- each clause of the map that holds the pivot's negation is a candidate
+pub find-candidates : (p : ClauseMap) (pivot : ℤ) (n : ℕ) (d : LiteralSet) → fin.get p n ≡ Some d → holds d (neg_ℤ pivot) ≡ true → find nat_cmp n (candidates p pivot) ≡ Some d
+find-candidates p pivot n d got h = find_filter (λ c. holds c (neg_ℤ pivot)) n d (fin.entries p) (sym (fin.get-entries p n) ∙ got) h
+
 -- ---- the assignment flipped at the pivot's variable
 
 -- the assignment with the other value at the literal's variable

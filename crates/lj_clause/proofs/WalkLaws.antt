@@ -28,7 +28,7 @@ SatisfiesHints a hs = AllByRecursion (λ h. IfSome h.clause (λ d. satisfies a d
 abbrev pub HoldsAllOf : LiteralSet → LiteralSet → Type 0
 HoldsAllOf s t = (l : ℤ) → holds t l ≡ true → holds s l ≡ true
 
--- no assignment makes all that began a closed walk true, and all that an open one ends with is true
+-- what holds of a walk over satisfied clauses from true literals: it isn't closed, and all that it ends open with is true
 abbrev pub StaysTrue : Assignment → Walk → Type 0
 StaysTrue a (Closed used) = ⊥
 StaysTrue a (Open t) = AllTrue a t
@@ -306,3 +306,13 @@ used-in p s numbers used e =
 -- all hints of an open walk are
 pub open-in : (p : ClauseMap) (s t : LiteralSet) (numbers : List ℕ) → walk p s numbers ≡ Open t → AllByRecursion (λ n. contains_key p n ≡ true) numbers
 open-in p s t numbers e = numbers_named p numbers (subst (ReadNamed (hints_in p numbers)) e (ReadNamed-walk_over s (hints_in p numbers)))
+
+-- ---- maps that agree
+
+hints_in-agree : (p q : ClauseMap) (numbers : List ℕ) → AllByRecursion (λ n. get p n ≡ get q n) numbers → hints_in p numbers ≡ hints_in q numbers
+hints_in-agree p q [] h = refl
+hints_in-agree p q (n ∷ ns) h = λ i. record { number = n; clause = h.0 i } ∷ hints_in-agree p q ns h.1 i
+
+-- a walk depends on nothing of the map but the clauses that its hints name
+pub walk-agree : (p q : ClauseMap) (s : LiteralSet) (numbers : List ℕ) → AllByRecursion (λ n. get p n ≡ get q n) numbers → walk p s numbers ≡ walk q s numbers
+walk-agree p q s numbers h = ap (walk_over s) (hints_in-agree p q numbers h)
