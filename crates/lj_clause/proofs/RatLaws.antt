@@ -1,13 +1,12 @@
 -- What a covered pivot gives: the same again from the recorded groups, and an assignment for the clause.
 use Rattle.std.proofs.Common.{◌≡◌, ◌≢◌, ℕ, zero, suc, ap, refl, sym, subst, ◌∙◌, inl, inr, ◌⊎◌, length, take, arith}
 use Rattle.std.specs.Prelude.{ℤ, pos, negsuc, neg_ℤ, Bool, true, false, not, cond, T, ◌==◌, ◌&&◌, List, [], ◌∷◌, map, filter, Some, None, is_some, unwrap_or}
-use Rattle.std.specs.List.{list_any, AllByRecursion, AllZip}
+use Rattle.std.specs.List.{list_any, list_all, AllByRecursion, AllZip}
 use Rattle.std.specs.List.Sorted.{IsStrictlySortedBy, IsStrictlyIncreasing}
 use Rattle.std.specs.Ordering.{eq_by_cmp, nat_cmp, is_lt, is_eq}
 use Rattle.std.specs.declared.cmp.Ordering.{Ordering}
 use Rattle.std.specs.declared.cmp.Ordering.TheVariants.{Less, Equal, Greater}
-use Rattle.std.proofs.lemmas.Bool.{false≢true, both_ways, or_cases, false_from_ne_true, ne_eqb, eq-eqb, not-true}
-use Rattle.std.proofs.lemmas.Bool.Decides.{nat_tests}
+use Rattle.std.proofs.lemmas.Bool.{false≢true, both_ways, or_cases, or_from, and_from, false_from_ne_true, ne_eqb, eq-eqb, not-true}
 use Rattle.std.proofs.lemmas.Map.Keys.{IsStrictlyIncreasing-from_sorted}
 use Rattle.std.specs.Cmp.{Equal-is, tied_itself, nat_cmp_total}
 use Rattle.std.specs.FinMap.{nat_cmp-IsAntisymmetric}
@@ -24,7 +23,7 @@ use Rattle.lj_clause.specs.Laws.{hints_given, IsRecordedForm}
 use Rattle.lj_clause.proofs.LiteralSets.{holds-literals}
 use Rattle.lj_clause.proofs.Among.{among, itself, any_at, any_found, passed}
 use Rattle.lj_clause.proofs.TruthLaws.{is_true-neg_ℤ, neg_nonzero, satisfies_by, true_literal, false_literal, holds-with_negations, SatisfiesAll-insert}
-use Rattle.lj_clause.proofs.WalkLaws.{AllTrue, not_all_true, all_true, AllTrue-negations, SatisfiesHints-hints_in, walk-used, used-first}
+use Rattle.lj_clause.proofs.WalkLaws.{AllTrue, not_all_true, all_true, AllTrue-negations, SatisfiesHints-hints_in, walk-used, used-first, list_all-each, used-all_in}
 
 -- ---- a covered pivot, candidate by candidate
 
@@ -163,11 +162,16 @@ both_of : (a b : Bool) → T a → T b → T (a && b)
 both_of true b g h = h
 both_of false b g h = g
 
+less : (o : Ordering) → T (is_lt o) → o ≡ Less
+less Less h = refl
+less Equal h = absurd h
+less Greater h = absurd h
+
+unequal : (m : ℕ) → nat_cmp m m ≡ Less → ⊥
+unequal m h = let tied : Less ≡ Equal = sym h ∙ tied_itself nat_cmp_total m in cc
+
 less_apart : (m n : ℕ) → T (is_lt (nat_cmp m n)) → (m == n) ≡ false
-less_apart m n h = ne_eqb m n (λ e. unequal (subst (λ k. T (is_lt (nat_cmp m k))) (sym e) h))
-  where
-    unequal : T (is_lt (nat_cmp m m)) → ⊥
-    unequal t = grind (arith, nat_tests)
+less_apart m n h = ne_eqb m n (λ e. unequal m (less (nat_cmp m m) (subst (λ k. T (is_lt (nat_cmp m k))) (sym e) h)))
 
 below_apart : (n : ℕ) (es : List (ℕ × LiteralSet)) → T (below_all nat_cmp n es) → AllByRecursion (λ (f : ℕ × LiteralSet). (n == f.0) ≡ false) es
 below_apart n [] h = tt
@@ -176,11 +180,6 @@ below_apart n (e ∷ es) h = (less_apart n e.0 (left_of _ _ h), below_apart n es
 Apart-sorted : (es : List (ℕ × LiteralSet)) → T (is_sorted nat_cmp es) → Apart es
 Apart-sorted [] h = tt
 Apart-sorted (e ∷ es) h = (below_apart e.0 es (left_of _ _ h), Apart-sorted es (right_of _ _ h))
-
-less : (o : Ordering) → T (is_lt o) → o ≡ Less
-less Less h = refl
-less Equal h = absurd h
-less Greater h = absurd h
 
 below_numbers : (n : ℕ) (es : List (ℕ × LiteralSet)) → T (below_all nat_cmp n es) → AllByRecursion (λ m. nat_cmp n m ≡ Less) (map (λ (e : ℕ × LiteralSet). e.0) es)
 below_numbers n [] h = tt
@@ -283,6 +282,50 @@ pub candidates-get : (p : ClauseMap) (pivot : ℤ) → AllByRecursion (λ (e : �
 candidates-get p pivot =
     both_filter (λ (e : ℕ × LiteralSet). fin.get p e.0 ≡ Some e.1) (λ e. holds e.1 (neg_ℤ pivot)) (fin.entries p)
     (all_weaker (λ (e : ℕ × LiteralSet). find nat_cmp e.0 (fin.entries p) ≡ Some e.1) (λ (e : ℕ × LiteralSet). fin.get p e.0 ≡ Some e.1) (fin.entries p) (λ e is. fin.get-entries p e.0 ∙ is) (each_found (fin.entries p) (fin.entries_sorted p)))
+
+key_of : (p : ClauseMap) (n : ℕ) (d : LiteralSet) → fin.get p n ≡ Some d → fin.contains_key p n ≡ true
+key_of p n d e = ap is_some e
+
+-- the recorded candidates and all their hints are in the map
+pub recorded-all_in : (p : ClauseMap) (s : LiteralSet) (pivot : ℤ) (groups gs : List HintGroup) → rat p s pivot groups ≡ Covered gs → list_all (λ (g : HintGroup). fin.contains_key p g.candidate && list_all (fin.contains_key p) g.hints) gs ≡ true
+recorded-all_in p s pivot groups gs e =
+    list_all-each (λ (g : HintGroup). fin.contains_key p g.candidate && list_all (fin.contains_key p) g.hints) gs
+    (zip_right (candidates p pivot) gs
+    (zip_more {S = λ (c : ℕ × LiteralSet) (g : HintGroup). (fin.contains_key p g.candidate && list_all (fin.contains_key p) g.hints) ≡ true}
+    (λ (c : ℕ × LiteralSet). (fin.get p c.0 ≡ Some c.1) × (holds c.1 (neg_ℤ pivot) ≡ true)) (candidates p pivot) gs (candidates-get p pivot) (recorded-rat p s pivot groups gs e)
+    (λ c g got h. and_from (fin.contains_key p g.candidate) (list_all (fin.contains_key p) g.hints)
+    (ap (fin.contains_key p) h.number ∙ key_of p c.0 c.1 got.0)
+    (used-all_in p (with_negations s (others c.1 (neg_ℤ pivot))) (hints_given c.0 groups) g.hints h.closes)))
+    (λ c g h. h))
+
+-- the recorded candidates' numbers rise
+pub recorded-sorted : (p : ClauseMap) (s : LiteralSet) (pivot : ℤ) (groups gs : List HintGroup) → rat p s pivot groups ≡ Covered gs → IsStrictlySortedBy nat_cmp (map (λ (g : HintGroup). g.candidate) gs)
+recorded-sorted p s pivot groups gs e = subst (IsStrictlySortedBy nat_cmp) (sym (recorded-numbers p s pivot groups gs e)) (candidates-sorted p pivot)
+
+-- a number below each of these isn't one of them
+pub below_none : (n : ℕ) (ms : List ℕ) → AllByRecursion (λ m. nat_cmp n m ≡ Less) ms → list_any (λ m. m == n) ms ≡ false
+below_none n [] h = refl
+below_none n (m ∷ ms) h = or_from (m == n) (list_any (λ k. k == n) ms) (ne_eqb m n (λ e. absurd (unequal n (ap (nat_cmp n) (sym e) ∙ h.0)))) (below_none n ms h.1)
+
+find_filter : (test : LiteralSet → Bool) (n : ℕ) (d : LiteralSet) (es : List (ℕ × LiteralSet)) → find nat_cmp n es ≡ Some d → test d ≡ true → find nat_cmp n (filter (λ e. test e.1) es) ≡ Some d
+find_filter test n d [] h t = h
+find_filter test n d (e ∷ es) h t =
+    elim (eq_by_cmp nat_cmp n e.0) as (λ b. eq_by_cmp nat_cmp n e.0 ≡ b → cond b (Some e.1) (find nat_cmp n es) ≡ Some d → find nat_cmp n (cond (test e.1) (e ∷ filter (λ c. test c.1) es) (filter (λ c. test c.1) es)) ≡ Some d) [
+      | true ↦ λ b is.
+          let same : e.1 ≡ d = cc in
+          ap (λ r. find nat_cmp n (cond r (e ∷ filter (λ c. test c.1) es) (filter (λ c. test c.1) es))) (ap test same ∙ t)
+          ∙ ap (λ r. cond r (Some e.1) (find nat_cmp n (filter (λ c. test c.1) es))) b
+          ∙ is
+      | false ↦ λ b is.
+          elim (test e.1) as (λ r. find nat_cmp n (cond r (e ∷ filter (λ c. test c.1) es) (filter (λ c. test c.1) es)) ≡ Some d) [
+            | true ↦ ap (λ r. cond r (Some e.1) (find nat_cmp n (filter (λ c. test c.1) es))) b ∙ find_filter test n d es is t
+            | false ↦ find_filter test n d es is t
+          ]
+    ] refl h
+
+-- each clause of the map that holds the pivot's negation is a candidate
+pub find-candidates : (p : ClauseMap) (pivot : ℤ) (n : ℕ) (d : LiteralSet) → fin.get p n ≡ Some d → holds d (neg_ℤ pivot) ≡ true → find nat_cmp n (candidates p pivot) ≡ Some d
+find-candidates p pivot n d got h = find_filter (λ c. holds c (neg_ℤ pivot)) n d (fin.entries p) (sym (fin.get-entries p n) ∙ got) h
 
 -- ---- the assignment flipped at the pivot's variable
 

@@ -102,3 +102,10 @@ SatisfiesAll-remove a p n all q d e =
 -- nothing satisfies the empty clause
 pub satisfies-no_literals : (a : Assignment) → satisfies a no_literals ≡ false
 satisfies-no_literals a = false_from_ne_true (satisfies a no_literals) (λ h. let found = true_literal a no_literals h in both_ways (holds no_literals found.0) (holds-no_literals found.0) found.1)
+
+pub satisfies-empty : (a : Assignment) (c : LiteralSet) → map.len c ≡ 0 → satisfies a c ≡ false
+satisfies-empty a c e = ap (satisfies a) (map.empty_of_len c e) ∙ satisfies-no_literals a
+
+-- where a map holds a clause that no assignment satisfies, nothing satisfies the map
+pub unsatisfiable : (a : Assignment) (p : ClauseMap) (n : ℕ) (c : LiteralSet) → SatisfiesAll a p → map.get p n ≡ Some c → satisfies a c ≡ false → ⊥
+unsatisfiable a p n c all got f = both_ways (satisfies a c) f (all n c got)

@@ -1,9 +1,9 @@
 -- What a walk keeps true, and that the hints it read close it alone.
 use Rattle.std.proofs.Common.{◌≡◌, ◌≢◌, ℕ, ap, refl, sym, subst, ◌∙◌, inl, inr, length, take}
-use Rattle.std.specs.Prelude.{ℤ, pos, neg_ℤ, int_lt, true, false, not, cond, ◌&&◌, List, [], ◌∷◌, map, Option, Some, None, IfSome, is_some}
-use Rattle.std.specs.List.{AllByRecursion, take-map}
+use Rattle.std.specs.Prelude.{ℤ, pos, neg_ℤ, Bool, int_lt, true, false, not, cond, ◌&&◌, List, [], ◌∷◌, map, Option, Some, None, IfSome, is_some}
+use Rattle.std.specs.List.{list_all, AllByRecursion, take-map}
 use Rattle.std.specs.Ordering.{eq_by_cmp}
-use Rattle.std.proofs.lemmas.Bool.{false≢true, and_parts, or_cases, or_right, false_from_ne_true, not_from_false}
+use Rattle.std.proofs.lemmas.Bool.{false≢true, and_parts, and_from, or_cases, or_right, false_from_ne_true, not_from_false}
 use lib.IntN.{neg_ℤ-neg_ℤ}
 use Rattle.std.specs.FinMap.{get, contains_key}
 use Rattle.lj_clause.specs.Literal.{lit_cmp}
@@ -28,7 +28,7 @@ SatisfiesHints a hs = AllByRecursion (λ h. IfSome h.clause (λ d. satisfies a d
 abbrev pub HoldsAllOf : LiteralSet → LiteralSet → Type 0
 HoldsAllOf s t = (l : ℤ) → holds t l ≡ true → holds s l ≡ true
 
--- no assignment makes all that began a closed walk true, and all that an open one ends with is true
+-- what holds of a walk over satisfied clauses from true literals: it isn't closed, and all that it ends open with is true
 abbrev pub StaysTrue : Assignment → Walk → Type 0
 StaysTrue a (Closed used) = ⊥
 StaysTrue a (Open t) = AllTrue a t
@@ -306,3 +306,25 @@ used-in p s numbers used e =
 -- all hints of an open walk are
 pub open-in : (p : ClauseMap) (s t : LiteralSet) (numbers : List ℕ) → walk p s numbers ≡ Open t → AllByRecursion (λ n. contains_key p n ≡ true) numbers
 open-in p s t numbers e = numbers_named p numbers (subst (ReadNamed (hints_in p numbers)) e (ReadNamed-walk_over s (hints_in p numbers)))
+
+-- a test of each element, as one answer
+pub list_all-each : {X : Type 0} (test : X → Bool) (xs : List X) → AllByRecursion (λ x. test x ≡ true) xs → list_all test xs ≡ true
+list_all-each test [] h = refl
+list_all-each test (x ∷ xs) h = and_from (test x) (list_all test xs) h.0 (list_all-each test xs h.1)
+
+-- the same two, as one answer
+pub used-all_in : (p : ClauseMap) (s : LiteralSet) (numbers used : List ℕ) → walk p s numbers ≡ Closed used → list_all (contains_key p) used ≡ true
+used-all_in p s numbers used e = list_all-each (contains_key p) used (used-in p s numbers used e)
+
+pub open-all_in : (p : ClauseMap) (s t : LiteralSet) (numbers : List ℕ) → walk p s numbers ≡ Open t → list_all (contains_key p) numbers ≡ true
+open-all_in p s t numbers e = list_all-each (contains_key p) numbers (open-in p s t numbers e)
+
+-- ---- maps that agree
+
+hints_in-agree : (p q : ClauseMap) (numbers : List ℕ) → AllByRecursion (λ n. get p n ≡ get q n) numbers → hints_in p numbers ≡ hints_in q numbers
+hints_in-agree p q [] h = refl
+hints_in-agree p q (n ∷ ns) h = λ i. record { number = n; clause = h.0 i } ∷ hints_in-agree p q ns h.1 i
+
+-- a walk depends on nothing of the map but the clauses that its hints name
+pub walk-agree : (p q : ClauseMap) (s : LiteralSet) (numbers : List ℕ) → AllByRecursion (λ n. get p n ≡ get q n) numbers → walk p s numbers ≡ walk q s numbers
+walk-agree p q s numbers h = ap (walk_over s) (hints_in-agree p q numbers h)
