@@ -1,17 +1,28 @@
 -- Silent lines that were passed, and the line behind them.
-use Rattle.std.proofs.Common.{◌≡◌, ℕ, zero, suc, ◌+◌, ◌-◌, ◌^◌, ◌<◌, ◌≤◌, min, Bool, true, false, cond, List, [], ◌∷◌, ◌++◌, length, Option, None, Some, Result, Ok, Err, refl, sym, ap, ◌∙◌, subst, append_assoc, arith, length-append}
-use Rattle.std.proofs.lemmas.List.{append-nil}
+use Rattle.std.proofs.Common.{◌≡◌, ℕ, zero, suc, ◌+◌, ◌-◌, ◌^◌, ◌<◌, ◌≤◌, min, Bool, true, false, cond, List, [], ◌∷◌, ◌++◌, length, take, drop, Option, None, Some, Result, Ok, Err, refl, sym, ap, ◌∙◌, subst, append_assoc, arith, length-append}
+use Rattle.std.proofs.lemmas.List.{append-nil, take_all}
 use Rattle.std.specs.List.{AllByRecursion, slice_get}
 use Rattle.lj_text.specs.declared.line.Line.{Line}
 use Rattle.lj_text.specs.declared.lines.fault.LineFault.{LineFault}
 use Rattle.lj_text.specs.declared.lines.fault.LineFaultKind.{LineFaultKind}
 use Rattle.lj_text.specs.declared.lines.fault.LineFaultKind.TheVariants.{BadNumber, NumberRange, Syntax, Truncated, NoMemory}
-use Rattle.lj_text.specs.Bytes.{line_number, tokens_of}
-use Rattle.lj_text.specs.Lines.{Said, said_by, said_from, whole_said_from}
+use Rattle.lj_text.specs.Bytes.{line_number, tokens_of, lines_of}
+use Rattle.lj_text.specs.Lines.{Said, said_by, said_from, whole_said_from, all_said_from, all_but_last}
 use Rattle.lj_text.specs.LineReading.{spoken, IsTold}
 use Rattle.lj_text.specs.LinesRead.{HasNoLineEnd, joined, is_no_memory}
-use Rattle.lj_text.specs.Looking.{Looked, Fails, said_of}
-use Rattle.lj_text.proofs.StandLemmas.{said_for, said-spoken, said_from-append, whole-joined}
+use Rattle.lj_text.specs.declared.lines.look.Found.{Found}
+use Rattle.std.specs.Prelude.{MatchOption, is_some}
+use Rattle.std.proofs.Math.Seq.{drop-append_seam}
+use Rattle.lj_text.specs.Looking.{Looked, LookedBehind, Fails, FailsToEnd, said_of}
+use Rattle.lj_text.proofs.StandLemmas.{said_for, said-spoken, said_from-append, whole-joined, all-joined, all-none, cut-joined, cut-none}
+
+get-early : (xs ys : List Said) (x : Said) → slice_get xs 0 ≡ Some x → slice_get (xs ++ ys) 0 ≡ Some x
+get-early [] ys x h = cc
+get-early (y ∷ xs) ys x h = h
+
+for_line : (number : ℕ) (line : Option Line) → said_for number (Ok line) ≡ said_of number line
+for_line number None = refl
+for_line number (Some line) = refl
 
 -- silent lines stand before the rest
 pub record Passed (max first : ℕ) (ahead rest : List ℕ) (number : ℕ) : Type 0 where
@@ -58,7 +69,7 @@ passed-more max first ahead rest l after number p e h silent = record {
 -- the line behind them says something
 pub looked-some : (max first k : ℕ) (ahead rest l after : List ℕ) (number left : ℕ) (line : Line) → Passed max first ahead rest number → first ≡ line_number k → rest ≡ l ++ 10 ∷ after → HasNoLineEnd l
     → spoken max true (tokens_of l) ≡ Ok (Some line) → left ≡ length after
-    → Looked max k ahead (record { line = Some line; at = number; number = min (number + 1) (2 ^ 64 - 1); left = left })
+    → Looked max k ahead (record { line = Some line; at = number; number = min (number + 1) (2 ^ 64 - 1); left = left; searched = 0 })
 looked-some max first k ahead rest l after number left line p first_is e h says left_is = record {
     lines = p.lines ++ l ∷ [];
     after = after;
@@ -68,12 +79,14 @@ looked-some max first k ahead rest l after number left line p first_is e h says 
     number_is = next_number (k + length p.lines) number (p.number_is k first_is) ∙ ap line_number (omega (arith, length-append p.lines (l ∷ [])));
     said_is = said_more max k p.lines l (p.silent k) ∙ said-spoken max (k + length p.lines) true l ∙ ap (said_for (line_number (k + length p.lines))) says
       ∙ ap (λ n. record { line = n; says = Ok line } ∷ []) (sym (p.number_is k first_is));
+    searched_is = omega arith;
+    none_before = λ i d h. absurd (omega arith);
     none_is = tt;
   }
 
 -- no whole line is left
 pub looked-none : (max first k : ℕ) (ahead rest : List ℕ) (number left : ℕ) → Passed max first ahead rest number → first ≡ line_number k → HasNoLineEnd rest → left ≡ length rest
-    → Looked max k ahead (record { line = None; at = number; number = number; left = left })
+    → Looked max k ahead (record { line = None; at = number; number = number; left = left; searched = left })
 looked-none max first k ahead rest number left p first_is h left_is = record {
     lines = p.lines;
     after = rest;
@@ -82,6 +95,8 @@ looked-none max first k ahead rest number left p first_is h left_is = record {
     left_is = left_is;
     number_is = p.number_is k first_is;
     said_is = p.silent k;
+    searched_is = omega arith;
+    none_before = let P : List ℕ → Type 0 = HasNoLineEnd in subst P (sym (take_all left rest (omega arith))) h;
     none_is = (h, refl);
   }
 
@@ -114,3 +129,70 @@ fails-here max first k ahead rest l after number fault p first_is e h told memor
     ∙ ap (λ (ss : List Said). slice_get ss 0) (first_said max k p.lines l after p.whole h (p.silent k))
     ∙ ap (λ (ss : List Said). slice_get (ss ++ whole_said_from max (k + length p.lines + 1) after) 0) says
     ∙ ap (λ n. Some (record { line = n; says = Err fault.kind })) number_is
+
+fails_at_end : (max : ℕ) (kind : LineFaultKind) (l : List ℕ) → is_no_memory kind ≡ false → IsTold kind (spoken max false (tokens_of l)) → spoken max false (tokens_of l) ≡ Err kind
+fails_at_end max NoMemory l n t = cc
+fails_at_end max BadNumber l n t = t
+fails_at_end max NumberRange l n t = t
+fails_at_end max Syntax l n t = t
+fails_at_end max Truncated l n t = t
+
+-- where the look found no line, all that is said is said by the last one
+pub last_said : (max k : ℕ) (ahead : List ℕ) (found : Found) (p : Looked max k ahead found) → found.line ≡ None → all_said_from max k ahead ≡ said_by max (k + length p.lines) false p.after
+last_said max k ahead found p none =
+    let silent : said_from max k p.lines ≡ [] = p.said_is ∙ ap (said_of found.at) none in
+    let P : Option Line → Type 0 = λ o. MatchOption o (HasNoLineEnd p.after × (found.at ≡ found.number)) (λ line. Unit {0}) in
+    let none_after : HasNoLineEnd p.after = (subst P none p.none_is).0 in
+    ap (all_said_from max k) p.ahead_is ∙ all-joined max k p.lines p.after p.whole
+    ∙ ap (λ ss. ss ++ all_said_from max (k + length p.lines) p.after) silent
+    ∙ all-none max (k + length p.lines) p.after none_after
+
+pub none-open : (max k : ℕ) (ahead : List ℕ) (found : Found) (p : Looked max k ahead found) → found.line ≡ None → HasNoLineEnd p.after
+none-open max k ahead found p none =
+    let P : Option Line → Type 0 = λ o. MatchOption o (HasNoLineEnd p.after × (found.at ≡ found.number)) (λ line. Unit {0}) in
+    (subst P none p.none_is).0
+
+-- how many whole lines stand ahead, where the look found none that says something
+lines_ahead : (max k : ℕ) (ahead : List ℕ) (found : Found) (p : Looked max k ahead found) → found.line ≡ None → all_but_last (lines_of ahead) ≡ p.lines
+lines_ahead max k ahead found p none =
+    ap (λ bytes. all_but_last (lines_of bytes)) p.ahead_is ∙ cut-joined p.lines p.after p.whole
+    ∙ ap (λ ls. p.lines ++ all_but_last ls) (cut-none p.after (none-open max k ahead found p none)) ∙ append-nil p.lines
+
+-- the bytes after the lines that were passed
+pub after_is : (max k : ℕ) (ahead : List ℕ) (found : Found) (p : Looked max k ahead found) → drop (length ahead - found.left) ahead ≡ p.after
+after_is max k ahead found p =
+    let count : length ahead - found.left ≡ length (joined p.lines) = omega (arith, p.left_is, ap length p.ahead_is, length-append (joined p.lines) p.after) in
+    ap (λ n. drop n ahead) count ∙ ap (drop (length (joined p.lines))) p.ahead_is ∙ drop-append_seam (joined p.lines) p.after
+
+-- the last line was read
+pub looked-behind : (max k : ℕ) (ahead last : List ℕ) (found : Found) (line : Option Line) → Looked max k ahead found → found.line ≡ None → last ≡ drop (length ahead - found.left) ahead
+    → spoken max false (tokens_of last) ≡ Ok line → LookedBehind max k ahead (record { line = line; at = found.number; number = found.number; left = 0; searched = 0 })
+looked-behind max k ahead last found line p none last_is says = record {
+    said_is = last_said max k ahead found p none ∙ ap (said_by max (k + length p.lines) false) (sym (last_is ∙ after_is max k ahead found p))
+      ∙ said-spoken max (k + length p.lines) false last ∙ ap (said_for (line_number (k + length p.lines))) says
+      ∙ ap (λ n. said_for n (Ok line)) (sym p.number_is) ∙ for_line found.number line;
+    number_is = p.number_is ∙ ap (λ (ls : List (List ℕ)). line_number (k + length ls)) (sym (lines_ahead max k ahead found p none));
+    at_is = refl;
+    left_is = refl;
+    searched_is = refl;
+  }
+
+-- the last line has a fault
+pub fails-behind : (max k : ℕ) (ahead last : List ℕ) (found : Found) (fault : LineFault) → Looked max k ahead found → found.line ≡ None → last ≡ drop (length ahead - found.left) ahead
+    → (fault.line ≡ found.number) × IsTold fault.kind (spoken max false (tokens_of last)) → FailsToEnd max k ahead fault
+fails-behind max k ahead last found fault p none last_is told memory =
+    let wrong : spoken max false (tokens_of last) ≡ Err fault.kind = fails_at_end max fault.kind last memory told.1 in
+    ap (λ (ss : List Said). slice_get ss 0) (last_said max k ahead found p none ∙ ap (said_by max (k + length p.lines) false) (sym (last_is ∙ after_is max k ahead found p))
+      ∙ said-spoken max (k + length p.lines) false last ∙ ap (said_for (line_number (k + length p.lines))) wrong)
+    ∙ ap (λ n. Some (record { line = n; says = Err fault.kind })) (sym (told.0 ∙ p.number_is))
+
+-- a fault of a whole line is one of the input
+pub fails-whole : (max k : ℕ) (ahead : List ℕ) (fault : LineFault) → Fails max k ahead fault → FailsToEnd max k ahead fault
+fails-whole max k ahead fault fails memory = get-early _ _ _ (fails memory)
+
+pub none-from_test : (o : Option Line) → is_some o ≡ false → o ≡ None
+none-from_test None h = refl
+none-from_test (Some line) h = cc
+
+pub passed-left : (max first : ℕ) (ahead rest : List ℕ) (number : ℕ) → Passed max first ahead rest number → length rest ≤ length ahead
+passed-left max first ahead rest number p = omega (arith, ap length p.ahead_is, length-append (joined p.lines) rest)

@@ -38,7 +38,7 @@ said_from-append max n (x ∷ xs) ys =
     ap (λ ss. said_by max n true x ++ ss) (said_from-append max (n + 1) xs ys ∙ ap (λ m. said_from max (n + 1) xs ++ said_from max m ys) (omega arith))
     ∙ sym (append_assoc (said_by max n true x) (said_from max (n + 1) xs) (said_from max (n + length (x ∷ xs)) ys))
 
-cut-joined : (ls : List (List ℕ)) (rest : List ℕ) → AllByRecursion HasNoLineEnd ls → all_but_last (lines_of (joined ls ++ rest)) ≡ ls ++ all_but_last (lines_of rest)
+pub cut-joined : (ls : List (List ℕ)) (rest : List ℕ) → AllByRecursion HasNoLineEnd ls → all_but_last (lines_of (joined ls ++ rest)) ≡ ls ++ all_but_last (lines_of rest)
 cut-joined ls rest h = ap all_but_last (lines_of-joined ls rest h) ∙ all_but_last-append ls (lines_of rest) (some_line rest)
 
 -- the whole lines of a text say what the first ones say, and then the others

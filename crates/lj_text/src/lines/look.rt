@@ -1,8 +1,8 @@
 //! The next line that says something.
-ghost use Rattle.std.specs.Prelude.{◌≡◌, ◌≤◌, ℕ, length, take, MatchResult, Ok};
+ghost use Rattle.std.specs.Prelude.{◌≡◌, ◌≤◌, ℕ, length, take, IfOk, MatchResult, MatchBool, IsSome, Ok};
 ghost use Rattle.lj_text.specs.Bytes.{tokens_of, line_number};
 ghost use Rattle.lj_text.specs.LineReading.{IsTold, spoken};
-ghost use Rattle.lj_text.specs.Looking.{Looked, Fails};
+ghost use Rattle.lj_text.specs.Looking.{Looked, LookedBehind, Fails, FailsToEnd};
 ghost use Rattle.lj_text.specs.LinesRead.{HasNoLineEnd};
 
 use super::cut::first_line;
@@ -22,6 +22,8 @@ pub(super) struct Found {
     pub number: u64,
     /// How many bytes follow.
     pub left: usize,
+    /// How many of those are known to hold no line feed.
+    pub searched: usize,
 }
 
 /// What the bytes of the line with this number say.
@@ -43,7 +45,8 @@ pub(super) fn look(alloc: Global, max: u32, first: u64, ahead: &[u8], searched: 
     requires max { max ≤ 134217727 }
     requires within { searched ≤ length ahead.now }
     requires none_before { HasNoLineEnd (take searched ahead.now) }
-    ensures { (k : ℕ) → first ≡ line_number k → MatchResult result (λ found. Looked max k ahead.now found) (λ fault. Fails max k ahead.now fault) }
+    ensures left { IfOk result (λ found. found.left ≤ length ahead.now) }
+    ensures found { (k : ℕ) → first ≡ line_number k → MatchResult result (λ found. Looked max k ahead.now found) (λ fault. Fails max k ahead.now fault) }
 {
     let mut rest = ahead;
     let mut none_before = searched;
@@ -58,6 +61,7 @@ pub(super) fn look(alloc: Global, max: u32, first: u64, ahead: &[u8], searched: 
                     at: number,
                     number: next,
                     left: after.len(),
+                    searched: 0,
                 });
             }
         }
@@ -70,5 +74,30 @@ pub(super) fn look(alloc: Global, max: u32, first: u64, ahead: &[u8], searched: 
         at: number,
         number,
         left: rest.len(),
+        searched: rest.len(),
     })
+}
+
+/// The same, and where no whole line says anything, what the last one says, which the input ends; and whether it
+/// came to that.
+pub(super) fn look_to_end(alloc: Global, max: u32, first: u64, ahead: &[u8], searched: usize) -> Result<(Found, bool), LineFault>
+    requires max { max ≤ 134217727 }
+    requires within { searched ≤ length ahead.now }
+    requires none_before { HasNoLineEnd (take searched ahead.now) }
+    ensures { (k : ℕ) → first ≡ line_number k → MatchResult result (λ found. MatchBool found.1 (LookedBehind max k ahead.now found.0) (Looked max k ahead.now found.0 × IsSome found.0.line)) (λ fault. FailsToEnd max k ahead.now fault) }
+{
+    let found = look(alloc, max, first, ahead, searched)?;
+    if found.line.is_some() {
+        return Ok((found, false));
+    }
+    let (_, last) = ahead.split_at(ahead.len() - found.left);
+    let line = parse_at(alloc, max, false, last, found.number)?;
+    let behind = Found {
+        line,
+        at: found.number,
+        number: found.number,
+        left: 0,
+        searched: 0,
+    };
+    Ok((behind, true))
 }
