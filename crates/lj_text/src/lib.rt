@@ -1,11 +1,13 @@
 //! The texts: lines of LRAT proofs, DIMACS CNF, steps and their text, and the streams that bytes come from and go to.
 #![tactic(auto)]
 
+mod bytes;
 pub mod examples;
 mod failing;
 mod in_pieces;
 pub mod laws;
 mod line;
+mod lines;
 mod numbers;
 mod sink;
 mod source;
@@ -14,6 +16,7 @@ mod step;
 pub use failing::{FailingSink, FailingSource};
 pub use in_pieces::InPieces;
 pub use line::{Addition, Line};
+pub use lines::{LineFault, LineFaultKind, LineReader};
 pub use numbers::{Group, Groups, Numbers};
 pub use sink::{MemorySink, Sink, SinkFault, WriterSink, write_all};
 pub use source::{MemorySource, ReaderSource, Source, SourceFault};

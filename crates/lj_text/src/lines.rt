@@ -1,0 +1,14 @@
+//! Lines of a stream, by the grammar of LRAT.
+
+mod cut;
+mod fault;
+mod hints;
+mod literals;
+mod look;
+mod numbers;
+mod parse;
+mod reader;
+mod words;
+
+pub use fault::{LineFault, LineFaultKind};
+pub use reader::LineReader;

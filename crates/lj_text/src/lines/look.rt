@@ -1,0 +1,103 @@
+//! The next line that says something.
+ghost use Rattle.std.specs.Prelude.{◌≡◌, ◌≤◌, ℕ, length, take, IfOk, MatchResult, MatchBool, IsSome, Ok};
+ghost use Rattle.lj_text.specs.Bytes.{tokens_of, line_number};
+ghost use Rattle.lj_text.specs.LineReading.{IsTold, spoken};
+ghost use Rattle.lj_text.specs.Looking.{Looked, LookedBehind, Fails, FailsToEnd};
+ghost use Rattle.lj_text.specs.LinesRead.{HasNoLineEnd};
+
+use super::cut::first_line;
+use super::fault::LineFault;
+use super::parse::parse;
+use crate::line::Line;
+use std::alloc::Global;
+
+/// What a look at the whole lines ahead found.
+#[derive(Drop)]
+pub(super) struct Found {
+    /// The first line that says something; none where no whole line does.
+    pub line: Option<Line>,
+    /// Its number, or that of the line being read.
+    pub at: u64,
+    /// The number of the line that follows.
+    pub number: u64,
+    /// How many bytes follow.
+    pub left: usize,
+    /// How many of those are known to hold no line feed.
+    pub searched: usize,
+}
+
+/// What the bytes of the line with this number say.
+pub(super) fn parse_at(alloc: Global, max: u32, ended: bool, bytes: &[u8], number: u64) -> Result<Option<Line>, LineFault>
+    requires { max ≤ 134217727 }
+    ensures { MatchResult result (λ line. spoken max ended (tokens_of bytes.now) ≡ Ok line) (λ fault. (fault.line ≡ number) × IsTold fault.kind (spoken max ended (tokens_of bytes.now))) }
+{
+    match parse(alloc, max, ended, bytes) {
+        Ok(line) => Ok(line),
+        Err(kind) => Err(LineFault {
+            kind,
+            line: number,
+        }),
+    }
+}
+
+/// Looks for the first whole line that says something. There is no line feed among the first `searched` bytes.
+pub(super) fn look(alloc: Global, max: u32, first: u64, ahead: &[u8], searched: usize) -> Result<Found, LineFault>
+    requires max { max ≤ 134217727 }
+    requires within { searched ≤ length ahead.now }
+    requires none_before { HasNoLineEnd (take searched ahead.now) }
+    ensures left { IfOk result (λ found. found.left ≤ length ahead.now) }
+    ensures found { (k : ℕ) → first ≡ line_number k → MatchResult result (λ found. Looked max k ahead.now found) (λ fault. Fails max k ahead.now fault) }
+{
+    let mut rest = ahead;
+    let mut none_before = searched;
+    let mut number = first;
+    while let Some((bytes, after)) = first_line(rest, none_before) {
+        let next = number.saturating_add(1);
+        match parse_at(alloc, max, true, bytes, number)? {
+            None => {}
+            Some(line) => {
+                return Ok(Found {
+                    line: Some(line),
+                    at: number,
+                    number: next,
+                    left: after.len(),
+                    searched: 0,
+                });
+            }
+        }
+        rest = after;
+        none_before = 0;
+        number = next;
+    }
+    Ok(Found {
+        line: None,
+        at: number,
+        number,
+        left: rest.len(),
+        searched: rest.len(),
+    })
+}
+
+/// The same, and where no whole line says anything, what the last one says, which the input ends; and whether it
+/// came to that.
+pub(super) fn look_to_end(alloc: Global, max: u32, first: u64, ahead: &[u8], searched: usize) -> Result<(Found, bool), LineFault>
+    requires max { max ≤ 134217727 }
+    requires within { searched ≤ length ahead.now }
+    requires none_before { HasNoLineEnd (take searched ahead.now) }
+    ensures { (k : ℕ) → first ≡ line_number k → MatchResult result (λ found. MatchBool found.1 (LookedBehind max k ahead.now found.0) (Looked max k ahead.now found.0 × IsSome found.0.line)) (λ fault. FailsToEnd max k ahead.now fault) }
+{
+    let found = look(alloc, max, first, ahead, searched)?;
+    if found.line.is_some() {
+        return Ok((found, false));
+    }
+    let (_, last) = ahead.split_at(ahead.len() - found.left);
+    let line = parse_at(alloc, max, false, last, found.number)?;
+    let behind = Found {
+        line,
+        at: found.number,
+        number: found.number,
+        left: 0,
+        searched: 0,
+    };
+    Ok((behind, true))
+}
