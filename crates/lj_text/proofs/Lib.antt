@@ -7,3 +7,4 @@ mod FrontLemmas
 mod PassLemmas
 mod StandLemmas
 mod TokenLemmas
+pub mod Fronts
