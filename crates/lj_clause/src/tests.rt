@@ -145,17 +145,15 @@ fn formulas_name_no_variable_above_their_number(rt: HostRuntime) -> Result<(), F
 fn a_refused_growth_changes_nothing(rt: HostRuntime) -> Result<(), Fail> {
     let alloc = rt.alloc();
     let (one, two) = (lit(&rt, 1), lit(&rt, 2));
-    let written = [two, two, one.negated(), one];
+    let given = [two, two, one.negated(), one];
     let wanted = [one, one.negated(), two];
 
-    let clause = Clause::from_lits(alloc, &written).or_else(|_| Clause::from_lits(
-        alloc, &written,
-    ))?;
+    let clause = Clause::from_lits(alloc, &given).or_else(|_| Clause::from_lits(alloc, &given))?;
     let copy = clause.copy().or_else(|_| clause.copy())?;
     assert_eq!(rt; clause.lits(), wanted.as_slice());
     assert!(rt; copy.same(&clause));
 
-    let lemma = Lemma::from_lits(alloc, &written).or_else(|_| Lemma::from_lits(alloc, &written))?;
+    let lemma = Lemma::from_lits(alloc, &given).or_else(|_| Lemma::from_lits(alloc, &given))?;
     let copy = lemma.copy().or_else(|_| lemma.copy())?;
     for lemma in [&lemma, &copy] {
         assert_eq!(rt; lemma.pivot(), Some(two));
