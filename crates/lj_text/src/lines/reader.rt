@@ -101,6 +101,80 @@ impl LineReader {
         }
     }
 
+    /// The next whole line that says something: `None` where there is none yet.
+    ///
+    /// # Errors
+    /// The line's fault, and from then on that fault again; `NoMemory`, and then the reader is unchanged.
+    pub fn next(&mut self) -> Result<Option<Line>, LineFault>
+        ensures told_again { IfSome self.old.fault (λ fault. (result ≡ Err fault) × (self.new ≡ self.old)) }
+
+        // The first whole line that says something and wasn't handed out, or its fault; none exactly where there is none.
+        ensures answer { (text : List ℕ) (given : ℕ) → StandsAt self.old text given → self.old.fault ≡ None → wants_memory result ≡ false → result ≡ answer_of (slice_get (whole_said self.old.max text) given) }
+        ensures stands { (text : List ℕ) (given : ℕ) → StandsAt self.old text given → StandsAt self.new text (given + handed_out result) }
+
+        // Its number, or that of the line being read.
+        ensures at { (text : List ℕ) (given : ℕ) → StandsAt self.old text given → self.old.fault ≡ None → wants_memory result ≡ false → self.new.at ≡ place_of (slice_get (whole_said self.old.max text) given) (last_number text) }
+
+        ensures fault { self.old.fault ≡ None → wants_memory result ≡ false → self.new.fault ≡ fault_of result }
+        ensures unchanged { wants_memory result ≡ true → self.new ≡ self.old }
+        ensures same { (self.new.max ≡ self.old.max) × (self.new.finished ≡ self.old.finished) }
+    {
+        if let Some(fault) = self.fault {
+            return Err(fault);
+        }
+        if self.finished {
+            self.at = self.line;
+            return Ok(None);
+        }
+        match self.look_ahead() {
+            Ok(found) => Ok(self.pass(found)),
+            Err(fault) => {
+                self.keep(fault);
+                Err(fault)
+            }
+        }
+    }
+
+    /// Ends the input: the next line that says something, the last one too, which no line feed ends; `None` where
+    /// there is none.
+    ///
+    /// # Errors
+    /// The line's fault, and from then on that fault again; `NoMemory`, and then the reader is unchanged.
+    pub fn finish(&mut self) -> Result<Option<Line>, LineFault>
+        ensures told_again { IfSome self.old.fault (λ fault. (result ≡ Err fault) × (self.new ≡ self.old)) }
+
+        // The first line that says something and wasn't handed out, or its fault; none exactly where there is none.
+        ensures answer { (text : List ℕ) (given : ℕ) → StandsAt self.old text given → self.old.fault ≡ None → wants_memory result ≡ false → result ≡ answer_of (slice_get (all_said self.old.max text) given) }
+        ensures stands { (text : List ℕ) (given : ℕ) → StandsAt self.old text given → StandsAt self.new text (given + handed_out result) }
+
+        // Its number, or that of the last line.
+        ensures at { (text : List ℕ) (given : ℕ) → StandsAt self.old text given → self.old.fault ≡ None → wants_memory result ≡ false → self.new.at ≡ place_of (slice_get (all_said self.old.max text) given) (last_number text) }
+
+        ensures fault { self.old.fault ≡ None → wants_memory result ≡ false → self.new.fault ≡ fault_of result }
+        ensures unchanged { wants_memory result ≡ true → self.new ≡ self.old }
+        ensures max { self.new.max ≡ self.old.max }
+    {
+        if let Some(fault) = self.fault {
+            return Err(fault);
+        }
+        if self.finished {
+            self.at = self.line;
+            return Ok(None);
+        }
+        match self.look_to_end() {
+            Ok((found, true)) => {
+                let line = self.pass(found);
+                self.finished = true;
+                Ok(line)
+            }
+            Ok((found, false)) => Ok(self.pass(found)),
+            Err(fault) => {
+                self.keep(fault);
+                Err(fault)
+            }
+        }
+    }
+
     /// The number of the line that was handed out last; after an answer without a line, of the line being read.
     pub fn at(&self) -> u64
         ensures { result ≡ self.now.at }
