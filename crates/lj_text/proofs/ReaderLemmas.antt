@@ -183,3 +183,29 @@ ahead-behind max k ahead found p = record {
     before = k + length (all_but_last (lines_of ahead));
     number_is = p.number_is;
   }
+
+by_memory : (b : Bool) (r : LinesRead) (fault : LineFault) → (cond b r (record r { at = fault.line; fault = Some fault })).max ≡ r.max
+by_memory true r fault = refl
+by_memory false r fault = refl
+
+pub kept-max : (r : LinesRead) (fault : LineFault) → (kept r fault).max ≡ r.max
+kept-max r fault = by_memory (is_no_memory fault.kind) r fault
+
+stands_by_memory : (b : Bool) (r : LinesRead) (fault : LineFault) (text : List ℕ) (given : ℕ) → r.finished ≡ false → StandsWithin r text given
+    → StandsAt (cond b r (record r { at = fault.line; fault = Some fault })) text given
+stands_by_memory true r fault text given h s = stands-of r text given h s
+stands_by_memory false r fault text given h s = stands-of (record r { at = fault.line; fault = Some fault }) text given h (record { lines = s.lines; whole = s.whole; text_is = s.text_is; line_is = s.line_is; given_is = s.given_is })
+
+pub stands-kept : (r : LinesRead) (fault : LineFault) (text : List ℕ) (given : ℕ) → r.finished ≡ false → StandsWithin r text given → StandsAt (kept r fault) text (given + 0)
+stands-kept r fault text given h s =
+    let P : ℕ → Type 0 = λ n. StandsAt (kept r fault) text n in
+    let same : given ≡ given + 0 = omega arith in
+    subst P same (stands_by_memory (is_no_memory fault.kind) r fault text given h s)
+
+pub at_true : (b : Bool) (P Q : Type 0) → b ≡ true → MatchBool b P Q → P
+at_true true P Q h p = p
+at_true false P Q h p = cc
+
+pub at_false : (b : Bool) (P Q : Type 0) → b ≡ false → MatchBool b P Q → Q
+at_false true P Q h q = cc
+at_false false P Q h q = q
