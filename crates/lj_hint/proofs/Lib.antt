@@ -1,0 +1,4 @@
+pub mod Contradictions
+pub mod Inserts
+pub mod Rests
+pub mod Walks

@@ -1,0 +1,6 @@
+pub mod Hints
+pub mod Rest
+pub mod Ending
+pub mod Case
+pub mod Receipt
+pub mod Tested
