@@ -4,3 +4,4 @@ pub mod Ending
 pub mod Case
 pub mod Receipt
 pub mod Tested
+pub mod Laws

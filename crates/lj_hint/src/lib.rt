@@ -2,14 +2,18 @@
 #![tactic(auto)]
 
 mod case;
+mod laws;
 mod marks;
 mod pair;
 mod receipt;
 mod tested;
+#[cfg(test)]
+mod tests;
 mod true_lits;
 mod walk;
 
 pub use case::Case;
+pub use laws::receipt_implies;
 pub use marks::Marks;
 pub use pair::Pair;
 pub use receipt::Receipt;
