@@ -4,11 +4,9 @@ ghost use Rattle.lj_clause.specs.Examples.{WalkExamples, RatExamples};
 /// The walk, at examples computed by hand.
 pub fn walks()
     ensures { WalkExamples }
-{
-}
+{}
 
 /// The test of candidates, at examples computed by hand.
 pub fn candidate_tests()
     ensures { RatExamples }
-{
-}
+{}
