@@ -1,7 +1,6 @@
 -- When a set of literals holds a variable and its negation.
-use Rattle.std.proofs.Common.{◌≡◌, ℕ, zero, suc, ◌<◌, ap, refl, sym, ◌∙◌, inl, inr, arith}
-use Rattle.std.specs.Prelude.{ℤ, pos, negsuc, neg_ℤ, int_lt, Bool, true, false, ◌||◌, ◌&&◌, ◌⊎◌, List, [], ◌∷◌}
-use Rattle.std.specs.List.{list_any}
+use Rattle.std.proofs.Common.{◌≡◌, zero, suc, ◌<◌, ap, refl, sym, ◌∙◌, inl, inr, arith}
+use Rattle.std.specs.Prelude.{ℤ, pos, negsuc, neg_ℤ, int_lt, Bool, true, false, ◌||◌, ◌&&◌, ◌⊎◌}
 use Rattle.std.specs.Ordering.{eq_by_cmp}
 use Rattle.std.proofs.lemmas.Bool.{false≢true, and_parts, and_from, or_cases, or_left, or_right, lt-ltb}
 use lib.IntN.{neg_ℤ-neg_ℤ}

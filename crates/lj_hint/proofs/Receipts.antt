@@ -1,10 +1,10 @@
 -- A receipt in a clause map that has its listed clauses.
-use Rattle.std.proofs.Common.{◌≡◌, ℕ, zero, suc, ◌<◌, ap, refl, sym, ◌∙◌, arith, length, get_or}
-use Rattle.std.specs.Prelude.{List, [], ◌∷◌, true, Some, All}
+use Rattle.std.proofs.Common.{◌≡◌, suc, ap, refl, ◌∙◌, arith}
+use Rattle.std.specs.Prelude.{List, [], ◌∷◌, Some, All}
 use Rattle.std.specs.FinMap.{get}
 use Rattle.lj_clause.specs.LiteralSet.{negations}
 use Rattle.lj_clause.specs.ClauseMap.{ClauseMap}
-use Rattle.lj_clause.specs.Walk.{walk_over, walk, is_closed, hints_in, Hint}
+use Rattle.lj_clause.specs.Walk.{walk_over, is_closed, hints_in, Hint}
 use Rattle.lj_clause.proofs.WalkLaws.{satisfies-is_rup}
 use Rattle.lj_hint.specs.declared.pair.Pair.{Pair}
 use Rattle.lj_hint.specs.Hints.{named, numbers}

@@ -1,6 +1,6 @@
 -- What is left of a clause, seen one literal after the other.
-use Rattle.std.proofs.Common.{◌≡◌, ap, refl, sym, ◌∙◌}
-use Rattle.std.specs.Prelude.{ℤ, Bool, true, false, List, [], ◌∷◌, filter}
+use Rattle.std.proofs.Common.{◌≡◌, refl}
+use Rattle.std.specs.Prelude.{ℤ, List, [], ◌∷◌}
 use Rattle.lj_hint.specs.declared.walk.Rest.{Rest}
 use Rattle.lj_hint.specs.declared.walk.Rest.TheVariants.{Nothing, One, More}
 use Rattle.lj_hint.specs.Rest.{seen}

@@ -6,7 +6,7 @@ use Rattle.lj_clause.specs.LiteralSet.{LiteralSet}
 use Rattle.lj_clause.specs.Walk.{Walk, Closed, Open, Stuck, Hint, walk_over}
 use Rattle.lj_clause.proofs.WalkLaws.{walk_over-used, used-numbers}
 use Rattle.lj_hint.specs.declared.pair.Pair.{Pair}
-use Rattle.lj_hint.specs.declared.walk.Ending.TheVariants.{ClosedAfter, StaysOpen, StuckAt}
+use Rattle.lj_hint.specs.declared.walk.Ending.TheVariants.{ClosedAfter}
 use Rattle.lj_hint.specs.Hints.{named, numbers}
 use Rattle.lj_hint.specs.Ending.{ending_of}
 

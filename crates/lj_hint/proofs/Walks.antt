@@ -1,14 +1,12 @@
 -- A walk, told from the hints that it has read and what is left.
-use Rattle.std.proofs.Common.{◌≡◌, ℕ, zero, suc, ◌+◌, ◌<◌, ◌≤◌, ap, refl, sym, subst, ◌∙◌, length, take, drop, get_or, arith, add-one, length-append, drop-cons}
-use Rattle.std.specs.Prelude.{ℤ, Bool, true, false, cond, List, [], ◌∷◌, ◌++◌, map, Some}
+use Rattle.std.proofs.Common.{◌≡◌, ℕ, suc, ◌+◌, ◌<◌, ◌≤◌, ap, refl, sym, ◌∙◌, length, take, drop, get_or, arith, add-one, length-append, drop-cons}
+use Rattle.std.specs.Prelude.{ℤ, true, false, cond, List, [], ◌∷◌, ◌++◌}
 use Rattle.std.proofs.lemmas.List.{take_more, length-take-le, length-map, drop_all, map-append}
 use Rattle.lj_clause.specs.LiteralSet.{LiteralSet, with_literal}
 use Rattle.lj_clause.specs.Walk.{Walk, Closed, Open, Stuck, Hint, rest, is_contradictory, after_hint, by_rest, by_hint, walk_over}
 use Rattle.lj_hint.specs.declared.pair.Pair.{Pair}
-use Rattle.lj_hint.specs.declared.walk.Rest.{Rest}
 use Rattle.lj_hint.specs.declared.walk.Rest.TheVariants.{Nothing, One, More}
-use Rattle.lj_hint.specs.declared.walk.Ending.{Ending}
-use Rattle.lj_hint.specs.declared.walk.Ending.TheVariants.{ClosedAfter, StaysOpen, StuckAt}
+use Rattle.lj_hint.specs.declared.walk.Ending.TheVariants.{ClosedAfter, StuckAt}
 use Rattle.lj_hint.specs.Hints.{named, numbers}
 use Rattle.lj_hint.specs.Rest.{seen}
 use Rattle.lj_hint.specs.Ending.{ending_of}

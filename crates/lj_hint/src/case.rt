@@ -78,7 +78,7 @@ impl Case {
     pub fn hints(&self) -> &[Pair]
         ensures { result.now ≡ self.now.hints }
     {
-        &self.hints
+        self.hints.as_slice()
     }
 
     /// The groups, each a candidate and its hints.

@@ -1,4 +1,4 @@
-use Rattle.std.proofs.Common.{◌≡◌, ◌≤◌, ◌+◌, ap, sym, ◌∙◌, arith, length}
+use Rattle.std.proofs.Common.{◌≡◌, ◌+◌, ap, sym, ◌∙◌, arith, length}
 use Rattle.lj_hint.specs.Ending.{ending_of}
 use Rattle.lj_hint.proofs.Walks.{Reads, walk_from, ends_contradictory, ends_open, ends_closed, ends_stuck, goes_on}
 use Rattle.lj_hint.proofs.walk.walk.Goals as goal

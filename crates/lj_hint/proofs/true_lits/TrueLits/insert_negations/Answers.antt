@@ -1,7 +1,6 @@
 use Rattle.std.proofs.Common.{ap, ◌∙◌}
 use Rattle.std.specs.Prelude.{neg_ℤ}
-use Rattle.lj_clause.specs.LiteralSet.{with_literal, with_negations}
-use Rattle.std.proofs.Common.{take}
+use Rattle.lj_clause.specs.LiteralSet.{with_literal}
 use Rattle.lj_hint.proofs.Inserts.{with_negations-more}
 use Rattle.lj_hint.proofs.true_lits.TrueLits.insert_negations.Goals as goal
 
