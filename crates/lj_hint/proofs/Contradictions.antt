@@ -71,7 +71,7 @@ still_contradictory : (a : LiteralSet) (l : ℤ) → 0 < variable_of l → (is_c
 still_contradictory a l nonzero h =
     elim (or_cases (is_contradictory a) (holds a (neg_ℤ l)) h) [
       | inl before ↦ let found = both_held a before in
-        contradictory_by (with_literal a l) found.0 (record { positive = found.1.positive; held = held_still a l found.0 found.1.held; negation = held_still a l (neg_ℤ found.0) found.1.negation })
+          contradictory_by (with_literal a l) found.0 (record { positive = found.1.positive; held = held_still a l found.0 found.1.held; negation = held_still a l (neg_ℤ found.0) found.1.negation })
       | inr met ↦ elim (one_positive l nonzero) [
         | inl up ↦ contradictory_by (with_literal a l) l (record { positive = up; held = held_now a l; negation = held_still a l (neg_ℤ l) met })
         | inr down ↦ contradictory_by (with_literal a l) (neg_ℤ l) (record { positive = down; held = held_still a l (neg_ℤ l) met; negation = ap (holds (with_literal a l)) (neg_ℤ-neg_ℤ l) ∙ held_now a l })

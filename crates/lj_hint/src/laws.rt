@@ -6,5 +6,4 @@ ghost use Rattle.lj_hint.specs.Laws.{ReceiptIsRup, ReceiptImplies};
 pub fn receipt_implies()
     ensures rup { ReceiptIsRup }
     ensures implied { ReceiptImplies }
-{
-}
+{}

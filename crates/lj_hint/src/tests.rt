@@ -9,6 +9,7 @@ use std::process::Abort;
 use std::test::Fail;
 
 const SEAT: u32 = 3;
+
 const OWN: u64 = 5;
 
 /// Once more, where a growth was refused.
@@ -71,13 +72,7 @@ fn assert_case(rt: &impl Abort, case: &Case, lemma: &[i32], hints: &[u64]) {
 }
 
 /// The answer for a case of these, asked again where a growth was refused.
-fn answer(
-    rt: &impl Abort,
-    case: Case,
-    lemma: &[i32],
-    hints: &[u64],
-    marks: &mut Marks,
-) -> Tested {
+fn answer(rt: &impl Abort, case: Case, lemma: &[i32], hints: &[u64], marks: &mut Marks) -> Tested {
     match case.test(marks) {
         Tested::NoMemory(case) => {
             assert_case(rt, &case, lemma, hints);

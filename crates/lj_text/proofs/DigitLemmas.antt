@@ -27,8 +27,9 @@ goes_on value read next d held c =
     let then : next ≤ greatest → 10 * value + d ≡ next = c.0 in
     let beyond : greatest < next → greatest < 10 * value + d = c.1 in
     elim (cases_lt greatest value) [
-      inl big ↦ (λ h. absurd (omega (arith, then h)), λ h. omega (arith, above big))
-    | inr small ↦ (λ h. omega (arith, then h, here small), λ h. omega (arith, beyond h, here small)) ]
+      | inl big ↦ (λ h. absurd (omega (arith, then h)), λ h. omega (arith, above big))
+      | inr small ↦ (λ h. omega (arith, then h, here small), λ h. omega (arith, beyond h, here small))
+    ]
 
 pub read-more : (all rest : List ℕ) (b value next : ℕ) → is_ascii_digit b ≡ true → Counts next (10 * value + (b - 48)) → IsRead all (b ∷ rest) value → IsRead all rest next
 read-more all rest b value next d c so_far =

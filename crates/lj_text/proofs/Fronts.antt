@@ -22,9 +22,9 @@ record Cut (text : List ℕ) : Type 0 where
 byte_before : (b : ℕ) (bytes : List ℕ) → is_line_end b ≡ false → Cut bytes → Cut (b ∷ bytes)
 byte_before b bytes e c = by_lines c.lines c.whole c.text_is
   where
-  by_lines : (ls : List (List ℕ)) → AllByRecursion HasNoLineEnd ls → bytes ≡ joined ls ++ c.after → Cut (b ∷ bytes)
-  by_lines [] h is = record { lines = []; after = b ∷ c.after; whole = tt; open_end = All-cons (λ x. is_line_end x ≡ false) b c.after e c.open_end; text_is = ap (λ xs. b ∷ xs) is }
-  by_lines (l ∷ ls) h is = record { lines = (b ∷ l) ∷ ls; after = c.after; whole = (All-cons (λ x. is_line_end x ≡ false) b l e h.0, h.1); open_end = c.open_end; text_is = ap (λ xs. b ∷ xs) is }
+    by_lines : (ls : List (List ℕ)) → AllByRecursion HasNoLineEnd ls → bytes ≡ joined ls ++ c.after → Cut (b ∷ bytes)
+    by_lines [] h is = record { lines = []; after = b ∷ c.after; whole = tt; open_end = All-cons (λ x. is_line_end x ≡ false) b c.after e c.open_end; text_is = ap (λ xs. b ∷ xs) is }
+    by_lines (l ∷ ls) h is = record { lines = (b ∷ l) ∷ ls; after = c.after; whole = (All-cons (λ x. is_line_end x ≡ false) b l e h.0, h.1); open_end = c.open_end; text_is = ap (λ xs. b ∷ xs) is }
 
 cut_of : (text : List ℕ) → Cut text
 cut_of [] = record { lines = []; after = []; whole = tt; open_end = λ k d lt. absurd (omega arith); text_is = refl }
@@ -40,10 +40,11 @@ pub all_said-front : (max : ℕ) (front more : List ℕ) → (later : List Said)
 all_said-front max front more =
     let c = cut_of front in
     let whole : whole_said max front ≡ said_from max 0 c.lines =
-      ap (whole_said max) c.text_is ∙ whole-joined max 0 c.lines c.after c.whole ∙ ap (λ ss. said_from max 0 c.lines ++ ss) (whole-none max (0 + length c.lines) c.after c.open_end) ∙ append-nil (said_from max 0 c.lines) in
-    (all_said_from max (0 + length c.lines) (c.after ++ more),
-    ap (λ t. all_said max (t ++ more)) c.text_is ∙ ap (all_said max) (append_assoc (joined c.lines) c.after more) ∙ all-joined max 0 c.lines (c.after ++ more) c.whole
-    ∙ ap (λ ss. ss ++ all_said_from max (0 + length c.lines) (c.after ++ more)) (sym whole))
+    ap (whole_said max) c.text_is ∙ whole-joined max 0 c.lines c.after c.whole ∙ ap (λ ss. said_from max 0 c.lines ++ ss) (whole-none max (0 + length c.lines) c.after c.open_end) ∙ append-nil (said_from max 0 c.lines) in (
+      all_said_from max (0 + length c.lines) (c.after ++ more),
+      ap (λ t. all_said max (t ++ more)) c.text_is ∙ ap (all_said max) (append_assoc (joined c.lines) c.after more) ∙ all-joined max 0 c.lines (c.after ++ more) c.whole
+          ∙ ap (λ ss. ss ++ all_said_from max (0 + length c.lines) (c.after ++ more)) (sym whole),
+    )
 
 get-front : {X : Type 0} (xs ys : List X) (i : ℕ) (x : X) → slice_get xs i ≡ Some x → slice_get (xs ++ ys) i ≡ Some x
 get-front [] ys i x e = cc

@@ -14,7 +14,7 @@ goes-on max start searched line len bytes ahead found held ahead_is len_is next 
     let within : searched ≤ length bytes = held.within in
     let place : start + (length ahead - found.left) ≡ len - found.left = omega arith in
     let same : drop (length ahead - found.left) ahead ≡ drop (len - found.left) bytes =
-      ap (drop (length ahead - found.left)) (sym ahead_is) ∙ drop-drop (length ahead - found.left) start bytes ∙ ap (λ n. drop n bytes) (omega arith) in
+    ap (drop (length ahead - found.left)) (sym ahead_is) ∙ drop-drop (length ahead - found.left) start bytes ∙ ap (λ n. drop n bytes) (omega arith) in
     let searched_is : found.searched ≡ len - found.left + found.searched - (len - found.left) = omega arith in
     let P : ℕ → List ℕ → Type 0 = λ n r. HasNoLineEnd (take n r) in
     record {

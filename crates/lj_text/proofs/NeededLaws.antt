@@ -157,9 +157,10 @@ pub needed_least : NeededIsLeast
 needed_least steps =
     let adds = additions (up_to_empty steps) in
     let first = with_numbers fin.empty (empty_numbers (up_to_empty steps)) in
-    let all = closes (length adds) first adds (omega arith) in
-    (record {
-      empty_clause = all_in_part first (needed steps) (empty_numbers (up_to_empty steps)) all.part (has_all-with_numbers fin.empty (empty_numbers (up_to_empty steps)));
-      hints = all.covers;
-    },
-    λ s closed. closure_part (length adds) first s adds (with_numbers_part fin.empty s (empty_numbers (up_to_empty steps)) (no_numbers s) closed.empty_clause) closed.hints)
+    let all = closes (length adds) first adds (omega arith) in (
+      record {
+        empty_clause = all_in_part first (needed steps) (empty_numbers (up_to_empty steps)) all.part (has_all-with_numbers fin.empty (empty_numbers (up_to_empty steps)));
+        hints = all.covers;
+      },
+      λ s closed. closure_part (length adds) first s adds (with_numbers_part fin.empty s (empty_numbers (up_to_empty steps)) (no_numbers s) closed.empty_clause) closed.hints,
+    )

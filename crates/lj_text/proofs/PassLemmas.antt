@@ -34,12 +34,12 @@ pub record Passed (max first : ℕ) (ahead rest : List ℕ) (number : ℕ) : Typ
 
 pub passed-none : (max first : ℕ) (ahead : List ℕ) → Passed max first ahead ahead first
 passed-none max first ahead = record {
-    lines = [];
-    whole = tt;
-    ahead_is = refl;
-    number_is = λ k h. h ∙ ap line_number (omega arith);
-    silent = λ k. refl;
-  }
+  lines = [];
+  whole = tt;
+  ahead_is = refl;
+  number_is = λ k h. h ∙ ap line_number (omega arith);
+  silent = λ k. refl;
+}
 
 all_more : (ls : List (List ℕ)) (l : List ℕ) → AllByRecursion HasNoLineEnd ls → HasNoLineEnd l → AllByRecursion HasNoLineEnd (ls ++ l ∷ [])
 all_more [] l h k = (k, tt)
@@ -59,46 +59,46 @@ said_more max k ls l h = said_from-append max k ls (l ∷ []) ∙ ap (λ ss. ss 
 pub passed-more : (max first : ℕ) (ahead rest l after : List ℕ) (number : ℕ) → Passed max first ahead rest number → rest ≡ l ++ 10 ∷ after → HasNoLineEnd l
     → spoken max true (tokens_of l) ≡ Ok None → Passed max first ahead after (min (number + 1) (2 ^ 64 - 1))
 passed-more max first ahead rest l after number p e h silent = record {
-    lines = p.lines ++ l ∷ [];
-    whole = all_more p.lines l p.whole h;
-    ahead_is = p.ahead_is ∙ ap (λ r. joined p.lines ++ r) e ∙ sym (joined_more p.lines l after);
-    number_is = λ k first_is. next_number (k + length p.lines) number (p.number_is k first_is) ∙ ap line_number (omega (arith, length-append p.lines (l ∷ [])));
-    silent = λ k. said_more max k p.lines l (p.silent k) ∙ said-spoken max (k + length p.lines) true l ∙ ap (said_for (line_number (k + length p.lines))) silent;
-  }
+  lines = p.lines ++ l ∷ [];
+  whole = all_more p.lines l p.whole h;
+  ahead_is = p.ahead_is ∙ ap (λ r. joined p.lines ++ r) e ∙ sym (joined_more p.lines l after);
+  number_is = λ k first_is. next_number (k + length p.lines) number (p.number_is k first_is) ∙ ap line_number (omega (arith, length-append p.lines (l ∷ [])));
+  silent = λ k. said_more max k p.lines l (p.silent k) ∙ said-spoken max (k + length p.lines) true l ∙ ap (said_for (line_number (k + length p.lines))) silent;
+}
 
 -- the line behind them says something
 pub looked-some : (max first k : ℕ) (ahead rest l after : List ℕ) (number left : ℕ) (line : Line) → Passed max first ahead rest number → first ≡ line_number k → rest ≡ l ++ 10 ∷ after → HasNoLineEnd l
     → spoken max true (tokens_of l) ≡ Ok (Some line) → left ≡ length after
     → Looked max k ahead (record { line = Some line; at = number; number = min (number + 1) (2 ^ 64 - 1); left = left; searched = 0 })
 looked-some max first k ahead rest l after number left line p first_is e h says left_is = record {
-    lines = p.lines ++ l ∷ [];
-    after = after;
-    whole = all_more p.lines l p.whole h;
-    ahead_is = p.ahead_is ∙ ap (λ r. joined p.lines ++ r) e ∙ sym (joined_more p.lines l after);
-    left_is = left_is;
-    number_is = next_number (k + length p.lines) number (p.number_is k first_is) ∙ ap line_number (omega (arith, length-append p.lines (l ∷ [])));
-    said_is = said_more max k p.lines l (p.silent k) ∙ said-spoken max (k + length p.lines) true l ∙ ap (said_for (line_number (k + length p.lines))) says
+  lines = p.lines ++ l ∷ [];
+  after = after;
+  whole = all_more p.lines l p.whole h;
+  ahead_is = p.ahead_is ∙ ap (λ r. joined p.lines ++ r) e ∙ sym (joined_more p.lines l after);
+  left_is = left_is;
+  number_is = next_number (k + length p.lines) number (p.number_is k first_is) ∙ ap line_number (omega (arith, length-append p.lines (l ∷ [])));
+  said_is = said_more max k p.lines l (p.silent k) ∙ said-spoken max (k + length p.lines) true l ∙ ap (said_for (line_number (k + length p.lines))) says
       ∙ ap (λ n. record { line = n; says = Ok line } ∷ []) (sym (p.number_is k first_is));
-    searched_is = omega arith;
-    none_before = λ i d h. absurd (omega arith);
-    none_is = tt;
-  }
+  searched_is = omega arith;
+  none_before = λ i d h. absurd (omega arith);
+  none_is = tt;
+}
 
 -- no whole line is left
 pub looked-none : (max first k : ℕ) (ahead rest : List ℕ) (number left : ℕ) → Passed max first ahead rest number → first ≡ line_number k → HasNoLineEnd rest → left ≡ length rest
     → Looked max k ahead (record { line = None; at = number; number = number; left = left; searched = left })
 looked-none max first k ahead rest number left p first_is h left_is = record {
-    lines = p.lines;
-    after = rest;
-    whole = p.whole;
-    ahead_is = p.ahead_is;
-    left_is = left_is;
-    number_is = p.number_is k first_is;
-    said_is = p.silent k;
-    searched_is = omega arith;
-    none_before = let P : List ℕ → Type 0 = HasNoLineEnd in subst P (sym (take_all left rest (omega arith))) h;
-    none_is = (h, refl);
-  }
+  lines = p.lines;
+  after = rest;
+  whole = p.whole;
+  ahead_is = p.ahead_is;
+  left_is = left_is;
+  number_is = p.number_is k first_is;
+  said_is = p.silent k;
+  searched_is = omega arith;
+  none_before = let P : List ℕ → Type 0 = HasNoLineEnd in subst P (sym (take_all left rest (omega arith))) h;
+  none_is = (h, refl);
+}
 
 -- the first that says something, behind silent ones
 first_said : (max k : ℕ) (ls : List (List ℕ)) (l after : List ℕ) → AllByRecursion HasNoLineEnd ls → HasNoLineEnd l → said_from max k ls ≡ []
@@ -123,7 +123,7 @@ pub fails-here : (max first k : ℕ) (ahead rest l after : List ℕ) (number : �
 fails-here max first k ahead rest l after number fault p first_is e h told memory =
     let wrong : spoken max true (tokens_of l) ≡ Err fault.kind = fails_at max fault.kind l memory told.1 in
     let says : said_by max (k + length p.lines) true l ≡ record { line = line_number (k + length p.lines); says = Err fault.kind } ∷ [] =
-      said-spoken max (k + length p.lines) true l ∙ ap (said_for (line_number (k + length p.lines))) wrong in
+    said-spoken max (k + length p.lines) true l ∙ ap (said_for (line_number (k + length p.lines))) wrong in
     let number_is : line_number (k + length p.lines) ≡ fault.line = sym (told.0 ∙ p.number_is k first_is) in
     ap (λ bytes. slice_get (whole_said_from max k bytes) 0) (p.ahead_is ∙ ap (λ r. joined p.lines ++ r) e)
     ∙ ap (λ (ss : List Said). slice_get ss 0) (first_said max k p.lines l after p.whole h (p.silent k))
@@ -168,14 +168,14 @@ after_is max k ahead found p =
 pub looked-behind : (max k : ℕ) (ahead last : List ℕ) (found : Found) (line : Option Line) → Looked max k ahead found → found.line ≡ None → last ≡ drop (length ahead - found.left) ahead
     → spoken max false (tokens_of last) ≡ Ok line → LookedBehind max k ahead (record { line = line; at = found.number; number = found.number; left = 0; searched = 0 })
 looked-behind max k ahead last found line p none last_is says = record {
-    said_is = last_said max k ahead found p none ∙ ap (said_by max (k + length p.lines) false) (sym (last_is ∙ after_is max k ahead found p))
+  said_is = last_said max k ahead found p none ∙ ap (said_by max (k + length p.lines) false) (sym (last_is ∙ after_is max k ahead found p))
       ∙ said-spoken max (k + length p.lines) false last ∙ ap (said_for (line_number (k + length p.lines))) says
       ∙ ap (λ n. said_for n (Ok line)) (sym p.number_is) ∙ for_line found.number line;
-    number_is = p.number_is ∙ ap (λ (ls : List (List ℕ)). line_number (k + length ls)) (sym (lines_ahead max k ahead found p none));
-    at_is = refl;
-    left_is = refl;
-    searched_is = refl;
-  }
+  number_is = p.number_is ∙ ap (λ (ls : List (List ℕ)). line_number (k + length ls)) (sym (lines_ahead max k ahead found p none));
+  at_is = refl;
+  left_is = refl;
+  searched_is = refl;
+}
 
 -- the last line has a fault
 pub fails-behind : (max k : ℕ) (ahead last : List ℕ) (found : Found) (fault : LineFault) → Looked max k ahead found → found.line ≡ None → last ≡ drop (length ahead - found.left) ahead
@@ -183,7 +183,7 @@ pub fails-behind : (max k : ℕ) (ahead last : List ℕ) (found : Found) (fault 
 fails-behind max k ahead last found fault p none last_is told memory =
     let wrong : spoken max false (tokens_of last) ≡ Err fault.kind = fails_at_end max fault.kind last memory told.1 in
     ap (λ (ss : List Said). slice_get ss 0) (last_said max k ahead found p none ∙ ap (said_by max (k + length p.lines) false) (sym (last_is ∙ after_is max k ahead found p))
-      ∙ said-spoken max (k + length p.lines) false last ∙ ap (said_for (line_number (k + length p.lines))) wrong)
+    ∙ said-spoken max (k + length p.lines) false last ∙ ap (said_for (line_number (k + length p.lines))) wrong)
     ∙ ap (λ n. Some (record { line = n; says = Err fault.kind })) (sym (told.0 ∙ p.number_is))
 
 -- a fault of a whole line is one of the input

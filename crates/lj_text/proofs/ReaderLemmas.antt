@@ -86,7 +86,7 @@ pub stands-passed : (r : LinesRead) (text : List ℕ) (given : ℕ) (found : Fou
 stands-passed r text given found s p =
     let after : drop (length r.ahead - found.left) r.ahead ≡ p.after = after_is r.max (length s.lines) r.ahead found p in
     let said : said_from r.max 0 (s.lines ++ p.lines) ≡ said_from r.max 0 s.lines ++ said_of found.at found.line =
-      said_from-append r.max 0 s.lines p.lines ∙ ap (λ n. said_from r.max 0 s.lines ++ said_from r.max n p.lines) (omega arith) ∙ ap (λ ss. said_from r.max 0 s.lines ++ ss) p.said_is in
+    said_from-append r.max 0 s.lines p.lines ∙ ap (λ n. said_from r.max 0 s.lines ++ said_from r.max n p.lines) (omega arith) ∙ ap (λ ss. said_from r.max 0 s.lines ++ ss) p.said_is in
     record {
       lines = s.lines ++ p.lines;
       whole = both s.lines p.lines s.whole p.whole;
@@ -100,9 +100,9 @@ pub place-none : (r : LinesRead) (text : List ℕ) (given : ℕ) (found : Found)
 place-none r text given found s p none =
     let P : Option Line → Type 0 = λ o. MatchOption o (HasNoLineEnd p.after × (found.at ≡ found.number)) (λ line. Unit {0}) in
     let last : all_but_last (lines_of text) ≡ s.lines ++ p.lines =
-      ap (λ t. all_but_last (lines_of t)) (s.text_is ∙ ap (λ a. joined s.lines ++ a) p.ahead_is)
-      ∙ cut-joined s.lines (joined p.lines ++ p.after) s.whole
-      ∙ ap (λ ls. s.lines ++ ls) (cut-joined p.lines p.after p.whole ∙ ap (λ ls. p.lines ++ all_but_last ls) (cut-none p.after (none-open r.max (length s.lines) r.ahead found p none)) ∙ append-nil p.lines) in
+    ap (λ t. all_but_last (lines_of t)) (s.text_is ∙ ap (λ a. joined s.lines ++ a) p.ahead_is)
+    ∙ cut-joined s.lines (joined p.lines ++ p.after) s.whole
+    ∙ ap (λ ls. s.lines ++ ls) (cut-joined p.lines p.after p.whole ∙ ap (λ ls. p.lines ++ all_but_last ls) (cut-none p.after (none-open r.max (length s.lines) r.ahead found p none)) ∙ append-nil p.lines) in
     (subst P none p.none_is).1 ∙ p.number_is ∙ ap line_number (sym (ap length last ∙ length-append s.lines p.lines))
 
 places : (at last : ℕ) (o : Option Line) → (o ≡ None → at ≡ last) → at ≡ place_of (found_said at o) last
@@ -142,7 +142,7 @@ kept-at r fault h = ap (λ b. (cond b r (record r { at = fault.line; fault = Som
 pub number-behind : (r : LinesRead) (text : List ℕ) (given : ℕ) (found : Found) (s : StandsWithin r text given) → LookedBehind r.max (length s.lines) r.ahead found → found.number ≡ last_number text
 number-behind r text given found s p =
     let last : all_but_last (lines_of text) ≡ s.lines ++ all_but_last (lines_of r.ahead) =
-      ap (λ t. all_but_last (lines_of t)) s.text_is ∙ cut-joined s.lines r.ahead s.whole in
+    ap (λ t. all_but_last (lines_of t)) s.text_is ∙ cut-joined s.lines r.ahead s.whole in
     p.number_is ∙ ap line_number (sym (ap length last ∙ length-append s.lines (all_but_last (lines_of r.ahead))))
 
 -- the last line is done too
@@ -150,10 +150,10 @@ pub stands-behind : (r new : LinesRead) (text : List ℕ) (given : ℕ) (found :
     → new.max ≡ r.max → new.line ≡ found.number → StandsBehind new text (given + handed_out (Ok found.line))
 stands-behind r new text given found s p max_is line_is =
     let all : all_said r.max text ≡ said_from r.max 0 s.lines ++ said_of found.at found.line =
-      ap (all_said r.max) s.text_is ∙ all-joined r.max 0 s.lines r.ahead s.whole
-      ∙ ap (λ n. said_from r.max 0 s.lines ++ all_said_from r.max n r.ahead) (omega arith) ∙ ap (λ ss. said_from r.max 0 s.lines ++ ss) p.said_is in
+    ap (all_said r.max) s.text_is ∙ all-joined r.max 0 s.lines r.ahead s.whole
+    ∙ ap (λ n. said_from r.max 0 s.lines ++ all_said_from r.max n r.ahead) (omega arith) ∙ ap (λ ss. said_from r.max 0 s.lines ++ ss) p.said_is in
     let count : length (all_said new.max text) ≡ length (said_from r.max 0 s.lines) + length (said_of found.at found.line) =
-      ap (λ m. length (all_said m text)) max_is ∙ ap length all ∙ length-append (said_from r.max 0 s.lines) (said_of found.at found.line) in
+    ap (λ m. length (all_said m text)) max_is ∙ ap length all ∙ length-append (said_from r.max 0 s.lines) (said_of found.at found.line) in
     record {
       given_is = omega (arith, s.given_is, count_said found.at found.line, count);
       line_is = line_is ∙ number-behind r text given found s p;
@@ -177,12 +177,12 @@ place-some r text given found s p some =
 
 pub ahead-behind : (max k : ℕ) (ahead : List ℕ) (found : Found) → LookedBehind max k ahead found → IsAhead ahead found
 ahead-behind max k ahead found p = record {
-    left = omega (arith, p.left_is);
-    searched = omega (arith, p.left_is, p.searched_is);
-    none_before = let P : ℕ → Type 0 = λ n. HasNoLineEnd (take n (drop (length ahead - found.left) ahead)) in subst P (sym p.searched_is) (λ i d h. absurd (omega arith));
-    before = k + length (all_but_last (lines_of ahead));
-    number_is = p.number_is;
-  }
+  left = omega (arith, p.left_is);
+  searched = omega (arith, p.left_is, p.searched_is);
+  none_before = let P : ℕ → Type 0 = λ n. HasNoLineEnd (take n (drop (length ahead - found.left) ahead)) in subst P (sym p.searched_is) (λ i d h. absurd (omega arith));
+  before = k + length (all_but_last (lines_of ahead));
+  number_is = p.number_is;
+}
 
 by_memory : (b : Bool) (r : LinesRead) (fault : LineFault) → (cond b r (record r { at = fault.line; fault = Some fault })).max ≡ r.max
 by_memory true r fault = refl

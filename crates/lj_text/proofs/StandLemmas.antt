@@ -51,7 +51,7 @@ pub all-joined : (max n : ℕ) (ls : List (List ℕ)) (rest : List ℕ) → AllB
 all-joined max n ls rest h =
     let last : List ℕ = last_of (lines_of rest) in
     let count : n + length (all_but_last (lines_of (joined ls ++ rest))) ≡ n + length ls + length (all_but_last (lines_of rest)) =
-      omega (arith, ap length (cut-joined ls rest h), length-append ls (all_but_last (lines_of rest))) in
+    omega (arith, ap length (cut-joined ls rest h), length-append ls (all_but_last (lines_of rest))) in
     let same : last_of (lines_of (joined ls ++ rest)) ≡ last = ap last_of (lines_of-joined ls rest h) ∙ last_of-append ls (lines_of rest) (some_line rest) in
     ap (λ ss. ss ++ said_by max (n + length (all_but_last (lines_of (joined ls ++ rest)))) false (last_of (lines_of (joined ls ++ rest)))) (whole-joined max n ls rest h)
     ∙ ap (λ m. said_from max n ls ++ whole_said_from max (n + length ls) rest ++ said_by max m false (last_of (lines_of (joined ls ++ rest)))) count

@@ -88,9 +88,9 @@ IsSatisfiable-after p (Delete ns) e sat = (sat.0, without_kept sat.0 p ns sat.1)
 pub replay_first : (p q : ClauseMap) (s : Step) (ss : List Step) → replay p (s ∷ ss) ≡ Some q → (is_accepted p s ≡ true) × (replay (after p s) ss ≡ Some q)
 replay_first p q s ss = by_test (is_accepted p s)
   where
-  by_test : (b : Bool) → cond b (replay (after p s) ss) None ≡ Some q → (b ≡ true) × (replay (after p s) ss ≡ Some q)
-  by_test true e = (refl, e)
-  by_test false e = cc
+    by_test : (b : Bool) → cond b (replay (after p s) ss) None ≡ Some q → (b ≡ true) × (replay (after p s) ss ≡ Some q)
+    by_test true e = (refl, e)
+    by_test false e = cc
 
 pub IsSatisfiable-replay : (p q : ClauseMap) (steps : List Step) → replay p steps ≡ Some q → IsSatisfiable p → IsSatisfiable q
 IsSatisfiable-replay p q [] e sat = let same : p ≡ q = cc in subst IsSatisfiable same sat
@@ -143,8 +143,8 @@ above_all : (n : ℕ) (ns : List ℕ) → AllByRecursion (λ m. nat_cmp n m ≡ 
 above_all n [] h = refl
 above_all n (m ∷ ms) h = ap (λ b. b || list_any (λ k. k == n) ms) (apart n m h.0) ∙ above_all n ms h.1
   where
-  apart : (n m : ℕ) → nat_cmp n m ≡ Less → (m == n) ≡ false
-  apart n m e = let below : n < m = ranked n m Less (sym e) in differs m n below
+    apart : (n m : ℕ) → nat_cmp n m ≡ Less → (m == n) ≡ false
+    apart n m e = let below : n < m = ranked n m Less (sym e) in differs m n below
 
 pub distinct_rising : (ns : List ℕ) → IsStrictlySortedBy nat_cmp ns → are_distinct ns ≡ true
 unfolding IsStrictlySortedBy

@@ -36,12 +36,13 @@ token-found bytes n f p le all e =
     let some : 0 < n = not_at_front bytes n f p e in
     let filled : is_filled (take n bytes) ≡ true = filled-take bytes n p some in
     elim (eq-or-lt_of_le le) [
-      inl same ↦
-        let whole : take n bytes ≡ bytes = take_all n bytes (omega arith) in
-        let none : drop n bytes ≡ [] = drop_all n bytes (omega arith) in
-        ap tokens_of (sym whole) ∙ tokens-last (take n bytes) filled all ∙ ap (λ r. take n bytes ∷ tokens_of r) (sym none)
-    | inr lt ↦
-        let cut : drop n bytes ≡ get_or bytes n 0 ∷ drop (suc n) bytes = drop-cons bytes n 0 lt in
-        ap tokens_of (sym (take-append-drop n bytes) ∙ ap (λ r. take n bytes ++ r) cut)
-        ∙ tokens-first (take n bytes) (get_or bytes n 0) (drop (suc n) bytes) filled all (e lt)
-        ∙ ap (λ r. take n bytes ∷ tokens_of r) (sym cut) ]
+      | inl same ↦
+          let whole : take n bytes ≡ bytes = take_all n bytes (omega arith) in
+          let none : drop n bytes ≡ [] = drop_all n bytes (omega arith) in
+          ap tokens_of (sym whole) ∙ tokens-last (take n bytes) filled all ∙ ap (λ r. take n bytes ∷ tokens_of r) (sym none)
+      | inr lt ↦
+          let cut : drop n bytes ≡ get_or bytes n 0 ∷ drop (suc n) bytes = drop-cons bytes n 0 lt in
+          ap tokens_of (sym (take-append-drop n bytes) ∙ ap (λ r. take n bytes ++ r) cut)
+          ∙ tokens-first (take n bytes) (get_or bytes n 0) (drop (suc n) bytes) filled all (e lt)
+          ∙ ap (λ r. take n bytes ∷ tokens_of r) (sym cut)
+    ]

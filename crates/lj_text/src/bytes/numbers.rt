@@ -26,7 +26,11 @@ fn appended(number: u64, digit: u64) -> u64
     requires digit { digit < 10 }
     ensures { Counts result (10 * number + digit) }
 {
-    if number > GREATEST / 10 { GREATEST + 1 } else { 10 * number + digit }
+    if number > GREATEST / 10 {
+        GREATEST + 1
+    } else {
+        10 * number + digit
+    }
 }
 
 /// The value of one or more digits, or a number above `GREATEST` for any such value.
@@ -56,7 +60,11 @@ fn unsigned(digits: &[u8]) -> Word
     match digits_value(digits) {
         None => Word::NoNumber,
         Some(0) => Word::Zero,
-        Some(value) => if value > GREATEST { Word::Beyond } else { Word::Positive(value) },
+        Some(value) => if value > GREATEST {
+            Word::Beyond
+        } else {
+            Word::Positive(value)
+        },
     }
 }
 
@@ -66,7 +74,11 @@ fn negative(digits: &[u8]) -> Word
 {
     match digits_value(digits) {
         None | Some(0) => Word::NoNumber,
-        Some(value) => if value > GREATEST { Word::Beyond } else { Word::Negative(value) },
+        Some(value) => if value > GREATEST {
+            Word::Beyond
+        } else {
+            Word::Negative(value)
+        },
     }
 }
 

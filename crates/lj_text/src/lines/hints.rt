@@ -10,7 +10,11 @@ use crate::numbers::{Group, Numbers};
 use std::alloc::Global;
 
 /// The hints up to the closing 0 or a candidate, and that candidate with what follows it.
-fn read_hints(alloc: Global, ended: bool, bytes: &[u8]) -> Result<(Vec<u64>, Option<(u64, &[u8])>), LineFaultKind>
+fn read_hints(
+    alloc: Global,
+    ended: bool,
+    bytes: &[u8],
+) -> Result<(Vec<u64>, Option<(u64, &[u8])>), LineFaultKind>
     ensures hints { HintsGive ended result (hints_of ended (words_of bytes.now)) }
     ensures shorter { IfOk result (λ read. IfSome read.1 (λ next. length next.1.now < length bytes.now)) }
 {
@@ -33,7 +37,12 @@ fn read_hints(alloc: Global, ended: bool, bytes: &[u8]) -> Result<(Vec<u64>, Opt
 }
 
 /// The groups up to the closing 0, where the first one's candidate was read.
-fn read_groups(alloc: Global, ended: bool, first: u64, bytes: &[u8]) -> Result<Vec<Group>, LineFaultKind>
+fn read_groups(
+    alloc: Global,
+    ended: bool,
+    first: u64,
+    bytes: &[u8],
+) -> Result<Vec<Group>, LineFaultKind>
     ensures { Gives (λ v. v.items) result (with_read (group_before first) (hints_of ended (words_of bytes.now))) }
 {
     let mut groups = Vec::new(alloc);
@@ -56,7 +65,11 @@ fn read_groups(alloc: Global, ended: bool, first: u64, bytes: &[u8]) -> Result<V
 }
 
 /// The hints and the groups up to the closing 0.
-pub(super) fn read_proof(alloc: Global, ended: bool, bytes: &[u8]) -> Result<(Vec<u64>, Vec<Group>), LineFaultKind>
+pub(super) fn read_proof(
+    alloc: Global,
+    ended: bool,
+    bytes: &[u8],
+) -> Result<(Vec<u64>, Vec<Group>), LineFaultKind>
     ensures { Gives (λ read. (read.0.items, read.1.items)) result (hints_of ended (words_of bytes.now)) }
 {
     let (hints, next) = read_hints(alloc, ended, bytes)?;

@@ -10,7 +10,12 @@ use lj_clause::Lit;
 use std::alloc::Global;
 
 /// The literals up to a 0, and what follows it.
-pub(super) fn read_literals(alloc: Global, max: u32, ended: bool, bytes: &[u8]) -> Result<(Vec<Lit>, &[u8]), LineFaultKind>
+pub(super) fn read_literals(
+    alloc: Global,
+    max: u32,
+    ended: bool,
+    bytes: &[u8],
+) -> Result<(Vec<Lit>, &[u8]), LineFaultKind>
     requires { max ≤ 134217727 }
     ensures { Gives (λ read. (read.0.items, words_of read.1.now)) result (literals_then max ended (words_of bytes.now)) }
 {

@@ -27,21 +27,30 @@ pub(super) struct Found {
 }
 
 /// What the bytes of the line with this number say.
-pub(super) fn parse_at(alloc: Global, max: u32, ended: bool, bytes: &[u8], number: u64) -> Result<Option<Line>, LineFault>
+pub(super) fn parse_at(
+    alloc: Global,
+    max: u32,
+    ended: bool,
+    bytes: &[u8],
+    number: u64,
+) -> Result<Option<Line>, LineFault>
     requires { max ≤ 134217727 }
     ensures { MatchResult result (λ line. spoken max ended (tokens_of bytes.now) ≡ Ok line) (λ fault. (fault.line ≡ number) × IsTold fault.kind (spoken max ended (tokens_of bytes.now))) }
 {
     match parse(alloc, max, ended, bytes) {
         Ok(line) => Ok(line),
-        Err(kind) => Err(LineFault {
-            kind,
-            line: number,
-        }),
+        Err(kind) => Err(LineFault { kind, line: number }),
     }
 }
 
 /// Looks for the first whole line that says something. There is no line feed among the first `searched` bytes.
-pub(super) fn look(alloc: Global, max: u32, first: u64, ahead: &[u8], searched: usize) -> Result<Found, LineFault>
+pub(super) fn look(
+    alloc: Global,
+    max: u32,
+    first: u64,
+    ahead: &[u8],
+    searched: usize,
+) -> Result<Found, LineFault>
     requires max { max ≤ 134217727 }
     requires within { searched ≤ length ahead.now }
     requires none_before { HasNoLineEnd (take searched ahead.now) }
@@ -80,7 +89,13 @@ pub(super) fn look(alloc: Global, max: u32, first: u64, ahead: &[u8], searched: 
 
 /// The same, and where no whole line says anything, what the last one says, which the input ends; and whether it
 /// came to that.
-pub(super) fn look_to_end(alloc: Global, max: u32, first: u64, ahead: &[u8], searched: usize) -> Result<(Found, bool), LineFault>
+pub(super) fn look_to_end(
+    alloc: Global,
+    max: u32,
+    first: u64,
+    ahead: &[u8],
+    searched: usize,
+) -> Result<(Found, bool), LineFault>
     requires max { max ≤ 134217727 }
     requires within { searched ≤ length ahead.now }
     requires none_before { HasNoLineEnd (take searched ahead.now) }

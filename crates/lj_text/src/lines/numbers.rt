@@ -8,7 +8,11 @@ use crate::bytes::Word;
 use std::alloc::Global;
 
 /// The numbers up to the closing 0.
-pub(super) fn read_numbers(alloc: Global, ended: bool, bytes: &[u8]) -> Result<Vec<u64>, LineFaultKind>
+pub(super) fn read_numbers(
+    alloc: Global,
+    ended: bool,
+    bytes: &[u8],
+) -> Result<Vec<u64>, LineFaultKind>
     ensures { Gives (λ v. v.items) result (numbers_of ended (words_of bytes.now)) }
 {
     let mut numbers = Vec::new(alloc);

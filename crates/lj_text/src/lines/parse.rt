@@ -9,14 +9,20 @@ use super::hints::read_proof;
 use super::literals::read_literals;
 use super::numbers::read_numbers;
 use super::words::{check_closed, cut_short};
-use crate::bytes::{next_token, word_of, Word};
+use crate::bytes::{Word, next_token, word_of};
 use crate::line::{Addition, Line};
 use crate::numbers::{Groups, Numbers};
 use lj_clause::{Clause, Lemma};
 use std::alloc::Global;
 
 /// The literals, hints and groups of an addition.
-fn addition(alloc: Global, max: u32, ended: bool, number: u64, bytes: &[u8]) -> Result<Line, LineFaultKind>
+fn addition(
+    alloc: Global,
+    max: u32,
+    ended: bool,
+    number: u64,
+    bytes: &[u8],
+) -> Result<Line, LineFaultKind>
     requires { max ≤ 134217727 }
     ensures { Gives (λ line. line) result (addition_of max ended number (words_of bytes.now)) }
 {
@@ -39,7 +45,13 @@ fn deletion(alloc: Global, ended: bool, bytes: &[u8]) -> Result<Line, LineFaultK
 }
 
 /// The literals of an import.
-fn import(alloc: Global, max: u32, ended: bool, number: u64, bytes: &[u8]) -> Result<Line, LineFaultKind>
+fn import(
+    alloc: Global,
+    max: u32,
+    ended: bool,
+    number: u64,
+    bytes: &[u8],
+) -> Result<Line, LineFaultKind>
     requires { max ≤ 134217727 }
     ensures { Gives (λ line. line) result (import_of max ended number (words_of bytes.now)) }
 {
@@ -68,7 +80,13 @@ fn after_zero(max: u32, token: &[u8]) -> LineFaultKind
 }
 
 /// What follows a line's first number.
-fn after_number(alloc: Global, max: u32, ended: bool, number: u64, bytes: &[u8]) -> Result<Line, LineFaultKind>
+fn after_number(
+    alloc: Global,
+    max: u32,
+    ended: bool,
+    number: u64,
+    bytes: &[u8],
+) -> Result<Line, LineFaultKind>
     requires { max ≤ 134217727 }
     ensures { Gives (λ line. line) result (after_number max ended number (tokens_of bytes.now)) }
 {
@@ -82,7 +100,13 @@ fn after_number(alloc: Global, max: u32, ended: bool, number: u64, bytes: &[u8])
 }
 
 /// The line that begins with this token.
-fn after_first(alloc: Global, max: u32, ended: bool, token: &[u8], after: &[u8]) -> Result<Line, LineFaultKind>
+fn after_first(
+    alloc: Global,
+    max: u32,
+    ended: bool,
+    token: &[u8],
+    after: &[u8],
+) -> Result<Line, LineFaultKind>
     requires { max ≤ 134217727 }
     ensures { Gives (λ line. line) result (line_of max ended (token.now ∷ tokens_of after.now)) }
 {
@@ -96,7 +120,12 @@ fn after_first(alloc: Global, max: u32, ended: bool, token: &[u8], after: &[u8])
 }
 
 /// What the bytes of a line say: nothing where it is silent.
-pub(super) fn parse(alloc: Global, max: u32, ended: bool, bytes: &[u8]) -> Result<Option<Line>, LineFaultKind>
+pub(super) fn parse(
+    alloc: Global,
+    max: u32,
+    ended: bool,
+    bytes: &[u8],
+) -> Result<Option<Line>, LineFaultKind>
     requires { max ≤ 134217727 }
     ensures { Gives (λ line. line) result (spoken max ended (tokens_of bytes.now)) }
 {

@@ -7,7 +7,7 @@ ghost use Rattle.lj_text.specs.LinesHeld.{IsAhead, passed, kept};
 ghost use Rattle.lj_text.specs.Looking.{Looked, LookedBehind, Fails, FailsToEnd};
 
 use super::fault::{LineFault, LineFaultKind};
-use super::look::{look, look_to_end, Found};
+use super::look::{Found, look, look_to_end};
 use crate::line::Line;
 use std::alloc::Global;
 use std::marker::Model;
@@ -188,7 +188,13 @@ impl LineReader {
         ensures counted { (k : ℕ) × (self.now.line ≡ line_number k) }
     {
         let (_, ahead) = self.bytes.split_at(self.start);
-        look(self.alloc, self.max, self.line, ahead, self.searched - self.start)
+        look(
+            self.alloc,
+            self.max,
+            self.line,
+            ahead,
+            self.searched - self.start,
+        )
     }
 
     /// The same, up to the end of the input.
@@ -197,7 +203,13 @@ impl LineReader {
         ensures counted { (k : ℕ) × (self.now.line ≡ line_number k) }
     {
         let (_, ahead) = self.bytes.split_at(self.start);
-        look_to_end(self.alloc, self.max, self.line, ahead, self.searched - self.start)
+        look_to_end(
+            self.alloc,
+            self.max,
+            self.line,
+            ahead,
+            self.searched - self.start,
+        )
     }
 
     /// Goes on behind what was found.

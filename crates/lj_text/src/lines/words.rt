@@ -5,7 +5,7 @@ ghost use Rattle.lj_text.specs.LineReading.{Gives, words_of};
 ghost use Rattle.lj_text.specs.Words.{IsWord};
 
 use super::fault::LineFaultKind;
-use crate::bytes::{next_token, word_of, Word};
+use crate::bytes::{Word, next_token, word_of};
 
 /// What the first token says, and what follows it.
 pub(super) fn next_word(bytes: &[u8]) -> Option<(Word, &[u8])>
@@ -21,7 +21,11 @@ pub(super) fn next_word(bytes: &[u8]) -> Option<(Word, &[u8])>
 pub(super) fn cut_short(ended: bool) -> LineFaultKind
     ensures { result ≡ cut_short ended }
 {
-    if ended { LineFaultKind::Syntax } else { LineFaultKind::Truncated }
+    if ended {
+        LineFaultKind::Syntax
+    } else {
+        LineFaultKind::Truncated
+    }
 }
 
 /// Asks that nothing follows the closing 0.

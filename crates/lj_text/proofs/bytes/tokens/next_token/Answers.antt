@@ -7,4 +7,4 @@ pub returns-clause-some : goal.returns-clause-some
 returns-clause-some c =
     let e = c.token_len.ensures in
     rw (c.split_at.ensures.front, c.split_at.ensures.back)
-      (sym c.after_blanks-rest.ensures.tokens ∙ token-found c.after_blanks-rest.result.now c.token_len.result c.after_blanks-rest.ensures.front (grind (arith, nat_tests)) e.within e.token e.end)
+    (sym c.after_blanks-rest.ensures.tokens ∙ token-found c.after_blanks-rest.result.now c.token_len.result c.after_blanks-rest.ensures.front (grind (arith, nat_tests)) e.within e.token e.end)
