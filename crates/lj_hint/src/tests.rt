@@ -1,7 +1,7 @@
 //! Rows computed by hand.
 //!
-//! They hold too where any one growth is refused, as `rt try --test --fail-alloc N` does with the Nth: a case that
-//! meets it comes back as it was, and its test then answers as the row says.
+//! They hold too where one growth is refused, as `rt try --test --fail-alloc N` does with the Nth (8 and 10 fall into
+//! walks): a case that meets it comes back as it was, and its test then answers as the row says.
 use crate::{Case, Marks, Pair, Tested};
 use lj_clause::{Clause, Lemma, Lit, NoMemory};
 use std::alloc::Global;
