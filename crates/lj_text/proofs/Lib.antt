@@ -1,6 +1,7 @@
 pub mod Evaluation
 pub mod StepLaws
 pub mod NeededLaws
+mod CnfLemmas
 mod CutLemmas
 mod DigitLemmas
 mod FrontLemmas
