@@ -1,15 +1,21 @@
 -- What the grammar reads on behind a token of the clauses.
-use Rattle.std.proofs.Common.{◌≡◌, ℕ, zero, suc, ◌+◌, ◌-◌, ◌<◌, ◌≤◌, Bool, true, false, cond, List, [], ◌∷◌, ◌++◌, length, Option, None, Some, Result, Ok, Err, ℤ, pos, negsuc, unsigned_abs, ◌==◌, refl, sym, ap, ◌∙◌, subst, append_assoc, arith}
-use Rattle.std.proofs.lemmas.Bool.{le-leb, lt-leb}
+use Rattle.std.proofs.Common.{◌≡◌, ℕ, zero, suc, ◌+◌, ◌-◌, ◌<◌, ◌≤◌, Bool, true, false, not, ◌&&◌, ◌||◌, cond, List, [], ◌∷◌, ◌++◌, length, Option, None, Some, Result, Ok, Err, ℤ, pos, negsuc, unsigned_abs, ◌==◌, refl, sym, ap, ◌∙◌, subst, append_assoc, arith}
+use Rattle.std.proofs.lemmas.Bool.{le-leb, lt-leb, false_from_ne_true}
 use Rattle.std.proofs.lemmas.Bool.Decides.{nat_tests}
 use Rattle.std.proofs.lemmas.List.{append-nil}
-use Rattle.lj_clause.specs.LiteralSet.{LiteralSet, from_literals}
-use Rattle.lj_clause.specs.ClauseMap.{FormulaValue, formula_of}
+use Rattle.lj_clause.specs.LiteralSet.{LiteralSet, from_literals, literals}
+use Rattle.lj_clause.specs.Literal.{variable_of}
+use Rattle.lj_clause.proofs.LiteralSets.{holds-from_literals, holds-literals}
+use Rattle.lj_clause.proofs.Among.{among, any_found, any_at}
+use Rattle.std.specs.List.{list_all, list_any}
+use Rattle.std.specs.Prelude.{nat_le}
+use Rattle.std.proofs.lemmas.List.Folds.{list_all-append}
+use Rattle.lj_clause.specs.ClauseMap.{FormulaValue, formula_of, names_up_to}
 use Rattle.lj_text.specs.declared.cnf.fault.CnfFault.{CnfFault}
 use Rattle.lj_text.specs.declared.cnf.fault.CnfFaultKind.TheVariants.{NoHeader, BadHeader, BadNumber, VariableRange, ClauseCount, Truncated, NoMemory}
 use Rattle.lj_text.specs.Lines.{with_read, then_read}
 use Rattle.lj_text.specs.Cnf.{Place, Percent, NoNumber, Number, number_at, fault_in, literals_up_to, clauses_of}
-use Rattle.lj_text.specs.CnfReading.{Begun, completed, clauses_after, IsTold, IsNumberUpTo, Goes, places_behind}
+use Rattle.lj_text.specs.CnfReading.{Begun, completed, clauses_after, IsTold, IsNumberUpTo, is_up_to, Goes, places_behind}
 use Rattle.lj_text.specs.declared.cnf.fault.CnfFaultKind.{CnfFaultKind}
 
 not_zero : (n : ℕ) → 0 < n → (n == 0) ≡ false
@@ -160,3 +166,59 @@ goes-false false last line tokens rest old new h g = g
 
 pub told-at : {Y : Type 0} (kind : CnfFaultKind) (line : ℕ) (read total : Result Y CnfFault) → total ≡ read → IsTold kind line read → IsTold kind line total
 told-at {Y} kind line read total e h = let P : Result Y CnfFault → Type 0 = λ r. IsTold kind line r in subst P (sym e) h
+
+all-any : (p : ℤ → Bool) (ls : List ℤ) → list_all p ls ≡ not (list_any (λ l. not (p l)) ls)
+all-any p [] = refl
+all-any p (l ∷ ls) = elim (p l) as (λ b. (b && list_all p ls) ≡ not (not b || list_any (λ k. not (p k)) ls)) [ true ↦ all-any p ls | false ↦ refl ]
+
+-- the literals of a set made of a list are those of the list
+pub named : (p : ℤ → Bool) (ls : List ℤ) → list_all p ls ≡ true → list_all p (literals (from_literals ls)) ≡ true
+named p ls h =
+    let fails : ℤ → Bool = λ l. not (p l) in
+    all-any p (literals (from_literals ls)) ∙ ap not (false_from_ne_true (list_any fails (literals (from_literals ls))) (λ some.
+      let found = any_found fails (literals (from_literals ls)) some in
+      let here : among found.0 ls ≡ true = sym (holds-from_literals ls found.0) ∙ holds-literals (from_literals ls) found.0 ∙ found.1 in
+      let any : list_any fails ls ≡ true = any_at fails found.0 ls here found.2 in
+      let none : not (list_any fails ls) ≡ true = sym (all-any p ls) ∙ h in
+      let wrong : false ≡ true = sym (ap not any) ∙ none in
+      cc))
+
+variable-abs : (l : ℤ) → variable_of l ≡ unsigned_abs l
+variable-abs (pos n) = refl
+variable-abs (negsuc n) = refl
+
+pub literals-pushed : (v : ℕ) (ls : List ℤ) (n : ℤ) → list_all (is_up_to v) ls ≡ true → unsigned_abs n ≤ v → list_all (is_up_to v) (ls ++ n ∷ []) ≡ true
+literals-pushed v ls n h le =
+    let one : is_up_to v n ≡ true = ap (λ m. nat_le m v) (variable-abs n) ∙ le-leb (unsigned_abs n) v le in
+    list_all-append (is_up_to v) ls (n ∷ []) ∙ ap (λ b. b && (is_up_to v n && true)) h ∙ ap (λ b. b && true) one
+
+pub clauses-pushed : (v : ℕ) (cs : List LiteralSet) (ls : List ℤ) → list_all (names_up_to v) cs ≡ true → list_all (is_up_to v) ls ≡ true → list_all (names_up_to v) (cs ++ from_literals ls ∷ []) ≡ true
+clauses-pushed v cs ls h k =
+    let one : names_up_to v (from_literals ls) ≡ true = named (is_up_to v) ls k in
+    list_all-append (names_up_to v) cs (from_literals ls ∷ []) ∙ ap (λ b. b && (names_up_to v (from_literals ls) && true)) h ∙ ap (λ b. b && true) one
+
+-- the end of the input
+ends_open : (v last left : ℕ) (ls : List ℤ) → 0 < length ls → clauses_after v last left ls [] ≡ fault_in last Truncated
+ends_open v last left [] h = absurd (omega arith)
+ends_open v last left (o ∷ os) h = refl
+
+pub completed-open : (b : Begun) (last : ℕ) → 0 < length b.literals → completed b last [] ≡ fault_in last Truncated
+completed-open b last h = ap (with_read (λ cs. formula_of b.variables (b.clauses ++ cs))) (ends_open b.variables last b.left b.literals h)
+
+ends_early : (v last left : ℕ) (ls : List ℤ) → 0 < left → ls ≡ [] → clauses_after v last left ls [] ≡ fault_in last ClauseCount
+ends_early v last zero [] h e = absurd (omega arith)
+ends_early v last (suc m) [] h e = refl
+ends_early v last left (o ∷ os) h e = cc
+
+pub completed-early : (b : Begun) (last : ℕ) → 0 < b.left → b.literals ≡ [] → completed b last [] ≡ fault_in last ClauseCount
+completed-early b last h e = ap (with_read (λ cs. formula_of b.variables (b.clauses ++ cs))) (ends_early b.variables last b.left b.literals h e)
+
+ends_well : (v last left : ℕ) (ls : List ℤ) → left ≡ 0 → ls ≡ [] → clauses_after v last left ls [] ≡ Ok []
+ends_well v last zero [] h e = refl
+ends_well v last (suc m) [] h e = absurd (omega arith)
+ends_well v last left (o ∷ os) h e = cc
+
+pub completed-end : (b : Begun) (last : ℕ) → b.left ≡ 0 → b.literals ≡ [] → completed b last [] ≡ Ok (formula_of b.variables b.clauses)
+completed-end b last h e =
+    ap (with_read (λ cs. formula_of b.variables (b.clauses ++ cs))) (ends_well b.variables last b.left b.literals h e)
+    ∙ ap (λ l. Ok (formula_of b.variables l)) (append-nil b.clauses)

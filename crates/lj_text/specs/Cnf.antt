@@ -79,13 +79,16 @@ clauses_of variables last (suc m) (place ∷ rest) = then_read (literals_up_to v
 abbrev pub last_line : ℕ → ℕ
 last_line n = line_number (n - 1)
 
+-- the clauses of these sizes, in lines before which n lines stand
+abbrev pub body_of : ℕ → List (List ℕ) → ℕ × ℕ → Result FormulaValue CnfFault
+body_of n lines sizes = with_read (formula_of sizes.0) (clauses_of sizes.0 (last_line (n + length lines)) sizes.1 (places_from n lines))
+
 -- what lines spell, where n lines stand before them: silent ones, the header, the clauses
 abbrev pub formula_from : ℕ → ℕ → List (List ℕ) → Result FormulaValue CnfFault
 formula_from max n [] = fault_in (last_line n) NoHeader
 formula_from max n (line ∷ lines) =
     if is_silent (tokens_of line) then formula_from max (n + 1) lines
-    else then_read (header_of max (line_number n) (tokens_of line)) (λ sizes.
-      with_read (formula_of sizes.0) (clauses_of sizes.0 (last_line (n + 1 + length lines)) sizes.1 (places_from (n + 1) lines)))
+    else then_read (header_of max (line_number n) (tokens_of line)) (body_of (n + 1) lines)
 
 -- what a text spells, or its fault
 abbrev pub read_cnf : ℕ → List ℕ → Result FormulaValue CnfFault

@@ -1,8 +1,10 @@
 -- What a reader of a formula holds of what was fed, and what the grammar reads from there on.
-use Rattle.std.specs.Prelude.{◌≡◌, ℕ, ◌+◌, ◌-◌, ◌<◌, ◌≤◌, Bool, true, false, List, [], ◌∷◌, ◌++◌, length, map, Option, Some, None, Result, Ok, Err, ℤ, unsigned_abs, refl}
+use Rattle.std.specs.Prelude.{◌≡◌, ℕ, ◌+◌, ◌-◌, ◌<◌, ◌≤◌, Bool, true, false, nat_le, List, [], ◌∷◌, ◌++◌, length, map, Option, Some, None, Result, Ok, Err, ℤ, unsigned_abs, refl}
 use Rattle.std.specs.Coded.{Coded, code_by, coded×, coded_list, coded_ℕ, coded_ℤ}
 use Rattle.lj_clause.specs.LiteralSet.{LiteralSet, from_literals, literal_set_code}
-use Rattle.lj_clause.specs.ClauseMap.{FormulaValue, formula_of}
+use Rattle.lj_clause.specs.ClauseMap.{FormulaValue, formula_of, names_up_to}
+use Rattle.lj_clause.specs.Literal.{variable_of}
+use Rattle.std.specs.List.{list_all}
 use Rattle.lj_text.specs.declared.cnf.fault.CnfFault.{CnfFault}
 use Rattle.lj_text.specs.declared.cnf.fault.CnfFaultKind.{CnfFaultKind}
 use Rattle.lj_text.specs.declared.cnf.fault.CnfFaultKind.TheVariants.{NoHeader, BadHeader, BadNumber, VariableRange, ClauseCount, Truncated, NoMemory}
@@ -34,10 +36,17 @@ abbrev pub IsTold : {Y : Type 0} → CnfFaultKind → ℕ → Result Y CnfFault 
 IsTold NoMemory line read = Unit {0}
 IsTold kind line read = read ≡ Err (record { kind = kind; line = line })
 
--- within the limits, and a clause is to come where one is open
+-- whether a literal's variable is within a number
+abbrev pub is_up_to : ℕ → ℤ → Bool
+is_up_to variables l = nat_le (variable_of l) variables
+
+-- All is within the limits, and a clause is to come where one is open.
 pub record IsBegun (begun : Begun) : Type 0 where
   pub variables : begun.variables ≤ 134217727
   pub left : 0 < length begun.literals → 0 < begun.left
+  pub count : length begun.clauses + begun.left ≤ 4294967295
+  pub clauses : list_all (names_up_to begun.variables) begun.clauses ≡ true
+  pub literals : list_all (is_up_to begun.variables) begun.literals ≡ true
 
 -- a number up to the number of variables, or why it is none
 abbrev pub IsNumberUpTo : ℕ → Option ℤ → Result ℤ CnfFaultKind → Type 0

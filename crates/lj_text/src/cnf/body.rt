@@ -7,7 +7,7 @@ ghost use Rattle.lj_text.specs.CnfReading.{Goes, IsTold, IsNumberUpTo, completed
 
 use super::fault::CnfFaultKind;
 use crate::bytes::{word_of, Word};
-use lj_clause::{Clause, Lit};
+use lj_clause::{Clause, Formula, Lit};
 use std::alloc::Global;
 use std::marker::Model;
 
@@ -117,6 +117,26 @@ impl Body {
         }
         self.take_number(token)?;
         Ok(false)
+    }
+
+    /// The formula at the end of the input.
+    pub(super) fn close(self) -> Result<Formula, CnfFaultKind>
+        ensures { (last : ℕ) → MatchResult result (λ formula. completed self last [] ≡ Ok formula) (λ kind. IsTold kind last (completed self last [])) }
+    {
+        if !self.literals.is_empty() {
+            Err(CnfFaultKind::Truncated)
+        } else if self.left > 0 {
+            Err(CnfFaultKind::ClauseCount)
+        } else {
+            Ok(self.formula())
+        }
+    }
+
+    /// The formula of the clauses so far.
+    pub(super) fn formula(self) -> Formula
+        ensures { result ≡ formula_of self.variables self.clauses }
+    {
+        Formula::new(self.variables, self.clauses).unwrap()
     }
 }
 

@@ -1,5 +1,5 @@
 //! The header of a formula.
-ghost use Rattle.std.specs.Prelude.{◌≡◌, ◌≤◌, ◌∷◌, ℕ, [], MatchResult, IfNone, IfSome, Ok};
+ghost use Rattle.std.specs.Prelude.{◌≡◌, ◌≤◌, ◌∷◌, ℕ, [], MatchResult, IfNone, IfSome, IfOk, Ok};
 ghost use Rattle.lj_text.specs.Bytes.{tokens_of};
 ghost use Rattle.lj_text.specs.Lines.{is_letter};
 ghost use Rattle.lj_text.specs.Cnf.{fault_in, header_after, header_of};
@@ -29,7 +29,8 @@ fn three_tokens(bytes: &[u8]) -> Option<(&[u8], &[u8], &[u8])>
 /// The numbers of variables and of clauses behind a header's `p`.
 fn read_sizes(max: u32, bytes: &[u8]) -> Result<(u32, u32), CnfFaultKind>
     requires { max ≤ 134217727 }
-    ensures { (line : ℕ) → MatchResult result (λ sizes. header_after max line (tokens_of bytes.now) ≡ Ok sizes) (λ kind. IsTold kind line (header_after max line (tokens_of bytes.now))) }
+    ensures in_range { IfOk result (λ sizes. sizes.0 ≤ max) }
+    ensures sizes { (line : ℕ) → MatchResult result (λ sizes. header_after max line (tokens_of bytes.now) ≡ Ok sizes) (λ kind. IsTold kind line (header_after max line (tokens_of bytes.now))) }
 {
     match three_tokens(bytes) {
         Some(([b'c', b'n', b'f'], variables, clauses)) => match (digits_value(variables), digits_value(clauses)) {
@@ -61,7 +62,8 @@ fn is_header(token: &[u8]) -> bool
 /// The numbers of variables and of clauses that a header line says, whose first token this is.
 pub(super) fn read_header(max: u32, token: &[u8], after: &[u8]) -> Result<(u32, u32), CnfFaultKind>
     requires { max ≤ 134217727 }
-    ensures { (line : ℕ) → MatchResult result (λ sizes. header_of max line (token.now ∷ tokens_of after.now) ≡ Ok sizes) (λ kind. IsTold kind line (header_of max line (token.now ∷ tokens_of after.now))) }
+    ensures in_range { IfOk result (λ sizes. sizes.0 ≤ max) }
+    ensures sizes { (line : ℕ) → MatchResult result (λ sizes. header_of max line (token.now ∷ tokens_of after.now) ≡ Ok sizes) (λ kind. IsTold kind line (header_of max line (token.now ∷ tokens_of after.now))) }
 {
     if is_header(token) {
         read_sizes(max, after)
