@@ -9,5 +9,6 @@ mod HeldLemmas
 mod PassLemmas
 mod ReaderLemmas
 mod StandLemmas
+mod TakeLemmas
 mod TokenLemmas
 pub mod Fronts

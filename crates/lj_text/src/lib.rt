@@ -14,7 +14,7 @@ mod sink;
 mod source;
 mod step;
 
-pub use cnf::{CnfFault, CnfFaultKind};
+pub use cnf::{CnfFault, CnfFaultKind, CnfReader};
 pub use failing::{FailingSink, FailingSource};
 pub use in_pieces::InPieces;
 pub use line::{Addition, Line};

@@ -12,3 +12,4 @@ mod words;
 
 pub use fault::{LineFault, LineFaultKind};
 pub use reader::LineReader;
+pub(crate) use cut::first_line;
