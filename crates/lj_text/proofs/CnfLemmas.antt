@@ -48,7 +48,7 @@ begin_literal v last line (suc m) n rest le some h =
 
 regroup : (v last left : ℕ) (o : ℤ) (os : List ℤ) (n : ℤ) (read : Result (List ℤ × List Place) CnfFault)
     → then_read read (λ r. with_read (λ cs. from_literals (o ∷ os ++ (n ∷ r.0)) ∷ cs) (clauses_of v last (left - 1) r.1))
-      ≡ then_read read (λ r. with_read (λ cs. from_literals (o ∷ (os ++ n ∷ []) ++ r.0) ∷ cs) (clauses_of v last (left - 1) r.1))
+    ≡ then_read read (λ r. with_read (λ cs. from_literals (o ∷ (os ++ n ∷ []) ++ r.0) ∷ cs) (clauses_of v last (left - 1) r.1))
 regroup v last left o os n (Ok r) = ap (λ ls. with_read (λ cs. from_literals (o ∷ ls) ∷ cs) (clauses_of v last (left - 1) r.1)) (sym (append_assoc os (n ∷ []) r.0))
 regroup v last left o os n (Err e) = refl
 
@@ -176,12 +176,12 @@ pub named : (p : ℤ → Bool) (ls : List ℤ) → list_all p ls ≡ true → li
 named p ls h =
     let fails : ℤ → Bool = λ l. not (p l) in
     all-any p (literals (from_literals ls)) ∙ ap not (false_from_ne_true (list_any fails (literals (from_literals ls))) (λ some.
-      let found = any_found fails (literals (from_literals ls)) some in
-      let here : among found.0 ls ≡ true = sym (holds-from_literals ls found.0) ∙ holds-literals (from_literals ls) found.0 ∙ found.1 in
-      let any : list_any fails ls ≡ true = any_at fails found.0 ls here found.2 in
-      let none : not (list_any fails ls) ≡ true = sym (all-any p ls) ∙ h in
-      let wrong : false ≡ true = sym (ap not any) ∙ none in
-      cc))
+    let found = any_found fails (literals (from_literals ls)) some in
+    let here : among found.0 ls ≡ true = sym (holds-from_literals ls found.0) ∙ holds-literals (from_literals ls) found.0 ∙ found.1 in
+    let any : list_any fails ls ≡ true = any_at fails found.0 ls here found.2 in
+    let none : not (list_any fails ls) ≡ true = sym (all-any p ls) ∙ h in
+    let wrong : false ≡ true = sym (ap not any) ∙ none in
+    cc))
 
 variable-abs : (l : ℤ) → variable_of l ≡ unsigned_abs l
 variable-abs (pos n) = refl

@@ -47,11 +47,11 @@ pub going-more : (max n number : ℕ) (old state new : State) (held piece left r
     → ((fault : CnfFault) → new ≡ Faulty fault → ⊥)
     → Going max n old held piece new (min (number + 1) (2 ^ 64 - 1)) [] after
 going-more max n number old state new held piece left rest front after g e h line sound = record {
-    before = g.before + 1;
-    line_is = omega (arith, g.line_is);
-    reads = λ more. g.reads more ∙ ap (resumed max g.before state) (cut left rest front after more e h)
+  before = g.before + 1;
+  line_is = omega (arith, g.line_is);
+  reads = λ more. g.reads more ∙ ap (resumed max g.before state) (cut left rest front after more e h)
       ∙ reads_of max (g.before + 1) (lines_of (after ++ more)) new _ sound (line g.before g.line_is (lines_of (after ++ more)));
-  }
+}
 
 -- a fault in that line
 pub taken-fault : (max n number : ℕ) (old state : State) (fault : CnfFault) (held piece left rest front after : List ℕ) → Going max n old held piece state number left rest
@@ -59,13 +59,13 @@ pub taken-fault : (max n number : ℕ) (old state : State) (fault : CnfFault) (h
     → ((k : ℕ) → number ≡ line_number k → (lines : List (List ℕ)) → IsTold fault.kind fault.line (resumed max k state ((left ++ front) ∷ lines)))
     → Taken max n old held piece (Faulty fault) number (left ++ front)
 taken-fault max n number old state fault held piece left rest front after g e h line = record {
-    none = h;
-    before = g.before;
-    line_is = g.line_is;
-    reads = λ more.
+  none = h;
+  before = g.before;
+  line_is = g.line_is;
+  reads = λ more.
       let P : Result FormulaValue CnfFault → Type 0 = λ read. IsTold fault.kind fault.line read in
       subst P (sym (g.reads more ∙ ap (resumed max g.before state) (cut left rest front after more e h))) (line g.before g.line_is (lines_of (after ++ more)));
-  }
+}
 
 -- memory ran out
 pub taken-memory : (max n number line : ℕ) (old state : State) (held piece left rest : List ℕ) → Going max n old held piece state number left rest → HasNoLineEnd left
@@ -91,11 +91,11 @@ reads_any max k lines (Faulty fault) read e = let P : Result FormulaValue CnfFau
 pub taken-rest : (max n number : ℕ) (old state : State) (held piece left rest : List ℕ) → Going max n old held piece state number left rest → HasNoLineEnd (left ++ rest)
     → Taken max n old held piece state number (left ++ rest)
 taken-rest max n number old state held piece left rest g h = record {
-    none = h;
-    before = g.before;
-    line_is = g.line_is;
-    reads = λ more. reads_any max g.before (lines_of (left ++ rest ++ more)) state _ (g.reads more ∙ ap (λ r. resumed max g.before state (lines_of r)) (sym (append_assoc left rest more)));
-  }
+  none = h;
+  before = g.before;
+  line_is = g.line_is;
+  reads = λ more. reads_any max g.before (lines_of (left ++ rest ++ more)) state _ (g.reads more ∙ ap (λ r. resumed max g.before state (lines_of r)) (sym (append_assoc left rest more)));
+}
 
 not_faulty : (new : State) → IsFaultOf new None → (fault : CnfFault) → new ≡ Faulty fault → ⊥
 not_faulty Header is fault e = cc
@@ -110,10 +110,10 @@ no_line_end-both xs ys h k = All-append (λ b. is_line_end b ≡ false) xs ys h 
 pub stands-fed : (r : CnfRead) (text piece : List ℕ) (s : StandsAt r text) (new : State) (line : ℕ) (left : List ℕ) → Taken r.max s.before r.state r.ahead piece new line left → IsFaultOf new None
     → StandsAt (record { max = r.max; ahead = left; line = line; state = new }) (text ++ piece)
 stands-fed r text piece s new line left t sound = record {
-    before = t.before;
-    line_is = t.line_is;
-    reads = λ more. ap (read_cnf r.max) (append_assoc text piece more) ∙ s.reads (piece ++ more) ∙ reads_of r.max t.before (lines_of (left ++ more)) new _ (not_faulty new sound) (t.reads more);
-  }
+  before = t.before;
+  line_is = t.line_is;
+  reads = λ more. ap (read_cnf r.max) (append_assoc text piece more) ∙ s.reads (piece ++ more) ∙ reads_of r.max t.before (lines_of (left ++ more)) new _ (not_faulty new sound) (t.reads more);
+}
 
 told-err : {Y : Type 0} (kind : CnfFaultKind) (line : ℕ) (read : Result Y CnfFault) → is_no_memory kind ≡ false → IsTold kind line read → read ≡ Err (record { kind = kind; line = line })
 told-err NoHeader line read m h = h

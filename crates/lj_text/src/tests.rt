@@ -1,1 +1,2 @@
+mod cnf;
 mod lines;

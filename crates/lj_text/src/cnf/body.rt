@@ -6,7 +6,7 @@ ghost use Rattle.lj_text.specs.Cnf.{Place, Percent, Number, number_at, place_at}
 ghost use Rattle.lj_text.specs.CnfReading.{Goes, IsTold, IsNumberUpTo, completed};
 
 use super::fault::CnfFaultKind;
-use crate::bytes::{word_of, Word};
+use crate::bytes::{Word, word_of};
 use lj_clause::{Clause, Formula, Lit};
 use std::alloc::Global;
 use std::marker::Model;

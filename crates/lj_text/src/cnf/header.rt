@@ -33,7 +33,10 @@ fn read_sizes(max: u32, bytes: &[u8]) -> Result<(u32, u32), CnfFaultKind>
     ensures sizes { (line : ℕ) → MatchResult result (λ sizes. header_after max line (tokens_of bytes.now) ≡ Ok sizes) (λ kind. IsTold kind line (header_after max line (tokens_of bytes.now))) }
 {
     match three_tokens(bytes) {
-        Some(([b'c', b'n', b'f'], variables, clauses)) => match (digits_value(variables), digits_value(clauses)) {
+        Some(([b'c', b'n', b'f'], variables, clauses)) => match (
+            digits_value(variables),
+            digits_value(clauses),
+        ) {
             (Some(variables), Some(clauses)) => {
                 if clauses > MAX_CLAUSES {
                     Err(CnfFaultKind::BadHeader)

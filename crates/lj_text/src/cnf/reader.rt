@@ -72,7 +72,14 @@ impl CnfReader {
             return Err(fault);
         }
         let state = replace(&mut self.state, State::Header);
-        let (state, line) = take_piece(self.alloc, self.max, state, self.line, &mut self.held, piece);
+        let (state, line) = take_piece(
+            self.alloc,
+            self.max,
+            state,
+            self.line,
+            &mut self.held,
+            piece,
+        );
         let fault = fault_of(&state);
         self.state = state;
         self.line = line;
@@ -120,7 +127,14 @@ fn no_memory(line: u64) -> State
 }
 
 /// The state behind the whole lines of a piece and the number of the line after them, whose beginning is held.
-fn take_piece(alloc: Global, max: u32, before: State, first: u64, held: &mut Vec<u8>, piece: &[u8]) -> (State, u64)
+fn take_piece(
+    alloc: Global,
+    max: u32,
+    before: State,
+    first: u64,
+    held: &mut Vec<u8>,
+    piece: &[u8],
+) -> (State, u64)
     requires max { max ≤ 134217727 }
     requires none { HasNoLineEnd held.old.items }
     ensures { (n : ℕ) → first ≡ line_number n → Taken max n before held.old.items piece.now result.0 result.1 held.new.items }

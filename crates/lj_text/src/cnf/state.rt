@@ -47,10 +47,7 @@ fn begin(alloc: Global, max: u32, number: u64, token: &[u8], after: &[u8]) -> St
 {
     match read_header(max, token, after) {
         Ok((variables, clauses)) => State::Clauses(Body::new(alloc, variables, clauses)),
-        Err(kind) => State::Faulty(CnfFault {
-            kind,
-            line: number,
-        }),
+        Err(kind) => State::Faulty(CnfFault { kind, line: number }),
     }
 }
 
@@ -61,10 +58,7 @@ fn go_on(mut body: Body, number: u64, bytes: &[u8]) -> State
     match take_tokens(&mut body, bytes) {
         Ok(true) => State::Ended(body),
         Ok(false) => State::Clauses(body),
-        Err(kind) => State::Faulty(CnfFault {
-            kind,
-            line: number,
-        }),
+        Err(kind) => State::Faulty(CnfFault { kind, line: number }),
     }
 }
 
@@ -95,10 +89,7 @@ pub(super) fn close(state: State, number: u64) -> Result<Formula, CnfFault>
         }),
         State::Clauses(body) => match body.close() {
             Ok(formula) => Ok(formula),
-            Err(kind) => Err(CnfFault {
-                kind,
-                line: number,
-            }),
+            Err(kind) => Err(CnfFault { kind, line: number }),
         },
         State::Ended(body) => Ok(body.formula()),
         State::Faulty(fault) => Err(fault),

@@ -7,11 +7,11 @@ const MAX: u32 = 134_217_727;
 
 /// Inputs, and what is told of them: each line with its number, and the fault that ends them.
 const INPUTS: [(&str, &str); 34] = [
-    ("5 2 0 1 2 0", "1: Add 5 [2] Some(2) [1, 2] [];"),
-    ("005 01 0 00\n", "1: Add 5 [1] Some(1) [] [];"),
+    ("5 2 0 1 2 0", "1: Add 5 [2] Some(2) [1, 2];"),
+    ("005 01 0 00\n", "1: Add 5 [1] Some(1) [];"),
     (
         "5 -3 1 3 1 0 7 -2 4 -6 0\n",
-        "1: Add 5 [1, 3, -3] Some(-3) [7] [Group { candidate: 2, hints: Numbers { items: [4] } }, Group { candidate: 6, hints: Numbers { items: [] } }];",
+        "1: Add 5 [1, 3, -3] Some(-3) [7] -2 [4] -6 [];",
     ),
     ("0 d 1 0\n", "1: Delete [1];"),
     ("5 d 0\n", "1: Delete [];"),
@@ -19,7 +19,7 @@ const INPUTS: [(&str, &str); 34] = [
     ("7 i -2 1 0\n", "1: Import 7 [1, -2];"),
     ("7 i 0\n", "1: Import 7 [];"),
     ("c 5 x\n\n \t\r\n", ""),
-    ("5 1 0 0\r\n", "1: Add 5 [1] Some(1) [] [];"),
+    ("5 1 0 0\r\n", "1: Add 5 [1] Some(1) [];"),
     ("5 x 0 0\n", "BadNumber 1"),
     ("5 +1 0 0\n", "BadNumber 1"),
     ("5 1 d 0\n", "BadNumber 1"),
@@ -44,11 +44,11 @@ const INPUTS: [(&str, &str); 34] = [
     ("5 1 0 0 c\n", "BadNumber 1"),
     (
         "9223372036854775807 2 0 9223372036854775807 0\n\ncnf\n5 d 1 0",
-        "1: Add 9223372036854775807 [2] Some(2) [9223372036854775807] [];4: Delete [1];",
+        "1: Add 9223372036854775807 [2] Some(2) [9223372036854775807];4: Delete [1];",
     ),
     (
         "5 2 0 1 2 0\n6 0 5 3 4",
-        "1: Add 5 [2] Some(2) [1, 2] [];Truncated 2",
+        "1: Add 5 [2] Some(2) [1, 2];Truncated 2",
     ),
 ];
 
@@ -58,9 +58,17 @@ fn describe(alloc: Global, line: &Line, at: u64) -> Result<String, Fail> {
             let literals = addition.lemma.clause().lits();
             let pivot = addition.lemma.pivot();
             let hints = addition.hints.as_slice();
-            let groups = addition.groups.as_slice();
             let number = addition.number;
-            format!(in alloc; "{at}: Add {number} {literals:?} {pivot:?} {hints:?} {groups:?};")?
+            let mut told = format!(in alloc;
+                "{at}: Add {number} {literals:?} {pivot:?} {hints:?}"
+            )?;
+            for group in addition.groups.as_slice() {
+                let candidate = group.candidate;
+                let hints = group.hints.as_slice();
+                told.push_str(&format!(in alloc; " -{candidate} {hints:?}")?)?;
+            }
+            told.push_str(";")?;
+            told
         }
         Line::Delete(numbers) => {
             let numbers = numbers.as_slice();
@@ -117,10 +125,18 @@ fn every_cut(rt: HostRuntime) -> Result<(), Fail> {
         for byte in bytes.chunks(1) {
             bytewise.push(byte)?;
         }
-        assert_eq!(rt; told(alloc, &bytewise)?.as_str(), *want, "byte by byte: {text}");
+        assert_eq!(rt;
+            told(alloc, &bytewise)?.as_str(),
+            *want,
+            "byte by byte: {text}"
+        );
         for at in 0..bytes.len() {
             let (front, back) = bytes.split_at(at);
-            assert_eq!(rt; told(alloc, &[front, back])?.as_str(), *want, "cut at {at}: {text}");
+            assert_eq!(rt;
+                told(alloc, &[front, back])?.as_str(),
+                *want,
+                "cut at {at}: {text}"
+            );
         }
         assert_eq!(rt; told(alloc, &[bytes])?.as_str(), *want, "{text}");
     }
@@ -137,13 +153,19 @@ fn pieces(rt: HostRuntime) -> Result<(), Fail> {
     assert!(rt; reader.feed(b"2 0\n").is_ok());
     match reader.next() {
         Ok(Some(line)) => {
-            assert_eq!(rt; describe(alloc, &line, reader.at())?.as_str(), "1: Add 5 [2] Some(2) [12] [];")
+            assert_eq!(rt;
+                describe(alloc, &line, reader.at())?.as_str(),
+                "1: Add 5 [2] Some(2) [12];"
+            )
         }
         _ => assert!(rt; false, "the line is whole"),
     }
     assert!(rt; matches!(reader.next(), Ok(None)));
     assert_eq!(rt; reader.at(), 2);
-    assert_eq!(rt; told(alloc, &[b"5 -", b"2 0 0\n"])?.as_str(), "1: Add 5 [-2] Some(-2) [] [];");
+    assert_eq!(rt;
+        told(alloc, &[b"5 -", b"2 0 0\n"])?.as_str(),
+        "1: Add 5 [-2] Some(-2) [];"
+    );
     Ok(())
 }
 

@@ -11,6 +11,6 @@ pub returns-then-is_header-clause-sizes : goal.returns-then-is_header-clause-siz
 returns-then-is_header-clause-sizes c line =
     let e : is_letter 112 c.args.token.now ≡ true = sym c.is_header.ensures ∙ c.if-is_header.true in
     let P : Bool → Type 0 = λ b. MatchResult c.read_sizes.result
-      (λ sizes. cond b (header_after c.args.max line (tokens_of c.args.after.now)) (fault_in line kinds.NoHeader) ≡ Ok sizes)
-      (λ kind. IsTold kind line (cond b (header_after c.args.max line (tokens_of c.args.after.now)) (fault_in line kinds.NoHeader))) in
+    (λ sizes. cond b (header_after c.args.max line (tokens_of c.args.after.now)) (fault_in line kinds.NoHeader) ≡ Ok sizes)
+    (λ kind. IsTold kind line (cond b (header_after c.args.max line (tokens_of c.args.after.now)) (fault_in line kinds.NoHeader))) in
     subst P (sym e) (c.read_sizes.ensures.sizes line)

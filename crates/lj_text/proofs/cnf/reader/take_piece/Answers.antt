@@ -15,8 +15,8 @@ returns-in-Faulty c n first =
     let e : c.extend_from_slice.new.self.items ≡ left ++ front = c.in-Ok.ensures.items in
     let P : List ℕ → Type 0 = λ l. Taken c.args.max n c.args.before c.args.held.now.items c.args.piece.now (Faulty fault) c.loop-front.number l in
     subst P (sym e) (taken-fault c.args.max n c.loop-front.number c.args.before c.loop-front.state fault c.args.held.now.items c.args.piece.now left c.loop-front.rest.now front c.in-Some.after.now
-      (c.loop-front.invariant.going n first) c.in-Some.ensures.some (no_line_end-both left front c.loop-front.invariant.none c.in-Some.ensures.line)
-      (λ k h lines. let Q : List ℕ → Type 0 = λ b. IsTold fault.kind fault.line (resumed c.args.max k c.loop-front.state (b ∷ lines)) in subst Q (c.deref.ensures.value ∙ e) (c.in-Faulty.ensures k h lines)))
+    (c.loop-front.invariant.going n first) c.in-Some.ensures.some (no_line_end-both left front c.loop-front.invariant.none c.in-Some.ensures.line)
+    (λ k h lines. let Q : List ℕ → Type 0 = λ b. IsTold fault.kind fault.line (resumed c.args.max k c.loop-front.state (b ∷ lines)) in subst Q (c.deref.ensures.value ∙ e) (c.in-Faulty.ensures k h lines)))
 
 pub loop-front-preserved : goal.loop-front-preserved
 loop-front-preserved c =
@@ -27,7 +27,7 @@ loop-front-preserved c =
     record {
       none = let P : List ℕ → Type 0 = HasNoLineEnd in subst P (sym empty) (λ k d h. absurd (omega arith));
       going = λ n first.
-        rw (empty, c.saturating_add-number.ensures) (going-more c.args.max n c.loop-front.number c.args.before c.loop-front.state c.after_line.result c.args.held.now.items c.args.piece.now left c.loop-front.rest.now front c.in-Some.after.now
+          rw (empty, c.saturating_add-number.ensures) (going-more c.args.max n c.loop-front.number c.args.before c.loop-front.state c.after_line.result c.args.held.now.items c.args.piece.now left c.loop-front.rest.now front c.in-Some.after.now
           (c.loop-front.invariant.going n first) c.in-Some.ensures.some (no_line_end-both left front c.loop-front.invariant.none c.in-Some.ensures.line)
           (λ k h lines. let Q : List ℕ → Type 0 = λ b. Reads c.args.max (k + 1) lines c.after_line.result (resumed c.args.max k c.loop-front.state (b ∷ lines)) in subst Q (c.deref.ensures.value ∙ e) (c.after_line.ensures k h lines))
           c.in_default-after_line.not-Faulty);
@@ -41,4 +41,4 @@ returns-in-Ok-extend_from_slice c n first =
     let none : HasNoLineEnd rest = search rules in
     let P : List ℕ → Type 0 = λ l. Taken c.args.max n c.args.before c.args.held.now.items c.args.piece.now c.loop-front.state c.loop-front.number l in
     subst P (sym e) (taken-rest c.args.max n c.loop-front.number c.args.before c.loop-front.state c.args.held.now.items c.args.piece.now left rest
-      (c.loop-front.invariant.going n first) (no_line_end-both left rest c.loop-front.invariant.none none))
+    (c.loop-front.invariant.going n first) (no_line_end-both left rest c.loop-front.invariant.none none))

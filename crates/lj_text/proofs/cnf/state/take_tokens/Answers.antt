@@ -24,5 +24,5 @@ returns-in_err-take c last line rest =
     let behind = places_behind line (tokens_of c.in-Some.after.now) rest in
     let p = err_from_is_err_and c.from_residual.result c.from_residual.ensures.1 in
     rw (p.1, p.2) (told-at c.in_err-take.field-0.0 line _ _
-      (c.loop-token.invariant last line rest ∙ ap (λ ts. completed c.loop-token.body last (places_behind line ts rest)) c.in-Some.ensures.some)
-      (c.in_err-take.ensures last line behind))
+    (c.loop-token.invariant last line rest ∙ ap (λ ts. completed c.loop-token.body last (places_behind line ts rest)) c.in-Some.ensures.some)
+    (c.in_err-take.ensures last line behind))

@@ -17,5 +17,5 @@ returns-clause-stands c text stands =
     let Q : State → Type 0 = λ state. Taken v.max s.before state v.held.items c.args.piece.now taken.result.0 taken.result.1 taken.new.held.items in
     let F : Option CnfFault → Type 0 = λ f. IsFaultOf taken.result.0 f in
     stands-fed r text c.args.piece.now s taken.result.0 taken.result.1 taken.new.held.items
-      (subst Q c.replace-state.ensures.value (taken.ensures s.before s.line_is))
-      (subst F c.in-None.is c.fault_of-fault.ensures)
+    (subst Q c.replace-state.ensures.value (taken.ensures s.before s.line_is))
+    (subst F c.in-None.is c.fault_of-fault.ensures)

@@ -24,5 +24,5 @@ returns-clause-answer c text stands =
     let Q : CnfRead → Type 0 = λ x. IsAnswer x.max text c.close.result in
     let R : List ℕ → Type 0 = λ b. Reads v.max (s.before + 1) [] c.after_line-state.result (resumed v.max s.before v.state (b ∷ [])) in
     subst Q same (answered r text s c.after_line-state.result c.close.result c.self.invariant.none
-      (subst R c.deref.ensures.value (c.after_line-state.ensures s.before s.line_is []))
-      (c.close.ensures v.max s.before s.line_is))
+    (subst R c.deref.ensures.value (c.after_line-state.ensures s.before s.line_is []))
+    (c.close.ensures v.max s.before s.line_is))
