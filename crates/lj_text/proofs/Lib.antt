@@ -1,6 +1,7 @@
 pub mod Evaluation
 pub mod StepLaws
 pub mod NeededLaws
+mod CnfLemmas
 mod CutLemmas
 mod DigitLemmas
 mod FrontLemmas
@@ -8,5 +9,6 @@ mod HeldLemmas
 mod PassLemmas
 mod ReaderLemmas
 mod StandLemmas
+mod TakeLemmas
 mod TokenLemmas
 pub mod Fronts

@@ -19,11 +19,11 @@ abbrev pub greatest : ℕ
 greatest = 9223372036854775807
 
 -- with what was read, and the fault alone where there is one
-abbrev pub with_read : {A B : Type 0} → (A → B) → Result A LineFaultKind → Result B LineFaultKind
+abbrev pub with_read : {A B E : Type 0} → (A → B) → Result A E → Result B E
 with_read f (Ok x) = Ok (f x)
 with_read f (Err kind) = Err kind
 
-abbrev pub then_read : {A B : Type 0} → Result A LineFaultKind → (A → Result B LineFaultKind) → Result B LineFaultKind
+abbrev pub then_read : {A B E : Type 0} → Result A E → (A → Result B E) → Result B E
 then_read (Ok x) f = f x
 then_read (Err kind) f = Err kind
 

@@ -3,5 +3,5 @@
 mod numbers;
 mod tokens;
 
-pub(crate) use numbers::{GREATEST, Word, word_of};
+pub(crate) use numbers::{Word, digits_value, word_of};
 pub(crate) use tokens::next_token;

@@ -2,6 +2,7 @@
 #![tactic(auto)]
 
 mod bytes;
+mod cnf;
 pub mod examples;
 mod failing;
 mod in_pieces;
@@ -13,6 +14,7 @@ mod sink;
 mod source;
 mod step;
 
+pub use cnf::{CnfFault, CnfFaultKind, CnfReader};
 pub use failing::{FailingSink, FailingSource};
 pub use in_pieces::InPieces;
 pub use line::{Addition, Line};
@@ -21,3 +23,6 @@ pub use numbers::{Group, Groups, Numbers};
 pub use sink::{MemorySink, Sink, SinkFault, WriterSink, write_all};
 pub use source::{MemorySource, ReaderSource, Source, SourceFault};
 pub use step::Step;
+
+#[cfg(test)]
+mod tests;

@@ -10,5 +10,6 @@ mod parse;
 mod reader;
 mod words;
 
+pub(crate) use cut::first_line;
 pub use fault::{LineFault, LineFaultKind};
 pub use reader::LineReader;

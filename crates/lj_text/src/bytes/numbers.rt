@@ -5,7 +5,7 @@ ghost use Rattle.lj_text.specs.Bytes.{digits_value, negative, number_of};
 ghost use Rattle.lj_text.specs.Words.{IsWord, Counts};
 
 /// The greatest number of a clause.
-pub(crate) const GREATEST: u64 = 9_223_372_036_854_775_807;
+const GREATEST: u64 = 9_223_372_036_854_775_807;
 
 /// What a token says.
 #[derive(Clone, Copy, Debug, PartialEq, Eq)]
@@ -34,7 +34,7 @@ fn appended(number: u64, digit: u64) -> u64
 }
 
 /// The value of one or more digits, or a number above `GREATEST` for any such value.
-fn digits_value(digits: &[u8]) -> Option<u64>
+pub(crate) fn digits_value(digits: &[u8]) -> Option<u64>
     ensures none { IfNone result (digits_value digits.now ≡ None) }
     ensures some { IfSome result (λ m. (n : ℕ) × (digits_value digits.now ≡ Some n) × Counts m n) }
 {

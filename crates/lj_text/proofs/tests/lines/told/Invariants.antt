@@ -1,0 +1,8 @@
+use Rattle.std.proofs.Common.{◌≡◌, false}
+use Rattle.lj_text.proofs.tests.lines.told.Given as goal
+
+abbrev pub invariant-loop-piece : goal.invariant-loop-piece
+invariant-loop-piece l = l.reader.finished ≡ false
+
+abbrev pub invariant-loop : goal.invariant-loop
+invariant-loop l = l.reader.finished ≡ false

@@ -1,0 +1,2 @@
+mod cnf;
+mod lines;

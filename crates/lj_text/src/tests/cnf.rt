@@ -1,0 +1,118 @@
+//! Formulas at worked examples, fed in every cut.
+use crate::CnfReader;
+use lj_clause::Formula;
+use std::alloc::Global;
+use std::test::*;
+
+const MAX: u32 = 134_217_727;
+
+/// Texts, and what is told of them: the formula, or the fault and its line.
+const TEXTS: [(&str, &str); 27] = [
+    ("c hi\np cnf 2 2\n1 -2 0 2\n 0\n%\n0\n", "2: [1, -2] [2] "),
+    ("p cnf 0 0", "0: "),
+    ("p cnf 2 1\n2 2 -1 0", "2: [-1, 2] "),
+    ("p cnf 2 1\n1\nc x\n-2 0\n", "2: [1, -2] "),
+    ("p cnf 02 1\n1 -1 00\n", "2: [1, -1] "),
+    ("", "NoHeader 1"),
+    ("c x\n\n", "NoHeader 3"),
+    ("1 2 0\n", "NoHeader 1"),
+    ("p cnf 2\n", "BadHeader 1"),
+    ("p cnf 2 -1\n", "BadHeader 1"),
+    ("p cnf 134217728 4294967296\n", "BadHeader 1"),
+    ("p cnf 134217728 0\n", "VariableRange 1"),
+    ("p cnf 2 1\n1 3 0\n", "VariableRange 2"),
+    ("p cnf 2 1\n1 +2 0\n", "BadNumber 2"),
+    ("p cnf 2 1\n1 -0\n", "BadNumber 2"),
+    ("p cnf 2 1\n1 % 0\n", "BadNumber 2"),
+    ("p cnf 2 2\n1 0\n2", "Truncated 3"),
+    ("p cnf 2 1\n1 0 2 0\n", "ClauseCount 2"),
+    ("p cnf 2 2\n1 0\n%\n", "ClauseCount 3"),
+    ("p cnf 2 2\n1 0\n", "ClauseCount 3"),
+    ("p cnf 1 1\n1 0 2 0\n", "VariableRange 2"),
+    ("p cnf 2 1\n1 0 x", "BadNumber 2"),
+    ("p cnf 0 0\n0\n", "ClauseCount 2"),
+    ("p cnf 2 1\n1 0\n%x\np", "2: [1] "),
+    ("p cnf 134217727 4294967295", "ClauseCount 1"),
+    ("p cnf 2 1\n\n0\n\n1\n", "ClauseCount 5"),
+    (
+        "p cnf 2 5\n1 2 0\n-1 2 0\n1 -2 0\n-1 -2 0\n",
+        "ClauseCount 6",
+    ),
+];
+
+fn describe(alloc: Global, formula: &Formula) -> Result<String, Fail> {
+    let variables = formula.variables();
+    let mut told = format!(in alloc; "{variables}: ")?;
+    for number in 1..9 {
+        if let Some(clause) = formula.clause(number) {
+            let literals = clause.lits();
+            told.push_str(&format!(in alloc; "{literals:?} ")?)?;
+        }
+    }
+    Ok(told)
+}
+
+/// What is told of a text that comes in these pieces.
+fn told(alloc: Global, pieces: &[&[u8]]) -> Result<String, Fail> {
+    let mut reader = CnfReader::new(alloc, MAX);
+    for piece in pieces {
+        if let Err(fault) = reader.feed(piece) {
+            let line = fault.line;
+            return Ok(format!(in alloc; "{fault} {line}")?);
+        }
+    }
+    match reader.finish() {
+        Ok(formula) => describe(alloc, &formula),
+        Err(fault) => {
+            let line = fault.line;
+            Ok(format!(in alloc; "{fault} {line}")?)
+        }
+    }
+}
+
+#[test]
+fn every_cut(rt: HostRuntime) -> Result<(), Fail> {
+    let alloc = rt.alloc();
+    for (text, want) in &TEXTS {
+        let bytes = text.as_bytes();
+        let mut bytewise = Vec::new(alloc);
+        for byte in bytes.chunks(1) {
+            bytewise.push(byte)?;
+        }
+        assert_eq!(rt;
+            told(alloc, &bytewise)?.as_str(),
+            *want,
+            "byte by byte: {text}"
+        );
+        for at in 0..bytes.len() {
+            let (front, back) = bytes.split_at(at);
+            assert_eq!(rt;
+                told(alloc, &[front, back])?.as_str(),
+                *want,
+                "cut at {at}: {text}"
+            );
+        }
+        assert_eq!(rt; told(alloc, &[bytes])?.as_str(), *want, "{text}");
+    }
+    Ok(())
+}
+
+#[test]
+fn pieces(rt: HostRuntime) -> Result<(), Fail> {
+    let alloc = rt.alloc();
+    assert_eq!(rt;
+        told(alloc, &[b"p cnf 2 1\n1 -", b"", b"2 0"])?.as_str(),
+        "2: [1, -2] "
+    );
+    Ok(())
+}
+
+/// A fault is told again.
+#[test]
+fn fault_stays(rt: HostRuntime) {
+    let mut reader = CnfReader::new(rt.alloc(), MAX);
+    let fault = reader.feed(b"p cnf 2 1\n1 x\n").err();
+    assert_eq!(rt; fault.map(|f| f.line), Some(2));
+    assert_eq!(rt; reader.feed(b"").err(), fault);
+    assert_eq!(rt; reader.finish().err(), fault);
+}

@@ -1,0 +1,184 @@
+//! Lines at worked examples, fed in every cut.
+use crate::{Line, LineReader};
+use std::alloc::Global;
+use std::test::*;
+
+const MAX: u32 = 134_217_727;
+
+/// Inputs, and what is told of them: each line with its number, and the fault that ends them.
+const INPUTS: [(&str, &str); 34] = [
+    ("5 2 0 1 2 0", "1: Add 5 [2] Some(2) [1, 2];"),
+    ("005 01 0 00\n", "1: Add 5 [1] Some(1) [];"),
+    (
+        "5 -3 1 3 1 0 7 -2 4 -6 0\n",
+        "1: Add 5 [1, 3, -3] Some(-3) [7] -2 [4] -6 [];",
+    ),
+    ("0 d 1 0\n", "1: Delete [1];"),
+    ("5 d 0\n", "1: Delete [];"),
+    ("5 d 3 1 3 0\n", "1: Delete [3, 1, 3];"),
+    ("7 i -2 1 0\n", "1: Import 7 [1, -2];"),
+    ("7 i 0\n", "1: Import 7 [];"),
+    ("c 5 x\n\n \t\r\n", ""),
+    ("5 1 0 0\r\n", "1: Add 5 [1] Some(1) [];"),
+    ("5 x 0 0\n", "BadNumber 1"),
+    ("5 +1 0 0\n", "BadNumber 1"),
+    ("5 1 d 0\n", "BadNumber 1"),
+    ("5 d1 0\n", "BadNumber 1"),
+    ("5 -", "BadNumber 1"),
+    ("5 1 0 -0\n", "BadNumber 1"),
+    ("5 134217728 0 0\n", "NumberRange 1"),
+    ("9223372036854775808 1 0 0\n", "NumberRange 1"),
+    ("-5 1 0 0\n", "Syntax 1"),
+    ("0 1 0 0\n", "Syntax 1"),
+    ("0 i 1 0\n", "Syntax 1"),
+    ("5 d -1 0\n", "Syntax 1"),
+    ("5 1 0 0 7\n", "Syntax 1"),
+    ("5 2 0 1 2\n", "Syntax 1"),
+    ("5 2 0 1 2", "Truncated 1"),
+    ("5 2 0", "Truncated 1"),
+    ("5", "Truncated 1"),
+    ("0 134217728 0 0\n", "NumberRange 1"),
+    ("-9223372036854775808 1 0 0\n", "NumberRange 1"),
+    ("5 d -9223372036854775808 0\n", "NumberRange 1"),
+    ("5 1 0 0 99999999999999999999\n", "Syntax 1"),
+    ("5 1 0 0 c\n", "BadNumber 1"),
+    (
+        "9223372036854775807 2 0 9223372036854775807 0\n\ncnf\n5 d 1 0",
+        "1: Add 9223372036854775807 [2] Some(2) [9223372036854775807];4: Delete [1];",
+    ),
+    (
+        "5 2 0 1 2 0\n6 0 5 3 4",
+        "1: Add 5 [2] Some(2) [1, 2];Truncated 2",
+    ),
+];
+
+fn describe(alloc: Global, line: &Line, at: u64) -> Result<String, Fail> {
+    Ok(match line {
+        Line::Add(addition) => {
+            let literals = addition.lemma.clause().lits();
+            let pivot = addition.lemma.pivot();
+            let hints = addition.hints.as_slice();
+            let number = addition.number;
+            let mut told = format!(in alloc;
+                "{at}: Add {number} {literals:?} {pivot:?} {hints:?}"
+            )?;
+            for group in addition.groups.as_slice() {
+                let candidate = group.candidate;
+                let hints = group.hints.as_slice();
+                told.push_str(&format!(in alloc; " -{candidate} {hints:?}")?)?;
+            }
+            told.push_str(";")?;
+            told
+        }
+        Line::Delete(numbers) => {
+            let numbers = numbers.as_slice();
+            format!(in alloc; "{at}: Delete {numbers:?};")?
+        }
+        Line::Import { number, clause } => {
+            let literals = clause.lits();
+            format!(in alloc; "{at}: Import {number} {literals:?};")?
+        }
+    })
+}
+
+/// What is told of an input that comes in these pieces.
+fn told(alloc: Global, pieces: &[&[u8]]) -> Result<String, Fail> {
+    let mut told = String::new(alloc);
+    let mut reader = LineReader::new(alloc, MAX);
+    for piece in pieces {
+        if let Err(fault) = reader.feed(piece) {
+            told.push_str(&format!(in alloc; "feed: {fault}")?)?;
+            return Ok(told);
+        }
+        for _ in 0..9 {
+            match reader.next() {
+                Ok(None) => break,
+                Ok(Some(line)) => told.push_str(&describe(alloc, &line, reader.at())?)?,
+                Err(fault) => {
+                    let line = fault.line;
+                    told.push_str(&format!(in alloc; "{fault} {line}")?)?;
+                    return Ok(told);
+                }
+            }
+        }
+    }
+    for _ in 0..9 {
+        match reader.finish() {
+            Ok(None) => break,
+            Ok(Some(line)) => told.push_str(&describe(alloc, &line, reader.at())?)?,
+            Err(fault) => {
+                let line = fault.line;
+                told.push_str(&format!(in alloc; "{fault} {line}")?)?;
+                return Ok(told);
+            }
+        }
+    }
+    Ok(told)
+}
+
+#[test]
+fn every_cut(rt: HostRuntime) -> Result<(), Fail> {
+    let alloc = rt.alloc();
+    for (text, want) in &INPUTS {
+        let bytes = text.as_bytes();
+        let mut bytewise = Vec::new(alloc);
+        for byte in bytes.chunks(1) {
+            bytewise.push(byte)?;
+        }
+        assert_eq!(rt;
+            told(alloc, &bytewise)?.as_str(),
+            *want,
+            "byte by byte: {text}"
+        );
+        for at in 0..bytes.len() {
+            let (front, back) = bytes.split_at(at);
+            assert_eq!(rt;
+                told(alloc, &[front, back])?.as_str(),
+                *want,
+                "cut at {at}: {text}"
+            );
+        }
+        assert_eq!(rt; told(alloc, &[bytes])?.as_str(), *want, "{text}");
+    }
+    Ok(())
+}
+
+#[test]
+fn pieces(rt: HostRuntime) -> Result<(), Fail> {
+    let alloc = rt.alloc();
+    let mut reader = LineReader::new(alloc, MAX);
+    assert!(rt; reader.feed(b"5 2 0 1").is_ok());
+    assert!(rt; matches!(reader.next(), Ok(None)));
+    assert_eq!(rt; reader.at(), 1);
+    assert!(rt; reader.feed(b"2 0\n").is_ok());
+    match reader.next() {
+        Ok(Some(line)) => {
+            assert_eq!(rt;
+                describe(alloc, &line, reader.at())?.as_str(),
+                "1: Add 5 [2] Some(2) [12];"
+            )
+        }
+        _ => assert!(rt; false, "the line is whole"),
+    }
+    assert!(rt; matches!(reader.next(), Ok(None)));
+    assert_eq!(rt; reader.at(), 2);
+    assert_eq!(rt;
+        told(alloc, &[b"5 -", b"2 0 0\n"])?.as_str(),
+        "1: Add 5 [-2] Some(-2) [];"
+    );
+    Ok(())
+}
+
+/// A fault is told again by every call.
+#[test]
+fn fault_stays(rt: HostRuntime) {
+    let alloc = rt.alloc();
+    let mut reader = LineReader::new(alloc, MAX);
+    assert!(rt; reader.feed(b"5 d 1 0\n5 x\n5 d 1 0\n").is_ok());
+    assert!(rt; matches!(reader.next(), Ok(Some(_))));
+    let fault = reader.next().err();
+    assert_eq!(rt; fault.map(|f| f.line), Some(2));
+    assert_eq!(rt; reader.next().err(), fault);
+    assert_eq!(rt; reader.feed(b"5 d 1 0\n").err(), fault);
+    assert_eq!(rt; reader.finish().err(), fault);
+}
