@@ -1,0 +1,5 @@
+pub mod Codes
+pub mod Tables
+pub mod State
+pub mod Calls
+pub mod History
