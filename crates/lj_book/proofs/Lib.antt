@@ -1,1 +1,2 @@
 pub mod NumberMaps
+pub mod TableLaws

@@ -1,5 +1,6 @@
 pub mod Codes
 pub mod Tables
+pub mod Holders
 pub mod State
 pub mod Calls
 pub mod History

@@ -2,14 +2,14 @@
 use Rattle.std.specs.Prelude.{ℕ, ◌+◌, ◌==◌, Bool, true, false, not, List, [], ◌∷◌, map, length, Option, Some, None, filter, filter_map, if◌then◌else◌, replicate, refl}
 use Rattle.std.specs.Coded.{Coded, code_by, coded×, coded_list, coded_ℕ}
 use Rattle.std.specs.FinMap as fin
-use Rattle.lj_clause.specs.ClauseMap.{ClauseMap, FormulaValue, formula_code, formula_map, numbered_from}
+use Rattle.lj_clause.specs.ClauseMap.{ClauseMap, FormulaValue, formula_code, formula_map}
 use Rattle.lj_text.specs.declared.step.Step.{Step}
 use Rattle.lj_text.specs.declared.step.Step.TheVariants.{Add, Delete}
 use Rattle.lj_text.specs.Steps.{adds_empty}
 use Rattle.lj_text.specs.Needed.{additions}
 use Rattle.lj_book.specs.declared.entry.Entry.{Entry}
 use Rattle.lj_book.specs.Codes.{entry_code}
-use Rattle.lj_book.specs.Tables.{Table, Tables, tables_code, is_held}
+use Rattle.lj_book.specs.Tables.{Tables, tables_code, is_held, up_to}
 
 -- The formula, the greatest number of additions, the tables of the seats, and the history, the oldest entry first.
 pub record State : Type 0 where
@@ -48,13 +48,9 @@ given_out s = with_additions (formula_map s.formula) (steps_of s.history)
 abbrev pub live : State → ClauseMap
 live s = fin.retain_keys (given_out s) (is_held s.tables)
 
--- the table that binds the number of each clause of the formula to itself
-abbrev pub opening_table : FormulaValue → Table
-opening_table f = fin.from_entries (map (λ e. (e.0, e.0)) (numbered_from 1 f.clauses))
-
--- a new book with this many seats
+-- a new book with this many seats, each of which holds the clauses of the formula under their numbers
 abbrev pub opening : FormulaValue → ℕ → ℕ → State
-opening f seats max_steps = record { formula = f; max_steps = max_steps; tables = replicate seats (Some (opening_table f)); history = [] }
+opening f seats max_steps = record { formula = f; max_steps = max_steps; tables = replicate seats (Some (up_to (length f.clauses))); history = [] }
 
 -- whether the entry adds the empty clause
 abbrev pub is_refutation : Option Step → Bool

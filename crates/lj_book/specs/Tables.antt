@@ -1,5 +1,5 @@
 -- The tables of the seats: which joint number each own number of a seat is bound to.
-use Rattle.std.specs.Prelude.{ℕ, zero, suc, ◌==◌, Bool, true, false, not, List, [], ◌∷◌, Option, Some, None, option_map, option_and_then, is_some}
+use Rattle.std.specs.Prelude.{ℕ, zero, suc, ◌-◌, ◌==◌, Bool, true, false, not, List, [], ◌∷◌, Option, Some, None, option_map, option_and_then, is_some}
 use Rattle.std.specs.List.{list_any}
 use Rattle.std.specs.Ordering.{nat_cmp}
 use Rattle.std.specs.Coded.{Coded, coded_list, coded_option, coded_ℕ}
@@ -8,6 +8,11 @@ use Rattle.std.specs.FinMap as fin
 -- from own numbers to joint numbers
 abbrev pub Table : Type 0
 Table = fin.FinMap nat_cmp ℕ
+
+-- the table that binds each number from 1 to n to itself
+abbrev pub up_to : ℕ → Table
+up_to zero = fin.empty
+up_to (suc n) = fin.insert (up_to n) (suc n) (suc n)
 
 -- the table of each seat, and none for a seat that has left
 abbrev pub Tables : Type 0
@@ -48,6 +53,11 @@ is_among numbers n = list_any (λ m. m == n) numbers
 -- the table without these own numbers
 abbrev pub without_keys : List ℕ → Table → Table
 without_keys numbers t = fin.retain_keys t (λ own. not (is_among numbers own))
+
+-- how many keys it has more than without these
+abbrev pub keys_lost : List ℕ → Option Table → ℕ
+keys_lost numbers None = 0
+keys_lost numbers (Some t) = fin.len t - fin.len (without_keys numbers t)
 
 -- whether some own number of the table is bound to the joint number
 abbrev pub holds_joint : ℕ → Option Table → Bool

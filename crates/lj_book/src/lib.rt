@@ -4,6 +4,7 @@
 mod entry;
 mod number_map;
 mod refusal;
+mod seat_tables;
 
 pub use entry::{Added, Call, Dropped, Entry};
 pub use refusal::Refusal;

@@ -1,0 +1,169 @@
+-- How often joint numbers are held, and what a change of one table does.
+use Rattle.std.proofs.Common.{◌≡◌, ap, refl, sym, ◌∙◌, subst, ℕ, zero, suc, ◌+◌, ◌*◌, ◌<◌, ◌≤◌, ◌-◌, Bool, cond, true, false, arith, ltb}
+use Rattle.std.specs.Prelude.{List, [], ◌∷◌, map, Option, Some, None, option_map, filter, not, ◌==◌, ◌||◌, if◌then◌else◌, is_some, nat_lt, replicate, get_or, set, length}
+use Rattle.std.specs.declared.cmp.Ordering.{Ordering}
+use Rattle.std.specs.declared.cmp.Ordering.TheVariants.{Less, Equal, Greater}
+use Rattle.std.proofs.lemmas.Bool.{false≢true}
+use Rattle.std.proofs.lemmas.Bool.Decides.{nat_tests}
+use Rattle.std.specs.Ordering.{nat_cmp, eq_by_cmp, is_eq}
+use Rattle.std.specs.Cmp.{nat_cmp_total, tied_itself, unsigned_tied}
+use Rattle.std.specs.FinMap as fin
+use Rattle.std.specs.FinMap.Entries.{find, put, by_order}
+use Rattle.lj_book.specs.Tables.{Table, Tables, table_of, is_here, joint_of, is_bound, with_table, is_among, without_keys, holds_joint, is_held, up_to}
+use Rattle.lj_book.specs.Holders.{occurrences, count_in, holders_of, count_or_none, count_at, AreHolders}
+use Rattle.lj_book.proofs.NumberMaps.{same_map, entries-retain_keys}
+
+among_occurs : (ms : List ℕ) (n : ℕ) → is_among ms n ≡ nat_lt 0 (occurrences ms n)
+among_occurs [] n = refl
+among_occurs (m ∷ ms) n =
+    elim (m == n) as (λ b. (b || is_among ms n) ≡ nat_lt 0 ((if b then 1 else 0) + occurrences ms n)) [
+      | true ↦ sym (grind (arith, nat_tests))
+      | false ↦ among_occurs ms n ∙ ap (nat_lt 0) (omega arith)
+    ]
+
+either_counts : (a b : ℕ) → (nat_lt 0 a || nat_lt 0 b) ≡ nat_lt 0 (a + b)
+either_counts zero b = ap (nat_lt 0) (omega arith)
+either_counts (suc a) b = sym (grind (arith, nat_tests))
+
+joint_counts : (t : Option Table) (n : ℕ) → holds_joint n t ≡ nat_lt 0 (count_in t n)
+joint_counts None n = refl
+joint_counts (Some t) n = among_occurs (fin.values t) n
+
+-- a number is held where it is held at least once
+pub held_counts : (ts : Tables) (n : ℕ) → is_held ts n ≡ nat_lt 0 (holders_of ts n)
+held_counts [] n = refl
+held_counts (t ∷ ts) n = ap (λ b. b || is_held ts n) (joint_counts t n) ∙ ap (λ b. nat_lt 0 (count_in t n) || b) (held_counts ts n) ∙ either_counts (count_in t n) (holders_of ts n)
+
+values_put : (k v : ℕ) (es : List (ℕ × ℕ)) (n : ℕ) → find nat_cmp k es ≡ None → occurrences (map (λ e. e.1) (put nat_cmp k v es)) n ≡ (if v == n then 1 else 0) + occurrences (map (λ e. e.1) es) n
+values_put k v [] n none = refl
+values_put k v (e ∷ es) n none =
+    elim (nat_cmp k e.0) as (λ r. cond (is_eq r) (Some e.1) (find nat_cmp k es) ≡ None → occurrences (map (λ (e : ℕ × ℕ). e.1) (by_order r ((k, v) ∷ e ∷ es) ((e.0, v) ∷ es) (e ∷ put nat_cmp k v es))) n ≡ (if v == n then 1 else 0) + ((if e.1 == n then 1 else 0) + occurrences (map (λ e. e.1) es) n)) [
+      | Less ↦ λ h. refl
+      | Equal ↦ λ h. cc
+      | Greater ↦ λ h. let rest = values_put k v es n h in omega arith
+    ] none
+
+-- a binding of a number that wasn't bound adds one to the count of its joint number
+pub count-insert : (t : Table) (own joint n : ℕ) → fin.get t own ≡ None → count_in (Some (fin.insert t own joint)) n ≡ (if joint == n then 1 else 0) + count_in (Some t) n
+count-insert t own joint n none =
+    ap (λ es. occurrences (map (λ (e : ℕ × ℕ). e.1) es) n) (fin.entries-insert nat_cmp_total t own joint)
+    ∙ values_put own joint (fin.entries t) n (sym (fin.get-entries t own) ∙ none)
+
+-- all entries are those that pass and those that don't
+counts_split : (p : ℕ → Bool) (es : List (ℕ × ℕ)) (n : ℕ) → occurrences (map (λ e. e.1) (filter (λ e. p e.0) es)) n + occurrences (map (λ e. e.1) (filter (λ e. not (p e.0)) es)) n ≡ occurrences (map (λ e. e.1) es) n
+counts_split p [] n = refl
+counts_split p (e ∷ es) n =
+    let rest = counts_split p es n in
+    elim (p e.0) as (λ b. occurrences (map (λ (e : ℕ × ℕ). e.1) (cond b (e ∷ filter (λ e. p e.0) es) (filter (λ e. p e.0) es))) n + occurrences (map (λ (e : ℕ × ℕ). e.1) (cond (not b) (e ∷ filter (λ e. not (p e.0)) es) (filter (λ e. not (p e.0)) es))) n ≡ (if e.1 == n then 1 else 0) + occurrences (map (λ e. e.1) es) n) [
+      | true ↦ omega arith
+      | false ↦ omega arith
+    ]
+
+-- fewer keys hold a joint number no more often
+pub count-without_keys : (numbers : List ℕ) (t : Table) (n : ℕ) → count_in (Some (without_keys numbers t)) n ≤ count_in (Some t) n
+count-without_keys numbers t n =
+    let split = counts_split (λ own. not (is_among numbers own)) (fin.entries t) n in
+    let is = ap (λ es. occurrences (map (λ (e : ℕ × ℕ). e.1) es) n) (entries-retain_keys t (λ own. not (is_among numbers own))) in
+    omega arith
+
+with_table_counts : (change : Table → Table) (ts : Tables) (seat : ℕ) (t : Table) (n : ℕ) → table_of ts seat ≡ Some t → holders_of (with_table change ts seat) n + count_in (Some t) n ≡ holders_of ts n + count_in (Some (change t)) n
+with_table_counts change [] seat t n h = cc
+with_table_counts change (None ∷ ts) zero t n h = cc
+with_table_counts change (Some u ∷ ts) zero t n h =
+    let is : u ≡ t = cc in
+    subst (λ (w : Table). (count_in (Some (change u)) n + holders_of ts n) + count_in (Some w) n ≡ (count_in (Some u) n + holders_of ts n) + count_in (Some (change w)) n) is (omega arith)
+with_table_counts change (u ∷ ts) (suc seat) t n h = let rest = with_table_counts change ts seat t n h in omega arith
+
+-- what a change of a seat's table does to the counts
+pub holders-with_table : (change : Table → Table) (ts : Tables) (seat : ℕ) (t : Table) (n : ℕ) → table_of ts seat ≡ Some t → holders_of (with_table change ts seat) n + count_in (Some t) n ≡ holders_of ts n + count_in (Some (change t)) n
+holders-with_table = with_table_counts
+
+cond_same : {A : Type 0} (b : Bool) (x : A) → cond b x x ≡ x
+cond_same true x = refl
+cond_same false x = refl
+
+same_number : (q k : ℕ) → eq_by_cmp nat_cmp q k ≡ true → q ≡ k
+same_number q k e = let f : (q == k) ≡ true = sym (unsigned_tied q k) ∙ e in grind (arith, nat_tests)
+
+-- a key that isn't there leaves the map as it is
+pub remove-absent : {X : Type 0} (m : fin.FinMap nat_cmp X) (k : ℕ) → fin.get m k ≡ None → fin.remove m k ≡ m
+remove-absent {X} m k none = same_map _ _ (λ q.
+    fin.get-remove nat_cmp_total m k q
+    ∙ elim (eq_by_cmp nat_cmp q k) as (λ b. eq_by_cmp nat_cmp q k ≡ b → cond b None (fin.get m q) ≡ fin.get m q) [
+      | true ↦ λ e. sym (ap (fin.get m) (same_number q k e) ∙ none)
+      | false ↦ λ e. refl
+    ] refl)
+
+-- what was taken out, put in again, gives the map before
+pub insert-remove : {X : Type 0} (m : fin.FinMap nat_cmp X) (k : ℕ) (v : X) → fin.get m k ≡ Some v → fin.insert (fin.remove m k) k v ≡ m
+insert-remove {X} m k v some = same_map _ _ (λ q.
+    fin.get-insert nat_cmp_total (fin.remove m k) k v q
+    ∙ ap (cond (eq_by_cmp nat_cmp q k) (Some v)) (fin.get-remove nat_cmp_total m k q)
+    ∙ elim (eq_by_cmp nat_cmp q k) as (λ b. eq_by_cmp nat_cmp q k ≡ b → cond b (Some v) (cond b None (fin.get m q)) ≡ fin.get m q) [
+      | true ↦ λ e. sym (ap (fin.get m) (same_number q k e) ∙ some)
+      | false ↦ λ e. refl
+    ] refl)
+
+-- what was put in at a free key, taken out again, gives the map before
+pub remove-insert : {X : Type 0} (m : fin.FinMap nat_cmp X) (k : ℕ) (v : X) → fin.get m k ≡ None → fin.remove (fin.insert m k v) k ≡ m
+remove-insert {X} m k v none = same_map _ _ (λ q.
+    fin.get-remove nat_cmp_total (fin.insert m k v) k q
+    ∙ ap (cond (eq_by_cmp nat_cmp q k) None) (fin.get-insert nat_cmp_total m k v q)
+    ∙ elim (eq_by_cmp nat_cmp q k) as (λ b. eq_by_cmp nat_cmp q k ≡ b → cond b None (cond b (Some v) (fin.get m q)) ≡ fin.get m q) [
+      | true ↦ λ e. sym (ap (fin.get m) (same_number q k e) ∙ none)
+      | false ↦ λ e. refl
+    ] refl)
+
+is_itself : (k : ℕ) → eq_by_cmp nat_cmp k k ≡ true
+is_itself k = ap is_eq (tied_itself nat_cmp_total k)
+
+pub get-removed : {X : Type 0} (m : fin.FinMap nat_cmp X) (k : ℕ) → fin.get (fin.remove m k) k ≡ None
+get-removed m k = fin.get-remove nat_cmp_total m k k ∙ ap (λ b. cond b None (fin.get m k)) (is_itself k)
+
+-- giving a bound number up takes one from the count of its joint number
+pub count-remove : (t : Table) (own joint n : ℕ) → fin.get t own ≡ Some joint → count_in (Some t) n ≡ (if joint == n then 1 else 0) + count_in (Some (fin.remove t own)) n
+count-remove t own joint n some =
+    ap (λ (m : Table). count_in (Some m) n) (sym (insert-remove t own joint some))
+    ∙ count-insert (fin.remove t own) own joint n (get-removed t own)
+
+-- ---- one table in the list
+
+pub table_of-get_or : (ts : Tables) (seat : ℕ) → table_of ts seat ≡ get_or ts seat None
+table_of-get_or [] seat = refl
+table_of-get_or (t ∷ ts) zero = refl
+table_of-get_or (t ∷ ts) (suc seat) = table_of-get_or ts seat
+
+pub with_table-set : (change : Table → Table) (ts : Tables) (seat : ℕ) (t : Table) → table_of ts seat ≡ Some t → set ts seat (Some (change t)) ≡ with_table change ts seat
+with_table-set change [] seat t h = refl
+with_table-set change (u ∷ ts) zero t h = ap (λ o. option_map change o ∷ ts) (sym h)
+with_table-set change (u ∷ ts) (suc seat) t h = ap (λ us. u ∷ us) (with_table-set change ts seat t h)
+
+pub with_table-with_table : (f g : Table → Table) (ts : Tables) (seat : ℕ) → with_table f (with_table g ts seat) seat ≡ with_table (λ t. f (g t)) ts seat
+with_table-with_table f g [] seat = refl
+with_table-with_table f g (None ∷ ts) zero = refl
+with_table-with_table f g (Some t ∷ ts) zero = refl
+with_table-with_table f g (t ∷ ts) (suc seat) = ap (λ us. t ∷ us) (with_table-with_table f g ts seat)
+
+-- changes that do the same to the seat's table
+pub with_table-same : (f g : Table → Table) (ts : Tables) (seat : ℕ) (t : Table) → table_of ts seat ≡ Some t → f t ≡ g t → with_table f ts seat ≡ with_table g ts seat
+with_table-same f g ts seat t h e = sym (with_table-set f ts seat t h) ∙ ap (λ w. set ts seat (Some w)) e ∙ with_table-set g ts seat t h
+
+pub with_table-id : (f : Table → Table) (ts : Tables) (seat : ℕ) (t : Table) → table_of ts seat ≡ Some t → f t ≡ t → with_table f ts seat ≡ ts
+with_table-id f [] seat t h e = refl
+with_table-id f (u ∷ ts) zero t h e = ap (λ o. option_map f o ∷ ts) h ∙ ap (λ w. Some w ∷ ts) e ∙ ap (λ o. o ∷ ts) (sym h)
+with_table-id f (u ∷ ts) (suc seat) t h e = ap (λ us. u ∷ us) (with_table-id f ts seat t h e)
+
+pub table_of-with_table : (f : Table → Table) (ts : Tables) (seat : ℕ) → table_of (with_table f ts seat) seat ≡ option_map f (table_of ts seat)
+table_of-with_table f [] seat = refl
+table_of-with_table f (t ∷ ts) zero = refl
+table_of-with_table f (t ∷ ts) (suc seat) = table_of-with_table f ts seat
+
+pub table_of-at : (ts : Tables) (seat : ℕ) (d : Option Table) → seat < length ts → table_of ts seat ≡ get_or ts seat d
+table_of-at [] seat d h = absurd (omega arith)
+table_of-at (t ∷ ts) zero d h = refl
+table_of-at (t ∷ ts) (suc seat) d h = table_of-at ts seat d (omega arith)
+
+pub table_of-past : (ts : Tables) (seat : ℕ) → length ts ≤ seat → table_of ts seat ≡ None
+table_of-past [] seat h = refl
+table_of-past (t ∷ ts) zero h = absurd (omega arith)
+table_of-past (t ∷ ts) (suc seat) h = table_of-past ts seat (omega arith)
