@@ -1,6 +1,6 @@
 -- How often joint numbers are held, and what a change of one table does.
 use Rattle.std.proofs.Common.{◌≡◌, ap, refl, sym, ◌∙◌, subst, ℕ, zero, suc, ◌+◌, ◌*◌, ◌<◌, ◌≤◌, ◌-◌, Bool, cond, true, false, arith, ltb}
-use Rattle.std.specs.Prelude.{List, [], ◌∷◌, map, Option, Some, None, option_map, filter, not, ◌==◌, ◌||◌, if◌then◌else◌, is_some, nat_lt, replicate, get_or, set, length}
+use Rattle.std.specs.Prelude.{List, [], ◌∷◌, map, Option, Some, None, option_map, option_and_then, filter, not, ◌==◌, ◌||◌, if◌then◌else◌, is_some, nat_lt, replicate, get_or, set, length}
 use Rattle.std.specs.declared.cmp.Ordering.{Ordering}
 use Rattle.std.specs.declared.cmp.Ordering.TheVariants.{Less, Equal, Greater}
 use Rattle.std.proofs.lemmas.Bool.{false≢true}
@@ -8,9 +8,13 @@ use Rattle.std.proofs.lemmas.Bool.Decides.{nat_tests}
 use Rattle.std.specs.Ordering.{nat_cmp, eq_by_cmp, is_eq}
 use Rattle.std.specs.Cmp.{nat_cmp_total, tied_itself, unsigned_tied}
 use Rattle.std.specs.FinMap as fin
+use Rattle.std.specs.Result.{OnOk, OnErr}
+use Rattle.std.specs.declared.result.Result.{Result}
+use Rattle.std.specs.declared.result.Result.TheVariants.{Ok, Err}
+use Rattle.lj_clause.specs.declared.memory.NoMemory.{NoMemory}
 use Rattle.std.specs.FinMap.Entries.{find, put, by_order}
 use Rattle.lj_book.specs.Tables.{Table, Tables, table_of, is_here, joint_of, is_bound, with_table, is_among, without_keys, holds_joint, is_held, up_to}
-use Rattle.lj_book.specs.Holders.{occurrences, count_in, holders_of, count_or_none, count_at, AreHolders}
+use Rattle.lj_book.specs.Holders.{occurrences, count_in, holders_of, count_or_none, count_at, AreHolders, one_if_at}
 use Rattle.lj_book.proofs.NumberMaps.{same_map, entries-retain_keys}
 
 among_occurs : (ms : List ℕ) (n : ℕ) → is_among ms n ≡ nat_lt 0 (occurrences ms n)
@@ -167,3 +171,123 @@ pub table_of-past : (ts : Tables) (seat : ℕ) → length ts ≤ seat → table_
 table_of-past [] seat h = refl
 table_of-past (t ∷ ts) zero h = absurd (omega arith)
 table_of-past (t ∷ ts) (suc seat) h = table_of-past ts seat (omega arith)
+
+-- ---- the counts after a change
+
+pub here_in_range : (ts : Tables) (seat : ℕ) → is_here ts seat ≡ true → seat < length ts
+here_in_range [] seat h = absurd (false≢true h)
+here_in_range (t ∷ ts) zero h = omega arith
+here_in_range (t ∷ ts) (suc seat) h = let rest = here_in_range ts seat h in omega arith
+
+pub none_from : {X : Type 0} (o : Option X) → is_some o ≡ false → o ≡ None
+none_from None h = refl
+none_from (Some x) h = absurd (false≢true (sym h))
+
+pub free_in_table : (ts : Tables) (seat own : ℕ) (t : Table) → table_of ts seat ≡ Some t → is_bound ts seat own ≡ false → fin.get t own ≡ None
+free_in_table ts seat own t at free = none_from (fin.get t own) (ap (λ o. is_some (option_and_then (λ (u : Table). fin.get u own) o)) (sym at) ∙ free)
+
+pub joint_in_table : (ts : Tables) (seat own : ℕ) (t : Table) → table_of ts seat ≡ Some t → joint_of ts seat own ≡ fin.get t own
+joint_in_table ts seat own t at = ap (option_and_then (λ (u : Table). fin.get u own)) at
+
+pub set-same : (ts : Tables) (seat : ℕ) (t : Table) → table_of ts seat ≡ Some t → set ts seat (Some t) ≡ ts
+set-same ts seat t at = with_table-set (λ u. u) ts seat t at ∙ with_table-id (λ u. u) ts seat t at refl
+
+AreHolders-with_table : (change : Table → Table) (ts : Tables) (seat : ℕ) (t m n : Table) → table_of ts seat ≡ Some t → AreHolders ts m → ((q : ℕ) → count_at n q + count_in (Some t) q ≡ count_at m q + count_in (Some (change t)) q) → AreHolders (with_table change ts seat) n
+AreHolders-with_table change ts seat t m n at holders changes = λ q.
+    let a = holders-with_table change ts seat t q at in
+    let b = holders q in
+    let c = changes q in
+    omega arith
+
+count_at-insert : (m : Table) (j n q : ℕ) → count_at (fin.insert m j n) q ≡ cond (j == q) n (count_at m q)
+count_at-insert m j n q =
+    ap count_or_none (fin.get-insert nat_cmp_total m j n q)
+    ∙ ap (λ b. count_or_none (cond b (Some n) (fin.get m q))) (unsigned_tied q j ∙ turned q j)
+    ∙ elim (j == q) as (λ b. count_or_none (cond b (Some n) (fin.get m q)) ≡ cond b n (count_at m q)) [ true ↦ refl | false ↦ refl ]
+  where
+    turned : (a b : ℕ) → (a == b) ≡ (b == a)
+    turned a b = grind (arith, nat_tests)
+
+pub same_here : (j q : ℕ) → (j == q) ≡ true → j ≡ q
+same_here j q e = grind (arith, nat_tests)
+
+bound_counts : (t m : Table) (own joint q : ℕ) → fin.get t own ≡ None → count_at (fin.insert m joint (count_at m joint + 1)) q + count_in (Some t) q ≡ count_at m q + count_in (Some (fin.insert t own joint)) q
+bound_counts t m own joint q free =
+    let a = count_at-insert m joint (count_at m joint + 1) q in
+    let b = count-insert t own joint q free in
+    elim (joint == q) as (λ b. (joint == q) ≡ b → count_at (fin.insert m joint (count_at m joint + 1)) q ≡ cond b (count_at m joint + 1) (count_at m q) → count_in (Some (fin.insert t own joint)) q ≡ (if b then 1 else 0) + count_in (Some t) q → count_at (fin.insert m joint (count_at m joint + 1)) q + count_in (Some t) q ≡ count_at m q + count_in (Some (fin.insert t own joint)) q) [
+      | true ↦ λ e f g. let h = ap (count_at m) (same_here joint q e) in omega arith
+      | false ↦ λ e f g. omega arith
+    ] refl a b
+
+pub AreHolders-bind : (ts : Tables) (seat own joint : ℕ) (t m : Table) → table_of ts seat ≡ Some t → AreHolders ts m → fin.get t own ≡ None → AreHolders (set ts seat (Some (fin.insert t own joint))) (fin.insert m joint (count_at m joint + 1))
+AreHolders-bind ts seat own joint t m at holders free =
+    subst (λ (us : Tables). AreHolders us (fin.insert m joint (count_at m joint + 1))) (sym (with_table-set (λ u. fin.insert u own joint) ts seat t at))
+    (AreHolders-with_table (λ u. fin.insert u own joint) ts seat t m _ at holders (λ q. bound_counts t m own joint q free))
+
+count_removed : (t : Table) (own q : ℕ) (o : Option ℕ) → fin.get t own ≡ o → count_in (Some t) q ≡ one_if_at o q + count_in (Some (fin.remove t own)) q
+count_removed t own q None e = let same = ap (λ (u : Table). count_in (Some u) q) (sym (remove-absent t own e)) in omega arith
+count_removed t own q (Some j) e = count-remove t own j q e
+
+pub AreHolders-unbind : (ts : Tables) (seat own : ℕ) (t m n : Table) → table_of ts seat ≡ Some t → AreHolders ts m → ((q : ℕ) → count_at m q ≡ one_if_at (fin.get t own) q + count_at n q) → AreHolders (set ts seat (Some (fin.remove t own))) n
+AreHolders-unbind ts seat own t m n at holders less =
+    subst (λ (us : Tables). AreHolders us n) (sym (with_table-set (λ u. fin.remove u own) ts seat t at))
+    (AreHolders-with_table (λ u. fin.remove u own) ts seat t m n at holders (λ q.
+    let a = less q in
+    let b = count_removed t own q (fin.get t own) refl in
+    omega arith))
+
+holders_at_least : (ts : Tables) (seat q : ℕ) (t : Table) → table_of ts seat ≡ Some t → count_in (Some t) q ≤ holders_of ts q
+holders_at_least [] seat q t at = cc
+holders_at_least (None ∷ ts) zero q t at = cc
+holders_at_least (Some u ∷ ts) zero q t at =
+    let is : u ≡ t = cc in
+    subst (λ (w : Table). count_in (Some w) q ≤ count_in (Some u) q + holders_of ts q) is (omega arith)
+holders_at_least (u ∷ ts) (suc seat) q t at = let rest = holders_at_least ts seat q t at in omega arith
+
+self_tied : (j : ℕ) → (j == j) ≡ true
+self_tied j = grind (arith, nat_tests)
+
+self_counts : (j n : ℕ) → (if j == j then 1 else 0) + n ≡ 1 + n
+self_counts j n = ap (λ b. (if b then 1 else 0) + n) (self_tied j)
+
+-- a joint number to which an own number is bound is counted
+pub bound_is_counted : (ts : Tables) (seat own joint : ℕ) (t m : Table) → table_of ts seat ≡ Some t → AreHolders ts m → fin.get t own ≡ Some joint → 0 < count_at m joint
+bound_is_counted ts seat own joint t m at holders here =
+    let a = count-remove t own joint joint here in
+    let b = self_counts joint (count_in (Some (fin.remove t own)) joint) in
+    let c = holders joint in
+    let d = holders_at_least ts seat joint t at in
+    omega arith
+
+absent_counts : (m : Table) (j : ℕ) → fin.get m j ≡ None → count_at m j ≡ 0
+absent_counts m j none = ap count_or_none none
+
+-- one from a count that is there
+pub one_less : (m n : Table) (j q : ℕ) (r : Result (Unit {0}) NoMemory) → 0 < count_at m j → OnOk r (n ≡ fin.insert m j (count_at m j - 1)) → OnErr r (fin.get m j ≡ None) → count_at m q ≡ one_if_at (Some j) q + count_at n q
+one_less m n j q (Ok u) some ok err =
+    let a = count_at-insert m j (count_at m j - 1) q in
+    let b = ap (λ (k : Table). count_at k q) ok in
+    elim (j == q) as (λ b. (j == q) ≡ b → count_at (fin.insert m j (count_at m j - 1)) q ≡ cond b (count_at m j - 1) (count_at m q) → count_at m q ≡ (if b then 1 else 0) + count_at n q) [
+      | true ↦ λ e f. let h = ap (count_at m) (same_here j q e) in omega arith
+      | false ↦ λ e f. omega arith
+    ] refl a
+one_less m n j q (Err e) some ok err = absurd (let a = absent_counts m j err in omega arith)
+
+-- ---- what the code's steps leave
+
+pub invariant-bind : (ts : Tables) (seat own joint k : ℕ) (t u m n : Table) (r : Result (Unit {0}) NoMemory) → table_of ts seat ≡ Some t → AreHolders ts m → fin.get t own ≡ None → k ≡ count_at m joint + 1 → OnOk r (u ≡ fin.insert t own joint) → OnOk r (n ≡ fin.insert m joint k) → OnErr r ((u ≡ t) × (n ≡ m)) → AreHolders (set ts seat (Some u)) n
+invariant-bind ts seat own joint k t u m n (Ok x) at holders free is a b e =
+    subst (λ (w : Table). AreHolders (set ts seat (Some w)) n) (sym a)
+    (subst (λ (w : Table). AreHolders (set ts seat (Some (fin.insert t own joint))) w) (sym (b ∙ ap (fin.insert m joint) is)) (AreHolders-bind ts seat own joint t m at holders free))
+invariant-bind ts seat own joint k t u m n (Err x) at holders free is a b e =
+    subst (λ (w : Table). AreHolders (set ts seat (Some w)) n) (sym e.0)
+    (subst (λ (w : Table). AreHolders (set ts seat (Some t)) w) (sym e.1) (subst (λ (us : Tables). AreHolders us m) (sym (set-same ts seat t at)) holders))
+
+pub ok_then : {T E : Type 0} (r : Result T E) {P Q : Type 0} → OnOk r P → (P → Q) → OnOk r Q
+ok_then (Ok x) p f = f p
+ok_then (Err x) p f = tt
+
+-- a seat that is there has a table
+pub no_table : {P : Type 0} (ts : Tables) (seat : ℕ) → table_of ts seat ≡ None → is_here ts seat ≡ true → P
+no_table ts seat none here = absurd (false≢true (ap is_some (sym none) ∙ here))

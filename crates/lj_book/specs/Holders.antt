@@ -1,5 +1,5 @@
 -- How often a joint number is held.
-use Rattle.std.specs.Prelude.{◌≡◌, ℕ, ◌+◌, ◌==◌, List, [], ◌∷◌, Option, Some, None, if◌then◌else◌}
+use Rattle.std.specs.Prelude.{◌≡◌, ℕ, zero, suc, ◌+◌, ◌==◌, List, [], ◌∷◌, Option, Some, None, if◌then◌else◌}
 use Rattle.std.specs.FinMap as fin
 use Rattle.lj_book.specs.Tables.{Table, Tables}
 
@@ -34,3 +34,8 @@ AreHolders tables m = (joint : ℕ) → count_at m joint ≡ holders_of tables j
 abbrev pub one_if_at : Option ℕ → ℕ → ℕ
 one_if_at None joint = 0
 one_if_at (Some n) joint = if n == joint then 1 else 0
+
+-- the same count at each number from 1 to this one
+abbrev pub all_up_to : ℕ → ℕ → Table
+all_up_to zero count = fin.empty
+all_up_to (suc n) count = fin.insert (all_up_to n count) (suc n) count

@@ -1,8 +1,8 @@
 //! The tables of the seats.
-ghost use Rattle.std.specs.Prelude.{◌≡◌, ℕ, ◌+◌, ◌<◌, ◌≤◌, IsTrue, ◌↔◌, OnOk, OnErr, IfOk, is_some, option_copied, Some, None, replicate, length, true, false};
+ghost use Rattle.std.specs.Prelude.{◌≡◌, ℕ, ◌+◌, ◌^◌, ◌<◌, ◌≤◌, IsTrue, ◌↔◌, OnOk, OnErr, IfOk, is_some, option_copied, filter_map, Some, None, replicate, length, true, false};
 ghost use Rattle.std.specs.FinMap as fin;
 ghost use Rattle.lj_book.specs.Tables.{up_to, table_of, is_here, joint_of, is_bound, with_table, without_keys, is_held, keys_lost};
-ghost use Rattle.lj_book.specs.Holders.{count_at, one_if_at};
+ghost use Rattle.lj_book.specs.Holders.{count_at, one_if_at, all_up_to};
 
 use crate::number_map::NumberMap;
 use lj_clause::NoMemory;
@@ -31,6 +31,21 @@ impl Model for SeatTables {
 }
 
 impl SeatTables {
+    /// The tables of this many seats, in each of which the numbers from 1 on, as many as there are clauses, are bound
+    /// to themselves.
+    ///
+    /// # Errors
+    /// [`NoMemory`] where a growth was refused.
+    pub fn open(alloc: Global, seats: u32, clauses: u64) -> Result<SeatTables, NoMemory>
+        requires { clauses < 2 ^ 63 }
+        ensures { IfOk result (λ tables. tables ≡ replicate seats (Some (up_to clauses))) }
+    {
+        Ok(SeatTables {
+            seats: same_tables(alloc, seats, clauses)?,
+            holders: counts_up_to(alloc, clauses, u64::from(seats))?,
+        })
+    }
+
     /// The number of seats, also of those that have left.
     pub fn len(&self) -> usize
         ensures { result ≡ length self.now }
@@ -94,6 +109,78 @@ impl SeatTables {
             None => false,
         }
     }
+
+    /// Gives these own numbers up, and answers how many were bound. A number that stands twice counts once.
+    pub fn unbind_all(&mut self, seat: u32, numbers: &[u64]) -> u64
+        requires here { is_here self.old seat ≡ true }
+        ensures removed { self.new ≡ with_table (without_keys numbers.now) self.old seat }
+        ensures count { result ≡ keys_lost numbers.now (table_of self.old seat) }
+    {
+        let mut count = 0;
+        for &own in numbers {
+            if self.unbind(seat, own) {
+                count += 1;
+            }
+        }
+        count
+    }
+
+    /// The joint numbers that these own numbers are bound to, for those that are, in their order.
+    ///
+    /// # Errors
+    /// [`NoMemory`] where a growth was refused.
+    pub fn joints(&self, alloc: Global, seat: u32, numbers: &[u64]) -> Result<Vec<u64>, NoMemory>
+        ensures { IfOk result (λ joints. joints.items ≡ filter_map (joint_of self.now seat) numbers.now) }
+    {
+        let mut joints = Vec::new(alloc);
+        for &own in numbers {
+            if let Some(joint) = self.joint(seat, own) {
+                joints.push(joint)?;
+            }
+        }
+        Ok(joints)
+    }
+}
+
+/// One table for each seat, with the numbers up to that of the clauses bound to themselves.
+fn same_tables(
+    alloc: Global,
+    seats: u32,
+    clauses: u64,
+) -> Result<Vec<Option<NumberMap<u64>>>, NoMemory>
+    requires { clauses < 2 ^ 63 }
+    ensures { IfOk result (λ tables. tables.items ≡ replicate seats (Some (up_to clauses))) }
+{
+    let mut tables = Vec::new(alloc);
+    for _seat in 0..seats {
+        let table = numbers_up_to(alloc, clauses)?;
+        tables.push(Some(table))?;
+    }
+    Ok(tables)
+}
+
+/// The table that binds each number from 1 to this one to itself.
+fn numbers_up_to(alloc: Global, last: u64) -> Result<NumberMap<u64>, NoMemory>
+    requires { last < 2 ^ 63 }
+    ensures { IfOk result (λ table. table ≡ up_to last) }
+{
+    let mut table = NumberMap::new(alloc);
+    for number in 0..last {
+        table.insert(number + 1, number + 1)?;
+    }
+    Ok(table)
+}
+
+/// The same count at each number from 1 to this one.
+fn counts_up_to(alloc: Global, last: u64, count: u64) -> Result<NumberMap<u64>, NoMemory>
+    requires { last < 2 ^ 63 }
+    ensures { IfOk result (λ counts. counts ≡ all_up_to last count) }
+{
+    let mut counts = NumberMap::new(alloc);
+    for number in 0..last {
+        counts.insert(number + 1, count)?;
+    }
+    Ok(counts)
 }
 
 /// Binds the own number in the table, and sets the count of the joint number: both, or neither.
