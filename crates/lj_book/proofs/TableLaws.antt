@@ -1,6 +1,6 @@
 -- How often joint numbers are held, and what a change of one table does.
 use Rattle.std.proofs.Common.{◌≡◌, ap, refl, sym, ◌∙◌, subst, ℕ, zero, suc, ◌+◌, ◌*◌, ◌<◌, ◌≤◌, ◌-◌, Bool, cond, true, false, arith, ltb}
-use Rattle.std.specs.Prelude.{List, [], ◌∷◌, map, Option, Some, None, option_map, option_and_then, filter, not, ◌==◌, ◌||◌, if◌then◌else◌, is_some, nat_lt, replicate, get_or, set, length}
+use Rattle.std.specs.Prelude.{List, [], ◌∷◌, ◌++◌, map, Option, Some, None, option_map, option_and_then, filter, not, ◌==◌, ◌||◌, ◌&&◌, nat_le, if◌then◌else◌, is_some, nat_lt, replicate, get_or, set, length}
 use Rattle.std.specs.declared.cmp.Ordering.{Ordering}
 use Rattle.std.specs.declared.cmp.Ordering.TheVariants.{Less, Equal, Greater}
 use Rattle.std.proofs.lemmas.Bool.{false≢true}
@@ -13,8 +13,9 @@ use Rattle.std.specs.declared.result.Result.{Result}
 use Rattle.std.specs.declared.result.Result.TheVariants.{Ok, Err}
 use Rattle.lj_clause.specs.declared.memory.NoMemory.{NoMemory}
 use Rattle.std.specs.FinMap.Entries.{find, put, by_order}
-use Rattle.lj_book.specs.Tables.{Table, Tables, table_of, is_here, joint_of, is_bound, with_table, is_among, without_keys, holds_joint, is_held, up_to}
-use Rattle.lj_book.specs.Holders.{occurrences, count_in, holders_of, count_or_none, count_at, AreHolders, one_if_at}
+use Rattle.std.specs.FinMap.{nat_cmp-IsAntisymmetric}
+use Rattle.lj_book.specs.Tables.{Table, Tables, table_of, is_here, joint_of, is_bound, with_table, is_among, without_keys, holds_joint, is_held, up_to, keys_lost}
+use Rattle.lj_book.specs.Holders.{occurrences, count_in, holders_of, count_or_none, count_at, AreHolders, one_if_at, all_up_to}
 use Rattle.lj_book.proofs.NumberMaps.{same_map, entries-retain_keys}
 
 among_occurs : (ms : List ℕ) (n : ℕ) → is_among ms n ≡ nat_lt 0 (occurrences ms n)
@@ -291,3 +292,168 @@ ok_then (Err x) p f = tt
 -- a seat that is there has a table
 pub no_table : {P : Type 0} (ts : Tables) (seat : ℕ) → table_of ts seat ≡ None → is_here ts seat ≡ true → P
 no_table ts seat none here = absurd (false≢true (ap is_some (sym none) ∙ here))
+
+-- ---- several numbers given up
+
+among_push : (ns : List ℕ) (n q : ℕ) → is_among (ns ++ n ∷ []) q ≡ (is_among ns q || n == q)
+among_push [] n q = elim (n == q) as (λ b. (b || false) ≡ b) [ true ↦ refl | false ↦ refl ]
+among_push (m ∷ ns) n q = elim (m == q) as (λ b. (b || is_among (ns ++ n ∷ []) q) ≡ ((b || is_among ns q) || n == q)) [ true ↦ refl | false ↦ among_push ns n q ]
+
+alike : (p : ℕ → Bool) (q x : ℕ) → nat_cmp q x ≡ Equal → p x ≡ p q
+alike p q x e = ap p (sym (nat_cmp-IsAntisymmetric q x e))
+
+pub get-without_keys : (ns : List ℕ) (t : Table) (q : ℕ) → fin.get (without_keys ns t) q ≡ cond (not (is_among ns q)) (fin.get t q) None
+get-without_keys ns t q = fin.get-retain_keys t (λ own. not (is_among ns own)) q (alike (λ own. not (is_among ns own)) q)
+
+turned_over : (a b : ℕ) → (a == b) ≡ (b == a)
+turned_over a b = grind (arith, nat_tests)
+
+removed_or_kept : (a b : Bool) (o : Option ℕ) → cond (not (a || b)) o None ≡ cond b None (cond (not a) o None)
+removed_or_kept true true o = refl
+removed_or_kept true false o = refl
+removed_or_kept false true o = refl
+removed_or_kept false false o = refl
+
+pub without_keys-push : (ns : List ℕ) (n : ℕ) (t : Table) → without_keys (ns ++ n ∷ []) t ≡ fin.remove (without_keys ns t) n
+without_keys-push ns n t = same_map _ _ (λ q.
+    get-without_keys (ns ++ n ∷ []) t q
+    ∙ ap (λ b. cond (not b) (fin.get t q) None) (among_push ns n q)
+    ∙ removed_or_kept (is_among ns q) (n == q) (fin.get t q)
+    ∙ sym (fin.get-remove nat_cmp_total (without_keys ns t) n q ∙ ap (λ b. cond b None (fin.get (without_keys ns t) q)) (unsigned_tied q n ∙ turned_over q n) ∙ ap (cond (n == q) None) (get-without_keys ns t q)))
+
+pub without_keys-none : (t : Table) → without_keys [] t ≡ t
+without_keys-none t = same_map _ _ (λ q. get-without_keys [] t q)
+
+fewer_pass : {X : Type 0} (p : X → Bool) (xs : List X) → length (filter p xs) ≤ length xs
+fewer_pass p [] = omega arith
+fewer_pass p (x ∷ xs) = let rest = fewer_pass p xs in elim (p x) as (λ b. length (cond b (x ∷ filter p xs) (filter p xs)) ≤ suc (length xs)) [ true ↦ omega arith | false ↦ omega arith ]
+
+len-without_keys : (ns : List ℕ) (t : Table) → fin.len (without_keys ns t) ≤ fin.len t
+len-without_keys ns t =
+    let a = fin.len-entries (without_keys ns t) ∙ ap length (entries-retain_keys t (λ own. not (is_among ns own))) in
+    let b = fin.len-entries t in
+    let c = fewer_pass (λ (e : ℕ × ℕ). not (is_among ns e.0)) (fin.entries t) in
+    omega arith
+
+some_key : (t : Table) (k : ℕ) → fin.contains_key t k ≡ true → 0 < fin.len t
+some_key t k h = more (fin.len t) (λ e. false≢true (sym (ap is_some (ap (λ (m : Table). fin.get m k) (fin.empty_of_len t e) ∙ fin.get-empty nat_cmp k)) ∙ h))
+  where
+    more : (n : ℕ) → (n ≡ 0 → ⊥) → 0 < n
+    more zero h = absurd (h refl)
+    more (suc n) h = omega arith
+
+pub keys_lost-push : (ns : List ℕ) (n : ℕ) (o : Option Table) → keys_lost (ns ++ n ∷ []) o ≡ keys_lost ns o + (if is_some (option_and_then (λ (t : Table). fin.get (without_keys ns t) n) o) then 1 else 0)
+keys_lost-push ns n None = omega arith
+keys_lost-push ns n (Some t) =
+    let w : Table = without_keys ns t in
+    let a = len-without_keys ns t in
+    let b = ap (λ (m : Table). fin.len m) (without_keys-push ns n t) ∙ fin.len-remove nat_cmp_total w n in
+    elim (fin.contains_key w n) as (λ b. fin.contains_key w n ≡ b → fin.len (without_keys (ns ++ n ∷ []) t) ≡ cond b (fin.len w - 1) (fin.len w) → fin.len t - fin.len (without_keys (ns ++ n ∷ []) t) ≡ (fin.len t - fin.len w) + (if b then 1 else 0)) [
+      | true ↦ λ e f. let g = some_key w n e in omega arith
+      | false ↦ λ e f. omega arith
+    ] refl b
+
+pub bound-with_table : (f : Table → Table) (ts : Tables) (seat own : ℕ) → is_bound (with_table f ts seat) seat own ≡ is_some (option_and_then (λ (t : Table). fin.get (f t) own) (table_of ts seat))
+bound-with_table f [] seat own = refl
+bound-with_table f (None ∷ ts) zero own = refl
+bound-with_table f (Some t ∷ ts) zero own = refl
+bound-with_table f (t ∷ ts) (suc seat) own = bound-with_table f ts seat own
+
+pub here-with_table : (f : Table → Table) (ts : Tables) (seat : ℕ) → is_here (with_table f ts seat) seat ≡ is_here ts seat
+here-with_table f [] seat = refl
+here-with_table f (None ∷ ts) zero = refl
+here-with_table f (Some t ∷ ts) zero = refl
+here-with_table f (t ∷ ts) (suc seat) = here-with_table f ts seat
+
+pub with_table-pointwise : (f g : Table → Table) (ts : Tables) (seat : ℕ) → ((t : Table) → f t ≡ g t) → with_table f ts seat ≡ with_table g ts seat
+with_table-pointwise f g [] seat e = refl
+with_table-pointwise f g (None ∷ ts) zero e = refl
+with_table-pointwise f g (Some t ∷ ts) zero e = ap (λ (u : Table). Some u ∷ ts) (e t)
+with_table-pointwise f g (t ∷ ts) (suc seat) e = ap (λ us. t ∷ us) (with_table-pointwise f g ts seat e)
+
+pub with_table-none : (ts : Tables) (seat : ℕ) → with_table (without_keys []) ts seat ≡ ts
+with_table-none [] seat = refl
+with_table-none (None ∷ ts) zero = refl
+with_table-none (Some t ∷ ts) zero = ap (λ (u : Table). Some u ∷ ts) (without_keys-none t)
+with_table-none (t ∷ ts) (suc seat) = ap (λ us. t ∷ us) (with_table-none ts seat)
+
+pub keys_lost-none : (o : Option Table) → keys_lost [] o ≡ 0
+keys_lost-none None = refl
+keys_lost-none (Some t) = let a = ap (λ (m : Table). fin.len m) (without_keys-none t) in omega arith
+
+pub with_table-push : (ns : List ℕ) (n : ℕ) (ts : Tables) (seat : ℕ) → with_table (λ t. fin.remove t n) (with_table (without_keys ns) ts seat) seat ≡ with_table (without_keys (ns ++ n ∷ [])) ts seat
+with_table-push ns n ts seat =
+    with_table-with_table (λ t. fin.remove t n) (without_keys ns) ts seat
+    ∙ with_table-pointwise (λ t. fin.remove (without_keys ns t) n) (without_keys (ns ++ n ∷ [])) ts seat (λ t. sym (without_keys-push ns n t))
+
+-- ---- the opening
+
+abbrev one_if : Bool → ℕ
+one_if b = if b then 1 else 0
+
+no_entries : {X : Type 0} (es : List X) → length es ≡ 0 → es ≡ []
+no_entries [] e = refl
+no_entries (x ∷ es) e = absurd (omega arith)
+
+pub entries-empty : {X : Type 0} → fin.entries (fin.empty {X = X} {R = nat_cmp}) ≡ []
+entries-empty {X} = no_entries _ (sym (fin.len-entries (fin.empty {X = X} {R = nat_cmp})) ∙ fin.len-empty nat_cmp X)
+
+pub up_to-above : (k q : ℕ) → k < q → fin.get (up_to k) q ≡ None
+up_to-above zero q h = fin.get-empty nat_cmp q
+up_to-above (suc k) q h =
+    fin.get-insert nat_cmp_total (up_to k) (suc k) (suc k) q
+    ∙ ap (λ b. cond b (Some (suc k)) (fin.get (up_to k) q)) (unsigned_tied q (suc k) ∙ apart)
+    ∙ up_to-above k q (omega arith)
+  where
+    apart : (q == suc k) ≡ false
+    apart = grind (arith, nat_tests)
+
+count-empty : (q : ℕ) → count_in (Some fin.empty) q ≡ 0
+count-empty q = ap (λ es. occurrences (map (λ (e : ℕ × ℕ). e.1) es) q) entries-empty
+
+-- each number up to the last is held once by such a table
+pub count-up_to : (k q : ℕ) → count_in (Some (up_to k)) q ≡ one_if (nat_lt 0 q && nat_le q k)
+count-up_to zero q = count-empty q ∙ none q
+  where
+    none : (q : ℕ) → ◌≡◌ {A = ℕ} 0 (one_if (nat_lt 0 q && nat_le q 0))
+    none q = grind (arith, nat_tests)
+count-up_to (suc k) q =
+    let a = count-insert (up_to k) (suc k) (suc k) q (up_to-above k (suc k) (omega arith)) in
+    let b = count-up_to k q in
+    sums k q a b
+  where
+    sums : (k q : ℕ) → count_in (Some (up_to (suc k))) q ≡ one_if (suc k == q) + count_in (Some (up_to k)) q → count_in (Some (up_to k)) q ≡ one_if (nat_lt 0 q && nat_le q k) → count_in (Some (up_to (suc k))) q ≡ one_if (nat_lt 0 q && nat_le q (suc k))
+    sums k q a b = grind (arith, nat_tests)
+
+holders-replicate : (n : ℕ) (t : Table) (q : ℕ) → holders_of (replicate n (Some t)) q ≡ n * count_in (Some t) q
+holders-replicate zero t q = omega arith
+holders-replicate (suc n) t q = let rest = holders-replicate n t q in let law = suc_times n (count_in (Some t) q) in omega arith
+  where
+    suc_times : (n m : ℕ) → suc n * m ≡ m + n * m
+    suc_times n m = grind arith
+
+counts-up_to : (k n q : ℕ) → count_at (all_up_to k n) q ≡ n * count_in (Some (up_to k)) q
+counts-up_to zero n q = ap count_or_none (fin.get-empty nat_cmp q) ∙ sym (ap (λ (m : ℕ). n * m) (count-empty q) ∙ nothing n)
+  where
+    nothing : (n : ℕ) → n * 0 ≡ 0
+    nothing n = grind arith
+counts-up_to (suc k) n q =
+    let a = count_at-insert (all_up_to k n) (suc k) n q in
+    let b = counts-up_to k n q in
+    let c = count-insert (up_to k) (suc k) (suc k) q (up_to-above k (suc k) (omega arith)) in
+    let d = count-up_to k q in
+    elim (suc k == q) as (λ b. (suc k == q) ≡ b → count_at (all_up_to (suc k) n) q ≡ cond b n (count_at (all_up_to k n) q) → count_in (Some (up_to (suc k))) q ≡ one_if b + count_in (Some (up_to k)) q → count_at (all_up_to (suc k) n) q ≡ n * count_in (Some (up_to (suc k))) q) [
+      | true ↦ λ e f g. f ∙ sym (ap (λ (m : ℕ). n * m) (g ∙ ap (λ (m : ℕ). 1 + m) (d ∙ zero_above k q e)) ∙ once n)
+      | false ↦ λ e f g. f ∙ b ∙ sym (ap (λ (m : ℕ). n * m) (g ∙ none_more (count_in (Some (up_to k)) q)))
+    ] refl a c
+  where
+    zero_above : (k q : ℕ) → (suc k == q) ≡ true → one_if (nat_lt 0 q && nat_le q k) ≡ 0
+    zero_above k q e = grind (arith, nat_tests)
+    once : (n : ℕ) → n * (1 + 0) ≡ n
+    once n = omega arith
+    none_more : (m : ℕ) → 0 + m ≡ m
+    none_more m = omega arith
+
+-- counts and tables agree at the opening
+pub AreHolders-opening : (seats clauses : ℕ) → AreHolders (replicate seats (Some (up_to clauses))) (all_up_to clauses seats)
+AreHolders-opening seats clauses = λ q. counts-up_to clauses seats q ∙ sym (holders-replicate seats (up_to clauses) q)
