@@ -1,3 +1,4 @@
 pub mod Lists
 pub mod NumberMaps
 pub mod TableLaws
+pub mod HistoryLaws

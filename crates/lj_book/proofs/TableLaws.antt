@@ -425,7 +425,7 @@ count-up_to (suc k) q =
     sums : (k q : ℕ) → count_in (Some (up_to (suc k))) q ≡ one_if (suc k == q) + count_in (Some (up_to k)) q → count_in (Some (up_to k)) q ≡ one_if (nat_lt 0 q && nat_le q k) → count_in (Some (up_to (suc k))) q ≡ one_if (nat_lt 0 q && nat_le q (suc k))
     sums k q a b = grind (arith, nat_tests)
 
-holders-replicate : (n : ℕ) (t : Table) (q : ℕ) → holders_of (replicate n (Some t)) q ≡ n * count_in (Some t) q
+pub holders-replicate : (n : ℕ) (t : Table) (q : ℕ) → holders_of (replicate n (Some t)) q ≡ n * count_in (Some t) q
 holders-replicate zero t q = omega arith
 holders-replicate (suc n) t q = let rest = holders-replicate n t q in let law = suc_times n (count_in (Some t) q) in omega arith
   where

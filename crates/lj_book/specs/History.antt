@@ -64,8 +64,9 @@ abbrev pub AreLegal : State → List Entry → Type 0
 AreLegal s [] = Unit {0}
 AreLegal s (e ∷ es) = IsLegal s e × AreLegal (after s e) es
 
--- A legal history leads from the opening with some number of seats to the state.
+-- A legal history leads from the opening with some seats to the state.
 pub record IsReached (s : State) : Type 0 where
   pub seats : ℕ
+  pub some_seat : 0 < seats
   pub legal : AreLegal (opening s.formula seats s.max_steps) s.history
   pub leads : after_all (opening s.formula seats s.max_steps) s.history ≡ s
