@@ -102,7 +102,7 @@ held-drop ts seat q numbers t at h =
     fewer : (now before own less : ℕ) → now + own ≡ before + less → less ≤ own → nat_lt 0 now ≡ true → nat_lt 0 before ≡ true
     fewer now before own less e f g = grind (arith, nat_tests)
 
-has_table : (ts : Tables) (seat : ℕ) → is_here ts seat ≡ true → (t : Table) × (table_of ts seat ≡ Some t)
+pub has_table : (ts : Tables) (seat : ℕ) → is_here ts seat ≡ true → (t : Table) × (table_of ts seat ≡ Some t)
 has_table ts seat h = go (table_of ts seat) refl
   where
     go : (o : Option Table) → table_of ts seat ≡ o → (t : Table) × (table_of ts seat ≡ Some t)
@@ -182,7 +182,7 @@ remove-get p n q = fin.get-remove nat_cmp_total p n q ∙ ap (λ b. cond b None 
     turned : (a b : ℕ) → (a == b) ≡ (b == a)
     turned a b = grind (arith, nat_tests)
 
-get-without : (p : ClauseMap) (ns : List ℕ) (q : ℕ) → fin.get (without p ns) q ≡ cond (is_among ns q) None (fin.get p q)
+pub get-without : (p : ClauseMap) (ns : List ℕ) (q : ℕ) → fin.get (without p ns) q ≡ cond (is_among ns q) None (fin.get p q)
 get-without p [] q = refl
 get-without p (n ∷ ns) q = remove-get (without p ns) n q ∙ ap (cond (n == q) None) (get-without p ns q) ∙ either (n == q) (is_among ns q) (fin.get p q)
   where
@@ -190,7 +190,7 @@ get-without p (n ∷ ns) q = remove-get (without p ns) n q ∙ ap (cond (n == q)
     either true b o = refl
     either false b o = refl
 
-among-filter : (p : ℕ → Bool) (ns : List ℕ) (q : ℕ) → is_among (filter p ns) q ≡ (p q && is_among ns q)
+pub among-filter : (p : ℕ → Bool) (ns : List ℕ) (q : ℕ) → is_among (filter p ns) q ≡ (p q && is_among ns q)
 among-filter p [] q = elim (p q) as (λ b. false ≡ (b && false)) [ true ↦ refl | false ↦ refl ]
 among-filter p (n ∷ ns) q =
     elim (n == q) as (λ c. (n == q) ≡ c → is_among (filter p (n ∷ ns)) q ≡ (p q && (c || is_among ns q))) [
@@ -207,7 +207,7 @@ among-filter p (n ∷ ns) q =
     skipped true n q ms e = ap (λ k. k || is_among ms q) e
     skipped false n q ms e = refl
 
-among_tied : (ns : List ℕ) (q : ℕ) → list_any (eq_by_cmp nat_cmp q) ns ≡ is_among ns q
+pub among_tied : (ns : List ℕ) (q : ℕ) → list_any (eq_by_cmp nat_cmp q) ns ≡ is_among ns q
 among_tied [] q = refl
 among_tied (n ∷ ns) q = λ i. (unsigned_tied q n ∙ turned q n) i || among_tied ns q i
   where

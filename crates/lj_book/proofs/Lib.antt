@@ -2,3 +2,4 @@ pub mod Lists
 pub mod NumberMaps
 pub mod TableLaws
 pub mod HistoryLaws
+pub mod DropLaws

@@ -18,7 +18,7 @@ use Rattle.lj_book.specs.Tables.{Table, Tables, table_of, is_here, joint_of, is_
 use Rattle.lj_book.specs.Holders.{occurrences, count_in, holders_of, count_or_none, count_at, AreHolders, one_if_at, all_up_to}
 use Rattle.lj_book.proofs.NumberMaps.{same_map, entries-retain_keys}
 
-among_occurs : (ms : List ℕ) (n : ℕ) → is_among ms n ≡ nat_lt 0 (occurrences ms n)
+pub among_occurs : (ms : List ℕ) (n : ℕ) → is_among ms n ≡ nat_lt 0 (occurrences ms n)
 among_occurs [] n = refl
 among_occurs (m ∷ ms) n =
     elim (m == n) as (λ b. (b || is_among ms n) ≡ nat_lt 0 ((if b then 1 else 0) + occurrences ms n)) [
@@ -55,7 +55,7 @@ count-insert t own joint n none =
     ∙ values_put own joint (fin.entries t) n (sym (fin.get-entries t own) ∙ none)
 
 -- all entries are those that pass and those that don't
-counts_split : (p : ℕ → Bool) (es : List (ℕ × ℕ)) (n : ℕ) → occurrences (map (λ e. e.1) (filter (λ e. p e.0) es)) n + occurrences (map (λ e. e.1) (filter (λ e. not (p e.0)) es)) n ≡ occurrences (map (λ e. e.1) es) n
+pub counts_split : (p : ℕ → Bool) (es : List (ℕ × ℕ)) (n : ℕ) → occurrences (map (λ e. e.1) (filter (λ e. p e.0) es)) n + occurrences (map (λ e. e.1) (filter (λ e. not (p e.0)) es)) n ≡ occurrences (map (λ e. e.1) es) n
 counts_split p [] n = refl
 counts_split p (e ∷ es) n =
     let rest = counts_split p es n in
@@ -238,7 +238,7 @@ AreHolders-unbind ts seat own t m n at holders less =
     let b = count_removed t own q (fin.get t own) refl in
     omega arith))
 
-holders_at_least : (ts : Tables) (seat q : ℕ) (t : Table) → table_of ts seat ≡ Some t → count_in (Some t) q ≤ holders_of ts q
+pub holders_at_least : (ts : Tables) (seat q : ℕ) (t : Table) → table_of ts seat ≡ Some t → count_in (Some t) q ≤ holders_of ts q
 holders_at_least [] seat q t at = cc
 holders_at_least (None ∷ ts) zero q t at = cc
 holders_at_least (Some u ∷ ts) zero q t at =
@@ -249,7 +249,7 @@ holders_at_least (u ∷ ts) (suc seat) q t at = let rest = holders_at_least ts s
 self_tied : (j : ℕ) → (j == j) ≡ true
 self_tied j = grind (arith, nat_tests)
 
-self_counts : (j n : ℕ) → (if j == j then 1 else 0) + n ≡ 1 + n
+pub self_counts : (j n : ℕ) → (if j == j then 1 else 0) + n ≡ 1 + n
 self_counts j n = ap (λ b. (if b then 1 else 0) + n) (self_tied j)
 
 -- a joint number to which an own number is bound is counted
