@@ -145,6 +145,11 @@ impl Ord for Lit {
 }
 
 impl fmt::Display for Lit {
+    ghost use Rattle.std.specs.Prelude.{Some};
+    ghost use Rattle.std.specs.Fmt.{signed_decimal};
+
+    ghost output = { λ l. Some (signed_decimal l) };
+
     fn fmt<W: fmt::Write>(&self, f: &mut fmt::Formatter<W>) -> fmt::Result {
         let number = self.get();
         write!(f, "{number}")
@@ -152,8 +157,12 @@ impl fmt::Display for Lit {
 }
 
 impl fmt::Debug for Lit {
+    ghost use Rattle.std.specs.Prelude.{Some};
+    ghost use Rattle.std.specs.Fmt.{signed_decimal};
+
+    ghost debug_output = { λ l. Some (signed_decimal l) };
+
     fn fmt<W: fmt::Write>(&self, f: &mut fmt::Formatter<W>) -> fmt::Result {
-        let number = self.get();
-        write!(f, "{number}")
+        write!(f, "{self}")
     }
 }

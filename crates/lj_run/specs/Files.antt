@@ -1,8 +1,12 @@
 -- What files in memory tell.
-use Rattle.std.specs.Prelude.{ℕ, Option, List, option_map}
+use Rattle.std.specs.Prelude.{ℕ, Option, Bool, List, option_map, is_some, ◌||◌}
 use Rattle.std.specs.BTreeMap.{get_by_text}
 use Rattle.lj_run.specs.declared.files.MemoryFiles.{MemoryFiles}
 
 -- the bytes that were added at a path, unless it was created anew since
 abbrev pub bytes_at : MemoryFiles → List ℕ → Option (List ℕ)
 bytes_at files path = option_map (λ bytes. bytes.items) (get_by_text files.added path)
+
+-- a file was added or created at a path
+abbrev pub is_file : MemoryFiles → List ℕ → Bool
+is_file files path = is_some (get_by_text files.added path) || is_some (get_by_text files.created path)

@@ -1,5 +1,5 @@
 //! Files by their paths: those of the machine, and those of a map in memory.
-ghost use Rattle.std.specs.Prelude.{◌≡◌, ◌≢◌, ℕ, Option, List, [], None, IfSome, OnSome, OnOk, OnErr};
+ghost use Rattle.std.specs.Prelude.{◌≡◌, ◌≢◌, ℕ, Option, List, [], None, false, IsTrue, IfSome, OnSome, OnOk, OnErr};
 ghost use Rattle.std.specs.Io.KnownBytes.{Keeps};
 
 use lj_text::{MemorySink, MemorySource, ReaderSource, Sink, SinkFault, Source, WriterSink};
@@ -7,6 +7,7 @@ use std::alloc::{AllocError, Global};
 use std::cell::RefCell;
 use std::collections::BTreeMap;
 use std::fs;
+use std::marker::Model;
 use std::rc::Rc;
 
 /// Opens paths as sources and creates them as sinks.
@@ -30,18 +31,9 @@ pub trait Files {
         ensures others { (other : List ℕ) → other ≢ path.now → Keeps (content self.old other) (content self.new other) };
 }
 
-/// The files of the machine. It tells no bytes.
+/// The files of the machine that the runtime reaches. It tells no bytes.
 #[derive(Drop)]
-pub struct MachineFiles<'a, R> {
-    rt: &'a R,
-}
-
-impl<'a, R> MachineFiles<'a, R> {
-    /// The files that `rt` reaches.
-    pub fn new(rt: &'a R) -> Self {
-        MachineFiles { rt }
-    }
-}
+pub struct MachineFiles<'a, R>(pub &'a R);
 
 impl<'a, R: std::rt::Files> Files for MachineFiles<'a, R> {
     type Input = ReaderSource<R::File>;
@@ -51,20 +43,29 @@ impl<'a, R: std::rt::Files> Files for MachineFiles<'a, R> {
     ghost content = { λ _ _. None };
 
     fn open(&mut self, path: &str) -> Option<ReaderSource<R::File>> {
-        let file = fs::open(self.rt, path).ok()?;
+        let file = fs::open(self.0, path).ok()?;
         Some(ReaderSource::new(file))
     }
 
     fn create(&mut self, path: &str) -> Option<WriterSink<R::File>> {
-        let file = fs::create(self.rt, path).ok()?;
+        let file = fs::create(self.0, path).ok()?;
         Some(WriterSink::new(file))
     }
 }
 
-/// A created file in memory. Its bytes are found at its path once it is dropped.
+/// A created file in memory, seen as the bytes taken so far and the count of failures. They are found at
+/// its path once it is dropped.
 pub struct MemoryFile {
     sink: MemorySink,
     slot: Rc<RefCell<Vec<u8>>>,
+}
+
+impl Model for MemoryFile {
+    ghost use Rattle.std.specs.Prelude.{ℕ, List};
+
+    ghost Value = { List ℕ × ℕ };
+
+    ghost view = { λ file. file.sink };
 }
 
 impl Drop for MemoryFile {
@@ -77,9 +78,9 @@ impl Drop for MemoryFile {
 impl Sink for MemoryFile {
     ghost use Rattle.std.specs.Prelude.{Some};
 
-    ghost taken = { λ file. Some file.sink.0 };
+    ghost taken = { λ file. Some file.0 };
 
-    ghost failures = { λ file. file.sink.1 };
+    ghost failures = { λ file. file.1 };
 
     fn put(&mut self, piece: &[u8]) -> Result<usize, SinkFault> {
         self.sink.put(piece)
@@ -96,11 +97,11 @@ pub struct MemoryFiles {
 
 impl MemoryFiles {
     ghost use Rattle.std.specs.Prelude.{Some};
-    ghost use Rattle.lj_run.specs.Files.{bytes_at};
+    ghost use Rattle.lj_run.specs.Files.{bytes_at, is_file};
 
     /// No file at all.
     pub fn new(alloc: Global) -> Self
-        ensures { (path : List ℕ) → bytes_at result path ≡ None }
+        ensures { (path : List ℕ) → is_file result path ≡ false }
     {
         MemoryFiles {
             alloc,
@@ -121,8 +122,11 @@ impl MemoryFiles {
         Ok(())
     }
 
-    /// The bytes of a file that was created at a path, and dropped.
-    pub fn written(&self, path: &str) -> Option<Vec<u8>> {
+    /// The bytes of a file that was created at a path, and dropped. Which they are is left open, since
+    /// nothing is told of what the file holds meanwhile.
+    pub fn written(&self, path: &str) -> Option<Vec<u8>>
+        ensures { OnSome result (IsTrue (is_file self.now path.now)) }
+    {
         copy_of(self.alloc, self.created.get(path)?)
     }
 }
@@ -137,11 +141,16 @@ impl Files for MemoryFiles {
 
     type Output = MemoryFile;
 
-    ghost use Rattle.lj_run.specs.Files.{bytes_at};
+    ghost use Rattle.lj_run.specs.Files.{bytes_at, is_file};
+    ghost use Rattle.std.specs.Prelude.{Some};
 
     ghost content = { bytes_at };
 
-    fn open(&mut self, path: &str) -> Option<MemorySource> {
+    fn open(&mut self, path: &str) -> Option<MemorySource>
+        ensures bytes { IfSome result (λ input. Keeps (bytes_at self.old path.now) (Some input)) }
+        ensures same { (other : List ℕ) → Keeps (bytes_at self.old other) (bytes_at self.new other) }
+        ensures known { OnSome result (IsTrue (is_file self.old path.now)) }
+    {
         let bytes = match self.added.get(path) {
             Some(bytes) => bytes.as_slice().to_vec(self.alloc).ok()?,
             None => copy_of(self.alloc, self.created.get(path)?)?,
@@ -150,10 +159,11 @@ impl Files for MemoryFiles {
     }
 
     fn create(&mut self, path: &str) -> Option<MemoryFile>
-        ensures unfailed { IfSome result (λ output. output.sink.1 ≡ 0) }
-        ensures empty { IfSome result (λ output. output.sink.0 ≡ []) }
+        ensures unfailed { IfSome result (λ output. output.1 ≡ 0) }
+        ensures empty { IfSome result (λ output. output.0 ≡ []) }
         ensures others { (other : List ℕ) → other ≢ path.now → Keeps (bytes_at self.old other) (bytes_at self.new other) }
         ensures untold { OnSome result (bytes_at self.new path.now ≡ None) }
+        ensures known { OnSome result (IsTrue (is_file self.new path.now)) }
     {
         let slot = Rc::new(self.alloc, RefCell::new(Vec::new(self.alloc))).ok()?;
         let shared = slot.clone().ok()?;

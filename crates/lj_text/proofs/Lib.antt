@@ -4,7 +4,9 @@ pub mod NeededLaws
 mod CutLemmas
 mod DigitLemmas
 mod FrontLemmas
+mod HeldLemmas
 mod PassLemmas
+mod ReaderLemmas
 mod StandLemmas
 mod TokenLemmas
 pub mod Fronts

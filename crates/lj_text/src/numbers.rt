@@ -6,7 +6,7 @@ use std::marker::Model;
 /// A list of clause numbers. Two are equal where their contents are.
 #[derive(Debug, Drop)]
 pub struct Numbers {
-    items: Vec<u64>,
+    numbers: Vec<u64>,
 }
 
 impl Model for Numbers {
@@ -14,29 +14,29 @@ impl Model for Numbers {
 
     ghost Value = { List ℕ };
 
-    ghost view = { λ n. n.items.items };
+    ghost view = { λ n. n.numbers.items };
 }
 
 impl Numbers {
     /// The list of these numbers. Takes no memory.
-    pub fn new(items: Vec<u64>) -> Numbers
-        ensures { result ≡ items.items }
+    pub fn new(numbers: Vec<u64>) -> Numbers
+        ensures { result ≡ numbers.items }
     {
-        Numbers { items }
+        Numbers { numbers }
     }
 
     /// The numbers, in order.
     pub fn as_slice(&self) -> &[u64]
         ensures { result.now ≡ self.now }
     {
-        &self.items
+        &self.numbers
     }
 
     /// Gives the numbers back. Takes no memory.
     pub fn into_vec(self) -> Vec<u64>
         ensures { result.items ≡ self }
     {
-        self.items
+        self.numbers
     }
 }
 
@@ -60,7 +60,7 @@ impl Model for Group {
 /// A list of groups. Two are equal where their contents are.
 #[derive(Debug, Drop)]
 pub struct Groups {
-    items: Vec<Group>,
+    groups: Vec<Group>,
 }
 
 impl Model for Groups {
@@ -72,28 +72,28 @@ impl Model for Groups {
 
     ghost coded = { coded_list hint_group_code };
 
-    ghost view = { λ g. g.items.items };
+    ghost view = { λ g. g.groups.items };
 }
 
 impl Groups {
     /// The list of these groups. Takes no memory.
-    pub fn new(items: Vec<Group>) -> Groups
-        ensures { result ≡ items.items }
+    pub fn new(groups: Vec<Group>) -> Groups
+        ensures { result ≡ groups.items }
     {
-        Groups { items }
+        Groups { groups }
     }
 
     /// The groups, in order.
     pub fn as_slice(&self) -> &[Group]
         ensures { result.now ≡ self.now }
     {
-        &self.items
+        &self.groups
     }
 
     /// Gives the groups back. Takes no memory.
     pub fn into_vec(self) -> Vec<Group>
         ensures { result.items ≡ self }
     {
-        self.items
+        self.groups
     }
 }

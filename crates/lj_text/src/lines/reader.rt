@@ -1,10 +1,14 @@
 //! The reader of lines.
-ghost use Rattle.std.specs.Prelude.{◌≡◌, ◌+◌, ◌<◌, ◌≤◌, ◌++◌, ℕ, Bool, true, false, List, [], length, drop, Some, None, Ok, Err, IfSome, IfNone, IsNone, OnOk, OnErr, slice_get};
-ghost use Rattle.lj_text.specs.Bytes.{lines_of, line_number};
-ghost use Rattle.lj_text.specs.Lines.{whole_said, all_said, all_but_last};
-ghost use Rattle.lj_text.specs.LinesRead.{StandsAt};
+ghost use Rattle.std.specs.Prelude.{◌≡◌, ◌+◌, ◌≤◌, ◌++◌, ◌⊎◌, ℕ, Bool, true, false, List, [], length, drop, Option, Some, None, Ok, Err, IfSome, IsSome, OnOk, OnErr, MatchBool, MatchResult, slice_get, vec_len};
+ghost use Rattle.lj_text.specs.Bytes.{line_number};
+ghost use Rattle.lj_text.specs.Lines.{whole_said, all_said};
+ghost use Rattle.lj_text.specs.LinesRead.{StandsAt, wants_memory, answer_of, handed_out, fault_of, place_of, last_number};
+ghost use Rattle.lj_text.specs.LinesHeld.{IsAhead, passed, kept};
+ghost use Rattle.lj_text.specs.Looking.{Looked, LookedBehind, Fails, FailsToEnd};
 
-use super::fault::LineFault;
+use super::fault::{LineFault, LineFaultKind};
+use super::look::{look, look_to_end, Found};
+use crate::line::Line;
 use std::alloc::Global;
 use std::marker::Model;
 
@@ -36,7 +40,7 @@ impl Model for LineReader {
 
     ghost view = { λ r. record { max = r.max; ahead = drop r.start r.bytes.items; line = r.line; at = r.at; finished = r.finished; fault = r.fault } };
 
-    ghost invariant = { λ r. IsHeld r.max r.start r.searched r.bytes.items };
+    ghost invariant = { λ r. IsHeld r.max r.start r.searched r.line r.bytes.items };
 }
 
 impl LineReader {
@@ -60,10 +64,172 @@ impl LineReader {
         }
     }
 
+    /// Takes the next piece of the input, which may be empty.
+    ///
+    /// # Errors
+    /// `NoMemory`, and then the reader is unchanged; after any other fault, that fault.
+    pub fn feed(&mut self, piece: &[u8]) -> Result<(), LineFault>
+        requires { self.old.finished ≡ false }
+        ensures told_again { IfSome self.old.fault (λ fault. result ≡ Err fault) }
+        ensures no_other { self.old.fault ≡ None → OnErr result (wants_memory result ≡ true) }
+        ensures stands { OnOk result ((text : List ℕ) (given : ℕ) → StandsAt self.old text given → StandsAt self.new (text ++ piece.now) given) }
+        ensures same { (self.new.max ≡ self.old.max) × (self.new.at ≡ self.old.at) × (self.new.finished ≡ false) × (self.new.fault ≡ self.old.fault) }
+        ensures unchanged { OnErr result (self.new ≡ self.old) }
+    {
+        if let Some(fault) = self.fault {
+            return Err(fault);
+        }
+        self.make_room();
+        match self.bytes.extend_from_slice(piece) {
+            Ok(()) => Ok(()),
+            Err(_) => Err(LineFault {
+                kind: LineFaultKind::NoMemory,
+                line: self.line,
+            }),
+        }
+    }
+
+    /// Lets go of the bytes of lines that are done, once they are more than the others: so over all calls it moves
+    /// no more bytes than were handed out.
+    fn make_room(&mut self)
+        ensures { self.new ≡ self.old }
+    {
+        if self.start > self.bytes.len() - self.start {
+            drop_front(&mut self.bytes, self.start);
+            self.searched -= self.start;
+            self.start = 0;
+        }
+    }
+
+    /// The next whole line that says something: `None` where there is none yet.
+    ///
+    /// # Errors
+    /// The line's fault, and from then on that fault again; `NoMemory`, and then the reader is unchanged.
+    pub fn next(&mut self) -> Result<Option<Line>, LineFault>
+        ensures told_again { IfSome self.old.fault (λ fault. (result ≡ Err fault) × (self.new ≡ self.old)) }
+
+        // The first whole line that says something and wasn't handed out, or its fault; none exactly where there is none.
+        ensures answer { (text : List ℕ) (given : ℕ) → StandsAt self.old text given → self.old.fault ≡ None → wants_memory result ≡ false → result ≡ answer_of (slice_get (whole_said self.old.max text) given) }
+        ensures stands { (text : List ℕ) (given : ℕ) → StandsAt self.old text given → StandsAt self.new text (given + handed_out result) }
+
+        // Its number, or that of the line being read.
+        ensures at { (text : List ℕ) (given : ℕ) → StandsAt self.old text given → self.old.fault ≡ None → wants_memory result ≡ false → self.new.at ≡ place_of (slice_get (whole_said self.old.max text) given) (last_number text) }
+
+        ensures fault { self.old.fault ≡ None → wants_memory result ≡ false → self.new.fault ≡ fault_of result }
+        ensures unchanged { wants_memory result ≡ true → self.new ≡ self.old }
+        ensures same { (self.new.max ≡ self.old.max) × (self.new.finished ≡ self.old.finished) }
+    {
+        if let Some(fault) = self.fault {
+            return Err(fault);
+        }
+        if self.finished {
+            self.at = self.line;
+            return Ok(None);
+        }
+        match self.look_ahead() {
+            Ok(found) => Ok(self.pass(found)),
+            Err(fault) => {
+                self.keep(fault);
+                Err(fault)
+            }
+        }
+    }
+
+    /// Ends the input: the next line that says something, the last one too, which no line feed ends; `None` where
+    /// there is none.
+    ///
+    /// # Errors
+    /// The line's fault, and from then on that fault again; `NoMemory`, and then the reader is unchanged.
+    pub fn finish(&mut self) -> Result<Option<Line>, LineFault>
+        ensures told_again { IfSome self.old.fault (λ fault. (result ≡ Err fault) × (self.new ≡ self.old)) }
+
+        // The first line that says something and wasn't handed out, or its fault; none exactly where there is none.
+        ensures answer { (text : List ℕ) (given : ℕ) → StandsAt self.old text given → self.old.fault ≡ None → wants_memory result ≡ false → result ≡ answer_of (slice_get (all_said self.old.max text) given) }
+        ensures stands { (text : List ℕ) (given : ℕ) → StandsAt self.old text given → StandsAt self.new text (given + handed_out result) }
+
+        // Its number, or that of the last line.
+        ensures at { (text : List ℕ) (given : ℕ) → StandsAt self.old text given → self.old.fault ≡ None → wants_memory result ≡ false → self.new.at ≡ place_of (slice_get (all_said self.old.max text) given) (last_number text) }
+
+        ensures fault { self.old.fault ≡ None → wants_memory result ≡ false → self.new.fault ≡ fault_of result }
+        ensures unchanged { wants_memory result ≡ true → self.new ≡ self.old }
+        ensures max { self.new.max ≡ self.old.max }
+    {
+        if let Some(fault) = self.fault {
+            return Err(fault);
+        }
+        if self.finished {
+            self.at = self.line;
+            return Ok(None);
+        }
+        match self.look_to_end() {
+            Ok((found, true)) => {
+                let line = self.pass(found);
+                self.finished = true;
+                Ok(line)
+            }
+            Ok((found, false)) => Ok(self.pass(found)),
+            Err(fault) => {
+                self.keep(fault);
+                Err(fault)
+            }
+        }
+    }
+
     /// The number of the line that was handed out last; after an answer without a line, of the line being read.
     pub fn at(&self) -> u64
         ensures { result ≡ self.now.at }
     {
         self.at
     }
+
+    /// The next whole line that says something.
+    fn look_ahead(&self) -> Result<Found, LineFault>
+        ensures found { (k : ℕ) → self.now.line ≡ line_number k → MatchResult result (λ found. Looked self.now.max k self.now.ahead found) (λ fault. Fails self.now.max k self.now.ahead fault) }
+        ensures counted { (k : ℕ) × (self.now.line ≡ line_number k) }
+    {
+        let (_, ahead) = self.bytes.split_at(self.start);
+        look(self.alloc, self.max, self.line, ahead, self.searched - self.start)
+    }
+
+    /// The same, up to the end of the input.
+    fn look_to_end(&self) -> Result<(Found, bool), LineFault>
+        ensures found { (k : ℕ) → self.now.line ≡ line_number k → MatchResult result (λ found. MatchBool found.1 (LookedBehind self.now.max k self.now.ahead found.0) (Looked self.now.max k self.now.ahead found.0 × IsSome found.0.line)) (λ fault. FailsToEnd self.now.max k self.now.ahead fault) }
+        ensures counted { (k : ℕ) × (self.now.line ≡ line_number k) }
+    {
+        let (_, ahead) = self.bytes.split_at(self.start);
+        look_to_end(self.alloc, self.max, self.line, ahead, self.searched - self.start)
+    }
+
+    /// Goes on behind what was found.
+    fn pass(&mut self, found: Found) -> Option<Line>
+        requires { IsAhead self.old.ahead found }
+        ensures line { result ≡ found.line }
+        ensures passed { self.new ≡ passed self.old found }
+    {
+        self.start = self.bytes.len() - found.left;
+        self.searched = self.start + found.searched;
+        self.line = found.number;
+        self.at = found.at;
+        found.line
+    }
+
+    /// Keeps a fault, but for the want of memory.
+    fn keep(&mut self, fault: LineFault)
+        ensures { self.new ≡ kept self.old fault }
+    {
+        if fault.kind != LineFaultKind::NoMemory {
+            self.at = fault.line;
+            self.fault = Some(fault);
+        }
+    }
+}
+
+/// Takes bytes off the front.
+fn drop_front(bytes: &mut Vec<u8>, count: usize)
+    requires { count ≤ vec_len bytes.old }
+    ensures { bytes.new.items ≡ drop count bytes.old.items }
+{
+    let left = bytes.len() - count;
+    bytes.copy_within(count.., 0);
+    bytes.truncate(left);
 }

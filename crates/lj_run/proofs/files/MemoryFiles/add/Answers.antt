@@ -1,6 +1,5 @@
 use Rattle.std.proofs.Common.{arith}
 use Rattle.std.proofs.lemmas.Map.Text.{text_keys}
-use Rattle.lj_run.specs.Files.{bytes_at}
 use Rattle.lj_run.proofs.files.MemoryFiles.add.Goals as goal
 
 pub returns-clause-others : goal.returns-clause-others

@@ -1,0 +1,87 @@
+-- When a set of literals holds a variable and its negation.
+use Rattle.std.proofs.Common.{◌≡◌, ℕ, zero, suc, ◌<◌, ap, refl, sym, ◌∙◌, inl, inr, arith}
+use Rattle.std.specs.Prelude.{ℤ, pos, negsuc, neg_ℤ, int_lt, Bool, true, false, ◌||◌, ◌&&◌, ◌⊎◌, List, [], ◌∷◌}
+use Rattle.std.specs.List.{list_any}
+use Rattle.std.specs.Ordering.{eq_by_cmp}
+use Rattle.std.proofs.lemmas.Bool.{false≢true, and_parts, and_from, or_cases, or_left, or_right, lt-ltb}
+use lib.IntN.{neg_ℤ-neg_ℤ}
+use Rattle.lj_clause.specs.Literal.{lit_cmp, variable_of}
+use Rattle.lj_clause.specs.LiteralSet.{LiteralSet, no_literals, holds, with_literal, literals}
+use Rattle.lj_clause.specs.Walk.{is_contradictory}
+use Rattle.lj_clause.proofs.Literals.{same_literal}
+use Rattle.lj_clause.proofs.LiteralSets.{holds-no_literals, holds-with_literal, holds-literals}
+use Rattle.lj_clause.proofs.Among.{any_at, any_found, itself}
+
+-- a literal of a set that holds it and its negation
+record HoldsBoth (a : LiteralSet) (l : ℤ) : Type 0 where
+  positive : int_lt (pos 0) l ≡ true
+  held : holds a l ≡ true
+  negation : holds a (neg_ℤ l) ≡ true
+
+both_held : (a : LiteralSet) → is_contradictory a ≡ true → (l : ℤ) × HoldsBoth a l
+both_held a h =
+    let found = any_found (λ l. int_lt (pos 0) l && holds a (neg_ℤ l)) (literals a) h in
+    let parts = and_parts (int_lt (pos 0) found.0) (holds a (neg_ℤ found.0)) found.2 in
+    (found.0, record { positive = parts.0; held = holds-literals a found.0 ∙ found.1; negation = parts.1 })
+
+contradictory_by : (a : LiteralSet) (l : ℤ) → HoldsBoth a l → is_contradictory a ≡ true
+contradictory_by a l h =
+    any_at (λ l. int_lt (pos 0) l && holds a (neg_ℤ l)) l (literals a) (sym (holds-literals a l) ∙ h.held) (and_from _ _ h.positive h.negation)
+
+-- of a literal and its negation one is positive
+one_positive : (l : ℤ) → 0 < variable_of l → (int_lt (pos 0) l ≡ true) ⊎ (int_lt (pos 0) (neg_ℤ l) ≡ true)
+one_positive (pos zero) h = absurd (omega arith)
+one_positive (pos (suc n)) h = inl (lt-ltb 0 (suc n) (omega arith))
+one_positive (negsuc n) h = inr (lt-ltb 0 (suc n) (omega arith))
+
+positive_not_negation : (l : ℤ) → int_lt (pos 0) l ≡ true → eq_by_cmp lit_cmp (neg_ℤ l) l ≡ true → false ≡ true
+positive_not_negation (pos zero) h e = h
+positive_not_negation (pos (suc n)) h e = let same : negsuc n ≡ pos (suc n) = same_literal (negsuc n) (pos (suc n)) e in cc
+positive_not_negation (negsuc n) h e = h
+
+same_tests : (a b : Bool) → (a ≡ true → b ≡ true) → (b ≡ true → a ≡ true) → a ≡ b
+same_tests true b f g = sym (f refl)
+same_tests false true f g = g refl
+same_tests false false f g = refl
+
+held_still : (a : LiteralSet) (l q : ℤ) → holds a q ≡ true → holds (with_literal a l) q ≡ true
+held_still a l q h = holds-with_literal a l q ∙ or_right (eq_by_cmp lit_cmp q l) (holds a q) h
+
+held_now : (a : LiteralSet) (l : ℤ) → holds (with_literal a l) l ≡ true
+held_now a l = holds-with_literal a l l ∙ or_left (eq_by_cmp lit_cmp l l) (holds a l) (itself l)
+
+held_before : (a : LiteralSet) (l q : ℤ) → holds (with_literal a l) q ≡ true → (q ≡ l) ⊎ (holds a q ≡ true)
+held_before a l q h =
+    elim (or_cases (eq_by_cmp lit_cmp q l) (holds a q) (sym (holds-with_literal a l q) ∙ h)) [ inl e ↦ inl (same_literal q l e) | inr e ↦ inr e ]
+
+more_contradictory : (a : LiteralSet) (l : ℤ) → is_contradictory (with_literal a l) ≡ true → (is_contradictory a || holds a (neg_ℤ l)) ≡ true
+more_contradictory a l h =
+    let found = both_held (with_literal a l) h in
+    elim (held_before a l found.0 found.1.held) [
+      | inl same ↦ or_right (is_contradictory a) (holds a (neg_ℤ l)) (elim (held_before a l (neg_ℤ found.0) found.1.negation) [
+        | inl e ↦ absurd (false≢true (positive_not_negation found.0 found.1.positive (ap (eq_by_cmp lit_cmp (neg_ℤ found.0)) (same ∙ sym e) ∙ itself (neg_ℤ found.0))))
+        | inr there ↦ ap (λ k. holds a (neg_ℤ k)) (sym same) ∙ there
+      ])
+      | inr held ↦ elim (held_before a l (neg_ℤ found.0) found.1.negation) [
+        | inl e ↦ or_right (is_contradictory a) (holds a (neg_ℤ l)) (ap (λ k. holds a (neg_ℤ k)) (sym e) ∙ ap (holds a) (neg_ℤ-neg_ℤ found.0) ∙ held)
+        | inr there ↦ or_left (is_contradictory a) (holds a (neg_ℤ l)) (contradictory_by a found.0 (record { positive = found.1.positive; held = held; negation = there }))
+      ]
+    ]
+
+still_contradictory : (a : LiteralSet) (l : ℤ) → 0 < variable_of l → (is_contradictory a || holds a (neg_ℤ l)) ≡ true → is_contradictory (with_literal a l) ≡ true
+still_contradictory a l nonzero h =
+    elim (or_cases (is_contradictory a) (holds a (neg_ℤ l)) h) [
+      | inl before ↦ let found = both_held a before in
+        contradictory_by (with_literal a l) found.0 (record { positive = found.1.positive; held = held_still a l found.0 found.1.held; negation = held_still a l (neg_ℤ found.0) found.1.negation })
+      | inr met ↦ elim (one_positive l nonzero) [
+        | inl up ↦ contradictory_by (with_literal a l) l (record { positive = up; held = held_now a l; negation = held_still a l (neg_ℤ l) met })
+        | inr down ↦ contradictory_by (with_literal a l) (neg_ℤ l) (record { positive = down; held = held_still a l (neg_ℤ l) met; negation = ap (holds (with_literal a l)) (neg_ℤ-neg_ℤ l) ∙ held_now a l })
+      ]
+    ]
+
+-- one literal more makes a set contradictory exactly where it was so or holds the negation
+pub is_contradictory-with_literal : (a : LiteralSet) (l : ℤ) → 0 < variable_of l → is_contradictory (with_literal a l) ≡ (is_contradictory a || holds a (neg_ℤ l))
+is_contradictory-with_literal a l nonzero = same_tests _ _ (more_contradictory a l) (still_contradictory a l nonzero)
+
+pub is_contradictory-no_literals : is_contradictory no_literals ≡ false
+is_contradictory-no_literals = same_tests _ _ (λ h. let found = both_held no_literals h in sym (holds-no_literals found.0) ∙ found.1.held) (λ h. absurd (false≢true h))

@@ -1,0 +1,47 @@
+-- What an ordered set holds after an insertion.
+use Rattle.std.proofs.Common.{◌≡◌, ℕ, ◌+◌, ◌<◌, ap, sym, ◌∙◌, refl, take, get_or, length}
+use Rattle.std.proofs.lemmas.List.{take_more}
+use Rattle.std.specs.Prelude.{ℤ, neg_ℤ, Bool, true, false, cond, ◌||◌, List, [], ◌∷◌, ◌++◌}
+use Rattle.std.specs.List.{list_any}
+use Rattle.std.specs.Ordering.{eq_by_cmp}
+use Rattle.std.specs.Cmp.{eq_by_cmp_equiv}
+use Rattle.lj_clause.specs.Literal.{lit_cmp, lit_cmp_total}
+use Rattle.lj_clause.specs.LiteralSet.{LiteralSet, holds, with_literal, with_negations, from_literals}
+use Rattle.lj_clause.proofs.LiteralSets.{same_set, holds-from_literals, holds-with_literal}
+
+cond-or : (a b : Bool) → cond a true b ≡ (a || b)
+cond-or true b = refl
+cond-or false b = refl
+
+pub from_literals-inserted : (old new : List ℤ) (l : ℤ) → ((q : ℤ) → list_any (eq_by_cmp lit_cmp q) new ≡ cond (eq_by_cmp lit_cmp l q) true (list_any (eq_by_cmp lit_cmp q) old)) → from_literals new ≡ with_literal (from_literals old) l
+from_literals-inserted old new l h =
+    same_set _ _ (λ q.
+    holds-from_literals new q
+    ∙ h q
+    ∙ cond-or (eq_by_cmp lit_cmp l q) (list_any (eq_by_cmp lit_cmp q) old)
+    ∙ (λ i. (eq_by_cmp_equiv lit_cmp_total).symm l q i || sym (holds-from_literals old q) i)
+    ∙ sym (holds-with_literal (from_literals old) l q))
+
+or-swap : (a b c : Bool) → (a || (b || c)) ≡ (b || (a || c))
+or-swap true true c = refl
+or-swap true false c = refl
+or-swap false b c = refl
+
+-- two literals go in in either order
+with_literal-swap : (s : LiteralSet) (l m : ℤ) → with_literal (with_literal s l) m ≡ with_literal (with_literal s m) l
+with_literal-swap s l m =
+    same_set _ _ (λ q.
+    holds-with_literal (with_literal s l) m q
+    ∙ ap (λ b. eq_by_cmp lit_cmp q m || b) (holds-with_literal s l q)
+    ∙ or-swap (eq_by_cmp lit_cmp q m) (eq_by_cmp lit_cmp q l) (holds s q)
+    ∙ ap (λ b. eq_by_cmp lit_cmp q l || b) (sym (holds-with_literal s m q))
+    ∙ sym (holds-with_literal (with_literal s m) l q))
+
+with_negations-push : (s : LiteralSet) (ls : List ℤ) (l : ℤ) → with_negations s (ls ++ l ∷ []) ≡ with_literal (with_negations s ls) (neg_ℤ l)
+with_negations-push s [] l = refl
+with_negations-push s (m ∷ ls) l = ap (λ t. with_literal t (neg_ℤ m)) (with_negations-push s ls l) ∙ with_literal-swap (with_negations s ls) (neg_ℤ l) (neg_ℤ m)
+
+-- one negation more
+pub with_negations-more : (s : LiteralSet) (ls : List ℤ) (i : ℕ) (l : ℤ) → l ≡ get_or ls i l → i < length ls → with_literal (with_negations s (take i ls)) (neg_ℤ l) ≡ with_negations s (take (i + 1) ls)
+with_negations-more s ls i l is lt =
+    sym (with_negations-push s (take i ls) l) ∙ ap (with_negations s) (ap (λ m. take i ls ++ m ∷ []) is ∙ sym (take_more ls i l lt))

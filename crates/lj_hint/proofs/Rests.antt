@@ -1,0 +1,17 @@
+-- What is left of a clause, seen one literal after the other.
+use Rattle.std.proofs.Common.{◌≡◌, ap, refl, sym, ◌∙◌}
+use Rattle.std.specs.Prelude.{ℤ, Bool, true, false, List, [], ◌∷◌, filter}
+use Rattle.lj_hint.specs.declared.walk.Rest.{Rest}
+use Rattle.lj_hint.specs.declared.walk.Rest.TheVariants.{Nothing, One, More}
+use Rattle.lj_hint.specs.Rest.{seen}
+
+-- what is seen of these literals after what was seen before
+abbrev pub seen_after : Rest → List ℤ → Rest
+seen_after Nothing ls = seen ls
+seen_after (One l) ls = seen (l ∷ ls)
+seen_after More ls = More
+
+pub seen_after-end : (r : Rest) → seen_after r [] ≡ r
+seen_after-end Nothing = refl
+seen_after-end (One l) = refl
+seen_after-end More = refl

@@ -1,0 +1,16 @@
+use Rattle.std.proofs.Common.{ap, sym, ◌∙◌}
+use Rattle.lj_clause.specs.LiteralSet.{negations}
+use Rattle.lj_clause.specs.Walk.{walk_over}
+use Rattle.lj_hint.specs.Hints.{named}
+use Rattle.lj_hint.specs.Ending.{ending_of}
+use Rattle.lj_hint.specs.Case.{walk_of}
+use Rattle.lj_hint.proofs.Used.{closed_by_read}
+use Rattle.lj_hint.proofs.case.Case.test.Goals as goal
+
+pub into_receipt-requires : goal.into_receipt-requires
+into_receipt-requires c =
+    closed_by_read (negations c.args.self.lemma.clause) c.args.self.hints c.in-Ok-ClosedAfter.read
+    (sym c.in-Ok-ClosedAfter.field-0-is
+    ∙ c.in-Ok-ClosedAfter.ensures
+    ∙ (λ i. ending_of (walk_over (negations (c.clause.ensures.clause i)) (named (c.deref.ensures.value i))))
+    ∙ ap (λ v. ending_of (walk_of v)) c.self.view_is)

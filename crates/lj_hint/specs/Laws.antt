@@ -1,0 +1,21 @@
+-- What a receipt means, whenever it is used.
+use Rattle.std.specs.Prelude.{◌≡◌, true, Some, All}
+use Rattle.std.specs.FinMap.{get}
+use Rattle.lj_clause.specs.LiteralSet.{negations}
+use Rattle.lj_clause.specs.ClauseMap.{ClauseMap}
+use Rattle.lj_clause.specs.Truth.{Assignment, satisfies, SatisfiesAll}
+use Rattle.lj_clause.specs.Walk.{Closed, walk}
+use Rattle.lj_hint.specs.Hints.{numbers}
+use Rattle.lj_hint.specs.Receipt.{ReceiptValue, IsReceipt}
+
+-- the clause map has each listed clause under its number
+abbrev pub HasListed : ClauseMap → ReceiptValue → Type 0
+HasListed p r = All (λ h. get p h.joint ≡ Some h.clause) r.listed
+
+-- in such a map the listed numbers close the walk of the lemma's negation, and each is read
+abbrev pub ReceiptIsRup : Type 0
+ReceiptIsRup = (r : ReceiptValue) (p : ClauseMap) → IsReceipt r → HasListed p r → walk p (negations r.lemma.clause) (numbers r.listed) ≡ Closed (numbers r.listed)
+
+-- in such a map every assignment that satisfies it satisfies the lemma
+abbrev pub ReceiptImplies : Type 0
+ReceiptImplies = (r : ReceiptValue) (p : ClauseMap) (a : Assignment) → IsReceipt r → HasListed p r → SatisfiesAll a p → satisfies a r.lemma.clause ≡ true

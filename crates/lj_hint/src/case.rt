@@ -1,0 +1,121 @@
+//! Cases: what a test needs of an addition.
+use crate::marks::Marks;
+use crate::pair::Pair;
+use crate::receipt::Receipt;
+use crate::tested::Tested;
+use crate::walk::{Ending, walk_negation};
+use lj_clause::{Lemma, NoMemory};
+use std::marker::Model;
+
+/// A seat's addition, with the clauses that its hints name. It is tested without the book.
+#[derive(Debug, Drop)]
+pub struct Case {
+    seat: u32,
+    own: u64,
+    lemma: Lemma,
+    hints: Vec<Pair>,
+    groups: Vec<(Pair, Vec<Pair>)>,
+}
+
+impl Model for Case {
+    ghost use Rattle.lj_hint.specs.Case.{CaseValue, case_code, case_of, groups_of};
+
+    ghost Value = { CaseValue };
+
+    ghost coded = { case_code };
+
+    ghost view = { λ c. case_of c.seat c.own c.lemma c.hints.items (groups_of c.groups.items) };
+}
+
+impl Case {
+    ghost use Rattle.std.specs.Prelude.{◌≡◌, ◌≤◌, length};
+    ghost use Rattle.lj_hint.specs.Case.{case_of, groups_of, walk_of};
+    ghost use Rattle.lj_hint.specs.Receipt.{receipt_of, IsReceipt};
+    ghost use Rattle.lj_hint.specs.Tested.{answer_of, IfAnswered, IfNoMemory};
+
+    /// The case of a seat's addition under its own number: the first list of hints, and the groups, each a
+    /// candidate and its hints. Takes no memory.
+    pub fn new(
+        seat: u32,
+        own: u64,
+        lemma: Lemma,
+        hints: Vec<Pair>,
+        groups: Vec<(Pair, Vec<Pair>)>,
+    ) -> Case
+        ensures { result ≡ case_of seat own lemma hints.items (groups_of groups.items) }
+    {
+        Case {
+            seat,
+            own,
+            lemma,
+            hints,
+            groups,
+        }
+    }
+
+    /// The seat whose addition it is.
+    pub fn seat(&self) -> u32
+        ensures { result ≡ self.now.seat }
+    {
+        self.seat
+    }
+
+    /// The own number of the addition.
+    pub fn own(&self) -> u64
+        ensures { result ≡ self.now.own }
+    {
+        self.own
+    }
+
+    /// The lemma of the addition.
+    pub fn lemma(&self) -> &Lemma
+        ensures { result.now ≡ self.now.lemma }
+    {
+        &self.lemma
+    }
+
+    /// The first list of hints.
+    pub fn hints(&self) -> &[Pair]
+        ensures { result.now ≡ self.now.hints }
+    {
+        &self.hints
+    }
+
+    /// The groups, each a candidate and its hints.
+    pub fn groups(&self) -> &[(Pair, Vec<Pair>)]
+        ensures { groups_of result.now ≡ self.now.groups }
+    {
+        &self.groups
+    }
+
+    /// The walk of the lemma's negation over the first list of hints; the groups aren't looked at. The room may
+    /// have served any walk before, and may serve any after, whatever the answer. Takes O(n log n) time for the n
+    /// literals that it reads.
+    pub fn test(self, marks: &mut Marks) -> Tested
+        ensures walk { IfAnswered result (λ answer. answer ≡ answer_of self (walk_of self)) }
+        ensures no_memory { IfNoMemory result (λ case. case ≡ self) }
+    {
+        match walk_negation(&mut marks.lits, self.lemma.clause(), &self.hints) {
+            Ok(Ending::ClosedAfter(read)) => Tested::Closed(self.into_receipt(read)),
+            Ok(Ending::StaysOpen) => Tested::Open(self),
+            Ok(Ending::StuckAt(place)) => Tested::Stuck(place),
+            Err(NoMemory) => Tested::NoMemory(self),
+        }
+    }
+
+    /// The receipt of so many hints.
+    fn into_receipt(self, read: usize) -> Receipt
+        requires { IsReceipt (receipt_of self read) }
+        ensures { result ≡ receipt_of self read }
+    {
+        let Case {
+            seat,
+            own,
+            lemma,
+            mut hints,
+            groups: _,
+        } = self;
+        hints.truncate(read);
+        Receipt::new(seat, own, lemma, hints)
+    }
+}

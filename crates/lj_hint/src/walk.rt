@@ -1,0 +1,90 @@
+//! The walk over hints: hinted unit propagation.
+ghost use Rattle.std.specs.Prelude.{◌≡◌, IfOk};
+ghost use Rattle.lj_clause.specs.LiteralSet.{negations};
+ghost use Rattle.lj_clause.specs.Walk.{rest, walk_over, Open};
+ghost use Rattle.lj_hint.specs.Hints.{named};
+ghost use Rattle.lj_hint.specs.Rest.{seen};
+ghost use Rattle.lj_hint.specs.Ending.{ending_of};
+
+use crate::pair::Pair;
+use crate::true_lits::TrueLits;
+use lj_clause::{Clause, Lit, NoMemory};
+
+/// The literals of a clause that a walk leaves open, seen up to two.
+#[derive(Clone, Copy)]
+pub enum Rest {
+    /// The clause is false.
+    Nothing,
+    /// The clause is unit: this literal has to be true.
+    One(Lit),
+    /// Two or more.
+    More,
+}
+
+/// How a walk ended.
+#[derive(Clone, Copy)]
+pub enum Ending {
+    /// Closed, after it read so many hints.
+    ClosedAfter(usize),
+    /// Open after the last hint.
+    StaysOpen,
+    /// Stuck at the hint of this place, counted from 1.
+    StuckAt(u64),
+}
+
+/// The walk of a clause's negation over the hints.
+///
+/// # Errors
+/// [`NoMemory`] where a growth was refused.
+pub fn walk_negation(
+    held: &mut TrueLits,
+    clause: &Clause,
+    hints: &[Pair],
+) -> Result<Ending, NoMemory>
+    ensures { IfOk result (λ ending. ending ≡ ending_of (walk_over (negations clause.now) (named hints.now))) }
+{
+    held.clear();
+    held.insert_negations(clause.lits())?;
+    walk(held, hints)
+}
+
+/// The walk of the literals that are held over the hints. Each clause is read once.
+///
+/// # Errors
+/// [`NoMemory`] where a growth was refused.
+pub fn walk(held: &mut TrueLits, hints: &[Pair]) -> Result<Ending, NoMemory>
+    ensures ending { IfOk result (λ ending. ending ≡ ending_of (walk_over held.old (named hints.now))) }
+    ensures held { result ≡ Ok Ending.StaysOpen → walk_over held.old (named hints.now) ≡ Open held.new }
+{
+    for (index, hint) in hints.iter().enumerate() {
+        if held.is_contradictory() {
+            return Ok(Ending::ClosedAfter(index));
+        }
+        match rest_of(held, &hint.clause) {
+            Rest::Nothing => return Ok(Ending::ClosedAfter(index + 1)),
+            Rest::One(lit) => held.insert(lit)?,
+            Rest::More => return Ok(Ending::StuckAt(index as u64 + 1)),
+        }
+    }
+    if held.is_contradictory() {
+        return Ok(Ending::ClosedAfter(hints.len()));
+    }
+    Ok(Ending::StaysOpen)
+}
+
+/// The literals of the clause whose negation isn't held.
+pub fn rest_of(held: &TrueLits, clause: &Clause) -> Rest
+    ensures { result ≡ seen (rest clause.now held.now) }
+{
+    let mut found = Rest::Nothing;
+    let lits = clause.lits();
+    for lit in lits {
+        if !held.holds(lit.negated()) {
+            match found {
+                Rest::Nothing => found = Rest::One(*lit),
+                _ => return Rest::More,
+            }
+        }
+    }
+    found
+}

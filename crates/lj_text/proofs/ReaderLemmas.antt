@@ -1,0 +1,211 @@
+-- What a reader of lines answers at each text at which it stands.
+use Rattle.std.proofs.Common.{◌≡◌, ℕ, zero, suc, ◌+◌, ◌-◌, ◌<◌, ◌≤◌, Bool, true, false, cond, List, [], ◌∷◌, ◌++◌, length, take, drop, Option, None, Some, Result, Ok, Err, refl, sym, ap, ◌∙◌, subst, append_assoc, arith, length-append}
+use Rattle.std.proofs.lemmas.List.{append-nil}
+use Rattle.std.specs.List.{AllByRecursion, slice_get}
+use Rattle.std.specs.Prelude.{MatchOption, MatchBool, is_some}
+use Rattle.lj_text.specs.declared.line.Line.{Line}
+use Rattle.lj_text.specs.declared.lines.fault.LineFault.{LineFault}
+use Rattle.lj_text.specs.declared.lines.look.Found.{Found}
+use Rattle.lj_text.specs.Bytes.{line_number, lines_of}
+use Rattle.lj_text.specs.Lines.{Said, said_from, whole_said, all_said, whole_said_from, all_said_from, all_but_last}
+use Rattle.lj_text.specs.LinesRead.{LinesRead, HasNoLineEnd, joined, StandsWithin, StandsBehind, StandsAt, answer_of, handed_out, place_of, last_number, is_no_memory, told}
+use Rattle.lj_text.specs.LinesHeld.{IsAhead, passed, kept}
+use Rattle.lj_text.specs.Looking.{Looked, LookedBehind, Fails, FailsToEnd, said_of}
+use Rattle.lj_text.proofs.StandLemmas.{whole-joined, all-joined, whole-none, get-behind, said_from-append, cut-joined, cut-none}
+use Rattle.lj_text.proofs.PassLemmas.{none-open, after_is}
+
+-- the whole lines that were not handed out are those ahead
+pub whole-at : (r : LinesRead) (text : List ℕ) (given : ℕ) (s : StandsWithin r text given)
+    → slice_get (whole_said r.max text) given ≡ slice_get (whole_said_from r.max (length s.lines) r.ahead) 0
+whole-at r text given s =
+    ap (λ t. slice_get (whole_said r.max t) given) s.text_is
+    ∙ ap (λ (ss : List Said). slice_get ss given) (whole-joined r.max 0 s.lines r.ahead s.whole)
+    ∙ ap (λ g. slice_get (said_from r.max 0 s.lines ++ whole_said_from r.max (0 + length s.lines) r.ahead) g) s.given_is
+    ∙ get-behind (said_from r.max 0 s.lines) (whole_said_from r.max (0 + length s.lines) r.ahead)
+    ∙ ap (λ n. slice_get (whole_said_from r.max n r.ahead) 0) (omega arith)
+
+pub all-at : (r : LinesRead) (text : List ℕ) (given : ℕ) (s : StandsWithin r text given)
+    → slice_get (all_said r.max text) given ≡ slice_get (all_said_from r.max (length s.lines) r.ahead) 0
+all-at r text given s =
+    ap (λ t. slice_get (all_said r.max t) given) s.text_is
+    ∙ ap (λ (ss : List Said). slice_get ss given) (all-joined r.max 0 s.lines r.ahead s.whole)
+    ∙ ap (λ g. slice_get (said_from r.max 0 s.lines ++ all_said_from r.max (0 + length s.lines) r.ahead) g) s.given_is
+    ∙ get-behind (said_from r.max 0 s.lines) (all_said_from r.max (0 + length s.lines) r.ahead)
+    ∙ ap (λ n. slice_get (all_said_from r.max n r.ahead) 0) (omega arith)
+
+-- what was found, if anything
+abbrev pub found_said : ℕ → Option Line → Option Said
+found_said at None = None
+found_said at (Some line) = Some (record { line = at; says = Ok line })
+
+first_of_said : (at : ℕ) (o : Option Line) (more : List Said) → (o ≡ None → more ≡ []) → slice_get (said_of at o ++ more) 0 ≡ found_said at o
+first_of_said at None more h = ap (λ (ss : List Said). slice_get ss 0) (h refl)
+first_of_said at (Some line) more h = refl
+
+pub whole-found : (max k : ℕ) (ahead : List ℕ) (found : Found) (p : Looked max k ahead found) → slice_get (whole_said_from max k ahead) 0 ≡ found_said found.at found.line
+whole-found max k ahead found p =
+    ap (λ (ss : List Said). slice_get ss 0) (ap (whole_said_from max k) p.ahead_is ∙ whole-joined max k p.lines p.after p.whole ∙ ap (λ ss. ss ++ whole_said_from max (k + length p.lines) p.after) p.said_is)
+    ∙ first_of_said found.at found.line (whole_said_from max (k + length p.lines) p.after) (λ none. whole-none max (k + length p.lines) p.after (none-open max k ahead found p none))
+
+-- the first of all lines is the first whole one, where there is one
+all-found_some : (at : ℕ) (o : Option Line) (more : List Said) → is_some o ≡ true → slice_get (said_of at o ++ more) 0 ≡ found_said at o
+all-found_some at None more h = cc
+all-found_some at (Some line) more h = refl
+
+pub all-found : (max k : ℕ) (ahead : List ℕ) (found : Found) (p : Looked max k ahead found) → is_some found.line ≡ true → slice_get (all_said_from max k ahead) 0 ≡ found_said found.at found.line
+all-found max k ahead found p some =
+    ap (λ (ss : List Said). slice_get ss 0) (ap (all_said_from max k) p.ahead_is ∙ all-joined max k p.lines p.after p.whole ∙ ap (λ ss. ss ++ all_said_from max (k + length p.lines) p.after) p.said_is)
+    ∙ all-found_some found.at found.line (all_said_from max (k + length p.lines) p.after) some
+
+said_alone : (at : ℕ) (o : Option Line) → slice_get (said_of at o) 0 ≡ found_said at o
+said_alone at None = refl
+said_alone at (Some line) = refl
+
+pub behind-found : (max k : ℕ) (ahead : List ℕ) (found : Found) (p : LookedBehind max k ahead found) → slice_get (all_said_from max k ahead) 0 ≡ found_said found.at found.line
+behind-found max k ahead found p = ap (λ (ss : List Said). slice_get ss 0) p.said_is ∙ said_alone found.at found.line
+
+pub answers : (at : ℕ) (o : Option Line) → answer_of (found_said at o) ≡ Ok o
+answers at None = refl
+answers at (Some line) = refl
+
+-- the lines that were passed are done
+count_said : (at : ℕ) (o : Option Line) → length (said_of at o) ≡ handed_out (Ok o)
+count_said at None = refl
+count_said at (Some line) = refl
+
+both : (xs ys : List (List ℕ)) → AllByRecursion HasNoLineEnd xs → AllByRecursion HasNoLineEnd ys → AllByRecursion HasNoLineEnd (xs ++ ys)
+both [] ys h k = k
+both (x ∷ xs) ys h k = (h.0, both xs ys h.1 k)
+
+joined_both : (xs ys : List (List ℕ)) (rest : List ℕ) → joined (xs ++ ys) ++ rest ≡ joined xs ++ (joined ys ++ rest)
+joined_both [] ys rest = refl
+joined_both (x ∷ xs) ys rest = append_assoc x _ rest ∙ ap (λ r. x ++ 10 ∷ r) (joined_both xs ys rest) ∙ sym (append_assoc x _ _)
+
+pub stands-passed : (r : LinesRead) (text : List ℕ) (given : ℕ) (found : Found) (s : StandsWithin r text given) → Looked r.max (length s.lines) r.ahead found
+    → StandsWithin (passed r found) text (given + handed_out (Ok found.line))
+stands-passed r text given found s p =
+    let after : drop (length r.ahead - found.left) r.ahead ≡ p.after = after_is r.max (length s.lines) r.ahead found p in
+    let said : said_from r.max 0 (s.lines ++ p.lines) ≡ said_from r.max 0 s.lines ++ said_of found.at found.line =
+      said_from-append r.max 0 s.lines p.lines ∙ ap (λ n. said_from r.max 0 s.lines ++ said_from r.max n p.lines) (omega arith) ∙ ap (λ ss. said_from r.max 0 s.lines ++ ss) p.said_is in
+    record {
+      lines = s.lines ++ p.lines;
+      whole = both s.lines p.lines s.whole p.whole;
+      text_is = s.text_is ∙ ap (λ a. joined s.lines ++ a) p.ahead_is ∙ sym (joined_both s.lines p.lines p.after) ∙ ap (λ a. joined (s.lines ++ p.lines) ++ a) (sym after);
+      line_is = p.number_is ∙ ap line_number (sym (length-append s.lines p.lines));
+      given_is = omega (arith, s.given_is, count_said found.at found.line, ap length said, length-append (said_from r.max 0 s.lines) (said_of found.at found.line));
+    }
+
+-- the number of the line being read
+pub place-none : (r : LinesRead) (text : List ℕ) (given : ℕ) (found : Found) (s : StandsWithin r text given) (p : Looked r.max (length s.lines) r.ahead found) → found.line ≡ None → found.at ≡ last_number text
+place-none r text given found s p none =
+    let P : Option Line → Type 0 = λ o. MatchOption o (HasNoLineEnd p.after × (found.at ≡ found.number)) (λ line. Unit {0}) in
+    let last : all_but_last (lines_of text) ≡ s.lines ++ p.lines =
+      ap (λ t. all_but_last (lines_of t)) (s.text_is ∙ ap (λ a. joined s.lines ++ a) p.ahead_is)
+      ∙ cut-joined s.lines (joined p.lines ++ p.after) s.whole
+      ∙ ap (λ ls. s.lines ++ ls) (cut-joined p.lines p.after p.whole ∙ ap (λ ls. p.lines ++ all_but_last ls) (cut-none p.after (none-open r.max (length s.lines) r.ahead found p none)) ∙ append-nil p.lines) in
+    (subst P none p.none_is).1 ∙ p.number_is ∙ ap line_number (sym (ap length last ∙ length-append s.lines p.lines))
+
+places : (at last : ℕ) (o : Option Line) → (o ≡ None → at ≡ last) → at ≡ place_of (found_said at o) last
+places at last None h = h refl
+places at last (Some line) h = refl
+
+pub place-whole : (r : LinesRead) (text : List ℕ) (given : ℕ) (found : Found) (s : StandsWithin r text given) (p : Looked r.max (length s.lines) r.ahead found)
+    → found.at ≡ place_of (slice_get (whole_said r.max text) given) (last_number text)
+place-whole r text given found s p =
+    places found.at (last_number text) found.line (λ none. place-none r text given found s p none)
+    ∙ ap (λ o. place_of o (last_number text)) (sym (whole-at r text given s ∙ whole-found r.max (length s.lines) r.ahead found p))
+
+-- what was found may be passed
+pub ahead-found : (max k : ℕ) (ahead : List ℕ) (found : Found) → Looked max k ahead found → IsAhead ahead found
+ahead-found max k ahead found p =
+    let after : drop (length ahead - found.left) ahead ≡ p.after = after_is max k ahead found p in
+    let P : List ℕ → Type 0 = λ r. HasNoLineEnd (take found.searched r) in
+    record {
+      left = omega (arith, p.left_is, ap length p.ahead_is, length-append (joined p.lines) p.after);
+      searched = p.searched_is;
+      none_before = subst P (sym after) p.none_before;
+      before = k + length p.lines;
+      number_is = p.number_is;
+    }
+
+-- before the input has ended
+pub within-of : (r : LinesRead) (text : List ℕ) (given : ℕ) → r.finished ≡ false → StandsAt r text given → StandsWithin r text given
+within-of r text given h s = let P : Bool → Type 0 = λ b. MatchBool b (StandsBehind r text given) (StandsWithin r text given) in subst P h s
+
+pub stands-of : (r : LinesRead) (text : List ℕ) (given : ℕ) → r.finished ≡ false → StandsWithin r text given → StandsAt r text given
+stands-of r text given h s = let P : Bool → Type 0 = λ b. MatchBool b (StandsBehind r text given) (StandsWithin r text given) in subst P (sym h) s
+
+pub kept-at : (r : LinesRead) (fault : LineFault) → is_no_memory fault.kind ≡ false → (kept r fault).at ≡ fault.line
+kept-at r fault h = ap (λ b. (cond b r (record r { at = fault.line; fault = Some fault })).at) h
+
+-- the number of the last line
+pub number-behind : (r : LinesRead) (text : List ℕ) (given : ℕ) (found : Found) (s : StandsWithin r text given) → LookedBehind r.max (length s.lines) r.ahead found → found.number ≡ last_number text
+number-behind r text given found s p =
+    let last : all_but_last (lines_of text) ≡ s.lines ++ all_but_last (lines_of r.ahead) =
+      ap (λ t. all_but_last (lines_of t)) s.text_is ∙ cut-joined s.lines r.ahead s.whole in
+    p.number_is ∙ ap line_number (sym (ap length last ∙ length-append s.lines (all_but_last (lines_of r.ahead))))
+
+-- the last line is done too
+pub stands-behind : (r new : LinesRead) (text : List ℕ) (given : ℕ) (found : Found) (s : StandsWithin r text given) → LookedBehind r.max (length s.lines) r.ahead found
+    → new.max ≡ r.max → new.line ≡ found.number → StandsBehind new text (given + handed_out (Ok found.line))
+stands-behind r new text given found s p max_is line_is =
+    let all : all_said r.max text ≡ said_from r.max 0 s.lines ++ said_of found.at found.line =
+      ap (all_said r.max) s.text_is ∙ all-joined r.max 0 s.lines r.ahead s.whole
+      ∙ ap (λ n. said_from r.max 0 s.lines ++ all_said_from r.max n r.ahead) (omega arith) ∙ ap (λ ss. said_from r.max 0 s.lines ++ ss) p.said_is in
+    let count : length (all_said new.max text) ≡ length (said_from r.max 0 s.lines) + length (said_of found.at found.line) =
+      ap (λ m. length (all_said m text)) max_is ∙ ap length all ∙ length-append (said_from r.max 0 s.lines) (said_of found.at found.line) in
+    record {
+      given_is = omega (arith, s.given_is, count_said found.at found.line, count);
+      line_is = line_is ∙ number-behind r text given found s p;
+    }
+
+pub place-behind : (r : LinesRead) (text : List ℕ) (given : ℕ) (found : Found) (s : StandsWithin r text given) (p : LookedBehind r.max (length s.lines) r.ahead found)
+    → found.at ≡ place_of (slice_get (all_said r.max text) given) (last_number text)
+place-behind r text given found s p =
+    places found.at (last_number text) found.line (λ none. p.at_is ∙ number-behind r text given found s p)
+    ∙ ap (λ o. place_of o (last_number text)) (sym (all-at r text given s ∙ behind-found r.max (length s.lines) r.ahead found p))
+
+not_both : (o : Option Line) → is_some o ≡ true → o ≡ None → ⊥
+not_both None h e = cc
+not_both (Some line) h e = cc
+
+pub place-some : (r : LinesRead) (text : List ℕ) (given : ℕ) (found : Found) (s : StandsWithin r text given) (p : Looked r.max (length s.lines) r.ahead found) → is_some found.line ≡ true
+    → found.at ≡ place_of (slice_get (all_said r.max text) given) (last_number text)
+place-some r text given found s p some =
+    places found.at (last_number text) found.line (λ none. absurd (not_both found.line some none))
+    ∙ ap (λ o. place_of o (last_number text)) (sym (all-at r text given s ∙ all-found r.max (length s.lines) r.ahead found p some))
+
+pub ahead-behind : (max k : ℕ) (ahead : List ℕ) (found : Found) → LookedBehind max k ahead found → IsAhead ahead found
+ahead-behind max k ahead found p = record {
+    left = omega (arith, p.left_is);
+    searched = omega (arith, p.left_is, p.searched_is);
+    none_before = let P : ℕ → Type 0 = λ n. HasNoLineEnd (take n (drop (length ahead - found.left) ahead)) in subst P (sym p.searched_is) (λ i d h. absurd (omega arith));
+    before = k + length (all_but_last (lines_of ahead));
+    number_is = p.number_is;
+  }
+
+by_memory : (b : Bool) (r : LinesRead) (fault : LineFault) → (cond b r (record r { at = fault.line; fault = Some fault })).max ≡ r.max
+by_memory true r fault = refl
+by_memory false r fault = refl
+
+pub kept-max : (r : LinesRead) (fault : LineFault) → (kept r fault).max ≡ r.max
+kept-max r fault = by_memory (is_no_memory fault.kind) r fault
+
+stands_by_memory : (b : Bool) (r : LinesRead) (fault : LineFault) (text : List ℕ) (given : ℕ) → r.finished ≡ false → StandsWithin r text given
+    → StandsAt (cond b r (record r { at = fault.line; fault = Some fault })) text given
+stands_by_memory true r fault text given h s = stands-of r text given h s
+stands_by_memory false r fault text given h s = stands-of (record r { at = fault.line; fault = Some fault }) text given h (record { lines = s.lines; whole = s.whole; text_is = s.text_is; line_is = s.line_is; given_is = s.given_is })
+
+pub stands-kept : (r : LinesRead) (fault : LineFault) (text : List ℕ) (given : ℕ) → r.finished ≡ false → StandsWithin r text given → StandsAt (kept r fault) text (given + 0)
+stands-kept r fault text given h s =
+    let P : ℕ → Type 0 = λ n. StandsAt (kept r fault) text n in
+    let same : given ≡ given + 0 = omega arith in
+    subst P same (stands_by_memory (is_no_memory fault.kind) r fault text given h s)
+
+pub at_true : (b : Bool) (P Q : Type 0) → b ≡ true → MatchBool b P Q → P
+at_true true P Q h p = p
+at_true false P Q h p = cc
+
+pub at_false : (b : Bool) (P Q : Type 0) → b ≡ false → MatchBool b P Q → Q
+at_false true P Q h q = cc
+at_false false P Q h q = q
