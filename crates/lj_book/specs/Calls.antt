@@ -1,9 +1,87 @@
--- The sequential object: for each call on a state its reply, and the state after.
-use Rattle.std.specs.Prelude.{◌≡◌, ℕ, ◌-◌, List, [], ◌∷◌, length, Option, Some, None, if◌then◌else◌}
-use Rattle.std.specs.declared.result.Result.{Result}
-use Rattle.std.specs.declared.result.Result.TheVariants.{Ok, Err}
+-- The sequential object: for each call on a state its reply, the first refusal that holds if one does, and the entry that
+-- an accepted call makes. The state after an accepted call is the one that its entry leaves; after a refused one it is the
+-- state before.
+use Rattle.std.specs.Prelude.{◌≡◌, ℕ, ◌+◌, ◌==◌, nat_lt, Bool, true, false, not, ◌&&◌, List, [], ◌∷◌, ◌++◌, map, length, Option, Some, None, MatchOption, is_some, option_map, option_and_then, if◌then◌else◌, Result, Ok, Err, MatchResult}
+use Rattle.std.specs.List.{list_any, list_all}
 use Rattle.std.specs.FinMap as fin
+use Rattle.lj_clause.specs.Literal.{lit_cmp}
+use Rattle.lj_clause.specs.LiteralSet.{LiteralSet, holds, literals}
+use Rattle.lj_clause.specs.Lemma.{LemmaValue}
+use Rattle.lj_clause.specs.ClauseMap.{ClauseMap}
+use Rattle.lj_clause.specs.Rat.{HintGroup}
+use Rattle.lj_text.specs.declared.line.Addition.{Addition}
+use Rattle.lj_text.specs.declared.step.Step.{Step}
+use Rattle.lj_text.specs.declared.step.Step.TheVariants as steps
+use Rattle.lj_text.specs.Needed.{if_some}
+use Rattle.lj_hint.specs.declared.pair.Pair.{Pair}
+use Rattle.lj_hint.specs.Hints.{numbers}
+use Rattle.lj_hint.specs.Case.{CaseValue, case_of}
+use Rattle.lj_hint.specs.Receipt.{ReceiptValue}
+use Rattle.lj_book.specs.declared.entry.Call.TheVariants as calls
+use Rattle.lj_book.specs.declared.entry.Entry.{Entry}
 use Rattle.lj_book.specs.declared.entry.Added.{Added}
 use Rattle.lj_book.specs.declared.entry.Dropped.{Dropped}
 use Rattle.lj_book.specs.declared.refusal.Refusal.{Refusal}
 use Rattle.lj_book.specs.declared.refusal.Refusal.TheVariants.{SeatGone, NumberTaken, UnknownNumber, GroupRepeated, HintNotUnit, EmptyOpen, Stale, Full, NoMemory}
+use Rattle.lj_book.specs.Tables.{table_of, is_here, is_bound, is_among, joint_of, with_table, without_keys, keys_lost}
+use Rattle.lj_book.specs.State.{State, added, next, live}
+use Rattle.lj_book.specs.History.{died, after}
+
+-- The answer of a call is the reply that it has here. NoMemory may stand in place of any reply.
+abbrev pub IsRefusal : {A : Type 0} → Refusal → Result A Refusal → Type 0
+IsRefusal NoMemory reply = Unit {0}
+IsRefusal e reply = reply ≡ Err e
+
+abbrev pub IsReply : {A : Type 0} → Result A Refusal → Result A Refusal → Type 0
+IsReply answer reply = MatchResult answer (λ x. reply ≡ Ok x) (λ e. IsRefusal e reply)
+
+-- ---- giving numbers up
+
+-- the entry of a drop: its step deletes what died
+abbrev pub drop_entry : State → ℕ → List ℕ → Entry
+drop_entry s seat numbers = record { seat = seat; call = calls.Drop numbers; step = if_some (died s (with_table (without_keys numbers) s.tables seat)) }
+
+-- the place of the entry, and the count of own numbers that were given up
+abbrev pub drop_reply : State → ℕ → List ℕ → Result Dropped Refusal
+drop_reply s seat numbers =
+    if is_here s.tables seat then Ok (record { place = length s.history; count = keys_lost numbers (table_of s.tables seat) }) else Err SeatGone
+
+-- ---- committing a receipt
+
+-- whether the two clauses are the same set
+abbrev pub is_same : LiteralSet → LiteralSet → Bool
+is_same c d = list_all (holds d) (literals c) && list_all (holds c) (literals d)
+
+-- whether the pair's number lives with that very clause
+abbrev pub is_live_as : ClauseMap → Pair → Bool
+is_live_as p pair = is_some_and (is_same pair.clause) (fin.get p pair.joint)
+  where
+    is_some_and : (LiteralSet → Bool) → Option LiteralSet → Bool
+    is_some_and test None = false
+    is_some_and test (Some c) = test c
+
+-- the number of the first pair that doesn't
+abbrev pub first_stale : ClauseMap → List Pair → Option ℕ
+first_stale p [] = None
+first_stale p (pair ∷ pairs) = if is_live_as p pair then first_stale p pairs else Some pair.joint
+
+-- the entry of a lemma that enters: it takes the next number, with the listed numbers as hints and no groups
+abbrev pub commit_entry : State → ReceiptValue → Entry
+commit_entry s r = record {
+  seat = r.seat;
+  call = calls.Add r.own r.lemma;
+  step = Some (steps.Add (record { number = next s; lemma = r.lemma; hints = numbers r.listed; groups = [] }));
+}
+
+abbrev pub unless_stale : Option ℕ → Result Added Refusal → Result Added Refusal
+unless_stale None reply = reply
+unless_stale (Some joint) reply = Err (Stale joint)
+
+-- the place of the entry, and the joint number of the lemma
+abbrev pub commit_reply : State → ReceiptValue → Result Added Refusal
+commit_reply s r =
+    if is_here s.tables r.seat then
+      (if is_bound s.tables r.seat r.own then Err NumberTaken
+      else unless_stale (first_stale (live s) r.listed)
+        (if nat_lt (added s.history) s.max_steps then Ok (record { place = length s.history; joint = next s }) else Err Full))
+    else Err SeatGone
