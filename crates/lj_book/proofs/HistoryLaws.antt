@@ -176,7 +176,7 @@ sound-addition s seat own a sound here free num accepted =
 
 -- ---- a drop
 
-remove-get : (p : ClauseMap) (n q : ℕ) → fin.get (fin.remove p n) q ≡ cond (n == q) None (fin.get p q)
+pub remove-get : (p : ClauseMap) (n q : ℕ) → fin.get (fin.remove p n) q ≡ cond (n == q) None (fin.get p q)
 remove-get p n q = fin.get-remove nat_cmp_total p n q ∙ ap (λ b. cond b None (fin.get p q)) (unsigned_tied q n ∙ turned q n)
   where
     turned : (a b : ℕ) → (a == b) ≡ (b == a)
@@ -326,7 +326,7 @@ held-opening seats clauses q some =
     times seats true some = grind (arith, nat_tests)
     times seats false some = grind (arith, nat_tests)
 
-past_the_end : (f : FormulaValue) (q : ℕ) → (nat_lt 0 q && nat_le q (length f.clauses)) ≡ false → fin.get (formula_map f) q ≡ None
+pub past_the_end : (f : FormulaValue) (q : ℕ) → (nat_lt 0 q && nat_le q (length f.clauses)) ≡ false → fin.get (formula_map f) q ≡ None
 past_the_end f zero h = clause_zero f zero (omega arith)
 past_the_end f (suc q) h = clause_at f (suc q) q (omega arith) ∙ slice_get_past f.clauses q (beyond q (length f.clauses) h)
   where

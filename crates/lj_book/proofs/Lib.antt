@@ -3,3 +3,4 @@ pub mod NumberMaps
 pub mod TableLaws
 pub mod HistoryLaws
 pub mod DropLaws
+pub mod Copies

@@ -295,7 +295,7 @@ no_table ts seat none here = absurd (false≢true (ap is_some (sym none) ∙ her
 
 -- ---- several numbers given up
 
-among_push : (ns : List ℕ) (n q : ℕ) → is_among (ns ++ n ∷ []) q ≡ (is_among ns q || n == q)
+pub among_push : (ns : List ℕ) (n q : ℕ) → is_among (ns ++ n ∷ []) q ≡ (is_among ns q || n == q)
 among_push [] n q = elim (n == q) as (λ b. (b || false) ≡ b) [ true ↦ refl | false ↦ refl ]
 among_push (m ∷ ns) n q = elim (m == q) as (λ b. (b || is_among (ns ++ n ∷ []) q) ≡ ((b || is_among ns q) || n == q)) [ true ↦ refl | false ↦ among_push ns n q ]
 

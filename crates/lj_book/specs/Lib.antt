@@ -3,4 +3,5 @@ pub mod Tables
 pub mod Holders
 pub mod State
 pub mod Calls
+pub mod Kept
 pub mod History

@@ -1,10 +1,13 @@
 //! The book: the tables of several seats, the clauses that live, and the history of the calls that were accepted.
 #![tactic(auto)]
 
+mod book;
+mod dying;
 mod entry;
 mod number_map;
 mod refusal;
 mod seat_tables;
 
+pub use book::Book;
 pub use entry::{Added, Call, Dropped, Entry};
 pub use refusal::Refusal;
