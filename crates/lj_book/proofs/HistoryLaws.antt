@@ -66,7 +66,7 @@ with_additions-append p [] ys = refl
 with_additions-append p (steps.Add a ∷ xs) ys = with_additions-append (fin.insert p a.number a.lemma.clause) xs ys
 with_additions-append p (steps.Delete numbers ∷ xs) ys = with_additions-append p xs ys
 
-additions-append : (xs ys : List Step) → length (additions (xs ++ ys)) ≡ length (additions xs) + length (additions ys)
+pub additions-append : (xs ys : List Step) → length (additions (xs ++ ys)) ≡ length (additions xs) + length (additions ys)
 additions-append [] ys = sym (grind arith)
 additions-append (steps.Add a ∷ xs) ys = let rest = additions-append xs ys in omega arith
 additions-append (steps.Delete numbers ∷ xs) ys = additions-append xs ys
@@ -110,7 +110,7 @@ has_table ts seat h = go (table_of ts seat) refl
     go (Some t) e = (t, e)
 
 -- the clauses that an addition leaves
-live-addition : (s : State) (seat own : ℕ) (a : Addition) → IsSound s → is_here s.tables seat ≡ true → is_bound s.tables seat own ≡ false → a.number ≡ next s → live (after s (record { seat = seat; call = calls.Add own a.lemma; step = Some (steps.Add a) })) ≡ fin.insert (live s) a.number a.lemma.clause
+pub live-addition : (s : State) (seat own : ℕ) (a : Addition) → IsSound s → is_here s.tables seat ≡ true → is_bound s.tables seat own ≡ false → a.number ≡ next s → live (after s (record { seat = seat; call = calls.Add own a.lemma; step = Some (steps.Add a) })) ≡ fin.insert (live s) a.number a.lemma.clause
 live-addition s seat own a sound here free num =
     let t = has_table s.tables seat here in
     let e : Entry = record { seat = seat; call = calls.Add own a.lemma; step = Some (steps.Add a) } in
@@ -230,7 +230,7 @@ all_named p test (n ∷ ns) h = λ i. (first ∙ refl) i && all_named p test ns 
     first : fin.contains_key p n ≡ true
     first = h n (or_left (n == n) (is_among ns n) (itself n))
 
-live-drop : (s : State) (seat : ℕ) (numbers : List ℕ) (step : Option Step) → IsSound s → is_here s.tables seat ≡ true → additions (cons_option step []) ≡ [] → live (after s (record { seat = seat; call = calls.Drop numbers; step = step })) ≡ without (live s) (died s (with_table (without_keys numbers) s.tables seat))
+pub live-drop : (s : State) (seat : ℕ) (numbers : List ℕ) (step : Option Step) → IsSound s → is_here s.tables seat ≡ true → additions (cons_option step []) ≡ [] → live (after s (record { seat = seat; call = calls.Drop numbers; step = step })) ≡ without (live s) (died s (with_table (without_keys numbers) s.tables seat))
 live-drop s seat numbers step sound here none =
     let t = has_table s.tables seat here in
     let ts : Tables = with_table (without_keys numbers) s.tables seat in
@@ -262,7 +262,7 @@ replay-died : (p q : ClauseMap) (xs : List Step) (ns : List ℕ) → replay p xs
 replay-died p q xs [] e h = ap (replay p) (append-nil xs) ∙ e
 replay-died p q xs (n ∷ ns) e h = replay-push p q xs (steps.Delete (n ∷ ns)) e h
 
-none_added : (ns : List ℕ) → additions (cons_option (if_some ns) []) ≡ []
+pub none_added : (ns : List ℕ) → additions (cons_option (if_some ns) []) ≡ []
 none_added [] = refl
 none_added (n ∷ ns) = refl
 

@@ -4,3 +4,4 @@ pub mod TableLaws
 pub mod HistoryLaws
 pub mod DropLaws
 pub mod Copies
+pub mod BookLaws

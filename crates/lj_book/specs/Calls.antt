@@ -65,13 +65,17 @@ abbrev pub first_stale : ClauseMap → List Pair → Option ℕ
 first_stale p [] = None
 first_stale p (pair ∷ pairs) = if is_live_as p pair then first_stale p pairs else Some pair.joint
 
--- the entry of a lemma that enters: it takes the next number, with the listed numbers as hints and no groups
-abbrev pub commit_entry : State → ReceiptValue → Entry
-commit_entry s r = record {
+-- the entry of a lemma that enters under this number, with the listed numbers as hints and no groups
+abbrev pub entry_with : ℕ → ReceiptValue → Entry
+entry_with number r = record {
   seat = r.seat;
   call = calls.Add r.own r.lemma;
-  step = Some (steps.Add (record { number = next s; lemma = r.lemma; hints = numbers r.listed; groups = [] }));
+  step = Some (steps.Add (record { number = number; lemma = r.lemma; hints = numbers r.listed; groups = [] }));
 }
+
+-- a lemma that enters takes the next number
+abbrev pub commit_entry : State → ReceiptValue → Entry
+commit_entry s r = entry_with (next s) r
 
 abbrev pub unless_stale : Option ℕ → Result Added Refusal → Result Added Refusal
 unless_stale None reply = reply
@@ -85,3 +89,8 @@ commit_reply s r =
       else unless_stale (first_stale (live s) r.listed)
         (if nat_lt (added s.history) s.max_steps then Ok (record { place = length s.history; joint = next s }) else Err Full))
     else Err SeatGone
+
+-- the answer of a commit without the receipt that a refusal gives back
+abbrev pub answer_alone : Result Added (Refusal × ReceiptValue) → Result Added Refusal
+answer_alone (Ok added) = Ok added
+answer_alone (Err e) = Err e.0

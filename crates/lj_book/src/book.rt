@@ -1,19 +1,21 @@
 //! The book.
-ghost use Rattle.std.specs.Prelude.{◌≡◌, ◌<◌, ◌+◌, length, OnOk, OnErr, IfOk, option_copied, slice_get, Some};
+ghost use Rattle.std.specs.Prelude.{◌≡◌, ◌<◌, ◌+◌, length, OnOk, OnErr, IfOk, IfErr, option_copied, slice_get, Some};
 ghost use Rattle.std.specs.FinMap as fin;
 ghost use Rattle.lj_clause.specs.ClauseMap.{formula_map};
 ghost use Rattle.lj_text.specs.Steps.{replay};
 ghost use Rattle.lj_text.specs.Needed.{if_some};
 ghost use Rattle.lj_book.specs.State.{State, opening, live, steps_of, verdict};
 ghost use Rattle.lj_book.specs.History.{IsReached, after};
-ghost use Rattle.lj_book.specs.Calls.{IsReply, drop_reply, drop_entry};
+ghost use Rattle.lj_book.specs.Calls.{IsReply, drop_reply, drop_entry, commit_reply, commit_entry, answer_alone};
 
+use crate::committing::{bind_new, entry_with, first_stale, refuted_at};
 use crate::dying::{bury, no_longer_held, rising};
-use crate::entry::{Call, Dropped, Entry};
+use crate::entry::{Added, Call, Dropped, Entry};
 use crate::number_map::NumberMap;
 use crate::refusal::Refusal;
 use crate::seat_tables::SeatTables;
 use lj_clause::{Clause, Formula, NoMemory};
+use lj_hint::Receipt;
 use lj_text::{Numbers, Step};
 use std::alloc::Global;
 use std::marker::Model;
@@ -111,6 +113,55 @@ impl Book {
         ensures { result ≡ verdict self.now.history }
     {
         self.refuted
+    }
+
+    /// Enters the lemma of a receipt, while the clauses that it lists still live. Takes O(log n) time for each of them.
+    ///
+    /// # Errors
+    /// With the receipt: [`Refusal::SeatGone`], [`Refusal::NumberTaken`], [`Refusal::Stale`], [`Refusal::Full`], and
+    /// [`Refusal::NoMemory`] where a growth was refused.
+    pub fn commit(&mut self, receipt: Receipt) -> Result<Added, (Refusal, Receipt)>
+        ensures reply { IsReply (answer_alone result) (commit_reply self.old receipt) }
+        ensures ok { OnOk result (self.new ≡ after self.old (commit_entry self.old receipt)) }
+        ensures err { OnErr result (self.new ≡ self.old) }
+        ensures back { IfErr result (λ e. e.1 ≡ receipt) }
+    {
+        match self.enter(&receipt) {
+            Ok(added) => Ok(added),
+            Err(refusal) => Err((refusal, receipt)),
+        }
+    }
+
+    /// Enters the lemma of a receipt.
+    fn enter(&mut self, receipt: &Receipt) -> Result<Added, Refusal>
+        ensures reply { IsReply result (commit_reply self.old receipt.now) }
+        ensures ok { OnOk result (self.new ≡ after self.old (commit_entry self.old receipt.now)) }
+        ensures err { OnErr result (self.new ≡ self.old) }
+    {
+        let seat = receipt.seat();
+        let own = receipt.own();
+        if !self.tables.is_here(seat) {
+            return Err(Refusal::SeatGone);
+        }
+        if self.tables.is_bound(seat, own) {
+            return Err(Refusal::NumberTaken);
+        }
+        if let Some(joint) = first_stale(&self.clauses, receipt.listed()) {
+            return Err(Refusal::Stale(joint));
+        }
+        if self.added >= self.max_steps {
+            return Err(Refusal::Full);
+        }
+        let joint = self.formula.len() as u64 + 1 + u64::from(self.added);
+        let entry = entry_with(*self.history.allocator(), joint, receipt)?;
+        let clause = receipt.lemma().clause().copy()?;
+        self.history.reserve(1)?;
+        bind_new(&mut self.clauses, &mut self.tables, seat, own, joint, clause)?;
+        let place = self.history.len() as u64;
+        self.refuted = refuted_at(self.refuted, place, receipt.lemma().clause());
+        self.added += 1;
+        self.history.push(entry).unwrap();
+        Ok(Added { place, joint })
     }
 
     /// Gives own numbers of the seat up. Numbers that it doesn't hold are ignored, and one that stands twice counts

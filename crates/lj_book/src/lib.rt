@@ -2,6 +2,7 @@
 #![tactic(auto)]
 
 mod book;
+mod committing;
 mod dying;
 mod entry;
 mod number_map;

@@ -68,6 +68,13 @@ impl SeatTables {
         table.get(own).copied()
     }
 
+    /// Whether the seat's own number is bound.
+    pub fn is_bound(&self, seat: u32, own: u64) -> bool
+        ensures { result ≡ is_bound self.now seat own }
+    {
+        self.joint(seat, own).is_some()
+    }
+
     /// Whether some own number of a seat that hasn't left is bound to the joint number.
     pub fn is_held(&self, joint: u64) -> bool
         ensures { result ≡ is_held self.now joint }
