@@ -5,3 +5,4 @@ pub mod HistoryLaws
 pub mod DropLaws
 pub mod Copies
 pub mod BookLaws
+pub mod CommitLaws

@@ -52,13 +52,14 @@ drop_reply s seat numbers =
 abbrev pub is_same : LiteralSet → LiteralSet → Bool
 is_same c d = list_all (holds d) (literals c) && list_all (holds c) (literals d)
 
+-- whether there is a clause, and it is this one
+abbrev pub is_clause : LiteralSet → Option LiteralSet → Bool
+is_clause c None = false
+is_clause c (Some d) = is_same c d
+
 -- whether the pair's number lives with that very clause
 abbrev pub is_live_as : ClauseMap → Pair → Bool
-is_live_as p pair = is_some_and (is_same pair.clause) (fin.get p pair.joint)
-  where
-    is_some_and : (LiteralSet → Bool) → Option LiteralSet → Bool
-    is_some_and test None = false
-    is_some_and test (Some c) = test c
+is_live_as p pair = is_clause pair.clause (fin.get p pair.joint)
 
 -- the number of the first pair that doesn't
 abbrev pub first_stale : ClauseMap → List Pair → Option ℕ
@@ -77,18 +78,29 @@ entry_with number r = record {
 abbrev pub commit_entry : State → ReceiptValue → Entry
 commit_entry s r = entry_with (next s) r
 
-abbrev pub unless_stale : Option ℕ → Result Added Refusal → Result Added Refusal
-unless_stale None reply = reply
-unless_stale (Some joint) reply = Err (Stale joint)
+abbrev pub stale_or : Option ℕ → Option Refusal → Option Refusal
+stale_or None later = later
+stale_or (Some joint) later = Some (Stale joint)
+
+-- the first refusal of a commit that holds
+abbrev pub commit_refusal : State → ReceiptValue → Option Refusal
+commit_refusal s r =
+    if is_here s.tables r.seat then
+      (if is_bound s.tables r.seat r.own then Some NumberTaken
+      else stale_or (first_stale (live s) r.listed) (if nat_lt (added s.history) s.max_steps then None else Some Full))
+    else Some SeatGone
+
+-- the reply that a refusal leaves
+abbrev pub unless_refused : {A : Type 0} → Option Refusal → A → Result A Refusal
+unless_refused None reply = Ok reply
+unless_refused (Some e) reply = Err e
 
 -- the place of the entry, and the joint number of the lemma
+abbrev pub commit_told : State → Added
+commit_told s = record { place = length s.history; joint = next s }
+
 abbrev pub commit_reply : State → ReceiptValue → Result Added Refusal
-commit_reply s r =
-    if is_here s.tables r.seat then
-      (if is_bound s.tables r.seat r.own then Err NumberTaken
-      else unless_stale (first_stale (live s) r.listed)
-        (if nat_lt (added s.history) s.max_steps then Ok (record { place = length s.history; joint = next s }) else Err Full))
-    else Err SeatGone
+commit_reply s r = unless_refused (commit_refusal s r) (commit_told s)
 
 -- the answer of a commit without the receipt that a refusal gives back
 abbrev pub answer_alone : Result Added (Refusal × ReceiptValue) → Result Added Refusal

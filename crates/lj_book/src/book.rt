@@ -1,14 +1,14 @@
 //! The book.
-ghost use Rattle.std.specs.Prelude.{◌≡◌, ◌<◌, ◌+◌, length, OnOk, OnErr, IfOk, IfErr, option_copied, slice_get, Some};
+ghost use Rattle.std.specs.Prelude.{◌≡◌, ◌<◌, ◌+◌, length, OnOk, OnErr, IfOk, IfErr, option_copied, slice_get, None, Some};
 ghost use Rattle.std.specs.FinMap as fin;
 ghost use Rattle.lj_clause.specs.ClauseMap.{formula_map};
 ghost use Rattle.lj_text.specs.Steps.{replay};
 ghost use Rattle.lj_text.specs.Needed.{if_some};
 ghost use Rattle.lj_book.specs.State.{State, opening, live, steps_of, verdict};
 ghost use Rattle.lj_book.specs.History.{IsReached, after};
-ghost use Rattle.lj_book.specs.Calls.{IsReply, drop_reply, drop_entry, commit_reply, commit_entry, answer_alone};
+ghost use Rattle.lj_book.specs.Calls.{IsReply, drop_reply, drop_entry, commit_refusal, commit_told, commit_reply, commit_entry, answer_alone};
 
-use crate::committing::{bind_new, entry_with, first_stale, refuted_at};
+use crate::committing::{enter_clause, entry_with, first_stale, refuted_at};
 use crate::dying::{bury, no_longer_held, rising};
 use crate::entry::{Added, Call, Dropped, Entry};
 use crate::number_map::NumberMap;
@@ -126,37 +126,45 @@ impl Book {
         ensures err { OnErr result (self.new ≡ self.old) }
         ensures back { IfErr result (λ e. e.1 ≡ receipt) }
     {
+        if let Some(refusal) = self.commit_refusal(&receipt) {
+            return Err((refusal, receipt));
+        }
         match self.enter(&receipt) {
             Ok(added) => Ok(added),
-            Err(refusal) => Err((refusal, receipt)),
+            Err(NoMemory) => Err((Refusal::NoMemory, receipt)),
         }
     }
 
-    /// Enters the lemma of a receipt.
-    fn enter(&mut self, receipt: &Receipt) -> Result<Added, Refusal>
-        ensures reply { IsReply result (commit_reply self.old receipt.now) }
+    /// The first refusal of a commit that holds.
+    fn commit_refusal(&self, receipt: &Receipt) -> Option<Refusal>
+        ensures { result ≡ commit_refusal self.now receipt.now }
+    {
+        if !self.tables.is_here(receipt.seat()) {
+            return Some(Refusal::SeatGone);
+        }
+        if self.tables.is_bound(receipt.seat(), receipt.own()) {
+            return Some(Refusal::NumberTaken);
+        }
+        if let Some(joint) = first_stale(&self.clauses, receipt.listed()) {
+            return Some(Refusal::Stale(joint));
+        }
+        if self.added >= self.max_steps {
+            return Some(Refusal::Full);
+        }
+        None
+    }
+
+    /// Enters the lemma of a receipt that isn't refused.
+    fn enter(&mut self, receipt: &Receipt) -> Result<Added, NoMemory>
+        requires { commit_refusal self.old receipt.now ≡ None }
+        ensures told { IfOk result (λ added. added ≡ commit_told self.old) }
         ensures ok { OnOk result (self.new ≡ after self.old (commit_entry self.old receipt.now)) }
         ensures err { OnErr result (self.new ≡ self.old) }
     {
-        let seat = receipt.seat();
-        let own = receipt.own();
-        if !self.tables.is_here(seat) {
-            return Err(Refusal::SeatGone);
-        }
-        if self.tables.is_bound(seat, own) {
-            return Err(Refusal::NumberTaken);
-        }
-        if let Some(joint) = first_stale(&self.clauses, receipt.listed()) {
-            return Err(Refusal::Stale(joint));
-        }
-        if self.added >= self.max_steps {
-            return Err(Refusal::Full);
-        }
         let joint = self.formula.len() as u64 + 1 + u64::from(self.added);
         let entry = entry_with(*self.history.allocator(), joint, receipt)?;
-        let clause = receipt.lemma().clause().copy()?;
         self.history.reserve(1)?;
-        bind_new(&mut self.clauses, &mut self.tables, seat, own, joint, clause)?;
+        enter_clause(&mut self.clauses, &mut self.tables, joint, receipt)?;
         let place = self.history.len() as u64;
         self.refuted = refuted_at(self.refuted, place, receipt.lemma().clause());
         self.added += 1;

@@ -66,27 +66,27 @@ fn numbers_of(alloc: Global, pairs: &[Pair]) -> Result<Vec<u64>, NoMemory>
     Ok(pairs.iter().map(|pair| pair.joint).collect(alloc)?)
 }
 
-/// Gives a new clause its number, and binds an own number to it: both, or neither.
+/// Gives the clause of a receipt's lemma this new number, and binds the receipt's own number to it: both, or neither.
 ///
 /// # Errors
 /// [`NoMemory`] where a growth was refused.
-pub fn bind_new(
+pub fn enter_clause(
     clauses: &mut NumberMap<Clause>,
     tables: &mut SeatTables,
-    seat: u32,
-    own: u64,
     joint: u64,
-    clause: Clause,
+    receipt: &Receipt,
 ) -> Result<(), NoMemory>
-    requires here { is_here tables.old seat ≡ true }
-    requires unbound { is_bound tables.old seat own ≡ false }
+    requires here { is_here tables.old receipt.now.seat ≡ true }
+    requires unbound { is_bound tables.old receipt.now.seat receipt.now.own ≡ false }
     requires new { fin.get clauses.old joint ≡ None }
-    ensures clauses { OnOk result (clauses.new ≡ fin.insert clauses.old joint clause) }
-    ensures tables { OnOk result (tables.new ≡ with_table (λ t. fin.insert t own joint) tables.old seat) }
+    ensures clauses { OnOk result (clauses.new ≡ fin.insert clauses.old joint receipt.now.lemma.clause) }
+    ensures tables { OnOk result (tables.new
+        ≡ with_table (λ t. fin.insert t receipt.now.own joint) tables.old receipt.now.seat) }
     ensures err { OnErr result ((clauses.new ≡ clauses.old) × (tables.new ≡ tables.old)) }
 {
+    let clause = receipt.lemma().clause().copy()?;
     clauses.insert(joint, clause)?;
-    if let Err(e) = tables.bind(seat, own, joint) {
+    if let Err(e) = tables.bind(receipt.seat(), receipt.own(), joint) {
         clauses.remove(joint);
         return Err(e);
     }
@@ -97,8 +97,8 @@ pub fn bind_new(
 pub fn refuted_at(refuted: Option<u64>, place: u64, clause: &Clause) -> Option<u64>
     ensures { result ≡ refuted_after refuted place clause.now }
 {
-    if refuted.is_none() && clause.lits().is_empty() {
-        return Some(place);
+    match refuted {
+        Some(first) => Some(first),
+        None => clause.lits().is_empty().then_some(place),
     }
-    refuted
 }
