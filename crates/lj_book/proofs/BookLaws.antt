@@ -1,19 +1,20 @@
 -- What a book keeps, over its calls.
 use Rattle.std.proofs.Common.{◌≡◌, ap, refl, sym, ◌∙◌, subst, ℕ, ◌+◌, ◌<◌, Bool, cond, true, false, arith}
-use Rattle.std.specs.Prelude.{List, [], ◌∷◌, ◌++◌, length, Option, Some, None, filter, filter_map, not, if◌then◌else◌, is_some, replicate}
-use Rattle.std.specs.List.{cons_option}
+use Rattle.std.specs.Prelude.{List, [], ◌∷◌, ◌++◌, length, Option, Some, None, filter, filter_map, not, ◌||◌, ◌&&◌, if◌then◌else◌, is_some, replicate}
+use Rattle.std.specs.List.{cons_option, list_any}
 use Rattle.std.specs.List.Sorted.{IsStrictlySortedBy}
-use Rattle.std.proofs.lemmas.Bool.{false≢true}
+use Rattle.std.proofs.lemmas.Bool.{false≢true, and_from}
 use Rattle.std.specs.Ordering.{nat_cmp}
 use Rattle.lj_clause.specs.ClauseMap.{ClauseMap, FormulaValue, formula_map}
 use Rattle.lj_text.specs.declared.step.Step.{Step}
 use Rattle.lj_text.specs.declared.step.Step.TheVariants as steps
-use Rattle.lj_text.specs.Steps.{without}
+use Rattle.lj_text.specs.Steps.{without, adds_empty, replay, refutes}
+use Rattle.lj_text.proofs.StepLaws.{unsatisfiable-refutes}
 use Rattle.lj_text.specs.Needed.{additions, if_some}
 use Rattle.lj_book.specs.declared.entry.Call.TheVariants as calls
 use Rattle.lj_book.specs.declared.entry.Entry.{Entry}
 use Rattle.lj_book.specs.Tables.{Tables, is_here, joint_of, is_held, is_among, with_table, without_keys, up_to}
-use Rattle.lj_book.specs.State.{State, steps_of, added, live, opening, is_refutation, verdict_from, verdict}
+use Rattle.lj_book.specs.State.{State, steps_of, added, live, opening, is_refutation, verdict_from, verdict, IsUnsatisfiable}
 use Rattle.lj_book.specs.History.{died, after}
 use Rattle.lj_book.specs.Calls.{drop_entry}
 use Rattle.lj_book.specs.Kept.{IsKept}
@@ -108,3 +109,24 @@ dropped_state s seat numbers written dead tables step history is same found step
     (pushed
      ∙ ap (λ (ns : List ℕ). s.history ++ record { seat = seat; call = calls.Drop ns; step = step } ∷ []) same
      ∙ ap (λ (o : Option Step). s.history ++ record { seat = seat; call = calls.Drop numbers; step = o } ∷ []) (step_is ∙ ap if_some found))
+
+-- ---- the verdict
+
+empty_among : (n : ℕ) (es : List Entry) → is_some (verdict_from n es) ≡ true → list_any adds_empty (steps_of es) ≡ true
+empty_among n [] h = absurd (false≢true h)
+empty_among n (e ∷ es) h = go e.step (verdict_from (n + 1) es) (empty_among (n + 1) es) h
+  where
+    go : (o : Option Step) (later : Option ℕ) → (is_some later ≡ true → list_any adds_empty (steps_of es) ≡ true) → is_some (if is_refutation o then Some n else later) ≡ true → list_any adds_empty (cons_option o (steps_of es)) ≡ true
+    go None later f h = f h
+    go (Some x) later f h =
+        elim (adds_empty x) as (λ b. is_some (if b then Some n else later) ≡ true → (b || list_any adds_empty (steps_of es)) ≡ true) [
+          | true ↦ λ g. refl
+          | false ↦ λ g. f g
+        ] h
+
+-- with a verdict the formula is unsatisfiable
+pub refuted_unsatisfiable : (s : State) (m : ClauseMap) (count : ℕ) (refuted : Option ℕ) → IsKept s m count refuted → is_some refuted ≡ true → IsUnsatisfiable s.formula
+refuted_unsatisfiable s m count refuted kept h =
+    let replayed = (IsSound-reached s kept.reached).replayed in
+    let empty = empty_among 0 s.history (ap is_some (sym kept.first_empty) ∙ h) in
+    unsatisfiable-refutes s.formula (steps_of s.history) (and_from (is_some (replay (formula_map s.formula) (steps_of s.history))) (list_any adds_empty (steps_of s.history)) (ap is_some replayed) empty)

@@ -3,6 +3,7 @@ use Rattle.std.specs.Prelude.{ℕ, ◌+◌, ◌==◌, Bool, true, false, not, Li
 use Rattle.std.specs.Coded.{Coded, code_by, coded×, coded_list, coded_ℕ}
 use Rattle.std.specs.FinMap as fin
 use Rattle.lj_clause.specs.ClauseMap.{ClauseMap, FormulaValue, formula_code, formula_map}
+use Rattle.lj_clause.specs.Truth.{Assignment, SatisfiesAll}
 use Rattle.lj_text.specs.declared.step.Step.{Step}
 use Rattle.lj_text.specs.declared.step.Step.TheVariants.{Add, Delete}
 use Rattle.lj_text.specs.Steps.{adds_empty}
@@ -65,3 +66,7 @@ verdict_from place (e ∷ es) = if is_refutation e.step then Some place else ver
 -- the place of the first entry that adds the empty clause
 abbrev pub verdict : List Entry → Option ℕ
 verdict history = verdict_from 0 history
+
+-- no assignment satisfies each clause of the formula
+abbrev pub IsUnsatisfiable : FormulaValue → Type 0
+IsUnsatisfiable f = (a : Assignment) → SatisfiesAll a (formula_map f) → ⊥

@@ -1,5 +1,5 @@
 //! The book.
-ghost use Rattle.std.specs.Prelude.{◌≡◌, ◌<◌, ◌+◌, length, OnOk, OnErr, IfOk, IfErr, option_copied, slice_get, None, Some};
+ghost use Rattle.std.specs.Prelude.{◌≡◌, ◌<◌, ◌+◌, length, OnOk, OnErr, IfOk, IfErr, option_copied, slice_get, is_some, IfSome, None, Some};
 ghost use Rattle.std.specs.FinMap as fin;
 ghost use Rattle.lj_clause.specs.ClauseMap.{formula_map};
 ghost use Rattle.lj_text.specs.Steps.{replay};
@@ -14,6 +14,7 @@ use crate::entry::{Added, Call, Dropped, Entry};
 use crate::number_map::NumberMap;
 use crate::refusal::Refusal;
 use crate::seat_tables::SeatTables;
+use crate::verified::Verified;
 use lj_clause::{Clause, Formula, NoMemory};
 use lj_hint::Receipt;
 use lj_text::{Numbers, Step};
@@ -113,6 +114,20 @@ impl Book {
         ensures { result ≡ verdict self.now.history }
     {
         self.refuted
+    }
+
+    /// The formula, where the history has an empty clause: no assignment satisfies it.
+    ///
+    /// # Errors
+    /// [`NoMemory`] where a growth was refused.
+    pub fn verified(&self) -> Result<Option<Verified>, NoMemory>
+        ensures some { IfOk result (λ verified. is_some verified ≡ is_some (verdict self.now.history)) }
+        ensures formula { IfOk result (λ verified. IfSome verified (λ f. f ≡ self.now.formula)) }
+    {
+        if self.refuted.is_none() {
+            return Ok(None);
+        }
+        Ok(Some(Verified::new(self.formula.copy()?)))
     }
 
     /// Enters the lemma of a receipt, while the clauses that it lists still live. Takes O(log n) time for each of them.

@@ -8,7 +8,9 @@ mod entry;
 mod number_map;
 mod refusal;
 mod seat_tables;
+mod verified;
 
 pub use book::Book;
 pub use entry::{Added, Call, Dropped, Entry};
 pub use refusal::Refusal;
+pub use verified::Verified;
