@@ -23,7 +23,7 @@ use Rattle.lj_book.specs.declared.entry.Added.{Added}
 use Rattle.lj_book.specs.declared.entry.Dropped.{Dropped}
 use Rattle.lj_book.specs.declared.refusal.Refusal.{Refusal}
 use Rattle.lj_book.specs.declared.refusal.Refusal.TheVariants.{SeatGone, NumberTaken, UnknownNumber, GroupRepeated, HintNotUnit, EmptyOpen, Stale, Full, NoMemory}
-use Rattle.lj_book.specs.Tables.{table_of, is_here, is_bound, is_among, joint_of, with_table, without_keys, keys_lost}
+use Rattle.lj_book.specs.Tables.{Tables, table_of, is_here, is_bound, is_among, joint_of, with_table, without_keys, keys_lost}
 use Rattle.lj_book.specs.State.{State, added, next, live}
 use Rattle.lj_book.specs.History.{died, after}
 
@@ -32,8 +32,76 @@ abbrev pub IsRefusal : {A : Type 0} → Refusal → Result A Refusal → Type 0
 IsRefusal NoMemory reply = Unit {0}
 IsRefusal e reply = reply ≡ Err e
 
+abbrev pub IsReplyBy : {A B : Type 0} → (A → B) → Result A Refusal → Result B Refusal → Type 0
+IsReplyBy view answer reply = MatchResult answer (λ x. reply ≡ Ok (view x)) (λ e. IsRefusal e reply)
+
 abbrev pub IsReply : {A : Type 0} → Result A Refusal → Result A Refusal → Type 0
-IsReply answer reply = MatchResult answer (λ x. reply ≡ Ok x) (λ e. IsRefusal e reply)
+IsReply answer reply = IsReplyBy (λ x. x) answer reply
+
+-- the reply that a refusal leaves
+abbrev pub unless_refused : {A : Type 0} → Option Refusal → A → Result A Refusal
+unless_refused None reply = Ok reply
+unless_refused (Some e) reply = Err e
+
+-- ---- taking an addition: its hints and groups in joint numbers, with their clauses
+
+-- the joint number that the seat's own number is bound to, and the clause of that number
+abbrev pub pair_in : Tables → ClauseMap → ℕ → ℕ → Option Pair
+pair_in tables p seat own = option_and_then (λ joint. option_map (λ c. record { joint = joint; clause = c }) (fin.get p joint)) (joint_of tables seat own)
+
+abbrev pub with_pair : Pair → Result (List Pair) Refusal → Result (List Pair) Refusal
+with_pair pair (Ok pairs) = Ok (pair ∷ pairs)
+with_pair pair (Err e) = Err e
+
+abbrev pub if_held : {A : Type 0} → ℕ → Option Pair → (Pair → Result A Refusal) → Result A Refusal
+if_held own None onward = Err (UnknownNumber own)
+if_held own (Some pair) onward = onward pair
+
+-- the pairs of these own numbers, or the first that isn't held
+abbrev pub pairs_of : (ℕ → Option Pair) → List ℕ → Result (List Pair) Refusal
+pairs_of pair [] = Ok []
+pairs_of pair (own ∷ owns) = if_held own (pair own) (λ p. with_pair p (pairs_of pair owns))
+
+abbrev pub with_group : Pair → Result (List Pair) Refusal → Result (List (Pair × List Pair)) Refusal → Result (List (Pair × List Pair)) Refusal
+with_group candidate (Err e) later = Err e
+with_group candidate (Ok hints) (Err e) = Err e
+with_group candidate (Ok hints) (Ok groups) = Ok ((candidate, hints) ∷ groups)
+
+-- the groups, each candidate before its hints
+abbrev pub group_pairs_of : (ℕ → Option Pair) → List HintGroup → Result (List (Pair × List Pair)) Refusal
+group_pairs_of pair [] = Ok []
+group_pairs_of pair (g ∷ gs) = if_held g.candidate (pair g.candidate) (λ p. with_group p (pairs_of pair g.hints) (group_pairs_of pair gs))
+
+abbrev pub is_seen : List ℕ → Option ℕ → Bool
+is_seen seen None = false
+is_seen seen (Some joint) = is_among seen joint
+
+abbrev pub with_seen : Option ℕ → List ℕ → List ℕ
+with_seen None seen = seen
+with_seen (Some joint) seen = joint ∷ seen
+
+-- the own number of the first group whose joint clause has an earlier group, or was seen before
+abbrev pub repeated_after : (ℕ → Option ℕ) → List ℕ → List HintGroup → Option ℕ
+repeated_after joint seen [] = None
+repeated_after joint seen (g ∷ gs) =
+    if is_seen seen (joint g.candidate) then Some g.candidate else repeated_after joint (with_seen (joint g.candidate) seen) gs
+
+abbrev pub case_unless : Option ℕ → CaseValue → Result CaseValue Refusal
+case_unless None c = Ok c
+case_unless (Some own) c = Err (GroupRepeated own)
+
+abbrev pub case_with : ℕ → Addition → Option ℕ → Result (List Pair) Refusal → Result (List (Pair × List Pair)) Refusal → Result CaseValue Refusal
+case_with seat a repeated (Err e) groups = Err e
+case_with seat a repeated (Ok hints) (Err e) = Err e
+case_with seat a repeated (Ok hints) (Ok groups) = case_unless repeated (case_of seat a.number a.lemma hints groups)
+
+-- the case in joint numbers, with the live clauses
+abbrev pub take_reply : State → ℕ → Addition → Result CaseValue Refusal
+take_reply s seat a =
+    if is_here s.tables seat then
+      (if is_bound s.tables seat a.number then Err NumberTaken
+      else case_with seat a (repeated_after (joint_of s.tables seat) [] a.groups) (pairs_of (pair_in s.tables (live s) seat) a.hints) (group_pairs_of (pair_in s.tables (live s) seat) a.groups))
+    else Err SeatGone
 
 -- ---- giving numbers up
 
@@ -89,11 +157,6 @@ commit_refusal s r =
       (if is_bound s.tables r.seat r.own then Some NumberTaken
       else stale_or (first_stale (live s) r.listed) (if nat_lt (added s.history) s.max_steps then None else Some Full))
     else Some SeatGone
-
--- the reply that a refusal leaves
-abbrev pub unless_refused : {A : Type 0} → Option Refusal → A → Result A Refusal
-unless_refused None reply = Ok reply
-unless_refused (Some e) reply = Err e
 
 -- the place of the entry, and the joint number of the lemma
 abbrev pub commit_told : State → Added

@@ -4,4 +4,5 @@ pub mod Holders
 pub mod State
 pub mod Calls
 pub mod Kept
+pub mod Fronts
 pub mod History

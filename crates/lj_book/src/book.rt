@@ -6,7 +6,7 @@ ghost use Rattle.lj_text.specs.Steps.{replay};
 ghost use Rattle.lj_text.specs.Needed.{if_some};
 ghost use Rattle.lj_book.specs.State.{State, opening, live, steps_of, verdict};
 ghost use Rattle.lj_book.specs.History.{IsReached, after};
-ghost use Rattle.lj_book.specs.Calls.{IsReply, drop_reply, drop_entry, commit_refusal, commit_told, commit_reply, commit_entry, answer_alone};
+ghost use Rattle.lj_book.specs.Calls.{IsReply, drop_reply, drop_entry, commit_refusal, commit_told, commit_reply, commit_entry, answer_alone, take_reply};
 
 use crate::committing::{enter_clause, entry_with, first_stale, refuted_at};
 use crate::dying::{bury, no_longer_held, rising};
@@ -14,10 +14,11 @@ use crate::entry::{Added, Call, Dropped, Entry};
 use crate::number_map::NumberMap;
 use crate::refusal::Refusal;
 use crate::seat_tables::SeatTables;
+use crate::taking::case_of;
 use crate::verified::Verified;
 use lj_clause::{Clause, Formula, NoMemory};
-use lj_hint::Receipt;
-use lj_text::{Numbers, Step};
+use lj_hint::{Case, Receipt};
+use lj_text::{Addition, Numbers, Step};
 use std::alloc::Global;
 use std::marker::Model;
 
@@ -128,6 +129,25 @@ impl Book {
             return Ok(None);
         }
         Ok(Some(Verified::new(self.formula.copy()?)))
+    }
+
+    /// An addition under the seat's numbers as a case in joint numbers, with the clauses that they name. It can be
+    /// tested without the book.
+    ///
+    /// # Errors
+    /// [`Refusal::SeatGone`], [`Refusal::NumberTaken`], [`Refusal::UnknownNumber`], [`Refusal::GroupRepeated`], and
+    /// [`Refusal::NoMemory`] where a growth was refused.
+    pub fn take(&self, seat: u32, addition: &Addition) -> Result<Case, Refusal>
+        ensures { IsReply result (take_reply self.now seat addition.now) }
+    {
+        if !self.tables.is_here(seat) {
+            return Err(Refusal::SeatGone);
+        }
+        if self.tables.is_bound(seat, addition.number) {
+            return Err(Refusal::NumberTaken);
+        }
+        let alloc = *self.history.allocator();
+        case_of(alloc, &self.tables, &self.clauses, seat, addition)
     }
 
     /// Enters the lemma of a receipt, while the clauses that it lists still live. Takes O(log n) time for each of them.

@@ -8,6 +8,7 @@ mod entry;
 mod number_map;
 mod refusal;
 mod seat_tables;
+mod taking;
 mod verified;
 
 pub use book::Book;
