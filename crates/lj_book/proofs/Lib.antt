@@ -6,3 +6,4 @@ pub mod DropLaws
 pub mod Copies
 pub mod BookLaws
 pub mod CommitLaws
+pub mod TakeLaws
