@@ -107,8 +107,8 @@ pub dropped_state : (s : State) (seat : ℕ) (numbers written dead : List ℕ) (
 dropped_state s seat numbers written dead tables step history is same found step_is pushed =
     same_state s.formula s.max_steps tables _ history _ is
     (pushed
-     ∙ ap (λ (ns : List ℕ). s.history ++ record { seat = seat; call = calls.Drop ns; step = step } ∷ []) same
-     ∙ ap (λ (o : Option Step). s.history ++ record { seat = seat; call = calls.Drop numbers; step = o } ∷ []) (step_is ∙ ap if_some found))
+    ∙ ap (λ (ns : List ℕ). s.history ++ record { seat = seat; call = calls.Drop ns; step = step } ∷ []) same
+    ∙ ap (λ (o : Option Step). s.history ++ record { seat = seat; call = calls.Drop numbers; step = o } ∷ []) (step_is ∙ ap if_some found))
 
 -- ---- the verdict
 

@@ -88,12 +88,12 @@ all_live p [] h = record { hints = refl; names = refl }
 all_live p (pair ∷ pairs) h =
     elim (is_live_as p pair) as (λ b. is_live_as p pair ≡ b → (if b then first_stale p pairs else Some pair.joint) ≡ None → AllLive p (pair ∷ pairs)) [
       | true ↦ λ e g.
-        let rest = all_live p pairs g in
-        let here = live_as p pair e in
-        record {
-          hints = λ i. record { number = pair.joint; clause = here i } ∷ rest.hints i;
-          names = and_from (names p pair.joint) (names_all p (numbers pairs)) (ap is_some here) rest.names;
-        }
+          let rest = all_live p pairs g in
+          let here = live_as p pair e in
+          record {
+            hints = λ i. record { number = pair.joint; clause = here i } ∷ rest.hints i;
+            names = and_from (names p pair.joint) (names_all p (numbers pairs)) (ap is_some here) rest.names;
+          }
       | false ↦ λ e g. absurd (false≢true (sym (ap is_some g)))
     ] refl h
 
@@ -109,6 +109,7 @@ can_commit s r h = go (is_here s.tables r.seat) (is_bound s.tables r.seat r.own)
   where
     room : (a m : ℕ) → nat_lt a m ≡ true → a < m
     room a m e = grind (arith, nat_tests)
+
     go : (a b : Bool) (o : Option ℕ) (c : Bool) → is_here s.tables r.seat ≡ a → is_bound s.tables r.seat r.own ≡ b → first_stale (live s) r.listed ≡ o → nat_lt (added s.history) s.max_steps ≡ c → (if a then (if b then Some NumberTaken else stale_or o (if c then None else Some Full)) else Some SeatGone) ≡ None → CanCommit s r
     go false b o c p q u v h = absurd (false≢true (sym (ap is_some h)))
     go true true o c p q u v h = absurd (false≢true (sym (ap is_some h)))
@@ -138,7 +139,7 @@ commit_legal s r sound receipt can =
     let a : Addition = record { number = next s; lemma = r.lemma; hints = numbers r.listed; groups = [] } in
     let closed : first_walk (live s) a ≡ Closed (numbers r.listed) = ap (walk_over (negations r.lemma.clause)) lives.hints ∙ receipt in
     let placed : is_in_place (live s) a ≡ true =
-      and_from (not (names (live s) (next s))) _ (ap not (not_there s sound)) (and_from (names_all (live s) (numbers r.listed)) true lives.names refl) in
+    and_from (not (names (live s) (next s))) _ (ap not (not_there s sound)) (and_from (names_all (live s) (numbers r.listed)) true lives.names refl) in
     let rup : (is_closed (first_walk (live s) a) || is_rat_after (live s) a (first_walk (live s) a)) ≡ true = ap (λ (w : Walk). is_closed w || is_rat_after (live s) a w) closed in
     record {
       here = can.here;

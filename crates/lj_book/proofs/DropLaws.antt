@@ -121,8 +121,8 @@ later p e es joint below one = record {
   passes = one.passes;
   bound = elim (eq_by_cmp nat_cmp one.own e.0) as (λ b. eq_by_cmp nat_cmp one.own e.0 ≡ b → cond b (Some e.1) (find nat_cmp one.own es) ≡ Some joint) [
     | true ↦ λ t.
-      let is : one.own ≡ e.0 = same_here one.own e.0 (sym (unsigned_tied one.own e.0) ∙ t) in
-      absurd (false≢true (sym (ap is_some (ap (λ n. find nat_cmp n es) is ∙ none_below e.0 es below)) ∙ ap is_some one.bound))
+        let is : one.own ≡ e.0 = same_here one.own e.0 (sym (unsigned_tied one.own e.0) ∙ t) in
+        absurd (false≢true (sym (ap is_some (ap (λ n. find nat_cmp n es) is ∙ none_below e.0 es below)) ∙ ap is_some one.bound))
     | false ↦ λ t. one.bound
   ] refl;
 }
@@ -148,6 +148,7 @@ among_picked f (n ∷ ns) own joint h e =
   where
     itself : (n : ℕ) → (n == n) ≡ true
     itself n = grind (arith, nat_tests)
+
     behind : (o : Option ℕ) (ms : List ℕ) (q : ℕ) → is_among ms q ≡ true → is_among (cons_option o ms) q ≡ true
     behind None ms q h = h
     behind (Some m) ms q h = or_right (m == q) (is_among ms q) h

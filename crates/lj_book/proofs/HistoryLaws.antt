@@ -115,7 +115,7 @@ live-addition s seat own a sound here free num =
     let t = has_table s.tables seat here in
     let e : Entry = record { seat = seat; call = calls.Add own a.lemma; step = Some (steps.Add a) } in
     let given : given_out (after s e) ≡ fin.insert (given_out s) a.number a.lemma.clause =
-      ap (with_additions (formula_map s.formula)) (steps_of-push s.history e) ∙ with_additions-append (formula_map s.formula) (steps_of s.history) (steps.Add a ∷ []) in
+    ap (with_additions (formula_map s.formula)) (steps_of-push s.history e) ∙ with_additions-append (formula_map s.formula) (steps_of s.history) (steps.Add a ∷ []) in
     same_map _ _ (λ q.
     get-live (after s e) q
     ∙ ap (λ b. cond b (fin.get (given_out (after s e)) q) None) (held-bind s.tables seat own (next s) q t.0 t.1 (free_in_table s.tables seat own t.0 t.1 free))
@@ -126,6 +126,7 @@ live-addition s seat own a sound here free num =
   where
     turned : (a b : ℕ) → (a == b) ≡ (b == a)
     turned a b = grind (arith, nat_tests)
+
     joined : {X : Type 0} (b h c : Bool) → c ≡ b → (x y : Option X) → cond (b || h) (cond c x y) None ≡ cond c x (cond h y None)
     joined true h true e x y = refl
     joined true h false e x y = absurd (false≢true e)
@@ -144,11 +145,11 @@ sound-addition s seat own a sound here free num accepted =
     let t = has_table s.tables seat here in
     let e : Entry = record { seat = seat; call = calls.Add own a.lemma; step = Some (steps.Add a) } in
     let given : given_out (after s e) ≡ fin.insert (given_out s) a.number a.lemma.clause =
-      ap (with_additions (formula_map s.formula)) (steps_of-push s.history e) ∙ with_additions-append (formula_map s.formula) (steps_of s.history) (steps.Add a ∷ []) in
+    ap (with_additions (formula_map s.formula)) (steps_of-push s.history e) ∙ with_additions-append (formula_map s.formula) (steps_of s.history) (steps.Add a ∷ []) in
     let has : (q : ℕ) → fin.contains_key (given_out (after s e)) q ≡ (next s == q || fin.contains_key (given_out s) q) = λ q.
-      ap (λ (m : ClauseMap). fin.contains_key m q) given
-      ∙ ap is_some (fin.get-insert nat_cmp_total (given_out s) a.number a.lemma.clause q)
-      ∙ one_more (eq_by_cmp nat_cmp q a.number) (next s == q) (unsigned_tied q a.number ∙ ap (λ n. q == n) num ∙ turned q (next s)) (Some a.lemma.clause) (fin.get (given_out s) q) refl in
+    ap (λ (m : ClauseMap). fin.contains_key m q) given
+    ∙ ap is_some (fin.get-insert nat_cmp_total (given_out s) a.number a.lemma.clause q)
+    ∙ one_more (eq_by_cmp nat_cmp q a.number) (next s == q) (unsigned_tied q a.number ∙ ap (λ n. q == n) num ∙ turned q (next s)) (Some a.lemma.clause) (fin.get (given_out s) q) refl in
     record {
       held_given = λ q h. has q ∙ elim (or_cases (next s == q) (is_held s.tables q) (sym (held-bind s.tables seat own (next s) q t.0 t.1 (free_in_table s.tables seat own t.0 t.1 free)) ∙ h)) [
         | inl e ↦ or_left (next s == q) (fin.contains_key (given_out s) q) e
@@ -159,15 +160,17 @@ sound-addition s seat own a sound here free num accepted =
         | inr e ↦ let more = next-addition s seat own a.lemma a in let low = sound.given_below q e in omega arith
       ];
       replayed =
-        ap (replay (formula_map s.formula)) (steps_of-push s.history e)
-        ∙ replay-push (formula_map s.formula) (live s) (steps_of s.history) (steps.Add a) sound.replayed accepted
-        ∙ ap Some (sym (live-addition s seat own a sound here free num));
+          ap (replay (formula_map s.formula)) (steps_of-push s.history e)
+          ∙ replay-push (formula_map s.formula) (live s) (steps_of s.history) (steps.Add a) sound.replayed accepted
+          ∙ ap Some (sym (live-addition s seat own a sound here free num));
     }
   where
     turned : (a b : ℕ) → (a == b) ≡ (b == a)
     turned a b = grind (arith, nat_tests)
+
     here_is : (a b : ℕ) → (a == b) ≡ true → a ≡ b
     here_is a b e = grind (arith, nat_tests)
+
     one_more : {X : Type 0} (c b : Bool) → c ≡ b → (x y : Option X) → is_some x ≡ true → is_some (cond c x y) ≡ (b || is_some y)
     one_more true true e x y h = h
     one_more true false e x y h = absurd (false≢true (sym e))
@@ -200,9 +203,11 @@ among-filter p (n ∷ ns) q =
   where
     here_is : (a b : ℕ) → (a == b) ≡ true → a ≡ b
     here_is a b e = grind (arith, nat_tests)
+
     chosen : (b c : Bool) (n q : ℕ) (ms : List ℕ) → (n == q) ≡ true → is_among ms q ≡ (b && c) → is_among (cond b (n ∷ ms) ms) q ≡ (b && true)
     chosen true c n q ms e h = ap (λ k. k || is_among ms q) e
     chosen false c n q ms e h = h
+
     skipped : (b : Bool) (n q : ℕ) (ms : List ℕ) → (n == q) ≡ false → is_among (cond b (n ∷ ms) ms) q ≡ is_among ms q
     skipped true n q ms e = ap (λ k. k || is_among ms q) e
     skipped false n q ms e = refl
@@ -227,6 +232,7 @@ all_named p test (n ∷ ns) h = λ i. (first ∙ refl) i && all_named p test ns 
   where
     itself : (n : ℕ) → (n == n) ≡ true
     itself n = grind (arith, nat_tests)
+
     first : fin.contains_key p n ≡ true
     first = h n (or_left (n == n) (is_among ns n) (itself n))
 
@@ -236,7 +242,7 @@ live-drop s seat numbers step sound here none =
     let ts : Tables = with_table (without_keys numbers) s.tables seat in
     let e : Entry = record { seat = seat; call = calls.Drop numbers; step = step } in
     let given : given_out (after s e) ≡ given_out s =
-      ap (with_additions (formula_map s.formula)) (steps_of-push s.history e) ∙ with_additions-append (formula_map s.formula) (steps_of s.history) (cons_option step []) ∙ same (given_out s) step none in
+    ap (with_additions (formula_map s.formula)) (steps_of-push s.history e) ∙ with_additions-append (formula_map s.formula) (steps_of s.history) (cons_option step []) ∙ same (given_out s) step none in
     same_map _ _ (λ q.
     get-live (after s e) q
     ∙ ap (λ (m : ClauseMap). cond (is_held ts q) (fin.get m q) None) given
@@ -249,6 +255,7 @@ live-drop s seat numbers step sound here none =
     same p None none = refl
     same p (Some (steps.Add a)) none = cc
     same p (Some (steps.Delete ns)) none = refl
+
     held_after : {X : Type 0} (h before : Bool) → (h ≡ true → before ≡ true) → (lives : Bool) → lives ≡ before → (o : Option X) → cond h o None ≡ cond (not h && lives) None (cond before o None)
     held_after true true imp lives e o = refl
     held_after true false imp lives e o = absurd (false≢true (imp refl))
@@ -274,16 +281,16 @@ sound-drop s seat numbers sound here =
     let e : Entry = record { seat = seat; call = calls.Drop numbers; step = step } in
     let none = none_added (died s ts) in
     let given : given_out (after s e) ≡ given_out s =
-      ap (with_additions (formula_map s.formula)) (steps_of-push s.history e) ∙ with_additions-append (formula_map s.formula) (steps_of s.history) (cons_option step []) ∙ same (given_out s) step none in
+    ap (with_additions (formula_map s.formula)) (steps_of-push s.history e) ∙ with_additions-append (formula_map s.formula) (steps_of s.history) (cons_option step []) ∙ same (given_out s) step none in
     let count = ap (λ ss. length (additions ss)) (steps_of-push s.history e) ∙ additions-append (steps_of s.history) (cons_option step []) in
     let nothing = ap length none in
     record {
       held_given = λ q h. ap (λ (m : ClauseMap). fin.contains_key m q) given ∙ sound.held_given q (held-drop s.tables seat q numbers t.0 t.1 h);
       given_below = λ q h. let low = sound.given_below q (sym (ap (λ (m : ClauseMap). fin.contains_key m q) given) ∙ h) in omega arith;
       replayed =
-        ap (replay (formula_map s.formula)) (steps_of-push s.history e)
-        ∙ replay-died (formula_map s.formula) (live s) (steps_of s.history) (died s ts) sound.replayed (all_named (live s) (λ n. true) (died s ts) (λ q h. (and_parts (not (is_held ts q)) (fin.contains_key (live s) q) (sym (among-died s ts q) ∙ h)).1))
-        ∙ ap Some (sym (live-drop s seat numbers step sound here none));
+          ap (replay (formula_map s.formula)) (steps_of-push s.history e)
+          ∙ replay-died (formula_map s.formula) (live s) (steps_of s.history) (died s ts) sound.replayed (all_named (live s) (λ n. true) (died s ts) (λ q h. (and_parts (not (is_held ts q)) (fin.contains_key (live s) q) (sym (among-died s ts q) ∙ h)).1))
+          ∙ ap Some (sym (live-drop s seat numbers step sound here none));
     }
   where
     same : (p : ClauseMap) (step : Option Step) → additions (cons_option step []) ≡ [] → with_additions p (cons_option step []) ≡ p
@@ -358,6 +365,7 @@ formula_has f (suc q) h = ap is_some (clause_at f (suc q) q (omega arith)) ∙ i
   where
     within : (q n : ℕ) → (nat_lt 0 (suc q) && nat_le (suc q) n) ≡ true → q < n
     within q n h = grind (arith, nat_tests)
+
     is_there : {X : Type 0} (xs : List X) (i : ℕ) → i < length xs → is_some (slice_get xs i) ≡ true
     is_there [] i lt = absurd (omega arith)
     is_there (x ∷ xs) zero lt = refl

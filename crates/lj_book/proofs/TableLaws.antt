@@ -449,8 +449,10 @@ counts-up_to (suc k) n q =
   where
     zero_above : (k q : ℕ) → (suc k == q) ≡ true → one_if (nat_lt 0 q && nat_le q k) ≡ 0
     zero_above k q e = grind (arith, nat_tests)
+
     once : (n : ℕ) → n * (1 + 0) ≡ n
     once n = omega arith
+
     none_more : (m : ℕ) → 0 + m ≡ m
     none_more m = omega arith
 

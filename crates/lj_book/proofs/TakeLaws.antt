@@ -23,7 +23,7 @@ take_is s m seat a here free is =
     let whole : ClauseMap → Result CaseValue Refusal = λ p. case_with seat a (repeated_after (joint_of s.tables seat) [] a.groups) (pairs_of (pair_in s.tables p seat) a.hints) (group_pairs_of (pair_in s.tables p seat) a.groups) in
     ap whole is
     ∙ sym (ap (λ b. if b then (if is_bound s.tables seat a.number then Err NumberTaken else whole (live s)) else Err SeatGone) here
-           ∙ ap (λ b. if b then Err NumberTaken else whole (live s)) free)
+    ∙ ap (λ b. if b then Err NumberTaken else whole (live s)) free)
 
 -- ---- repeated groups
 
@@ -33,13 +33,13 @@ next_group gs i g lt is = drop-cons gs i g lt ∙ ap (λ (h : HintGroup). h ∷ 
 pub repeated-new : (joint : ℕ → Option ℕ) (before : List ℕ) (gs : List HintGroup) (i j : ℕ) (g : HintGroup) → i < length gs → g ≡ get_or gs i g → joint g.candidate ≡ Some j → is_among before j ≡ false → repeated_after joint (j ∷ before) (drop (i + 1) gs) ≡ repeated_after joint before (drop i gs)
 repeated-new joint before gs i j g lt is at fresh =
     sym (ap (repeated_after joint before) (next_group gs i g lt is)
-         ∙ ap (λ o. if is_seen before o then Some g.candidate else repeated_after joint (with_seen o before) (drop (i + 1) gs)) at
-         ∙ ap (λ b. if b then Some g.candidate else repeated_after joint (j ∷ before) (drop (i + 1) gs)) fresh)
+    ∙ ap (λ o. if is_seen before o then Some g.candidate else repeated_after joint (with_seen o before) (drop (i + 1) gs)) at
+    ∙ ap (λ b. if b then Some g.candidate else repeated_after joint (j ∷ before) (drop (i + 1) gs)) fresh)
 
 pub repeated-none : (joint : ℕ → Option ℕ) (before : List ℕ) (gs : List HintGroup) (i : ℕ) (g : HintGroup) → i < length gs → g ≡ get_or gs i g → joint g.candidate ≡ None → repeated_after joint before (drop (i + 1) gs) ≡ repeated_after joint before (drop i gs)
 repeated-none joint before gs i g lt is at =
     sym (ap (repeated_after joint before) (next_group gs i g lt is)
-         ∙ ap (λ o. if is_seen before o then Some g.candidate else repeated_after joint (with_seen o before) (drop (i + 1) gs)) at)
+    ∙ ap (λ o. if is_seen before o then Some g.candidate else repeated_after joint (with_seen o before) (drop (i + 1) gs)) at)
 
 pub seen-none : (m : fin.FinMap nat_cmp (Unit {0})) → m ≡ fin.empty → (q : ℕ) → fin.contains_key m q ≡ is_among [] q
 seen-none m is q = ap (λ (k : fin.FinMap nat_cmp (Unit {0})). fin.contains_key k q) is ∙ ap is_some (fin.get-empty nat_cmp q)
@@ -53,6 +53,7 @@ seen-more m n before j has is q =
   where
     turned : (a b : ℕ) → (a == b) ≡ (b == a)
     turned a b = grind (arith, nat_tests)
+
     marked : (b : Bool) (o : Option (Unit {0})) → is_some (cond b (Some tt) o) ≡ (b || is_some o)
     marked true o = refl
     marked false o = refl

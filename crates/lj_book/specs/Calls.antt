@@ -99,8 +99,8 @@ case_with seat a repeated (Ok hints) (Ok groups) = case_unless repeated (case_of
 abbrev pub take_reply : State → ℕ → Addition → Result CaseValue Refusal
 take_reply s seat a =
     if is_here s.tables seat then
-      (if is_bound s.tables seat a.number then Err NumberTaken
-      else case_with seat a (repeated_after (joint_of s.tables seat) [] a.groups) (pairs_of (pair_in s.tables (live s) seat) a.hints) (group_pairs_of (pair_in s.tables (live s) seat) a.groups))
+    (if is_bound s.tables seat a.number then Err NumberTaken
+    else case_with seat a (repeated_after (joint_of s.tables seat) [] a.groups) (pairs_of (pair_in s.tables (live s) seat) a.hints) (group_pairs_of (pair_in s.tables (live s) seat) a.groups))
     else Err SeatGone
 
 -- ---- giving numbers up
@@ -154,8 +154,8 @@ stale_or (Some joint) later = Some (Stale joint)
 abbrev pub commit_refusal : State → ReceiptValue → Option Refusal
 commit_refusal s r =
     if is_here s.tables r.seat then
-      (if is_bound s.tables r.seat r.own then Some NumberTaken
-      else stale_or (first_stale (live s) r.listed) (if nat_lt (added s.history) s.max_steps then None else Some Full))
+    (if is_bound s.tables r.seat r.own then Some NumberTaken
+    else stale_or (first_stale (live s) r.listed) (if nat_lt (added s.history) s.max_steps then None else Some Full))
     else Some SeatGone
 
 -- the place of the entry, and the joint number of the lemma

@@ -2,6 +2,7 @@
 ghost use Rattle.std.specs.Prelude.{◌≡◌, ◌<◌, ◌+◌, length, OnOk, OnErr, IfOk, IfErr, option_copied, slice_get, is_some, IfSome, None, Some};
 ghost use Rattle.std.specs.FinMap as fin;
 ghost use Rattle.lj_clause.specs.ClauseMap.{formula_map};
+ghost use Rattle.lj_clause.specs.Truth.{IsSatisfiable};
 ghost use Rattle.lj_text.specs.Steps.{replay};
 ghost use Rattle.lj_text.specs.Needed.{if_some};
 ghost use Rattle.lj_book.specs.State.{State, opening, live, steps_of, verdict};
@@ -99,6 +100,7 @@ impl Book {
     pub fn history_len(&self) -> u64
         ensures len { result ≡ length self.now.history }
         ensures replayed { replay (formula_map self.now.formula) (steps_of self.now.history) ≡ Some (live self.now) }
+        ensures satisfiable { IsSatisfiable (formula_map self.now.formula) → IsSatisfiable (live self.now) }
     {
         self.history.len() as u64
     }

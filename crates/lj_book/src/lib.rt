@@ -9,6 +9,8 @@ mod number_map;
 mod refusal;
 mod seat_tables;
 mod taking;
+#[cfg(test)]
+mod tests;
 mod verified;
 
 pub use book::Book;

@@ -15,12 +15,12 @@ loop-number-preserved c =
     let k = c.loop-number.number in
     λ q. elim c.match-clause.branch [
       | in-Some+in_ok-copy+in_ok-insert w ↦
-        copied-more f c.loop-number.clauses c.match-clause.clauses k w.in-Some.clause.now c.loop-number.invariant
+          copied-more f c.loop-number.clauses c.match-clause.clauses k w.in-Some.clause.now c.loop-number.invariant
           (sym c.clause.ensures ∙ ap option_copied w.in-Some.is)
           (w.clauses-is ∙ w.in_ok-insert.ensures.ok ∙ ap (fin.insert c.loop-number.clauses (k + 1)) w.in_ok-copy.ensures) q
       | in_default w ↦
-        ap (λ (m : ClauseMap). fin.get m q) w.clauses-is
-        ∙ copied-missing f c.loop-number.clauses k c.loop-number.invariant (sym c.clause.ensures ∙ ap option_copied w.in_default.is) q
+          ap (λ (m : ClauseMap). fin.get m q) w.clauses-is
+          ∙ copied-missing f c.loop-number.clauses k c.loop-number.invariant (sym c.clause.ensures ∙ ap option_copied w.in_default.is) q
     ]
 
 pub returns : goal.returns

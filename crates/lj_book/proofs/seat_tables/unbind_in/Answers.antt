@@ -12,7 +12,7 @@ returns-clause-holders c =
     let j = c.in-Some.joint in
     let here = sym c.in-Some.ensures.before in
     λ q.
-      one_less m c.insert.new.self j q c.insert.result (c.requires j here)
-        (subst (λ (k : ℕ). OnOk c.insert.result (c.insert.new.self ≡ fin.insert m j (k - 1))) c.count-held.ensures c.insert.ensures.ok)
-        c.insert.ensures.absent
-      ∙ ap (λ o. one_if_at o q + count_at c.insert.new.self q) (sym here)
+    one_less m c.insert.new.self j q c.insert.result (c.requires j here)
+    (subst (λ (k : ℕ). OnOk c.insert.result (c.insert.new.self ≡ fin.insert m j (k - 1))) c.count-held.ensures c.insert.ensures.ok)
+    c.insert.ensures.absent
+    ∙ ap (λ o. one_if_at o q + count_at c.insert.new.self q) (sym here)

@@ -22,14 +22,14 @@ loop-group-preserved c =
     let g : HintGroup = c.group-item.result in
     let at = ap (λ (h : HintGroup). joint h.candidate) (sym c.group.view_is) ∙ sym c.joint.ensures in
     elim c.match-joint.branch [
-      | in-Some+else-contains_key+in_ok-insert w ↦
-        ( w.in-Some.joint ∷ before
-        , seen-more c.loop-group.seen c.match-joint.seen before w.in-Some.joint has (w.seen-is ∙ w.in_ok-insert.ensures.ok)
-        , repeated-new joint before gs i w.in-Some.joint g c.loop-group-test.true c.group-item.is (at ∙ w.in-Some.is) (sym (has w.in-Some.joint) ∙ sym w.contains_key.ensures ∙ w.if-contains_key.false) ∙ same
-        )
-      | in_default w ↦
-        ( before
-        , λ q. ap (λ (m : fin.FinMap nat_cmp (Unit {0})). fin.contains_key m q) w.seen-is ∙ has q
-        , repeated-none joint before gs i g c.loop-group-test.true c.group-item.is (at ∙ w.in_default.is) ∙ same
-        )
+      | in-Some+else-contains_key+in_ok-insert w ↦ (
+        w.in-Some.joint ∷ before,
+        seen-more c.loop-group.seen c.match-joint.seen before w.in-Some.joint has (w.seen-is ∙ w.in_ok-insert.ensures.ok),
+        repeated-new joint before gs i w.in-Some.joint g c.loop-group-test.true c.group-item.is (at ∙ w.in-Some.is) (sym (has w.in-Some.joint) ∙ sym w.contains_key.ensures ∙ w.if-contains_key.false) ∙ same,
+      )
+      | in_default w ↦ (
+        before,
+        λ q. ap (λ (m : fin.FinMap nat_cmp (Unit {0})). fin.contains_key m q) w.seen-is ∙ has q,
+        repeated-none joint before gs i g c.loop-group-test.true c.group-item.is (at ∙ w.in_default.is) ∙ same,
+      )
     ]

@@ -11,12 +11,12 @@ loop-own-preserved c =
     let xs = c.args.numbers.now in
     elim c.match-joint.branch [
       | in-Some+in_ok-push w ↦
-        ap (λ v. v.items) w.joints-is
-        ∙ w.in_ok-push.ensures.items
-        ∙ ap (λ ys. ys ++ w.in-Some.joint ∷ []) c.loop-own.invariant
-        ∙ sym (picked f xs c.loop-own.own-index 0 w.in-Some.joint c.loop-own-test.true (sym c.joint.ensures ∙ w.in-Some.is))
+          ap (λ v. v.items) w.joints-is
+          ∙ w.in_ok-push.ensures.items
+          ∙ ap (λ ys. ys ++ w.in-Some.joint ∷ []) c.loop-own.invariant
+          ∙ sym (picked f xs c.loop-own.own-index 0 w.in-Some.joint c.loop-own-test.true (sym c.joint.ensures ∙ w.in-Some.is))
       | in_default w ↦
-        ap (λ v. v.items) w.joints-is
-        ∙ c.loop-own.invariant
-        ∙ sym (passed_by f xs c.loop-own.own-index 0 c.loop-own-test.true (sym c.joint.ensures ∙ w.in_default.is))
+          ap (λ v. v.items) w.joints-is
+          ∙ c.loop-own.invariant
+          ∙ sym (passed_by f xs c.loop-own.own-index 0 c.loop-own-test.true (sym c.joint.ensures ∙ w.in_default.is))
     ]

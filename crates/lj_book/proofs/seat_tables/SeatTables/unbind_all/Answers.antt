@@ -24,10 +24,12 @@ loop-own-init c = record {
 }
 
 pub unbind-requires : goal.unbind-requires
-unbind-requires c = record { here =
-  ap (λ (ts : Tables). is_here ts c.args.seat) c.loop-own.invariant.removed
-  ∙ here-with_table (without_keys (take c.loop-own.own-index c.args.numbers.now)) c.args.self.now c.args.seat
-  ∙ c.requires.here }
+unbind-requires c = record {
+  here =
+      ap (λ (ts : Tables). is_here ts c.args.seat) c.loop-own.invariant.removed
+      ∙ here-with_table (without_keys (take c.loop-own.own-index c.args.numbers.now)) c.args.self.now c.args.seat
+      ∙ c.requires.here;
+}
 
 pub loop-own-preserved : goal.loop-own-preserved
 loop-own-preserved c =
@@ -37,16 +39,16 @@ loop-own-preserved c =
     let n = get_or ns i 0 in
     let more = take_more ns i 0 c.loop-own-test.true in
     let bound =
-      c.unbind.ensures.bound
-      ∙ ap (λ (us : Tables). is_bound us c.args.seat n) c.loop-own.invariant.removed
-      ∙ bound-with_table (without_keys (take i ns)) ts c.args.seat n in
+    c.unbind.ensures.bound
+    ∙ ap (λ (us : Tables). is_bound us c.args.seat n) c.loop-own.invariant.removed
+    ∙ bound-with_table (without_keys (take i ns)) ts c.args.seat n in
     let lost = ap (λ ms. keys_lost ms (table_of ts c.args.seat)) more ∙ keys_lost-push (take i ns) n (table_of ts c.args.seat) in
     record {
       removed =
-        c.unbind.ensures.removed
-        ∙ ap (λ (us : Tables). with_table (λ t. fin.remove t n) us c.args.seat) c.loop-own.invariant.removed
-        ∙ with_table-push (take i ns) n ts c.args.seat
-        ∙ ap (λ ms. with_table (without_keys ms) ts c.args.seat) (sym more);
+          c.unbind.ensures.removed
+          ∙ ap (λ (us : Tables). with_table (λ t. fin.remove t n) us c.args.seat) c.loop-own.invariant.removed
+          ∙ with_table-push (take i ns) n ts c.args.seat
+          ∙ ap (λ ms. with_table (without_keys ms) ts c.args.seat) (sym more);
       count = elim c.if-unbind.branch [
         | then-unbind w ↦ counted _ _ _ _ lost (sym bound ∙ w.if-unbind.true) c.loop-own.invariant.count w.count-is
         | else-unbind w ↦ uncounted _ _ _ _ lost (sym bound ∙ w.if-unbind.false) c.loop-own.invariant.count w.count-is
