@@ -1,20 +1,19 @@
 -- What a book keeps, over its calls.
-use Rattle.std.proofs.Common.{◌≡◌, ap, refl, sym, ◌∙◌, subst, ℕ, ◌+◌, ◌<◌, Bool, cond, true, false, arith}
-use Rattle.std.specs.Prelude.{List, [], ◌∷◌, ◌++◌, length, Option, Some, None, filter, filter_map, not, ◌||◌, ◌&&◌, if◌then◌else◌, is_some, replicate}
+use Rattle.std.proofs.Common.{◌≡◌, ap, refl, sym, ◌∙◌, ℕ, ◌+◌, ◌<◌, Bool, true, false, arith}
+use Rattle.std.specs.Prelude.{List, [], ◌∷◌, ◌++◌, length, Option, Some, None, filter, filter_map, not, ◌||◌, if◌then◌else◌, is_some}
 use Rattle.std.specs.List.{cons_option, list_any}
 use Rattle.std.specs.List.Sorted.{IsStrictlySortedBy}
 use Rattle.std.proofs.lemmas.Bool.{false≢true, and_from}
 use Rattle.std.specs.Ordering.{nat_cmp}
 use Rattle.lj_clause.specs.ClauseMap.{ClauseMap, FormulaValue, formula_map}
 use Rattle.lj_text.specs.declared.step.Step.{Step}
-use Rattle.lj_text.specs.declared.step.Step.TheVariants as steps
-use Rattle.lj_text.specs.Steps.{without, adds_empty, replay, refutes}
+use Rattle.lj_text.specs.Steps.{without, adds_empty, replay}
 use Rattle.lj_text.proofs.StepLaws.{unsatisfiable-refutes}
 use Rattle.lj_text.specs.Needed.{additions, if_some}
 use Rattle.lj_book.specs.declared.entry.Call.TheVariants as calls
 use Rattle.lj_book.specs.declared.entry.Entry.{Entry}
-use Rattle.lj_book.specs.Tables.{Tables, is_here, joint_of, is_held, is_among, with_table, without_keys, up_to}
-use Rattle.lj_book.specs.State.{State, steps_of, added, live, opening, is_refutation, verdict_from, verdict, IsUnsatisfiable}
+use Rattle.lj_book.specs.Tables.{Tables, is_here, joint_of, is_held, is_among, with_table, without_keys}
+use Rattle.lj_book.specs.State.{State, steps_of, opening, is_refutation, verdict_from, verdict, IsUnsatisfiable}
 use Rattle.lj_book.specs.History.{died, after}
 use Rattle.lj_book.specs.Calls.{drop_entry}
 use Rattle.lj_book.specs.Kept.{IsKept}

@@ -1,30 +1,28 @@
 -- What a commit enters.
-use Rattle.std.proofs.Common.{◌≡◌, ap, refl, sym, ◌∙◌, inl, inr, subst, ℕ, ◌+◌, ◌<◌, Bool, cond, true, false, arith}
-use Rattle.std.specs.Prelude.{ℤ, List, [], ◌∷◌, ◌++◌, map, length, Option, Some, None, not, ◌==◌, ◌||◌, ◌&&◌, ◌↔◌, IsTrue, if◌then◌else◌, is_some, nat_lt}
-use Rattle.std.specs.List.{list_any, list_all, cons_option}
+use Rattle.std.proofs.Common.{◌≡◌, ap, refl, sym, ◌∙◌, subst, ℕ, ◌+◌, ◌<◌, Bool, true, false, arith}
+use Rattle.std.specs.Prelude.{ℤ, List, [], ◌∷◌, ◌++◌, length, Option, Some, None, not, ◌==◌, ◌||◌, ◌↔◌, IsTrue, if◌then◌else◌, is_some, nat_lt}
+use Rattle.std.specs.List.{list_all}
 use Rattle.std.proofs.lemmas.Bool.{false≢true, and_parts, and_from}
 use Rattle.std.proofs.lemmas.Bool.Decides.{nat_tests}
-use Rattle.std.specs.Ordering.{nat_cmp, eq_by_cmp}
+use Rattle.std.specs.Ordering.{eq_by_cmp}
 use Rattle.std.specs.FinMap as fin
 use Rattle.lj_clause.specs.Literal.{lit_cmp}
 use Rattle.lj_clause.specs.LiteralSet.{LiteralSet, holds, literals, negations}
-use Rattle.lj_clause.specs.Lemma.{LemmaValue}
 use Rattle.lj_clause.specs.ClauseMap.{ClauseMap}
-use Rattle.lj_clause.specs.Walk.{Walk, Closed, Hint, hints_in, walk_over, is_closed}
+use Rattle.lj_clause.specs.Walk.{Walk, Closed, hints_in, walk_over, is_closed}
 use Rattle.lj_clause.proofs.LiteralSets.{same_set, holds-literals}
 use Rattle.lj_clause.proofs.Among.{among, itself}
 use Rattle.lj_clause.proofs.Literals.{same_literal}
 use Rattle.lj_text.specs.declared.line.Addition.{Addition}
 use Rattle.lj_text.specs.declared.step.Step.TheVariants as steps
-use Rattle.lj_text.specs.Steps.{names_all, names, is_in_place, first_walk, is_rat_after, is_accepted, IsRecordedAfter, IsRecorded, adds_empty}
+use Rattle.lj_text.specs.Steps.{names_all, names, is_in_place, first_walk, is_rat_after, IsRecordedAfter}
 use Rattle.lj_text.specs.Needed.{additions}
 use Rattle.lj_hint.specs.declared.pair.Pair.{Pair}
 use Rattle.lj_hint.specs.Hints.{named, numbers}
 use Rattle.lj_hint.specs.Receipt.{ReceiptValue, IsReceipt}
-use Rattle.lj_book.specs.declared.entry.Call.TheVariants as calls
 use Rattle.lj_book.specs.declared.entry.Entry.{Entry}
 use Rattle.lj_book.specs.Tables.{Table, Tables, is_here, is_bound, with_table}
-use Rattle.lj_book.specs.State.{State, steps_of, added, next, given_out, live, is_refutation, verdict}
+use Rattle.lj_book.specs.State.{State, steps_of, added, next, live, verdict}
 use Rattle.lj_book.specs.History.{after, IsLegal}
 use Rattle.lj_book.specs.Calls.{is_same, is_clause, is_live_as, first_stale, entry_with, commit_entry, stale_or, commit_refusal}
 use Rattle.lj_book.specs.declared.refusal.Refusal.TheVariants.{SeatGone, NumberTaken, Full}

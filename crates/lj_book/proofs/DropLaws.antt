@@ -1,9 +1,9 @@
 -- What dies when a seat gives numbers up.
-use Rattle.std.proofs.Common.{◌≡◌, ap, refl, sym, ◌∙◌, inl, inr, subst, ℕ, zero, suc, ◌+◌, ◌<◌, ◌≤◌, Bool, cond, true, false, arith}
-use Rattle.std.specs.Prelude.{T, List, [], ◌∷◌, ◌++◌, map, length, Option, Some, None, filter, filter_map, not, ◌==◌, ◌||◌, ◌&&◌, if◌then◌else◌, is_some, nat_lt}
+use Rattle.std.proofs.Common.{◌≡◌, ap, refl, sym, ◌∙◌, inl, inr, subst, ℕ, ◌<◌, Bool, cond, true, false, arith}
+use Rattle.std.specs.Prelude.{T, List, [], ◌∷◌, map, Option, Some, None, filter, filter_map, not, ◌==◌, ◌||◌, ◌&&◌, is_some, nat_lt}
 use Rattle.std.specs.List.{list_any, cons_option, AllByRecursion}
 use Rattle.std.specs.List.Sorted.{IsStrictlySortedBy}
-use Rattle.std.proofs.lemmas.Bool.{false≢true, or_cases, or_left, or_right, and_parts}
+use Rattle.std.proofs.lemmas.Bool.{false≢true, or_cases, or_left, or_right}
 use Rattle.std.proofs.lemmas.Bool.Decides.{nat_tests}
 use Rattle.std.specs.declared.cmp.Ordering.{Ordering}
 use Rattle.std.specs.declared.cmp.Ordering.TheVariants.{Less, Equal, Greater}
@@ -12,7 +12,6 @@ use Rattle.std.specs.Cmp.{nat_cmp_total, unsigned_tied, tied_itself}
 use Rattle.std.specs.FinMap as fin
 use Rattle.std.specs.FinMap.{nat_cmp-IsAntisymmetric}
 use Rattle.std.specs.FinMap.Entries.{find, is_sorted, below_all, where_key, same_entries, is_sorted-where_key}
-use Rattle.lj_text.specs.declared.step.Step.{Step}
 use Rattle.lj_book.specs.Tables.{Table, Tables, table_of, joint_of, is_held, is_among, with_table, without_keys}
 use Rattle.lj_book.specs.State.{State, live}
 use Rattle.lj_book.specs.History.{died}

@@ -1,7 +1,7 @@
 -- What legal entries keep: the live clauses are the replay of the steps.
-use Rattle.std.proofs.Common.{◌≡◌, ap, refl, sym, ◌∙◌, inl, inr, subst, ℕ, zero, suc, ◌+◌, ◌*◌, ◌<◌, ◌≤◌, ◌-◌, Bool, cond, true, false, arith}
-use Rattle.std.specs.Prelude.{List, [], ◌∷◌, ◌++◌, map, length, Option, Some, None, filter, filter_map, not, ◌==◌, ◌||◌, ◌&&◌, if◌then◌else◌, is_some, nat_lt, nat_le, replicate, slice_get}
-use Rattle.std.specs.List.{list_any, list_all, cons_option}
+use Rattle.std.proofs.Common.{◌≡◌, ap, refl, sym, ◌∙◌, inl, inr, subst, ℕ, zero, suc, ◌+◌, ◌*◌, ◌<◌, ◌≤◌, Bool, cond, true, false, arith}
+use Rattle.std.specs.Prelude.{List, [], ◌∷◌, ◌++◌, length, Option, Some, None, filter, not, ◌==◌, ◌||◌, ◌&&◌, if◌then◌else◌, is_some, nat_lt, nat_le, replicate, slice_get}
+use Rattle.std.specs.List.{list_any, cons_option}
 use Rattle.std.proofs.lemmas.Bool.{false≢true, or_cases, or_left, or_right, and_parts}
 use Rattle.std.proofs.lemmas.Bool.Decides.{nat_tests}
 use Rattle.std.proofs.lemmas.Option.{slice_get_past}
@@ -12,7 +12,6 @@ use Rattle.std.specs.Cmp.{nat_cmp_total, unsigned_tied}
 use Rattle.std.specs.declared.cmp.Ordering.TheVariants.{Equal}
 use Rattle.std.specs.FinMap as fin
 use Rattle.std.specs.FinMap.{nat_cmp-IsAntisymmetric}
-use Rattle.lj_clause.specs.LiteralSet.{LiteralSet}
 use Rattle.lj_clause.specs.Lemma.{LemmaValue}
 use Rattle.lj_clause.specs.ClauseMap.{ClauseMap, FormulaValue, formula_map}
 use Rattle.lj_clause.proofs.Formulas.{clause_zero, clause_at}
@@ -26,10 +25,9 @@ use Rattle.lj_book.specs.declared.entry.Call.{Call}
 use Rattle.lj_book.specs.declared.entry.Call.TheVariants as calls
 use Rattle.lj_book.specs.declared.entry.Entry.{Entry}
 use Rattle.lj_book.specs.Tables.{Table, Tables, table_of, is_here, is_bound, is_held, is_among, with_table, without_keys, up_to}
-use Rattle.lj_book.specs.State.{State, steps_of, added, next, with_additions, given_out, live, opening, is_refutation, verdict_from, verdict}
-use Rattle.lj_book.specs.History.{tables_after, died, after, after_all, IsAdditionOf, IsLegalAddition, IsLegalDrop, IsLegalCall, IsLegal, AreLegal, IsReached}
-use Rattle.lj_book.specs.Holders.{holders_of, count_in}
-use Rattle.lj_book.proofs.NumberMaps.{same_map, entries-retain_keys}
+use Rattle.lj_book.specs.State.{State, steps_of, next, with_additions, given_out, live, opening}
+use Rattle.lj_book.specs.History.{died, after, after_all, IsLegalCall, IsLegal, AreLegal, IsReached}
+use Rattle.lj_book.proofs.NumberMaps.{same_map}
 use Rattle.lj_book.proofs.TableLaws.{held_counts, count-insert, count-up_to, count-without_keys, holders-with_table, holders-replicate, free_in_table}
 
 -- What each state that a legal history reaches keeps: what is held was given out, and no number from the next on was.

@@ -1,6 +1,6 @@
 -- A map from numbers that is kept as a list of entries in order.
-use Rattle.std.proofs.Common.{◌≡◌, ap, refl, sym, ◌∙◌, ℕ, Bool, cond, true, false}
-use Rattle.std.specs.Prelude.{List, [], ◌∷◌, Option, Some, None, filter, not}
+use Rattle.std.proofs.Common.{◌≡◌, ap, refl, sym, ◌∙◌, ℕ, Bool, cond}
+use Rattle.std.specs.Prelude.{List, [], ◌∷◌, Some, None, filter}
 use Rattle.std.specs.Map.{lookup}
 use Rattle.std.specs.BTreeMap.{is_at}
 use Rattle.std.specs.Ordering.{nat_cmp, eq_by_cmp}

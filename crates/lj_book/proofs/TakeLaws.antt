@@ -1,7 +1,6 @@
 -- Additions in joint numbers.
-use Rattle.std.proofs.Common.{◌≡◌, ap, refl, sym, ◌∙◌, subst, ℕ, suc, ◌+◌, ◌<◌, Bool, cond, true, false, add-one, get_or, drop, drop-cons}
-use Rattle.std.specs.Prelude.{List, [], ◌∷◌, length, Option, Some, None, Result, Ok, Err, ◌==◌, ◌||◌, if◌then◌else◌, is_some}
-use Rattle.std.proofs.lemmas.Bool.{false≢true}
+use Rattle.std.proofs.Common.{◌≡◌, ap, refl, sym, ◌∙◌, ℕ, suc, ◌+◌, ◌<◌, Bool, cond, true, false, add-one, get_or, drop, drop-cons}
+use Rattle.std.specs.Prelude.{List, [], ◌∷◌, length, Option, Some, None, Result, Err, ◌==◌, ◌||◌, if◌then◌else◌, is_some}
 use Rattle.std.proofs.lemmas.Bool.Decides.{nat_tests}
 use Rattle.std.proofs.Common.{arith}
 use Rattle.std.specs.Ordering.{nat_cmp, eq_by_cmp}
@@ -13,7 +12,7 @@ use Rattle.lj_text.specs.declared.line.Addition.{Addition}
 use Rattle.lj_hint.specs.Case.{CaseValue}
 use Rattle.lj_book.specs.declared.refusal.Refusal.{Refusal}
 use Rattle.lj_book.specs.declared.refusal.Refusal.TheVariants.{SeatGone, NumberTaken}
-use Rattle.lj_book.specs.Tables.{Tables, is_here, is_bound, is_among, joint_of}
+use Rattle.lj_book.specs.Tables.{is_here, is_bound, is_among, joint_of}
 use Rattle.lj_book.specs.State.{State, live}
 use Rattle.lj_book.specs.Calls.{pair_in, pairs_of, group_pairs_of, repeated_after, is_seen, with_seen, case_with, take_reply}
 

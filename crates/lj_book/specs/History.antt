@@ -2,8 +2,6 @@
 use Rattle.std.specs.Prelude.{◌≡◌, ℕ, ◌<◌, true, false, not, List, [], ◌∷◌, ◌++◌, Option, Some, None, filter}
 use Rattle.std.specs.FinMap as fin
 use Rattle.lj_clause.specs.Lemma.{LemmaValue}
-use Rattle.lj_clause.specs.ClauseMap.{FormulaValue}
-use Rattle.lj_text.specs.declared.line.Addition.{Addition}
 use Rattle.lj_text.specs.declared.step.Step.{Step}
 use Rattle.lj_text.specs.declared.step.Step.TheVariants as steps
 use Rattle.lj_text.specs.Steps.{is_accepted, IsRecorded}

@@ -1,5 +1,5 @@
 use Rattle.std.proofs.Common.{ap, sym, ◌∙◌, ◌+◌, arith}
-use Rattle.std.specs.Prelude.{option_copied, Some}
+use Rattle.std.specs.Prelude.{option_copied}
 use Rattle.std.specs.FinMap as fin
 use Rattle.lj_clause.specs.ClauseMap.{ClauseMap}
 use Rattle.lj_book.proofs.Copies.{copied-none, copied-more, copied-missing, copied-all}

@@ -1,4 +1,4 @@
-use Rattle.std.proofs.Common.{ap, sym, ◌∙◌}
+use Rattle.std.proofs.Common.{ap, ◌∙◌}
 use Rattle.std.specs.FinMap as fin
 use Rattle.lj_book.proofs.TableLaws.{remove-insert}
 use Rattle.lj_book.proofs.seat_tables.bind_in.Goals as goal

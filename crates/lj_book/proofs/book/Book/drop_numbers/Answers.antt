@@ -1,10 +1,9 @@
 use Rattle.std.proofs.Common.{◌≡◌, ap, sym, ◌∙◌, subst, ℕ, Bool, cond}
-use Rattle.std.specs.Prelude.{List, [], ◌∷◌, ◌++◌, is_ok, filter_map}
-use Rattle.lj_clause.specs.ClauseMap.{ClauseMap}
+use Rattle.std.specs.Prelude.{List, [], ◌∷◌, ◌++◌, is_ok}
 use Rattle.lj_text.specs.Steps.{without}
 use Rattle.lj_book.specs.declared.entry.Call.TheVariants as calls
 use Rattle.lj_book.specs.declared.entry.Entry.{Entry}
-use Rattle.lj_book.specs.Tables.{Tables, is_here, joint_of, is_among}
+use Rattle.lj_book.specs.Tables.{is_among}
 use Rattle.lj_book.specs.State.{State}
 use Rattle.lj_book.specs.History.{after}
 use Rattle.lj_book.specs.Kept.{IsKept}

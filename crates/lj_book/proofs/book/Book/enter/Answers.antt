@@ -1,7 +1,6 @@
-use Rattle.std.proofs.Common.{◌≡◌, ap, sym, ◌∙◌, subst, ℕ, ◌+◌, Bool, cond, arith}
-use Rattle.std.specs.Prelude.{List, [], ◌∷◌, ◌++◌, is_ok, None, Option, length}
+use Rattle.std.proofs.Common.{◌≡◌, ap, sym, ◌∙◌, subst, ℕ, ◌+◌, Bool, cond}
+use Rattle.std.specs.Prelude.{List, [], ◌∷◌, ◌++◌, is_ok, Option, length}
 use Rattle.std.specs.FinMap as fin
-use Rattle.lj_clause.specs.LiteralSet.{LiteralSet}
 use Rattle.lj_clause.specs.ClauseMap.{ClauseMap}
 use Rattle.lj_book.specs.declared.entry.Entry.{Entry}
 use Rattle.lj_book.specs.State.{State, next, live}

@@ -1,4 +1,4 @@
-use Rattle.std.proofs.Common.{◌≡◌, ap, sym, ◌∙◌, subst}
+use Rattle.std.proofs.Common.{ap, sym, ◌∙◌, subst}
 use Rattle.std.specs.Prelude.{Result}
 use Rattle.lj_hint.specs.Case.{CaseValue}
 use Rattle.lj_book.specs.declared.refusal.Refusal.{Refusal}

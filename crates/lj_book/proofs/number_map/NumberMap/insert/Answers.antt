@@ -1,7 +1,6 @@
-use Rattle.std.proofs.Common.{◌≡◌, ap, sym, ◌∙◌, rules}
+use Rattle.std.proofs.Common.{ap, sym, ◌∙◌}
 use Rattle.std.specs.FinMap as fin
-use Rattle.std.specs.Prelude.{Result, Err, Ok, IsErrAnd, OnErr}
-use Rattle.std.proofs.lemmas.Result.{err_from_is_err_and}
+use Rattle.std.specs.Prelude.{Result, Err, Ok, OnErr}
 use Rattle.lj_book.proofs.NumberMaps.{get_key, one_put}
 use Rattle.lj_book.proofs.number_map.NumberMap.insert.Goals as goal
 

@@ -1,7 +1,7 @@
-use Rattle.std.proofs.Common.{◌≡◌, ap, sym, ◌∙◌, subst, arith, ◌<◌, ℕ, ◌+◌}
-use Rattle.std.specs.Prelude.{length, Some, true, false}
+use Rattle.std.proofs.Common.{ap, sym, ◌∙◌, arith, ◌<◌, ℕ, ◌+◌}
+use Rattle.std.specs.Prelude.{length, Some}
 use Rattle.std.specs.FinMap as fin
-use Rattle.lj_book.specs.Tables.{Tables, is_here, is_bound, table_of, with_table}
+use Rattle.lj_book.specs.Tables.{Tables, is_here, is_bound, with_table}
 use Rattle.lj_book.proofs.TableLaws.{here_in_range, table_of-at, free_in_table, invariant-bind, ok_then, with_table-set, no_table}
 use Rattle.std.proofs.Math.ListN.{set}
 use Rattle.lj_book.proofs.seat_tables.SeatTables.bind.Goals as goal

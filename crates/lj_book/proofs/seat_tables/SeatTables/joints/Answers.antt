@@ -1,5 +1,5 @@
-use Rattle.std.proofs.Common.{◌≡◌, ap, sym, ◌∙◌, take, get_or}
-use Rattle.std.specs.Prelude.{List, [], ◌∷◌, ◌++◌}
+use Rattle.std.proofs.Common.{ap, sym, ◌∙◌}
+use Rattle.std.specs.Prelude.{[], ◌∷◌, ◌++◌}
 use Rattle.lj_book.specs.Tables.{joint_of}
 use Rattle.lj_book.proofs.Lists.{picked, passed_by}
 use Rattle.lj_book.proofs.seat_tables.SeatTables.joints.Goals as goal

@@ -1,9 +1,9 @@
-use Rattle.std.proofs.Common.{◌≡◌, ap, sym, ◌∙◌, ◌+◌, arith, refl, take, get_or}
-use Rattle.std.specs.Prelude.{is_some, ℕ, Bool, true, false, if◌then◌else◌}
+use Rattle.std.proofs.Common.{◌≡◌, ap, sym, ◌∙◌, ◌+◌, arith, take, get_or}
+use Rattle.std.specs.Prelude.{ℕ, Bool, true, false, if◌then◌else◌}
 use Rattle.std.specs.FinMap as fin
 use Rattle.std.proofs.lemmas.Bool.{false≢true}
 use Rattle.std.proofs.lemmas.List.{take_more}
-use Rattle.lj_book.specs.Tables.{Table, Tables, table_of, is_here, is_bound, with_table, without_keys, keys_lost}
+use Rattle.lj_book.specs.Tables.{Tables, table_of, is_here, is_bound, with_table, without_keys, keys_lost}
 use Rattle.lj_book.proofs.TableLaws.{with_table-none, keys_lost-none, here-with_table, bound-with_table, with_table-push, keys_lost-push}
 use Rattle.lj_book.proofs.seat_tables.SeatTables.unbind_all.Goals as goal
 use Rattle.lj_book.proofs.seat_tables.SeatTables.unbind_all.Goals.{then-unbind, else-unbind}
