@@ -1,0 +1,174 @@
+-- What a commit enters.
+use Rattle.std.proofs.Common.{◌≡◌, ap, refl, sym, ◌∙◌, subst, ℕ, ◌+◌, ◌<◌, Bool, true, false, arith}
+use Rattle.std.specs.Prelude.{ℤ, List, [], ◌∷◌, ◌++◌, length, Option, Some, None, not, ◌==◌, ◌||◌, ◌↔◌, IsTrue, if◌then◌else◌, is_some, nat_lt}
+use Rattle.std.specs.List.{list_all}
+use Rattle.std.proofs.lemmas.Bool.{false≢true, and_parts, and_from}
+use Rattle.std.proofs.lemmas.Bool.Decides.{nat_tests}
+use Rattle.std.specs.Ordering.{eq_by_cmp}
+use Rattle.std.specs.FinMap as fin
+use Rattle.lj_clause.specs.Literal.{lit_cmp}
+use Rattle.lj_clause.specs.LiteralSet.{LiteralSet, holds, literals, negations}
+use Rattle.lj_clause.specs.ClauseMap.{ClauseMap}
+use Rattle.lj_clause.specs.Walk.{Walk, Closed, hints_in, walk_over, is_closed}
+use Rattle.lj_clause.proofs.LiteralSets.{same_set, holds-literals}
+use Rattle.lj_clause.proofs.Among.{among, itself}
+use Rattle.lj_clause.proofs.Literals.{same_literal}
+use Rattle.lj_text.specs.declared.line.Addition.{Addition}
+use Rattle.lj_text.specs.declared.step.Step.TheVariants as steps
+use Rattle.lj_text.specs.Steps.{names_all, names, is_in_place, first_walk, is_rat_after, IsRecordedAfter}
+use Rattle.lj_text.specs.Needed.{additions}
+use Rattle.lj_hint.specs.declared.pair.Pair.{Pair}
+use Rattle.lj_hint.specs.Hints.{named, numbers}
+use Rattle.lj_hint.specs.Receipt.{ReceiptValue, IsReceipt}
+use Rattle.lj_book.specs.declared.entry.Entry.{Entry}
+use Rattle.lj_book.specs.Tables.{Table, Tables, is_here, is_bound, with_table}
+use Rattle.lj_book.specs.State.{State, steps_of, added, next, live, verdict}
+use Rattle.lj_book.specs.History.{after, IsLegal}
+use Rattle.lj_book.specs.Calls.{is_same, is_clause, is_live_as, first_stale, entry_with, commit_entry, stale_or, commit_refusal}
+use Rattle.lj_book.specs.declared.refusal.Refusal.TheVariants.{SeatGone, NumberTaken, Full}
+use Rattle.lj_book.specs.Kept.{IsKept, refuted_after}
+use Rattle.lj_book.proofs.HistoryLaws.{IsSound, IsSound-reached, IsReached-after, live-addition, live-held, steps_of-push, additions-append}
+use Rattle.lj_book.proofs.BookLaws.{same_state, verdict-same, verdict-first, verdict-stays}
+
+-- ---- clauses that are the same set
+
+all_hold : (d : LiteralSet) (ls : List ℤ) → list_all (holds d) ls ≡ true → (q : ℤ) → among q ls ≡ true → holds d q ≡ true
+all_hold d [] h q m = absurd (false≢true m)
+all_hold d (l ∷ ls) h q m =
+    let parts = and_parts (holds d l) (list_all (holds d) ls) h in
+    elim (eq_by_cmp lit_cmp q l) as (λ b. eq_by_cmp lit_cmp q l ≡ b → (b || among q ls) ≡ true → holds d q ≡ true) [
+      | true ↦ λ e m. ap (holds d) (same_literal q l e) ∙ parts.0
+      | false ↦ λ e m. all_hold d ls parts.1 q m
+    ] refl m
+
+same_tests : (a b : Bool) → (a ≡ true → b ≡ true) → (b ≡ true → a ≡ true) → a ≡ b
+same_tests true b f g = sym (f refl)
+same_tests false true f g = g refl
+same_tests false false f g = refl
+
+same_clauses : (c d : LiteralSet) → is_same c d ≡ true → c ≡ d
+same_clauses c d h =
+    let parts = and_parts (list_all (holds d) (literals c)) (list_all (holds c) (literals d)) h in
+    same_set c d (λ q. same_tests (holds c q) (holds d q) (λ e. all_hold d (literals c) parts.0 q (sym (holds-literals c q) ∙ e)) (λ e. all_hold c (literals d) parts.1 q (sym (holds-literals d q) ∙ e)))
+
+each_holds : (d : LiteralSet) (ls : List ℤ) → ((q : ℤ) → among q ls ≡ true → holds d q ≡ true) → list_all (holds d) ls ≡ true
+each_holds d [] h = refl
+each_holds d (l ∷ ls) h = and_from (holds d l) (list_all (holds d) ls) (h l (ap (λ b. b || among l ls) (itself l))) (each_holds d ls (λ q m. h q (or_later (eq_by_cmp lit_cmp q l) (among q ls) m)))
+  where
+    or_later : (a b : Bool) → b ≡ true → (a || b) ≡ true
+    or_later true b h = refl
+    or_later false b h = h
+
+same_itself : (c : LiteralSet) → is_same c c ≡ true
+same_itself c =
+    let all = each_holds c (literals c) (λ q m. holds-literals c q ∙ m) in
+    and_from (list_all (holds c) (literals c)) (list_all (holds c) (literals c)) all all
+
+-- what the code's test of two clauses says
+pub same_test : (b : Bool) (c d : LiteralSet) → (IsTrue b ↔ (d ≡ c)) → b ≡ is_same c d
+same_test b c d h = same_tests b (is_same c d) (λ e. ap (is_same c) (h.0 e) ∙ same_itself c) (λ e. h.1 (sym (same_clauses c d e)))
+
+live_as : (p : ClauseMap) (pair : Pair) → is_live_as p pair ≡ true → fin.get p pair.joint ≡ Some pair.clause
+live_as p pair h = go (fin.get p pair.joint) h
+  where
+    go : (o : Option LiteralSet) → is_clause pair.clause o ≡ true → o ≡ Some pair.clause
+    go None h = absurd (false≢true h)
+    go (Some d) h = ap Some (sym (same_clauses pair.clause d h))
+
+-- ---- the listed clauses, where none is stale
+
+record AllLive (p : ClauseMap) (pairs : List Pair) : Type 0 where
+  hints : hints_in p (numbers pairs) ≡ named pairs
+  names : names_all p (numbers pairs) ≡ true
+
+all_live : (p : ClauseMap) (pairs : List Pair) → first_stale p pairs ≡ None → AllLive p pairs
+all_live p [] h = record { hints = refl; names = refl }
+all_live p (pair ∷ pairs) h =
+    elim (is_live_as p pair) as (λ b. is_live_as p pair ≡ b → (if b then first_stale p pairs else Some pair.joint) ≡ None → AllLive p (pair ∷ pairs)) [
+      | true ↦ λ e g.
+          let rest = all_live p pairs g in
+          let here = live_as p pair e in
+          record {
+            hints = λ i. record { number = pair.joint; clause = here i } ∷ rest.hints i;
+            names = and_from (names p pair.joint) (names_all p (numbers pairs)) (ap is_some here) rest.names;
+          }
+      | false ↦ λ e g. absurd (false≢true (sym (ap is_some g)))
+    ] refl h
+
+-- a commit that isn't refused
+pub record CanCommit (s : State) (r : ReceiptValue) : Type 0 where
+  pub here : is_here s.tables r.seat ≡ true
+  pub unbound : is_bound s.tables r.seat r.own ≡ false
+  pub fresh : first_stale (live s) r.listed ≡ None
+  pub room : added s.history < s.max_steps
+
+pub can_commit : (s : State) (r : ReceiptValue) → commit_refusal s r ≡ None → CanCommit s r
+can_commit s r h = go (is_here s.tables r.seat) (is_bound s.tables r.seat r.own) (first_stale (live s) r.listed) (nat_lt (added s.history) s.max_steps) refl refl refl refl h
+  where
+    room : (a m : ℕ) → nat_lt a m ≡ true → a < m
+    room a m e = grind (arith, nat_tests)
+
+    go : (a b : Bool) (o : Option ℕ) (c : Bool) → is_here s.tables r.seat ≡ a → is_bound s.tables r.seat r.own ≡ b → first_stale (live s) r.listed ≡ o → nat_lt (added s.history) s.max_steps ≡ c → (if a then (if b then Some NumberTaken else stale_or o (if c then None else Some Full)) else Some SeatGone) ≡ None → CanCommit s r
+    go false b o c p q u v h = absurd (false≢true (sym (ap is_some h)))
+    go true true o c p q u v h = absurd (false≢true (sym (ap is_some h)))
+    go true false (Some j) c p q u v h = absurd (false≢true (sym (ap is_some h)))
+    go true false None false p q u v h = absurd (false≢true (sym (ap is_some h)))
+    go true false None true p q u v h = record { here = p; unbound = q; fresh = u; room = room (added s.history) s.max_steps v }
+
+-- ---- the entry of a commit is legal
+
+not_there : (s : State) → IsSound s → fin.contains_key (live s) (next s) ≡ false
+not_there s sound = go (fin.contains_key (live s) (next s)) refl
+  where
+    go : (b : Bool) → fin.contains_key (live s) (next s) ≡ b → b ≡ false
+    go true e = let low = sound.given_below (next s) (sound.held_given (next s) (sym (live-held s sound (next s)) ∙ e)) in absurd (omega arith)
+    go false e = refl
+
+pub no_clause_at_next : (s : State) → IsSound s → fin.get (live s) (next s) ≡ None
+no_clause_at_next s sound = go (fin.get (live s) (next s)) (not_there s sound)
+  where
+    go : (o : Option LiteralSet) → is_some o ≡ false → o ≡ None
+    go None h = refl
+    go (Some x) h = absurd (false≢true (sym h))
+
+commit_legal : (s : State) (r : ReceiptValue) → IsSound s → IsReceipt r → CanCommit s r → IsLegal s (commit_entry s r)
+commit_legal s r sound receipt can =
+    let lives = all_live (live s) r.listed can.fresh in
+    let a : Addition = record { number = next s; lemma = r.lemma; hints = numbers r.listed; groups = [] } in
+    let closed : first_walk (live s) a ≡ Closed (numbers r.listed) = ap (walk_over (negations r.lemma.clause)) lives.hints ∙ receipt in
+    let placed : is_in_place (live s) a ≡ true =
+    and_from (not (names (live s) (next s))) _ (ap not (not_there s sound)) (and_from (names_all (live s) (numbers r.listed)) true lives.names refl) in
+    let rup : (is_closed (first_walk (live s) a) || is_rat_after (live s) a (first_walk (live s) a)) ≡ true = ap (λ (w : Walk). is_closed w || is_rat_after (live s) a w) closed in
+    record {
+      here = can.here;
+      unbound = can.unbound;
+      room = can.room;
+      addition = (refl, (refl, (and_from (is_in_place (live s) a) _ placed rup, subst (IsRecordedAfter (live s) a) (sym closed) (refl, refl))));
+    }
+
+refuted_next : (s : State) (r : ReceiptValue) (refuted : Option ℕ) → refuted ≡ verdict s.history → refuted_after refuted (length s.history) r.lemma.clause ≡ verdict (s.history ++ commit_entry s r ∷ [])
+refuted_next s r (Some first) is = sym (verdict-stays s.history (commit_entry s r) first (sym is))
+refuted_next s r None is =
+    elim (fin.len r.lemma.clause == 0) as (λ b. (fin.len r.lemma.clause == 0) ≡ b → (if b then Some (length s.history) else None) ≡ verdict (s.history ++ commit_entry s r ∷ [])) [
+      | true ↦ λ e. sym (verdict-first s.history (commit_entry s r) e (sym is))
+      | false ↦ λ e. is ∙ sym (verdict-same s.history (commit_entry s r) e)
+    ] refl
+
+pub IsKept-commit : (s : State) (r : ReceiptValue) (m n : ClauseMap) (count : ℕ) (refuted : Option ℕ) → IsKept s m count refuted → IsReceipt r → CanCommit s r → n ≡ fin.insert m (next s) r.lemma.clause → IsKept (after s (commit_entry s r)) n (count + 1) (refuted_after refuted (length s.history) r.lemma.clause)
+IsKept-commit s r m n count refuted kept receipt can is =
+    let sound = IsSound-reached s kept.reached in
+    let a : Addition = record { number = next s; lemma = r.lemma; hints = numbers r.listed; groups = [] } in
+    let before = kept.additions in
+    let more = ap (λ ss. length (additions ss)) (steps_of-push s.history (commit_entry s r)) ∙ additions-append (steps_of s.history) (steps.Add a ∷ []) in
+    record {
+      reached = IsReached-after s (commit_entry s r) kept.reached (commit_legal s r sound receipt can);
+      lives = is ∙ ap (λ (p : ClauseMap). fin.insert p (next s) r.lemma.clause) kept.lives ∙ sym (live-addition s r.seat r.own a sound can.here can.unbound refl);
+      additions = omega arith;
+      first_empty = refuted_next s r refuted kept.first_empty;
+    }
+
+pub committed_state : (s : State) (r : ReceiptValue) (joint : ℕ) (entry : Entry) (tables : Tables) (history : List Entry) → joint ≡ next s → entry ≡ entry_with joint r → tables ≡ with_table (λ t. fin.insert t r.own joint) s.tables r.seat → history ≡ s.history ++ entry ∷ [] → ◌≡◌ {A = State} (record { formula = s.formula; max_steps = s.max_steps; tables = tables; history = history }) (after s (commit_entry s r))
+committed_state s r joint entry tables history is made bound pushed =
+    same_state s.formula s.max_steps tables _ history _
+    (bound ∙ ap (λ (j : ℕ). with_table (λ (t : Table). fin.insert t r.own j) s.tables r.seat) is)
+    (pushed ∙ ap (λ (e : Entry). s.history ++ e ∷ []) (made ∙ ap (λ (j : ℕ). entry_with j r) is))

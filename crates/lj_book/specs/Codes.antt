@@ -1,0 +1,48 @@
+-- How a proof stores steps and entries.
+use Rattle.std.specs.Prelude.{◌≡◌, ℕ, List, Option, ◌⊎◌, refl}
+use Rattle.std.proofs.Common.{inl, inr}
+use Rattle.std.specs.Coded.{Coded, code_by, coded×, coded⊎, coded_list, coded_option, coded_ℕ}
+use Rattle.lj_clause.specs.Lemma.{LemmaValue, lemma_code}
+use Rattle.lj_clause.specs.Rat.{HintGroup, hint_group_code}
+use Rattle.lj_text.specs.declared.line.Addition.{Addition}
+use Rattle.lj_text.specs.declared.step.Step.{Step}
+use Rattle.lj_text.specs.declared.step.Step.TheVariants as steps
+use Rattle.lj_book.specs.declared.entry.Call.{Call}
+use Rattle.lj_book.specs.declared.entry.Call.TheVariants as calls
+use Rattle.lj_book.specs.declared.entry.Entry.{Entry}
+
+abbrev pub addition_code : Coded Addition
+addition_code = code_by (ℕ × (LemmaValue × (List ℕ × List HintGroup))) (coded× coded_ℕ (coded× lemma_code (coded× (coded_list coded_ℕ) (coded_list hint_group_code)))) (λ a. (a.number, (a.lemma, (a.hints, a.groups)))) (λ p. record { number = p.0; lemma = p.1.0; hints = p.1.1.0; groups = p.1.1.1 }) (λ _. refl)
+
+abbrev pub step_parts : Step → Addition ⊎ List ℕ
+step_parts (steps.Add a) = inl a
+step_parts (steps.Delete numbers) = inr numbers
+
+abbrev pub step_from : Addition ⊎ List ℕ → Step
+step_from (inl a) = steps.Add a
+step_from (inr numbers) = steps.Delete numbers
+
+abbrev pub step_back : (s : Step) → step_from (step_parts s) ≡ s
+step_back (steps.Add a) = refl
+step_back (steps.Delete numbers) = refl
+
+abbrev pub step_code : Coded Step
+step_code = code_by (Addition ⊎ List ℕ) (coded⊎ addition_code (coded_list coded_ℕ)) step_parts step_from step_back
+
+abbrev pub call_parts : Call → (ℕ × LemmaValue) ⊎ List ℕ
+call_parts (calls.Add own lemma) = inl (own, lemma)
+call_parts (calls.Drop numbers) = inr numbers
+
+abbrev pub call_from : (ℕ × LemmaValue) ⊎ List ℕ → Call
+call_from (inl p) = calls.Add p.0 p.1
+call_from (inr numbers) = calls.Drop numbers
+
+abbrev pub call_back : (c : Call) → call_from (call_parts c) ≡ c
+call_back (calls.Add own lemma) = refl
+call_back (calls.Drop numbers) = refl
+
+abbrev pub call_code : Coded Call
+call_code = code_by ((ℕ × LemmaValue) ⊎ List ℕ) (coded⊎ (coded× coded_ℕ lemma_code) (coded_list coded_ℕ)) call_parts call_from call_back
+
+abbrev pub entry_code : Coded Entry
+entry_code = code_by (ℕ × (Call × Option Step)) (coded× coded_ℕ (coded× call_code (coded_option step_code))) (λ e. (e.seat, (e.call, e.step))) (λ p. record { seat = p.0; call = p.1.0; step = p.1.1 }) (λ _. refl)

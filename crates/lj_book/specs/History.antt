@@ -1,0 +1,70 @@
+-- What an entry leaves, and when a history is legal.
+use Rattle.std.specs.Prelude.{◌≡◌, ℕ, ◌<◌, true, false, not, List, [], ◌∷◌, ◌++◌, Option, Some, None, filter}
+use Rattle.std.specs.FinMap as fin
+use Rattle.lj_clause.specs.Lemma.{LemmaValue}
+use Rattle.lj_text.specs.declared.step.Step.{Step}
+use Rattle.lj_text.specs.declared.step.Step.TheVariants as steps
+use Rattle.lj_text.specs.Steps.{is_accepted, IsRecorded}
+use Rattle.lj_text.specs.Needed.{if_some}
+use Rattle.lj_book.specs.declared.entry.Call.{Call}
+use Rattle.lj_book.specs.declared.entry.Call.TheVariants as calls
+use Rattle.lj_book.specs.declared.entry.Entry.{Entry}
+use Rattle.lj_book.specs.Tables.{Tables, is_here, is_bound, is_held, with_table, without_keys}
+use Rattle.lj_book.specs.State.{State, added, next, live, opening}
+
+-- the tables that a call leaves, where an addition takes this joint number
+abbrev pub tables_after : Tables → ℕ → ℕ → Call → Tables
+tables_after tables joint seat (calls.Add own lemma) = with_table (λ t. fin.insert t own joint) tables seat
+tables_after tables joint seat (calls.Drop numbers) = with_table (without_keys numbers) tables seat
+
+-- the numbers that are live and no longer are with these tables, rising
+abbrev pub died : State → Tables → List ℕ
+died s tables = filter (λ n. not (is_held tables n)) (fin.keys (live s))
+
+-- the state that an entry leaves
+abbrev pub after : State → Entry → State
+after s e = record s { tables = tables_after s.tables (next s) e.seat e.call; history = s.history ++ e ∷ [] }
+
+-- the state that a list of entries leaves
+abbrev pub after_all : State → List Entry → State
+after_all s [] = s
+after_all s (e ∷ es) = after_all (after s e) es
+
+-- The step adds the lemma under the next number, is accepted by the live clauses, and is in recorded form.
+abbrev pub IsAdditionOf : State → LemmaValue → Option Step → Type 0
+IsAdditionOf s lemma None = ⊥
+IsAdditionOf s lemma (Some (steps.Delete numbers)) = ⊥
+IsAdditionOf s lemma (Some (steps.Add a)) =
+    (a.number ≡ next s) × ((a.lemma ≡ lemma) × ((is_accepted (live s) (steps.Add a) ≡ true) × IsRecorded (live s) a))
+
+-- An addition is legal where the seat is there, its own number is unbound, and there is room for its step.
+pub record IsLegalAddition (s : State) (seat own : ℕ) (lemma : LemmaValue) (step : Option Step) : Type 0 where
+  pub here : is_here s.tables seat ≡ true
+  pub unbound : is_bound s.tables seat own ≡ false
+  pub room : added s.history < s.max_steps
+  pub addition : IsAdditionOf s lemma step
+
+-- A drop is legal where the seat is there and the step, if there is one, deletes what died.
+pub record IsLegalDrop (s : State) (seat : ℕ) (numbers : List ℕ) (step : Option Step) : Type 0 where
+  pub here : is_here s.tables seat ≡ true
+  pub deletes : step ≡ if_some (died s (with_table (without_keys numbers) s.tables seat))
+
+abbrev pub IsLegalCall : State → ℕ → Call → Option Step → Type 0
+IsLegalCall s seat (calls.Add own lemma) step = IsLegalAddition s seat own lemma step
+IsLegalCall s seat (calls.Drop numbers) step = IsLegalDrop s seat numbers step
+
+-- The entry is legal in the state.
+abbrev pub IsLegal : State → Entry → Type 0
+IsLegal s e = IsLegalCall s e.seat e.call e.step
+
+-- Each entry is legal in the state that those before it leave.
+abbrev pub AreLegal : State → List Entry → Type 0
+AreLegal s [] = Unit {0}
+AreLegal s (e ∷ es) = IsLegal s e × AreLegal (after s e) es
+
+-- A legal history leads from the opening with some seats to the state.
+pub record IsReached (s : State) : Type 0 where
+  pub seats : ℕ
+  pub some_seat : 0 < seats
+  pub legal : AreLegal (opening s.formula seats s.max_steps) s.history
+  pub leads : after_all (opening s.formula seats s.max_steps) s.history ≡ s

@@ -1,0 +1,264 @@
+//! The book.
+ghost use Rattle.std.specs.Prelude.{◌≡◌, ◌<◌, ◌+◌, length, OnOk, OnErr, IfOk, IfErr, option_copied, slice_get, is_some, IfSome, None, Some};
+ghost use Rattle.std.specs.FinMap as fin;
+ghost use Rattle.lj_clause.specs.ClauseMap.{formula_map};
+ghost use Rattle.lj_clause.specs.Truth.{IsSatisfiable};
+ghost use Rattle.lj_text.specs.Steps.{replay};
+ghost use Rattle.lj_text.specs.Needed.{if_some};
+ghost use Rattle.lj_book.specs.State.{State, opening, live, steps_of, verdict};
+ghost use Rattle.lj_book.specs.History.{IsReached, after};
+ghost use Rattle.lj_book.specs.Calls.{IsReply, drop_reply, drop_entry, commit_refusal, commit_told, commit_reply, commit_entry, answer_alone, take_reply};
+
+use crate::committing::{enter_clause, entry_with, first_stale, refuted_at};
+use crate::dying::{bury, no_longer_held, rising};
+use crate::entry::{Added, Call, Dropped, Entry};
+use crate::number_map::NumberMap;
+use crate::refusal::Refusal;
+use crate::seat_tables::SeatTables;
+use crate::taking::case_of;
+use crate::verified::Verified;
+use lj_clause::{Clause, Formula, NoMemory};
+use lj_hint::{Case, Receipt};
+use lj_text::{Addition, Numbers, Step};
+use std::alloc::Global;
+use std::marker::Model;
+
+/// A book of live clauses: a formula, the tables of its seats, and the history of the calls that were accepted.
+///
+/// A legal history leads to each state that it takes, and the live clauses are the replay of its steps.
+#[derive(Drop)]
+pub struct Book {
+    formula: Formula,
+    max_steps: u32,
+    tables: SeatTables,
+    /// The clause of each number that some seat holds.
+    clauses: NumberMap<Clause>,
+    history: Vec<Entry>,
+    /// The number of additions in the history.
+    added: u32,
+    /// The place of the first entry that adds the empty clause.
+    refuted: Option<u64>,
+}
+
+impl Model for Book {
+    ghost use Rattle.lj_book.specs.State.{State, state_code};
+    ghost use Rattle.lj_book.specs.Kept.{IsKept};
+
+    ghost Value = { State };
+
+    ghost coded = { state_code };
+
+    ghost view = { λ b. record { formula = b.formula; max_steps = b.max_steps; tables = b.tables; history = b.history.items } };
+
+    ghost invariant = { λ b. IsKept (record { formula = b.formula; max_steps = b.max_steps; tables = b.tables; history = b.history.items }) b.clauses b.added b.refuted };
+}
+
+impl Book {
+    /// A new book for so many seats, each of which holds the clauses of the formula under their numbers. Its history
+    /// takes at most `max_steps` additions.
+    ///
+    /// # Errors
+    /// [`NoMemory`] where a growth was refused.
+    pub fn open(
+        alloc: Global,
+        formula: Formula,
+        seats: u32,
+        max_steps: u32,
+    ) -> Result<Book, NoMemory>
+        requires { 0 < seats }
+        ensures { IfOk result (λ book. book ≡ opening formula seats max_steps) }
+    {
+        let clauses = clauses_of(alloc, &formula)?;
+        let tables = SeatTables::open(alloc, seats, formula.len() as u64)?;
+        Ok(Book {
+            formula,
+            max_steps,
+            tables,
+            clauses,
+            history: Vec::new(alloc),
+            added: 0,
+            refuted: None,
+        })
+    }
+
+    /// The formula that the book was opened with.
+    pub fn formula(&self) -> &Formula
+        ensures formula { result.now ≡ self.now.formula }
+        ensures reached { IsReached self.now }
+    {
+        &self.formula
+    }
+
+    /// The live clause of a joint number.
+    pub fn clause(&self, joint: u64) -> Option<&Clause>
+        ensures { option_copied result ≡ fin.get (live self.now) joint }
+    {
+        self.clauses.get(joint)
+    }
+
+    /// The number of entries in the history.
+    pub fn history_len(&self) -> u64
+        ensures len { result ≡ length self.now.history }
+        ensures replayed { replay (formula_map self.now.formula) (steps_of self.now.history) ≡ Some (live self.now) }
+        ensures satisfiable { IsSatisfiable (formula_map self.now.formula) → IsSatisfiable (live self.now) }
+    {
+        self.history.len() as u64
+    }
+
+    /// The entry at a place of the history, counted from 0.
+    pub fn entry(&self, place: u64) -> Option<&Entry>
+        ensures { option_copied result ≡ slice_get self.now.history place }
+    {
+        self.history.get(place as usize)
+    }
+
+    /// The place of the first entry that adds the empty clause.
+    pub fn verdict(&self) -> Option<u64>
+        ensures { result ≡ verdict self.now.history }
+    {
+        self.refuted
+    }
+
+    /// The formula, where the history has an empty clause: no assignment satisfies it.
+    ///
+    /// # Errors
+    /// [`NoMemory`] where a growth was refused.
+    pub fn verified(&self) -> Result<Option<Verified>, NoMemory>
+        ensures some { IfOk result (λ verified. is_some verified ≡ is_some (verdict self.now.history)) }
+        ensures formula { IfOk result (λ verified. IfSome verified (λ f. f ≡ self.now.formula)) }
+    {
+        if self.refuted.is_none() {
+            return Ok(None);
+        }
+        Ok(Some(Verified::new(self.formula.copy()?)))
+    }
+
+    /// An addition under the seat's numbers as a case in joint numbers, with the clauses that they name. It can be
+    /// tested without the book.
+    ///
+    /// # Errors
+    /// [`Refusal::SeatGone`], [`Refusal::NumberTaken`], [`Refusal::UnknownNumber`], [`Refusal::GroupRepeated`], and
+    /// [`Refusal::NoMemory`] where a growth was refused.
+    pub fn take(&self, seat: u32, addition: &Addition) -> Result<Case, Refusal>
+        ensures { IsReply result (take_reply self.now seat addition.now) }
+    {
+        if !self.tables.is_here(seat) {
+            return Err(Refusal::SeatGone);
+        }
+        if self.tables.is_bound(seat, addition.number) {
+            return Err(Refusal::NumberTaken);
+        }
+        let alloc = *self.history.allocator();
+        case_of(alloc, &self.tables, &self.clauses, seat, addition)
+    }
+
+    /// Enters the lemma of a receipt, while the clauses that it lists still live. Takes O(log n) time for each of them.
+    ///
+    /// # Errors
+    /// With the receipt: [`Refusal::SeatGone`], [`Refusal::NumberTaken`], [`Refusal::Stale`], [`Refusal::Full`], and
+    /// [`Refusal::NoMemory`] where a growth was refused.
+    pub fn commit(&mut self, receipt: Receipt) -> Result<Added, (Refusal, Receipt)>
+        ensures reply { IsReply (answer_alone result) (commit_reply self.old receipt) }
+        ensures ok { OnOk result (self.new ≡ after self.old (commit_entry self.old receipt)) }
+        ensures err { OnErr result (self.new ≡ self.old) }
+        ensures back { IfErr result (λ e. e.1 ≡ receipt) }
+    {
+        if let Some(refusal) = self.commit_refusal(&receipt) {
+            return Err((refusal, receipt));
+        }
+        match self.enter(&receipt) {
+            Ok(added) => Ok(added),
+            Err(NoMemory) => Err((Refusal::NoMemory, receipt)),
+        }
+    }
+
+    /// The first refusal of a commit that holds.
+    fn commit_refusal(&self, receipt: &Receipt) -> Option<Refusal>
+        ensures { result ≡ commit_refusal self.now receipt.now }
+    {
+        if !self.tables.is_here(receipt.seat()) {
+            return Some(Refusal::SeatGone);
+        }
+        if self.tables.is_bound(receipt.seat(), receipt.own()) {
+            return Some(Refusal::NumberTaken);
+        }
+        if let Some(joint) = first_stale(&self.clauses, receipt.listed()) {
+            return Some(Refusal::Stale(joint));
+        }
+        if self.added >= self.max_steps {
+            return Some(Refusal::Full);
+        }
+        None
+    }
+
+    /// Enters the lemma of a receipt that isn't refused.
+    fn enter(&mut self, receipt: &Receipt) -> Result<Added, NoMemory>
+        requires { commit_refusal self.old receipt.now ≡ None }
+        ensures told { IfOk result (λ added. added ≡ commit_told self.old) }
+        ensures ok { OnOk result (self.new ≡ after self.old (commit_entry self.old receipt.now)) }
+        ensures err { OnErr result (self.new ≡ self.old) }
+    {
+        let joint = self.formula.len() as u64 + 1 + u64::from(self.added);
+        let entry = entry_with(*self.history.allocator(), joint, receipt)?;
+        self.history.reserve(1)?;
+        enter_clause(&mut self.clauses, &mut self.tables, joint, receipt)?;
+        let place = self.history.len() as u64;
+        self.refuted = refuted_at(self.refuted, place, receipt.lemma().clause());
+        self.added += 1;
+        self.history.push(entry).unwrap();
+        Ok(Added { place, joint })
+    }
+
+    /// Gives own numbers of the seat up. Numbers that it doesn't hold are ignored, and one that stands twice counts
+    /// once. The clauses that no seat holds any more die in the same entry. Takes O(log n) time for each number.
+    ///
+    /// # Errors
+    /// [`Refusal::SeatGone`], and [`Refusal::NoMemory`] where a growth was refused.
+    pub fn drop_numbers(&mut self, seat: u32, numbers: &[u64]) -> Result<Dropped, Refusal>
+        ensures reply { IsReply result (drop_reply self.old seat numbers.now) }
+        ensures ok { OnOk result (self.new ≡ after self.old (drop_entry self.old seat numbers.now)) }
+        ensures err { OnErr result (self.new ≡ self.old) }
+    {
+        if !self.tables.is_here(seat) {
+            return Err(Refusal::SeatGone);
+        }
+        let alloc = *self.history.allocator();
+        let call = Call::Drop {
+            numbers: Numbers::new(Vec::from_slice(alloc, numbers)?),
+        };
+        let joints = rising(self.tables.joints(alloc, seat, numbers)?);
+        self.history.reserve(1)?;
+        let place = self.history.len() as u64;
+        let count = self.tables.unbind_all(seat, numbers);
+        let died = no_longer_held(&self.tables, joints);
+        bury(&mut self.clauses, &died);
+        let step = deletion_of(died);
+        self.history.push(Entry { seat, call, step }).unwrap();
+        Ok(Dropped { place, count })
+    }
+}
+
+/// The clauses of a formula under their numbers.
+fn clauses_of(alloc: Global, formula: &Formula) -> Result<NumberMap<Clause>, NoMemory>
+    ensures { IfOk result (λ clauses. clauses ≡ formula_map formula.now) }
+{
+    let mut clauses = NumberMap::new(alloc);
+    for number in 0..formula.len() as u64 {
+        if let Some(clause) = formula.clause(number + 1) {
+            clauses.insert(number + 1, clause.copy()?)?;
+        }
+    }
+    Ok(clauses)
+}
+
+/// The deletion of these numbers, if there are any.
+fn deletion_of(numbers: Vec<u64>) -> Option<Step>
+    ensures { result ≡ if_some numbers.items }
+{
+    if numbers.is_empty() {
+        return None;
+    }
+    Some(Step::Delete {
+        numbers: Numbers::new(numbers),
+    })
+}

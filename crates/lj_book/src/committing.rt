@@ -1,0 +1,104 @@
+//! What the commit of a receipt looks at and changes.
+ghost use Rattle.std.specs.Prelude.{◌≡◌, OnOk, OnErr, IfOk, None, true, false};
+ghost use Rattle.std.specs.FinMap as fin;
+ghost use Rattle.lj_hint.specs.Hints.{numbers};
+ghost use Rattle.lj_book.specs.Tables.{is_here, is_bound, with_table};
+ghost use Rattle.lj_book.specs.Calls.{is_live_as, first_stale, entry_with};
+ghost use Rattle.lj_book.specs.Kept.{refuted_after};
+
+use crate::entry::{Call, Entry};
+use crate::number_map::NumberMap;
+use crate::seat_tables::SeatTables;
+use lj_clause::{Clause, NoMemory};
+use lj_hint::{Pair, Receipt};
+use lj_text::{Addition, Groups, Numbers, Step};
+use std::alloc::Global;
+
+/// The number of the first pair that doesn't live with that very clause.
+pub fn first_stale(clauses: &NumberMap<Clause>, listed: &[Pair]) -> Option<u64>
+    ensures { result ≡ first_stale clauses.now listed.now }
+{
+    for pair in listed {
+        if !is_live_as(clauses, pair) {
+            return Some(pair.joint);
+        }
+    }
+    None
+}
+
+/// Whether the pair's number lives with that very clause.
+fn is_live_as(clauses: &NumberMap<Clause>, pair: &Pair) -> bool
+    ensures { result ≡ is_live_as clauses.now pair.now }
+{
+    match clauses.get(pair.joint) {
+        Some(clause) => clause.same(&pair.clause),
+        None => false,
+    }
+}
+
+/// The entry of a receipt's lemma under this number.
+///
+/// # Errors
+/// [`NoMemory`] where a growth was refused.
+pub fn entry_with(alloc: Global, number: u64, receipt: &Receipt) -> Result<Entry, NoMemory>
+    ensures { IfOk result (λ entry. entry ≡ entry_with number receipt.now) }
+{
+    let addition = Addition {
+        number,
+        lemma: receipt.lemma().copy()?,
+        hints: Numbers::new(numbers_of(alloc, receipt.listed())?),
+        groups: Groups::new(Vec::new(alloc)),
+    };
+    Ok(Entry {
+        seat: receipt.seat(),
+        call: Call::Add {
+            own: receipt.own(),
+            lemma: receipt.lemma().copy()?,
+        },
+        step: Some(Step::Add(addition)),
+    })
+}
+
+/// The numbers of these pairs.
+fn numbers_of(alloc: Global, pairs: &[Pair]) -> Result<Vec<u64>, NoMemory>
+    ensures { IfOk result (λ v. v.items ≡ numbers pairs.now) }
+{
+    Ok(pairs.iter().map(|pair| pair.joint).collect(alloc)?)
+}
+
+/// Gives the clause of a receipt's lemma this new number, and binds the receipt's own number to it: both, or neither.
+///
+/// # Errors
+/// [`NoMemory`] where a growth was refused.
+pub fn enter_clause(
+    clauses: &mut NumberMap<Clause>,
+    tables: &mut SeatTables,
+    joint: u64,
+    receipt: &Receipt,
+) -> Result<(), NoMemory>
+    requires here { is_here tables.old receipt.now.seat ≡ true }
+    requires unbound { is_bound tables.old receipt.now.seat receipt.now.own ≡ false }
+    requires new { fin.get clauses.old joint ≡ None }
+    ensures clauses { OnOk result (clauses.new ≡ fin.insert clauses.old joint receipt.now.lemma.clause) }
+    ensures tables { OnOk result (tables.new
+        ≡ with_table (λ t. fin.insert t receipt.now.own joint) tables.old receipt.now.seat) }
+    ensures err { OnErr result ((clauses.new ≡ clauses.old) × (tables.new ≡ tables.old)) }
+{
+    let clause = receipt.lemma().clause().copy()?;
+    clauses.insert(joint, clause)?;
+    if let Err(e) = tables.bind(receipt.seat(), receipt.own(), joint) {
+        clauses.remove(joint);
+        return Err(e);
+    }
+    Ok(())
+}
+
+/// The place of the first empty clause, where this clause enters at that place.
+pub fn refuted_at(refuted: Option<u64>, place: u64, clause: &Clause) -> Option<u64>
+    ensures { result ≡ refuted_after refuted place clause.now }
+{
+    match refuted {
+        Some(first) => Some(first),
+        None => clause.lits().is_empty().then_some(place),
+    }
+}

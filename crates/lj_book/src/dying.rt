@@ -1,0 +1,37 @@
+//! The clauses that die when numbers are given up.
+ghost use Rattle.std.specs.Prelude.{◌≡◌, ℕ, filter, not};
+ghost use Rattle.std.specs.List.Sorted.{IsStrictlySortedBy};
+ghost use Rattle.std.specs.Ordering.{nat_cmp};
+ghost use Rattle.lj_text.specs.Steps.{without};
+ghost use Rattle.lj_book.specs.Tables.{is_among, is_held};
+
+use crate::number_map::NumberMap;
+use crate::seat_tables::SeatTables;
+use lj_clause::Clause;
+
+/// The numbers, each once, rising.
+pub fn rising(mut numbers: Vec<u64>) -> Vec<u64>
+    ensures rising { IsStrictlySortedBy nat_cmp result.items }
+    ensures same { (n : ℕ) → is_among result.items n ≡ is_among numbers.items n }
+{
+    numbers.sort_unstable();
+    numbers.dedup();
+    numbers
+}
+
+/// Those of the numbers that no seat holds, in their order.
+pub fn no_longer_held(tables: &SeatTables, mut numbers: Vec<u64>) -> Vec<u64>
+    ensures { result.items ≡ filter (λ n. not (is_held tables.now n)) numbers.items }
+{
+    numbers.retain(|n| !tables.is_held(*n));
+    numbers
+}
+
+/// Takes the clauses of these numbers out.
+pub fn bury(clauses: &mut NumberMap<Clause>, numbers: &[u64])
+    ensures { clauses.new ≡ without clauses.old numbers.now }
+{
+    for &n in numbers {
+        clauses.remove(n);
+    }
+}

@@ -1,0 +1,245 @@
+//! The tables of the seats.
+ghost use Rattle.std.specs.Prelude.{◌≡◌, ℕ, ◌+◌, ◌^◌, ◌<◌, ◌≤◌, IsTrue, ◌↔◌, OnOk, OnErr, IfOk, is_some, option_copied, filter_map, Some, None, replicate, length, true, false};
+ghost use Rattle.std.specs.FinMap as fin;
+ghost use Rattle.lj_book.specs.Tables.{up_to, table_of, is_here, joint_of, is_bound, with_table, without_keys, is_held, keys_lost};
+ghost use Rattle.lj_book.specs.Holders.{count_at, one_if_at, all_up_to};
+
+use crate::number_map::NumberMap;
+use lj_clause::NoMemory;
+use std::alloc::Global;
+use std::marker::Model;
+
+/// The table of each seat, from own numbers to joint numbers, and none for a seat that has left.
+#[derive(Drop)]
+pub struct SeatTables {
+    seats: Vec<Option<NumberMap<u64>>>,
+    /// How many own numbers of all seats are bound to each joint number, so that none has to be looked for.
+    holders: NumberMap<u64>,
+}
+
+impl Model for SeatTables {
+    ghost use Rattle.lj_book.specs.Tables.{Tables, tables_code};
+    ghost use Rattle.lj_book.specs.Holders.{AreHolders};
+
+    ghost Value = { Tables };
+
+    ghost coded = { tables_code };
+
+    ghost view = { λ t. t.seats.items };
+
+    ghost invariant = { λ t. AreHolders t.seats.items t.holders };
+}
+
+impl SeatTables {
+    /// The tables of this many seats, in each of which the numbers from 1 on, as many as there are clauses, are bound
+    /// to themselves.
+    ///
+    /// # Errors
+    /// [`NoMemory`] where a growth was refused.
+    pub fn open(alloc: Global, seats: u32, clauses: u64) -> Result<SeatTables, NoMemory>
+        requires { clauses < 2 ^ 63 }
+        ensures { IfOk result (λ tables. tables ≡ replicate seats (Some (up_to clauses))) }
+    {
+        Ok(SeatTables {
+            seats: same_tables(alloc, seats, clauses)?,
+            holders: counts_up_to(alloc, clauses, u64::from(seats))?,
+        })
+    }
+
+    /// The number of seats, also of those that have left.
+    pub fn len(&self) -> usize
+        ensures { result ≡ length self.now }
+    {
+        self.seats.len()
+    }
+
+    /// Whether there is such a seat, and it hasn't left.
+    pub fn is_here(&self, seat: u32) -> bool
+        ensures { result ≡ is_here self.now seat }
+    {
+        table_in(&self.seats, seat).is_some()
+    }
+
+    /// The joint number that the seat's own number is bound to.
+    pub fn joint(&self, seat: u32, own: u64) -> Option<u64>
+        ensures { result ≡ joint_of self.now seat own }
+    {
+        let table = table_in(&self.seats, seat)?;
+        table.get(own).copied()
+    }
+
+    /// Whether the seat's own number is bound.
+    pub fn is_bound(&self, seat: u32, own: u64) -> bool
+        ensures { result ≡ is_bound self.now seat own }
+    {
+        self.joint(seat, own).is_some()
+    }
+
+    /// Whether some own number of a seat that hasn't left is bound to the joint number.
+    pub fn is_held(&self, joint: u64) -> bool
+        ensures { result ≡ is_held self.now joint }
+    {
+        count(&self.holders, joint) > 0
+    }
+
+    /// Binds an own number that isn't bound to a joint number.
+    ///
+    /// # Errors
+    /// [`NoMemory`] where a growth was refused, and for more bindings of one joint number than a `u64` counts, for
+    /// which no memory is there.
+    pub fn bind(&mut self, seat: u32, own: u64, joint: u64) -> Result<(), NoMemory>
+        requires here { is_here self.old seat ≡ true }
+        requires unbound { is_bound self.old seat own ≡ false }
+        ensures ok { OnOk result (self.new ≡ with_table (λ t. fin.insert t own joint) self.old seat) }
+        ensures err { OnErr result (self.new ≡ self.old) }
+    {
+        let at = seat as usize;
+        let held = count(&self.holders, joint);
+        let Some(held) = held.checked_add(1) else {
+            return Err(NoMemory);
+        };
+        match &mut self.seats[at] {
+            Some(table) => bind_in(table, &mut self.holders, own, joint, held),
+            None => Ok(()),
+        }
+    }
+
+    /// Gives an own number up. Answers whether it was bound.
+    pub fn unbind(&mut self, seat: u32, own: u64) -> bool
+        requires here { is_here self.old seat ≡ true }
+        ensures bound { result ≡ is_bound self.old seat own }
+        ensures removed { self.new ≡ with_table (λ t. fin.remove t own) self.old seat }
+    {
+        let at = seat as usize;
+        match &mut self.seats[at] {
+            Some(table) => unbind_in(table, &mut self.holders, own),
+            None => false,
+        }
+    }
+
+    /// Gives these own numbers up, and answers how many were bound. A number that stands twice counts once.
+    pub fn unbind_all(&mut self, seat: u32, numbers: &[u64]) -> u64
+        requires here { is_here self.old seat ≡ true }
+        ensures removed { self.new ≡ with_table (without_keys numbers.now) self.old seat }
+        ensures count { result ≡ keys_lost numbers.now (table_of self.old seat) }
+    {
+        let mut count = 0;
+        for &own in numbers {
+            if self.unbind(seat, own) {
+                count += 1;
+            }
+        }
+        count
+    }
+
+    /// The joint numbers that these own numbers are bound to, for those that are, in their order.
+    ///
+    /// # Errors
+    /// [`NoMemory`] where a growth was refused.
+    pub fn joints(&self, alloc: Global, seat: u32, numbers: &[u64]) -> Result<Vec<u64>, NoMemory>
+        ensures { IfOk result (λ joints. joints.items ≡ filter_map (joint_of self.now seat) numbers.now) }
+    {
+        let mut joints = Vec::new(alloc);
+        for &own in numbers {
+            if let Some(joint) = self.joint(seat, own) {
+                joints.push(joint)?;
+            }
+        }
+        Ok(joints)
+    }
+}
+
+/// One table for each seat, with the numbers up to that of the clauses bound to themselves.
+fn same_tables(
+    alloc: Global,
+    seats: u32,
+    clauses: u64,
+) -> Result<Vec<Option<NumberMap<u64>>>, NoMemory>
+    requires { clauses < 2 ^ 63 }
+    ensures { IfOk result (λ tables. tables.items ≡ replicate seats (Some (up_to clauses))) }
+{
+    let mut tables = Vec::new(alloc);
+    for _seat in 0..seats {
+        let table = numbers_up_to(alloc, clauses)?;
+        tables.push(Some(table))?;
+    }
+    Ok(tables)
+}
+
+/// The table that binds each number from 1 to this one to itself.
+fn numbers_up_to(alloc: Global, last: u64) -> Result<NumberMap<u64>, NoMemory>
+    requires { last < 2 ^ 63 }
+    ensures { IfOk result (λ table. table ≡ up_to last) }
+{
+    let mut table = NumberMap::new(alloc);
+    for number in 0..last {
+        table.insert(number + 1, number + 1)?;
+    }
+    Ok(table)
+}
+
+/// The same count at each number from 1 to this one.
+fn counts_up_to(alloc: Global, last: u64, count: u64) -> Result<NumberMap<u64>, NoMemory>
+    requires { last < 2 ^ 63 }
+    ensures { IfOk result (λ counts. counts ≡ all_up_to last count) }
+{
+    let mut counts = NumberMap::new(alloc);
+    for number in 0..last {
+        counts.insert(number + 1, count)?;
+    }
+    Ok(counts)
+}
+
+/// Binds the own number in the table, and sets the count of the joint number: both, or neither.
+fn bind_in(
+    table: &mut NumberMap<u64>,
+    holders: &mut NumberMap<u64>,
+    own: u64,
+    joint: u64,
+    held: u64,
+) -> Result<(), NoMemory>
+    requires { fin.get table.old own ≡ None }
+    ensures table { OnOk result (table.new ≡ fin.insert table.old own joint) }
+    ensures holders { OnOk result (holders.new ≡ fin.insert holders.old joint held) }
+    ensures err { OnErr result ((table.new ≡ table.old) × (holders.new ≡ holders.old)) }
+{
+    table.insert(own, joint)?;
+    if let Err(e) = holders.insert(joint, held) {
+        table.remove(own);
+        return Err(e);
+    }
+    Ok(())
+}
+
+/// Takes the own number out of the table, and one from the count of its joint number. Answers whether it was there.
+fn unbind_in(table: &mut NumberMap<u64>, holders: &mut NumberMap<u64>, own: u64) -> bool
+    requires { (joint : ℕ) → fin.get table.old own ≡ Some joint → 0 < count_at holders.old joint }
+    ensures bound { result ≡ fin.contains_key table.old own }
+    ensures table { table.new ≡ fin.remove table.old own }
+    ensures holders { (joint : ℕ) → count_at holders.old joint
+        ≡ one_if_at (fin.get table.old own) joint + count_at holders.new joint }
+{
+    let Some(joint) = table.remove(own) else {
+        return false;
+    };
+    let held = count(holders, joint);
+    let _ = holders.insert(joint, held - 1);
+    true
+}
+
+/// The table of a seat.
+fn table_in(seats: &[Option<NumberMap<u64>>], seat: u32) -> Option<&NumberMap<u64>>
+    ensures { option_copied result ≡ table_of seats.now seat }
+{
+    match seats.get(seat as usize) {
+        Some(table) => table.as_ref(),
+        None => None,
+    }
+}
+
+/// The count at a number, which is 0 where there is none.
+fn count(counts: &NumberMap<u64>, number: u64) -> u64
+    ensures { result ≡ count_at counts.now number }
+{
+    counts.get(number).copied().unwrap_or(0)
+}

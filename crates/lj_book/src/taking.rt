@@ -1,0 +1,140 @@
+//! An addition in joint numbers.
+ghost use Rattle.std.specs.Prelude.{◌≡◌, IfOk, []};
+ghost use Rattle.lj_hint.specs.Case.{groups_of};
+ghost use Rattle.lj_book.specs.Tables.{joint_of};
+ghost use Rattle.lj_book.specs.Calls.{IsReply, IsReplyBy, case_with, pair_in, pairs_of, group_pairs_of, repeated_after};
+
+use crate::number_map::NumberMap;
+use crate::refusal::Refusal;
+use crate::seat_tables::SeatTables;
+use lj_clause::{Clause, NoMemory};
+use lj_hint::{Case, Pair};
+use lj_text::{Addition, Group};
+use std::alloc::Global;
+
+/// The case of an addition, whose seat is there and whose own number is free.
+///
+/// # Errors
+/// [`Refusal::UnknownNumber`], [`Refusal::GroupRepeated`], and [`Refusal::NoMemory`] where a growth was refused.
+pub fn case_of(
+    alloc: Global,
+    tables: &SeatTables,
+    clauses: &NumberMap<Clause>,
+    seat: u32,
+    addition: &Addition,
+) -> Result<Case, Refusal>
+    ensures { IsReply result (case_with seat addition.now (repeated_after (joint_of tables.now seat) [] addition.now.groups)
+        (pairs_of (pair_in tables.now clauses.now seat) addition.now.hints)
+        (group_pairs_of (pair_in tables.now clauses.now seat) addition.now.groups)) }
+{
+    let hints = match pairs_of(alloc, tables, clauses, seat, addition.hints.as_slice()) {
+        Ok(hints) => hints,
+        Err(refusal) => return Err(refusal),
+    };
+    let groups = match group_pairs_of(alloc, tables, clauses, seat, addition.groups.as_slice()) {
+        Ok(groups) => groups,
+        Err(refusal) => return Err(refusal),
+    };
+    if let Some(own) = repeated_group(alloc, tables, seat, addition.groups.as_slice())? {
+        return Err(Refusal::GroupRepeated(own));
+    }
+    let lemma = addition.lemma.copy()?;
+    Ok(Case::new(seat, addition.number, lemma, hints, groups))
+}
+
+/// The joint number that the seat's own number is bound to, with its clause.
+///
+/// # Errors
+/// [`NoMemory`] where a growth was refused.
+fn pair_in(
+    tables: &SeatTables,
+    clauses: &NumberMap<Clause>,
+    seat: u32,
+    own: u64,
+) -> Result<Option<Pair>, NoMemory>
+    ensures { IfOk result (λ pair. pair ≡ pair_in tables.now clauses.now seat own) }
+{
+    let Some(joint) = tables.joint(seat, own) else {
+        return Ok(None);
+    };
+    let Some(clause) = clauses.get(joint) else {
+        return Ok(None);
+    };
+    let clause = clause.copy()?;
+    Ok(Some(Pair { joint, clause }))
+}
+
+/// The pairs of these own numbers.
+///
+/// # Errors
+/// [`Refusal::UnknownNumber`] of the first that the seat doesn't hold, and [`Refusal::NoMemory`] where a growth was
+/// refused.
+fn pairs_of(
+    alloc: Global,
+    tables: &SeatTables,
+    clauses: &NumberMap<Clause>,
+    seat: u32,
+    numbers: &[u64],
+) -> Result<Vec<Pair>, Refusal>
+    ensures { IsReplyBy (λ v. v.items) result (pairs_of (pair_in tables.now clauses.now seat) numbers.now) }
+{
+    let mut pairs = Vec::new(alloc);
+    for &own in numbers {
+        let Some(pair) = pair_in(tables, clauses, seat, own)? else {
+            return Err(Refusal::UnknownNumber(own));
+        };
+        pairs.push(pair)?;
+    }
+    Ok(pairs)
+}
+
+/// The pairs of the candidates and of their hints.
+///
+/// # Errors
+/// As [`pairs_of`], each candidate before its hints.
+fn group_pairs_of(
+    alloc: Global,
+    tables: &SeatTables,
+    clauses: &NumberMap<Clause>,
+    seat: u32,
+    groups: &[Group],
+) -> Result<Vec<(Pair, Vec<Pair>)>, Refusal>
+    ensures { IsReplyBy (λ v. groups_of v.items) result
+        (group_pairs_of (pair_in tables.now clauses.now seat) groups.now) }
+{
+    let mut pairs = Vec::new(alloc);
+    for group in groups {
+        let Some(candidate) = pair_in(tables, clauses, seat, group.candidate)? else {
+            return Err(Refusal::UnknownNumber(group.candidate));
+        };
+        match pairs_of(alloc, tables, clauses, seat, group.hints.as_slice()) {
+            Ok(hints) => pairs.push((candidate, hints))?,
+            Err(refusal) => return Err(refusal),
+        }
+    }
+    Ok(pairs)
+}
+
+/// The own number of the first group whose joint clause has an earlier group.
+///
+/// # Errors
+/// [`NoMemory`] where a growth was refused.
+fn repeated_group(
+    alloc: Global,
+    tables: &SeatTables,
+    seat: u32,
+    groups: &[Group],
+) -> Result<Option<u64>, NoMemory>
+    ensures { IfOk result (λ own. own ≡ repeated_after (joint_of tables.now seat) [] groups.now) }
+{
+    let mut seen: NumberMap<()> = NumberMap::new(alloc);
+    for group in groups {
+        if let Some(joint) = tables.joint(seat, group.candidate) {
+            if seen.contains_key(joint) {
+                return Ok(Some(group.candidate));
+            }
+            seen.insert(joint, ())?;
+        }
+    }
+    Ok(None)
+}
