@@ -2,5 +2,9 @@
 #![tactic(auto)]
 
 pub mod files;
+pub mod outcome;
+mod reading;
+mod stream;
 
 pub use files::{Files, MachineFiles, MemoryFile, MemoryFiles};
+pub use outcome::{End, LineEnd, Options, Outcome, ProofEnd, Report, RunFault};

@@ -1,0 +1,141 @@
+-- A run of one stream after another: what the lines of a stream make of a book's state.
+use Rattle.std.specs.Prelude.{◌≡◌, ℕ, ◌+◌, Bool, true, false, List, [], ◌∷◌, length, take, drop, Option, Some, None, Result, Ok, Err, is_some, option_and_then, slice_get, ℤ, if◌then◌else◌}
+use Rattle.lj_clause.specs.Walk.{Walk}
+use Rattle.lj_clause.specs.Walk as walk
+use Rattle.lj_text.specs.declared.line.Line.{Line}
+use Rattle.lj_text.specs.declared.line.Line.TheVariants.{Add, Delete, Import}
+use Rattle.lj_text.specs.declared.lines.fault.LineFaultKind.{LineFaultKind}
+use Rattle.lj_text.specs.declared.lines.fault.LineFaultKind.TheVariants as kinds
+use Rattle.lj_text.specs.Lines.{Said}
+use Rattle.lj_hint.specs.Case.{CaseValue, walk_of}
+use Rattle.lj_hint.specs.Receipt.{receipt_of}
+use Rattle.lj_book.specs.declared.refusal.Refusal.{Refusal}
+use Rattle.lj_book.specs.declared.refusal.Refusal.TheVariants as refusals
+use Rattle.lj_book.specs.State.{State, verdict}
+use Rattle.lj_book.specs.History.{after}
+use Rattle.lj_book.specs.Calls.{take_reply, commit_reply, commit_entry, drop_reply, drop_entry}
+use Rattle.lj_run.specs.declared.stream.Count.{Count}
+use Rattle.lj_run.specs.declared.stream.Count.TheVariants.{Addition, Deletion}
+use Rattle.lj_run.specs.declared.outcome.End.{End}
+use Rattle.lj_run.specs.declared.outcome.End.TheVariants.{Ended, Stopped, Line as AtLine}
+use Rattle.lj_run.specs.declared.outcome.LineEnd.{LineEnd}
+use Rattle.lj_run.specs.declared.outcome.LineEnd.TheVariants.{Fault, Refused, ReadFailed, NotYet}
+
+-- ---- one line
+
+-- the state after a call that has this reply
+abbrev pub if_accepted : {A : Type 0} → Result A Refusal → State → Result State LineEnd
+if_accepted (Ok reply) s = Ok s
+if_accepted (Err refusal) s = Err (Refused refusal)
+
+-- an addition whose walk stays open: the empty lemma is refused, and a pivot isn't tested yet
+abbrev pub left_open : Option ℤ → LineEnd
+left_open None = Refused refusals.EmptyOpen
+left_open (Some pivot) = NotYet
+
+-- a case that was taken, by the end of its walk: a closed one is committed with the hints that were read
+abbrev pub walked : State → CaseValue → Walk → Result State LineEnd
+walked s c (walk.Closed used) = let r = receipt_of c (length used) in if_accepted (commit_reply s r) (after s (commit_entry s r))
+walked s c (walk.Open held) = Err (left_open c.lemma.pivot)
+walked s c (walk.Stuck place) = Err (Refused (refusals.HintNotUnit place))
+
+abbrev pub taken : State → Result CaseValue Refusal → Result State LineEnd
+taken s (Ok c) = walked s c (walk_of c)
+taken s (Err refusal) = Err (Refused refusal)
+
+-- A stream's line given to the book: the state that it leaves, or why it isn't accepted.
+abbrev pub entered : State → ℕ → Line → Result State LineEnd
+entered s seat (Add a) = taken s (take_reply s seat a)
+entered s seat (Delete numbers) = if_accepted (drop_reply s seat numbers) (after s (drop_entry s seat numbers))
+entered s seat (Import number clause) = Err NotYet
+
+-- the answer that a line isn't accepted is right, unless memory ran out
+abbrev pub IsLineEnd : {A : Type 0} → LineEnd → Result A LineEnd → Type 0
+IsLineEnd (Refused refusals.NoMemory) reply = Unit {0}
+IsLineEnd end reply = reply ≡ Err end
+
+-- ---- the lines of a stream
+
+-- The state, and how many additions, deletions and imports the stream has made.
+pub record Progress : Type 0 where
+  pub state : State
+  pub added : ℕ
+  pub deleted : ℕ
+  pub imported : ℕ
+
+-- the progress of a stream without imports
+abbrev pub progress_of : State → ℕ → ℕ → Progress
+progress_of s added deleted = record { state = s; added = added; deleted = deleted; imported = 0 }
+
+-- what a line is counted as
+abbrev pub IsCounted : Line → Count → Type 0
+IsCounted (Add a) count = count ≡ Addition
+IsCounted (Delete numbers) count = count ≡ Deletion
+IsCounted (Import number clause) count = ⊥
+
+-- the progress with a line counted, and the state that it left
+abbrev pub counted : Progress → Line → State → Progress
+counted p (Add a) s = record p { state = s; added = p.added + 1 }
+counted p (Delete numbers) s = record p { state = s; deleted = p.deleted + 1 }
+counted p (Import number clause) s = record p { state = s; imported = p.imported + 1 }
+
+abbrev pub has_verdict : State → Bool
+has_verdict s = is_some (verdict s.history)
+
+abbrev pub if_entered : Progress → Line → Result State LineEnd → Option Progress
+if_entered p line (Ok s) = Some (counted p line s)
+if_entered p line (Err end) = None
+
+abbrev pub said_entered : ℕ → Progress → Result Line LineFaultKind → Option Progress
+said_entered seat p (Ok line) = if_entered p line (entered p.state seat line)
+said_entered seat p (Err kind) = None
+
+-- what lines leave, where none is at fault or refused and the verdict stands before none of them
+abbrev pub all_entered : ℕ → Progress → List Said → Option Progress
+all_entered seat p [] = Some p
+all_entered seat p (said ∷ more) = if has_verdict p.state then None else option_and_then (λ q. all_entered seat q more) (said_entered seat p said.says)
+
+-- ---- how a stream ends
+
+-- the first of the lines is this one, and its text has this fault; nothing is said of the want of memory
+abbrev pub MeetsFault : ℕ → LineFaultKind → List Said → Type 0
+MeetsFault n kinds.NoMemory rest = Unit {0}
+MeetsFault n kind rest = slice_get rest 0 ≡ Some (record { line = n; says = Err kind })
+
+-- The first of the lines is this one, and it isn't accepted for this reason.
+pub record MeetsRefusal (seat : ℕ) (s : State) (n : ℕ) (end : LineEnd) (rest : List Said) : Type 0 where
+  pub line : Line
+  pub first : slice_get rest 0 ≡ Some (record { line = n; says = Ok line })
+  pub refused : entered s seat line ≡ Err end
+
+abbrev pub MeetsRefused : ℕ → State → ℕ → Refusal → List Said → Type 0
+MeetsRefused seat s n refusals.NoMemory rest = Unit {0}
+MeetsRefused seat s n refusal rest = MeetsRefusal seat s n (Refused refusal) rest
+
+-- The line at which a stream ends, and why. That a read failed is told of the source, and not of its lines.
+abbrev pub EndsAtLine : ℕ → State → ℕ → LineEnd → List Said → Type 0
+EndsAtLine seat s n (Fault kind) rest = MeetsFault n kind rest
+EndsAtLine seat s n (Refused refusal) rest = MeetsRefused seat s n refusal rest
+EndsAtLine seat s n ReadFailed rest = Unit {0}
+EndsAtLine seat s n NotYet rest = MeetsRefusal seat s n NotYet rest
+
+-- a stream ends so in this state, with these lines still to come: at its end, before its next line where the verdict stands,
+-- or at that line
+abbrev pub EndsWith : ℕ → State → List Said → End → Type 0
+EndsWith seat s rest Ended = (rest ≡ []) × (has_verdict s ≡ false)
+EndsWith seat s rest Stopped = has_verdict s ≡ true
+EndsWith seat s rest (AtLine n end) = (has_verdict s ≡ false) × EndsAtLine seat s n end rest
+
+-- A seat's stream of these lines leads from one progress to the other, and ends so: its first lines are entered, each of them
+-- before the verdict, and the next one isn't.
+pub record IsRun (seat : ℕ) (lines : List Said) (start final : Progress) (end : End) : Type 0 where
+  pub count : ℕ
+  pub enters : all_entered seat start (take count lines) ≡ Some final
+  pub ends : EndsWith seat final.state (drop count lines) end
+
+-- a read failed
+abbrev pub IsReadFailure : End → Type 0
+IsReadFailure Ended = ⊥
+IsReadFailure Stopped = ⊥
+IsReadFailure (AtLine n ReadFailed) = Unit {0}
+IsReadFailure (AtLine n end) = ⊥
