@@ -16,7 +16,8 @@ use Rattle.lj_text.specs.CnfReading.{IsTold}
 use Rattle.lj_text.specs.CnfResuming.{resumed, Reads}
 use Rattle.lj_text.specs.CnfRead.{CnfRead, StandsAt, IsAnswer, IsFaultOf, Taken, is_no_memory}
 use Rattle.lj_text.specs.Cnf.{read_cnf, HasFault}
-use Rattle.std.specs.Prelude.{Some, None}
+use Rattle.std.specs.Prelude.{Some, None, ◌⊎◌}
+use Rattle.std.proofs.Common.{inl, inr}
 
 -- what was read of a piece so far, and what is left of it
 pub record Going (max n : ℕ) (old : State) (held piece : List ℕ) (state : State) (number : ℕ) (left rest : List ℕ) : Type 0 where
@@ -180,3 +181,17 @@ answered r text s new (Err fault) none reads end = λ m. whole r text s none ∙
 
 pub fault-again_end : (r : CnfRead) (text : List ℕ) (s : StandsAt r text) (fault : CnfFault) → IsFaultOf r.state (Some fault) → HasFault r.max text fault
 fault-again_end r text s fault is = ap (read_cnf r.max) (sym (append-nil text)) ∙ fault-again r text s fault is []
+
+-- a reading is a formula or a fault
+pub either : (read : Result FormulaValue CnfFault) → ((formula : FormulaValue) × (read ≡ Ok formula)) ⊎ ((fault : CnfFault) × (read ≡ Err fault))
+either (Ok formula) = inl (formula, refl)
+either (Err fault) = inr (fault, refl)
+
+pub not_both : (read : Result FormulaValue CnfFault) (formula : FormulaValue) (fault : CnfFault) → read ≡ Ok formula → read ≡ Err fault → ⊥
+not_both read formula fault e f = cc
+
+pub one_formula : (read : Result FormulaValue CnfFault) (formula other : FormulaValue) → read ≡ Ok formula → read ≡ Ok other → formula ≡ other
+one_formula read formula other e f = cc
+
+pub one_fault : (read : Result FormulaValue CnfFault) (fault other : CnfFault) → read ≡ Err fault → read ≡ Err other → fault ≡ other
+one_fault read fault other e f = cc

@@ -14,7 +14,7 @@ mod sink;
 mod source;
 mod step;
 
-pub use cnf::{CnfFault, CnfFaultKind, CnfReader};
+pub use cnf::{CnfFault, CnfFaultKind, CnfReader, spells_or_has_a_fault};
 pub use failing::{FailingSink, FailingSource};
 pub use in_pieces::InPieces;
 pub use line::{Addition, Line};
