@@ -107,6 +107,30 @@ fn add(
     Ok(reply(book, receipt)?)
 }
 
+fn assert_added(rt: &impl Abort, added: Added, place: u64, joint: u64) {
+    assert!(rt; added.place == place && added.joint == joint);
+}
+
+fn assert_dropped(rt: &impl Abort, dropped: Dropped, place: u64, count: u64) {
+    assert!(rt; dropped.place == place && dropped.count == count);
+}
+
+/// Asserts that the addition is refused so.
+fn assert_not_taken(rt: &impl Abort, book: &Book, seat: u32, line: &Addition, refusal: Refusal) {
+    let Err(told) = book.take(seat, line) else {
+        panic!(rt; "taken");
+    };
+    assert!(rt; told == refusal);
+}
+
+/// Asserts that the receipt is refused so.
+fn assert_not_entered(rt: &impl Abort, book: &mut Book, receipt: Receipt, refusal: Refusal) {
+    let Err((told, _)) = book.commit(receipt) else {
+        panic!(rt; "entered");
+    };
+    assert!(rt; told == refusal);
+}
+
 /// Asserts that the entry adds a lemma with so many literals under this joint number, with these hints.
 fn assert_adds(
     rt: &impl Abort,
@@ -119,13 +143,13 @@ fn assert_adds(
     let Some(entry) = entry else {
         panic!(rt; "no entry");
     };
-    assert_eq!(rt; entry.seat, seat);
+    assert!(rt; entry.seat == seat);
     let Some(Step::Add(addition)) = &entry.step else {
         panic!(rt; "no addition");
     };
-    assert_eq!(rt; addition.number, joint);
-    assert_eq!(rt; addition.lemma.clause().lits().len(), len);
-    assert_eq!(rt; addition.hints.as_slice(), hints);
+    assert!(rt; addition.number == joint);
+    assert!(rt; addition.lemma.clause().lits().len() == len);
+    assert!(rt; addition.hints.as_slice() == hints);
     assert!(rt; addition.groups.as_slice().is_empty());
 }
 
@@ -134,12 +158,23 @@ fn assert_drops(rt: &impl Abort, entry: Option<&Entry>, seat: u32, numbers: &[u6
     let Some(entry) = entry else {
         panic!(rt; "no entry");
     };
-    assert_eq!(rt; entry.seat, seat);
+    assert!(rt; entry.seat == seat);
     let Call::Drop { numbers: dropped } = &entry.call else {
         panic!(rt; "no drop");
     };
-    assert_eq!(rt; dropped.as_slice(), numbers);
+    assert!(rt; dropped.as_slice() == numbers);
     assert!(rt; entry.step.is_none());
+}
+
+/// Asserts that the entry deletes these joint numbers.
+fn assert_deletes(rt: &impl Abort, entry: Option<&Entry>, numbers: &[u64]) {
+    let Some(entry) = entry else {
+        panic!(rt; "no entry");
+    };
+    let Some(Step::Delete { numbers: deleted }) = &entry.step else {
+        panic!(rt; "no deletion");
+    };
+    assert!(rt; deleted.as_slice() == numbers);
 }
 
 /// A receipt isn't committed over a clause that died after its test: it would refute a satisfiable formula.
@@ -151,9 +186,9 @@ fn a_receipt_over_a_dead_clause_is_stale(rt: HostRuntime) -> Result<(), Fail> {
         let line = addition(alloc, 2, &[-1], &[1])?;
         let receipt = receipt(&rt, alloc, &book, 0, &line)?;
         let dropped = book.drop_numbers(0, &[1])?;
-        assert_eq!(rt; dropped, Dropped { place: 0, count: 1 });
-        assert_eq!(rt; reply(&mut book, receipt), Err(Refusal::Stale(1)));
-        assert_eq!(rt; book.history_len(), 1);
+        assert_dropped(&rt, dropped, 0, 1);
+        assert_not_entered(&rt, &mut book, receipt, Refusal::Stale(1));
+        assert!(rt; book.history_len() == 1);
     }
     Ok(())
 }
@@ -166,14 +201,13 @@ fn a_clause_lives_while_another_seat_holds_it(rt: HostRuntime) -> Result<(), Fai
     let first = receipt(&rt, alloc, &book, 0, &line)?;
     let second = receipt(&rt, alloc, &book, 0, &line)?;
     let third = receipt(&rt, alloc, &book, 0, &addition(alloc, 3, &[-1], &[1])?)?;
-    assert_eq!(rt;
-        book.drop_numbers(1, &[1]),
-        Ok(Dropped { place: 0, count: 1 })
-    );
+    let dropped = book.drop_numbers(1, &[1])?;
+    assert_dropped(&rt, dropped, 0, 1);
     assert!(rt; book.clause(1).is_some());
-    assert_eq!(rt; reply(&mut book, first), Ok(Added { place: 1, joint: 2 }));
-    assert_eq!(rt; reply(&mut book, second), Err(Refusal::NumberTaken));
-    assert_eq!(rt; reply(&mut book, third), Err(Refusal::Full));
+    let added = reply(&mut book, first)?;
+    assert_added(&rt, added, 1, 2);
+    assert_not_entered(&rt, &mut book, second, Refusal::NumberTaken);
+    assert_not_entered(&rt, &mut book, third, Refusal::Full);
     assert_drops(&rt, book.entry(0), 1, &[1]);
     assert_adds(&rt, book.entry(1), 0, 2, 1, &[1]);
     assert!(rt; book.entry(2).is_none());
@@ -184,12 +218,10 @@ fn a_clause_lives_while_another_seat_holds_it(rt: HostRuntime) -> Result<(), Fai
 fn a_drop_by_one_seat_is_no_step(rt: HostRuntime) -> Result<(), Fail> {
     let alloc = rt.alloc();
     let mut book = binary(&rt, alloc, 2, 9)?;
-    assert_eq!(rt;
-        book.drop_numbers(0, &[1]),
-        Ok(Dropped { place: 0, count: 1 })
-    );
+    let dropped = book.drop_numbers(0, &[1])?;
+    assert_dropped(&rt, dropped, 0, 1);
     let added = add(&rt, alloc, &mut book, 1, 5, &[2], &[1, 2])?;
-    assert_eq!(rt; added, Added { place: 1, joint: 5 });
+    assert_added(&rt, added, 1, 5);
     assert_drops(&rt, book.entry(0), 0, &[1]);
     assert_adds(&rt, book.entry(1), 1, 5, 1, &[1, 2]);
     Ok(())
@@ -200,17 +232,14 @@ fn numbers_that_are_taken_or_unknown_are_refused(rt: HostRuntime) -> Result<(), 
     let alloc = rt.alloc();
     let mut book = binary(&rt, alloc, 1, 9)?;
     let taken = addition(alloc, 4, &[2], &[1, 2])?;
-    assert_eq!(rt; book.take(0, &taken).err(), Some(Refusal::NumberTaken));
+    assert_not_taken(&rt, &book, 0, &taken, Refusal::NumberTaken);
     let unknown = addition(alloc, 5, &[2], &[9])?;
-    assert_eq!(rt;
-        book.take(0, &unknown).err(),
-        Some(Refusal::UnknownNumber(9))
-    );
+    assert_not_taken(&rt, &book, 0, &unknown, Refusal::UnknownNumber(9));
     let late = addition(alloc, 5, &[2], &[1, 2, 9])?;
-    assert_eq!(rt; book.take(0, &late).err(), Some(Refusal::UnknownNumber(9)));
-    assert_eq!(rt; book.take(1, &late).err(), Some(Refusal::SeatGone));
+    assert_not_taken(&rt, &book, 0, &late, Refusal::UnknownNumber(9));
+    assert_not_taken(&rt, &book, 1, &late, Refusal::SeatGone);
     let added = add(&rt, alloc, &mut book, 0, 9223372036854775807, &[2], &[1, 2])?;
-    assert_eq!(rt; added, Added { place: 0, joint: 5 });
+    assert_added(&rt, added, 0, 5);
     Ok(())
 }
 
@@ -218,27 +247,42 @@ fn numbers_that_are_taken_or_unknown_are_refused(rt: HostRuntime) -> Result<(), 
 #[test]
 fn two_groups_of_one_clause_are_refused(rt: HostRuntime) -> Result<(), Fail> {
     let alloc = rt.alloc();
+    let book = ternary(&rt, alloc)?;
+    let line = grouped(alloc, 2)?;
+    assert_not_taken(&rt, &book, 0, &line, Refusal::GroupRepeated(1));
+    let line = grouped(alloc, 9)?;
+    assert_not_taken(&rt, &book, 0, &line, Refusal::UnknownNumber(9));
+    Ok(())
+}
+
+/// The clauses `-1 2`, `2 3` and `-1 -3`.
+fn ternary(rt: &impl Abort, alloc: Global) -> Result<Book, Fail> {
     let mut clauses = Vec::new(alloc);
     clauses.push(clause(alloc, &[-1, 2])?)?;
     clauses.push(clause(alloc, &[2, 3])?)?;
     clauses.push(clause(alloc, &[-1, -3])?)?;
-    let book = opened(&rt, alloc, 3, clauses, 1, 9)?;
-    for (hint, refusal) in [
-        (2, Refusal::GroupRepeated(1)),
-        (9, Refusal::UnknownNumber(9)),
-    ] {
-        let mut groups = Vec::new(alloc);
-        for last in [2, hint] {
-            groups.push(Group {
-                candidate: 1,
-                hints: Numbers::new(Vec::from_slice(alloc, &[last])?),
-            })?;
-        }
-        let mut line = addition(alloc, 4, &[1, 3], &[])?;
-        line.groups = Groups::new(groups);
-        assert_eq!(rt; book.take(0, &line).err(), Some(refusal));
-    }
-    Ok(())
+    opened(rt, alloc, 3, clauses, 1, 9)
+}
+
+/// The lemma `1 3` with two groups for clause 1, of the hint 2 and of this one.
+fn grouped(alloc: Global, hint: u64) -> Result<Addition, NoMemory> {
+    let mut groups = Vec::new(alloc);
+    groups.push(group(alloc, 2)?)?;
+    groups.push(group(alloc, hint)?)?;
+    Ok(Addition {
+        number: 4,
+        lemma: Lemma::from_lits(alloc, &lits(alloc, &[1, 3])?)?,
+        hints: Numbers::new(Vec::new(alloc)),
+        groups: Groups::new(groups),
+    })
+}
+
+/// The group of this hint for clause 1.
+fn group(alloc: Global, hint: u64) -> Result<Group, NoMemory> {
+    Ok(Group {
+        candidate: 1,
+        hints: Numbers::new(Vec::from_slice(alloc, &[hint])?),
+    })
 }
 
 #[test]
@@ -246,7 +290,7 @@ fn hints_are_cut_at_the_closing_one(rt: HostRuntime) -> Result<(), Fail> {
     let alloc = rt.alloc();
     let mut book = binary(&rt, alloc, 1, 9)?;
     let added = add(&rt, alloc, &mut book, 0, 5, &[2], &[1, 2, 3])?;
-    assert_eq!(rt; added, Added { place: 0, joint: 5 });
+    assert_added(&rt, added, 0, 5);
     assert_adds(&rt, book.entry(0), 0, 5, 1, &[1, 2]);
     Ok(())
 }
@@ -255,23 +299,12 @@ fn hints_are_cut_at_the_closing_one(rt: HostRuntime) -> Result<(), Fail> {
 fn a_number_that_was_given_up_is_free(rt: HostRuntime) -> Result<(), Fail> {
     let alloc = rt.alloc();
     let mut book = binary(&rt, alloc, 1, 9)?;
-    assert_eq!(rt;
-        book.drop_numbers(0, &[1, 1, 9]),
-        Ok(Dropped { place: 0, count: 1 })
-    );
-    let Some(
-        Entry {
-            step: Some(Step::Delete { numbers }),
-            ..
-        },
-    ) = book.entry(0)
-    else {
-        panic!(&rt; "no deletion");
-    };
-    assert_eq!(rt; numbers.as_slice(), [1u64].as_slice());
+    let dropped = book.drop_numbers(0, &[1, 1, 9])?;
+    assert_dropped(&rt, dropped, 0, 1);
+    assert_deletes(&rt, book.entry(0), &[1]);
     assert!(rt; book.clause(1).is_none());
     let added = add(&rt, alloc, &mut book, 0, 1, &[-2], &[3, 4])?;
-    assert_eq!(rt; added, Added { place: 1, joint: 5 });
+    assert_added(&rt, added, 1, 5);
     assert_adds(&rt, book.entry(1), 0, 5, 1, &[3, 4]);
     Ok(())
 }
@@ -281,16 +314,16 @@ fn two_steps_refute_the_binary_clauses(rt: HostRuntime) -> Result<(), Fail> {
     let alloc = rt.alloc();
     let mut book = binary(&rt, alloc, 1, 9)?;
     add(&rt, alloc, &mut book, 0, 5, &[2], &[1, 2])?;
-    assert_eq!(rt; book.verdict(), None);
+    assert!(rt; book.verdict().is_none());
     assert!(rt; book.verified()?.is_none());
     let added = add(&rt, alloc, &mut book, 0, 6, &[], &[5, 3, 4])?;
-    assert_eq!(rt; added, Added { place: 1, joint: 6 });
+    assert_added(&rt, added, 1, 6);
     assert_adds(&rt, book.entry(1), 0, 6, 0, &[5, 3, 4]);
-    assert_eq!(rt; book.verdict(), Some(1));
+    assert!(rt; book.verdict() == Some(1));
     let Some(verified) = book.verified()? else {
         panic!(&rt; "not verified");
     };
-    assert_eq!(rt; verified.formula().len(), 4);
-    assert_eq!(rt; book.formula().len(), 4);
+    assert!(rt; verified.formula().len() == 4);
+    assert!(rt; book.formula().len() == 4);
     Ok(())
 }
