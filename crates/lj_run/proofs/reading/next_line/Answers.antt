@@ -15,9 +15,10 @@ returns-in-Ok-Some-clause-line g c = λ text given was.
     let e = ap (λ (o : Option _). Ok o) (sym is) ∙ c.in-Ok-Some.ensures.answer r.fed given r.stands none refl in
     let n = c.in-Ok-Some.ensures.at r.fed given r.stands none refl in
     let here = line_of_text c.loop.reader.max text given c.next-in-loop.new.self.at (last_number r.fed) c.loop.reader c.loop.ended rest r c.in-Ok-Some.line e n in
-    let stands = subst (λ o. StandsAt c.next-in-loop.new.self r.fed (given + handed_out (Ok o))) is (c.in-Ok-Some.ensures.stands r.fed given r.stands) in
-    (subst (λ m. slice_get (all_said m text) given ≡ Some (record { line = c.next-in-loop.new.self.at; says = Ok c.in-Ok-Some.line })) c.loop.invariant.max here,
-    reading-moved text given (given + 1) c.loop.reader c.next-in-loop.new.self c.loop.ended rest r stands)
+    let stands = subst (λ o. StandsAt c.next-in-loop.new.self r.fed (given + handed_out (Ok o))) is (c.in-Ok-Some.ensures.stands r.fed given r.stands) in (
+      subst (λ m. slice_get (all_said m text) given ≡ Some (record { line = c.next-in-loop.new.self.at; says = Ok c.in-Ok-Some.line })) c.loop.invariant.max here,
+      reading-moved text given (given + 1) c.loop.reader c.next-in-loop.new.self c.loop.ended rest r stands,
+    )
 
 pub returns-in-Err-next-clause-miss : goal.returns-in-Err-next-clause-miss
 returns-in-Err-next-clause-miss g c = λ text given was memory.
@@ -34,9 +35,10 @@ returns-in-Ok-clause-line g c = λ text given was.
     let at_end = subst (λ e. IsReading text given c.loop.reader e rest) c.if-ended.true r in
     let none = c.loop.invariant.may_read.no_fault in
     let here = last_of_text c.loop.reader.max text given c.finish.new.self.at (last_number at_end.fed) c.loop.reader rest at_end line (c.in-Ok.ensures.answer at_end.fed given at_end.stands none refl) (c.in-Ok.ensures.at at_end.fed given at_end.stands none refl) in
-    let stands = with_handed-is text given line c.finish.new.self r.fed (c.in-Ok.ensures.stands r.fed given r.stands) in
-    (subst (λ m. IsNext (all_said m text) given c.finish.new.self.at line) c.loop.invariant.max here,
-    reading-moved text given (with_handed given line) c.loop.reader c.finish.new.self c.loop.ended rest r stands)
+    let stands = with_handed-is text given line c.finish.new.self r.fed (c.in-Ok.ensures.stands r.fed given r.stands) in (
+      subst (λ m. IsNext (all_said m text) given c.finish.new.self.at line) c.loop.invariant.max here,
+      reading-moved text given (with_handed given line) c.loop.reader c.finish.new.self c.loop.ended rest r stands,
+    )
 
 pub returns-in-Err-clause-miss : goal.returns-in-Err-clause-miss
 returns-in-Err-clause-miss g c = λ text given was memory.
