@@ -1,12 +1,98 @@
-//! The lines of a stream, given to a book.
-ghost use Rattle.std.specs.Prelude.{◌≡◌, MatchResult, Ok};
+//! The run of one stream on a book.
+ghost use Rattle.std.specs.Prelude.{◌≡◌, ◌+◌, ◌<◌, MatchResult, Ok, IfSome};
+ghost use Rattle.lj_text.specs.Lines.{all_said};
 ghost use Rattle.lj_book.specs.Calls.{take_reply};
-ghost use Rattle.lj_run.specs.Run.{entered, taken, IsLineEnd, IsCounted};
+ghost use Rattle.lj_run.specs.Run.{entered, taken, IsLineEnd, IsCounted, IsRun, IsReadFailure, progress_of};
+ghost use Rattle.lj_run.specs.Tally.{with_count, with_end, missed_at};
 
-use crate::outcome::LineEnd;
+use crate::outcome::{End, LineEnd};
+use crate::reading::{Miss, next_line};
 use lj_book::{Book, Refusal};
+use lj_clause::MAX_VARIABLE;
 use lj_hint::{Marks, Tested};
-use lj_text::{Addition, Line};
+use lj_text::{Addition, Line, LineReader, Source};
+use std::alloc::Global;
+use std::sync::Wait;
+
+/// The most bytes that are pulled at a time.
+const PIECE: usize = 4096;
+
+/// What came of a stream: how many of its additions and deletions were accepted, and how it ended.
+#[derive(Clone, Copy, Debug)]
+pub(crate) struct Tally {
+    pub added: u64,
+    pub deleted: u64,
+    pub end: End,
+}
+
+/// Gives the lines of a source to the book, one after another, until the verdict stands, the source ends or a line
+/// isn't accepted.
+pub(crate) fn run_stream<R: Wait, S: Source>(
+    rt: &R,
+    alloc: Global,
+    book: &mut Book,
+    seat: u32,
+    source: &mut S,
+) -> Tally
+    requires { S.failures source.old ≡ 0 }
+    ensures run { IfSome (S.rest source.old) (λ text. IsRun seat (all_said MAX_VARIABLE text) (progress_of book.old 0 0) (progress_of book.new result.added result.deleted) result.end) }
+    ensures failed { IsReadFailure result.end → S.failures source.new ≡ 1 }
+{
+    let mut reader = LineReader::new(alloc, MAX_VARIABLE);
+    let mut marks = Marks::new(alloc);
+    let mut room = [0; PIECE];
+    let mut ended = false;
+    let mut tally = Tally {
+        added: 0,
+        deleted: 0,
+        end: End::Stopped,
+    };
+    for _ in rt.forever() {
+        if book.verdict().is_some() {
+            return tally.ending(End::Stopped);
+        }
+        let line = match next_line(rt, source, &mut reader, &mut ended, &mut room) {
+            Ok(Some(line)) => line,
+            Ok(None) => return tally.ending(End::Ended),
+            Err(miss) => return tally.ending(missed(miss, reader.at())),
+        };
+        match enter(book, seat, &line, &mut marks) {
+            Ok(count) => tally.count(count, book.history_len()),
+            Err(end) => return tally.ending(End::Line(reader.at(), end)),
+        }
+    }
+    unreachable!()
+}
+
+impl Tally {
+    /// Counts a line, which is one of so many entries.
+    fn count(&mut self, count: Count, entries: u64)
+        requires { self.old.added + self.old.deleted < entries }
+        ensures { self.new ≡ with_count self.old count }
+    {
+        match count {
+            Count::Addition => self.added += 1,
+            Count::Deletion => self.deleted += 1,
+        }
+    }
+
+    /// The tally of a stream that ended so.
+    fn ending(self, end: End) -> Tally
+        ensures { result ≡ with_end self end }
+    {
+        Tally { end, ..self }
+    }
+}
+
+/// The end of a stream whose next line is missed, where this line is being read.
+fn missed(miss: Miss, at: u64) -> End
+    ensures { result ≡ missed_at at miss }
+{
+    match miss {
+        Miss::Failed => End::Line(at, LineEnd::ReadFailed),
+        Miss::AtFault(fault) => End::Line(fault.line, LineEnd::Fault(fault.kind)),
+    }
+}
 
 /// What a line is counted as.
 #[derive(Clone, Copy, Debug)]
@@ -38,7 +124,12 @@ pub(crate) fn enter(
 }
 
 /// Takes an addition, tests it, and commits it where its first list of hints closes.
-fn add(book: &mut Book, seat: u32, addition: &Addition, marks: &mut Marks) -> Result<(), LineEnd>
+fn add(
+    book: &mut Book,
+    seat: u32,
+    addition: &Addition,
+    marks: &mut Marks,
+) -> Result<(), LineEnd>
     ensures { MatchResult result (λ _. taken book.old (take_reply book.old seat addition.now) ≡ Ok book.new) (λ end. (book.new ≡ book.old) × IsLineEnd end (taken book.old (take_reply book.old seat addition.now))) }
 {
     match book.take(seat, addition) {
