@@ -67,7 +67,7 @@ more_entered : (seat : ℕ) (p q : Progress) (xs : List Said) (said : Said) → 
 more_entered seat p q [] said e = let same : p ≡ q = cc in ap (λ r. all_entered seat r (said ∷ [])) same
 more_entered seat p q (x ∷ xs) said e =
     elim (has_verdict p.state) as (λ b. cond b None (option_and_then (λ r. all_entered seat r xs) (said_entered seat p x.says)) ≡ Some q
-        → cond b None (option_and_then (λ r. all_entered seat r (xs ++ said ∷ [])) (said_entered seat p x.says)) ≡ all_entered seat q (said ∷ [])) [
+    → cond b None (option_and_then (λ r. all_entered seat r (xs ++ said ∷ [])) (said_entered seat p x.says)) ≡ all_entered seat q (said ∷ [])) [
       | true ↦ λ is. cc
       | false ↦ λ is. elim (said_entered seat p x.says) as (λ o. option_and_then (λ r. all_entered seat r xs) o ≡ Some q → option_and_then (λ r. all_entered seat r (xs ++ said ∷ [])) o ≡ all_entered seat q (said ∷ [])) [
         | None ↦ λ none. cc

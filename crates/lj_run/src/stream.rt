@@ -124,12 +124,7 @@ pub(crate) fn enter(
 }
 
 /// Takes an addition, tests it, and commits it where its first list of hints closes.
-fn add(
-    book: &mut Book,
-    seat: u32,
-    addition: &Addition,
-    marks: &mut Marks,
-) -> Result<(), LineEnd>
+fn add(book: &mut Book, seat: u32, addition: &Addition, marks: &mut Marks) -> Result<(), LineEnd>
     ensures { MatchResult result (λ _. taken book.old (take_reply book.old seat addition.now) ≡ Ok book.new) (λ end. (book.new ≡ book.old) × IsLineEnd end (taken book.old (take_reply book.old seat addition.now))) }
 {
     match book.take(seat, addition) {

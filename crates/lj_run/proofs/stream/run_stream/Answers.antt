@@ -105,4 +105,3 @@ loop-preserved-in-Ok-2 g c =
           let on = runs_on c.args.seat text start c.loop.book c.enter.new.book c.loop.tally c.next_line.new.reader.at c.in-Ok-Some.line c.in-Ok.count r.given c.next_line.new.reader c.next_line.new.ended rest r.enters next reading v c.in-Ok.ensures.0 c.in-Ok.ensures.1 in
           subst (λ (t : Tally). RunsTo c.args.seat text start (progress_of c.enter.new.book t.added t.deleted) c.next_line.new.reader c.next_line.new.ended rest) (sym c.count.ensures) on;
     }
-
