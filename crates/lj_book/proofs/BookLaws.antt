@@ -1,20 +1,20 @@
 -- What a book keeps, over its calls.
-use Rattle.std.proofs.Common.{◌≡◌, ap, refl, sym, ◌∙◌, ℕ, ◌+◌, ◌<◌, Bool, true, false, arith}
-use Rattle.std.specs.Prelude.{List, [], ◌∷◌, ◌++◌, length, Option, Some, None, filter, filter_map, not, ◌||◌, if◌then◌else◌, is_some}
+use Rattle.std.proofs.Common.{◌≡◌, ap, refl, sym, ◌∙◌, subst, ℕ, ◌+◌, ◌<◌, Bool, true, false, arith}
+use Rattle.std.specs.Prelude.{List, [], ◌∷◌, ◌++◌, length, Option, Some, None, filter, filter_map, not, ◌||◌, ◌&&◌, if◌then◌else◌, is_some}
 use Rattle.std.specs.List.{cons_option, list_any}
 use Rattle.std.specs.List.Sorted.{IsStrictlySortedBy}
 use Rattle.std.proofs.lemmas.Bool.{false≢true, and_from}
 use Rattle.std.specs.Ordering.{nat_cmp}
 use Rattle.lj_clause.specs.ClauseMap.{ClauseMap, FormulaValue, formula_map}
 use Rattle.lj_text.specs.declared.step.Step.{Step}
-use Rattle.lj_text.specs.Steps.{without, adds_empty, replay}
+use Rattle.lj_text.specs.Steps.{without, adds_empty, replay, refutes}
 use Rattle.lj_text.proofs.StepLaws.{unsatisfiable-refutes}
 use Rattle.lj_text.specs.Needed.{additions, if_some}
 use Rattle.lj_book.specs.declared.entry.Call.TheVariants as calls
 use Rattle.lj_book.specs.declared.entry.Entry.{Entry}
 use Rattle.lj_book.specs.Tables.{Tables, is_here, joint_of, is_held, is_among, with_table, without_keys}
-use Rattle.lj_book.specs.State.{State, steps_of, opening, is_refutation, verdict_from, verdict, IsUnsatisfiable}
-use Rattle.lj_book.specs.History.{died, after}
+use Rattle.lj_book.specs.State.{State, steps_of, live, opening, is_refutation, verdict_from, verdict, IsUnsatisfiable}
+use Rattle.lj_book.specs.History.{died, after, IsReached}
 use Rattle.lj_book.specs.Calls.{drop_entry}
 use Rattle.lj_book.specs.Kept.{IsKept}
 use Rattle.lj_book.proofs.HistoryLaws.{IsSound, IsSound-reached, IsReached-opening, IsReached-after, live-opening, live-drop, steps_of-push, additions-append, none_added, has_table}
@@ -109,23 +109,36 @@ dropped_state s seat numbers written dead tables step history is same found step
     ∙ ap (λ (ns : List ℕ). s.history ++ record { seat = seat; call = calls.Drop ns; step = step } ∷ []) same
     ∙ ap (λ (o : Option Step). s.history ++ record { seat = seat; call = calls.Drop numbers; step = o } ∷ []) (step_is ∙ ap if_some found))
 
+-- ---- the steps
+
+-- the live clauses are the replay of the steps
+pub replayed : (s t : State) → s ≡ t → IsReached s → replay (formula_map t.formula) (steps_of t.history) ≡ Some (live t)
+replayed s t is reached = subst (λ (u : State). replay (formula_map u.formula) (steps_of u.history) ≡ Some (live u)) is (IsSound-reached s reached).replayed
+
 -- ---- the verdict
 
-empty_among : (n : ℕ) (es : List Entry) → is_some (verdict_from n es) ≡ true → list_any adds_empty (steps_of es) ≡ true
-empty_among n [] h = absurd (false≢true h)
-empty_among n (e ∷ es) h = go e.step (verdict_from (n + 1) es) (empty_among (n + 1) es) h
+empty_among : (n : ℕ) (es : List Entry) → is_some (verdict_from n es) ≡ list_any adds_empty (steps_of es)
+empty_among n [] = refl
+empty_among n (e ∷ es) = go e.step (verdict_from (n + 1) es) (empty_among (n + 1) es)
   where
-    go : (o : Option Step) (later : Option ℕ) → (is_some later ≡ true → list_any adds_empty (steps_of es) ≡ true) → is_some (if is_refutation o then Some n else later) ≡ true → list_any adds_empty (cons_option o (steps_of es)) ≡ true
-    go None later f h = f h
-    go (Some x) later f h =
-        elim (adds_empty x) as (λ b. is_some (if b then Some n else later) ≡ true → (b || list_any adds_empty (steps_of es)) ≡ true) [
-          | true ↦ λ g. refl
-          | false ↦ λ g. f g
-        ] h
+    go : (o : Option Step) (later : Option ℕ) → is_some later ≡ list_any adds_empty (steps_of es) → is_some (if is_refutation o then Some n else later) ≡ list_any adds_empty (cons_option o (steps_of es))
+    go None later e = e
+    go (Some x) later e = elim (adds_empty x) as (λ b. is_some (if b then Some n else later) ≡ (b || list_any adds_empty (steps_of es))) [ true ↦ refl | false ↦ e ]
+
+-- there is a verdict exactly where the steps refute the formula
+pub verdict_refutes : (s : State) → IsReached s → is_some (verdict s.history) ≡ refutes s.formula (steps_of s.history)
+verdict_refutes s reached =
+    empty_among 0 s.history
+    ∙ sym (ap (λ (o : Option ClauseMap). is_some o && list_any adds_empty (steps_of s.history)) (replayed s s refl reached))
+
+-- the place that is kept tells it
+pub told_refutes : (s t : State) (m : ClauseMap) (count : ℕ) (refuted : Option ℕ) → s ≡ t → IsKept s m count refuted → is_some refuted ≡ refutes t.formula (steps_of t.history)
+told_refutes s t m count refuted is kept =
+    ap is_some kept.first_empty ∙ verdict_refutes s kept.reached ∙ ap (λ (u : State). refutes u.formula (steps_of u.history)) is
 
 -- with a verdict the formula is unsatisfiable
 pub refuted_unsatisfiable : (s : State) (m : ClauseMap) (count : ℕ) (refuted : Option ℕ) → IsKept s m count refuted → is_some refuted ≡ true → IsUnsatisfiable s.formula
 refuted_unsatisfiable s m count refuted kept h =
     let replayed = (IsSound-reached s kept.reached).replayed in
-    let empty = empty_among 0 s.history (ap is_some (sym kept.first_empty) ∙ h) in
+    let empty = sym (empty_among 0 s.history) ∙ ap is_some (sym kept.first_empty) ∙ h in
     unsatisfiable-refutes s.formula (steps_of s.history) (and_from (is_some (replay (formula_map s.formula) (steps_of s.history))) (list_any adds_empty (steps_of s.history)) (ap is_some replayed) empty)

@@ -3,7 +3,7 @@ ghost use Rattle.std.specs.Prelude.{◌≡◌, ◌<◌, ◌+◌, length, OnOk, O
 ghost use Rattle.std.specs.FinMap as fin;
 ghost use Rattle.lj_clause.specs.ClauseMap.{formula_map};
 ghost use Rattle.lj_clause.specs.Truth.{IsSatisfiable};
-ghost use Rattle.lj_text.specs.Steps.{replay};
+ghost use Rattle.lj_text.specs.Steps.{replay, refutes};
 ghost use Rattle.lj_text.specs.Needed.{if_some};
 ghost use Rattle.lj_book.specs.State.{State, opening, live, steps_of, verdict};
 ghost use Rattle.lj_book.specs.History.{IsReached, after};
@@ -126,11 +126,26 @@ impl Book {
     pub fn verified(&self) -> Result<Option<Verified>, NoMemory>
         ensures some { IfOk result (λ verified. is_some verified ≡ is_some (verdict self.now.history)) }
         ensures formula { IfOk result (λ verified. IfSome verified (λ f. f ≡ self.now.formula)) }
+        ensures refuted { IfOk result (λ verified. is_some verified ≡ refutes self.now.formula (steps_of self.now.history)) }
     {
         if self.refuted.is_none() {
             return Ok(None);
         }
         Ok(Some(Verified::new(self.formula.copy()?)))
+    }
+
+    /// The steps of the history, in order, by value.
+    ///
+    /// # Errors
+    /// [`NoMemory`] where a growth was refused.
+    pub fn into_steps(self) -> Result<Vec<Step>, NoMemory>
+        ensures steps { IfOk result (λ steps. steps.items ≡ steps_of self.history) }
+        ensures reached { IsReached self }
+        ensures replayed { replay (formula_map self.formula) (steps_of self.history) ≡ Some (live self) }
+    {
+        let alloc = *self.history.allocator();
+        let steps = self.history.into_iter().filter_map(|entry| entry.step);
+        Ok(steps.collect(alloc)?)
     }
 
     /// An addition under the seat's numbers as a case in joint numbers, with the clauses that they name. It can be

@@ -1,2 +1,4 @@
+mod FormulaLemmas
+mod InTurnLemmas
 mod ReadingLemmas
 mod RunLemmas

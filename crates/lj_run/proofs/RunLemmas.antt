@@ -1,6 +1,6 @@
 -- The steps of a stream's run.
-use Rattle.std.proofs.Common.{◌≡◌, ℕ, zero, suc, ◌+◌, ◌<◌, ◌≤◌, Bool, true, false, cond, List, [], ◌∷◌, ◌++◌, length, take, drop, Option, None, Some, Result, Ok, Err, refl, sym, ap, ◌∙◌, subst, arith, add-one, length-append}
-use Rattle.std.specs.Prelude.{ℤ, IfSome, slice_get, option_and_then, is_some}
+use Rattle.std.proofs.Common.{◌≡◌, ℕ, zero, suc, ◌+◌, Bool, true, false, cond, List, [], ◌∷◌, ◌++◌, length, take, drop, Option, None, Some, Result, Ok, Err, refl, sym, ap, ◌∙◌, arith, add-one, length-append}
+use Rattle.std.specs.Prelude.{ℤ, IfSome, slice_get, option_and_then}
 use Rattle.std.proofs.lemmas.Bool.{false≢true}
 use Rattle.lj_clause.specs.Walk as walk
 use Rattle.lj_text.specs.declared.line.Line.{Line}
@@ -33,13 +33,11 @@ use Rattle.lj_run.specs.Run.{if_accepted, walked, taken, entered, Progress, prog
 -- ---- an entered line makes one entry
 
 OneMore : State → State → Type 0
-OneMore s t = length t.history ≡ length s.history + 1
+OneMore s t = (e : Entry) × (after s e ≡ t)
 
 one_accepted : {A : Type 0} (r : Result A Refusal) (s t : State) (e : Entry) → if_accepted r (after s e) ≡ Ok t → OneMore s t
 unfolding OneMore
-one_accepted (Ok x) s t e is =
-    let same : after s e ≡ t = cc in
-    ap (λ (u : State). length u.history) (sym same) ∙ length-append s.history (e ∷ [])
+one_accepted (Ok x) s t e is = (e, cc)
 one_accepted (Err refusal) s t e is = cc
 
 one_walked : (s t : State) (c : CaseValue) (w : walk.Walk) → walked s c w ≡ Ok t → OneMore s t
@@ -58,7 +56,13 @@ one_entered s t seat (Import number clause) is = cc
 
 pub entered_longer : (s t : State) (seat : ℕ) (line : Line) → entered s seat line ≡ Ok t → length t.history ≡ length s.history + 1
 unfolding OneMore
-entered_longer s t seat line is = one_entered s t seat line is
+entered_longer s t seat line is =
+    let more = one_entered s t seat line is in
+    ap (λ (u : State). length u.history) (sym more.1) ∙ length-append s.history (more.0 ∷ [])
+
+pub entered_formula : (s t : State) (seat : ℕ) (line : Line) → entered s seat line ≡ Ok t → t.formula ≡ s.formula
+unfolding OneMore
+entered_formula s t seat line is = ap (λ (u : State). u.formula) (sym (one_entered s t seat line is).1)
 
 -- ---- one line more
 

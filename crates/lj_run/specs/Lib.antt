@@ -1,4 +1,6 @@
 pub mod Files
+pub mod FormulaReading
+pub mod InTurn
 pub mod Reading
 pub mod Run
 pub mod Tally

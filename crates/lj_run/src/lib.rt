@@ -2,9 +2,11 @@
 #![tactic(auto)]
 
 pub mod files;
+mod in_turn;
 pub mod outcome;
 mod reading;
 mod stream;
 
 pub use files::{Files, MachineFiles, MemoryFile, MemoryFiles};
+pub use in_turn::run_in_turn;
 pub use outcome::{End, LineEnd, Options, Outcome, ProofEnd, Report, RunFault};

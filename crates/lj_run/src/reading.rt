@@ -1,10 +1,78 @@
-//! The lines of a stream, read from its source in pieces.
-ghost use Rattle.std.specs.Prelude.{◌≡◌, ◌<◌, ℕ, List, length, false, OnOk, IfOk, IfErr, MatchResult};
+//! Formulas and the lines of streams, read from their sources in pieces.
+ghost use Rattle.std.specs.Prelude.{◌≡◌, ◌<◌, ℕ, List, [], length, true, false, Some, IfSome, OnOk, OnErr, IfOk, IfErr, MatchResult};
+ghost use Rattle.lj_text.specs.Cnf.{Spells};
 ghost use Rattle.lj_text.specs.Lines.{all_said};
+ghost use Rattle.lj_run.specs.FormulaReading.{IsReadingFormula, IsFormulaFault, IsFaultAtEnd};
 ghost use Rattle.lj_run.specs.Reading.{MayRead, IsReading, IsNext, with_handed, IsMiss, CountsFailure, IsPieceMiss};
 
-use lj_text::{Line, LineFault, LineReader, Source};
+use crate::outcome::RunFault;
+use lj_clause::{Formula, MAX_VARIABLE};
+use lj_text::{CnfFaultKind, CnfReader, Line, LineFault, LineReader, Source, SourceFault};
+use std::alloc::Global;
 use std::sync::Wait;
+
+/// The most bytes that are pulled at a time.
+pub(crate) const PIECE: usize = 4096;
+
+/// The formula that a source's bytes spell. A source that has failed is told before a fault of its text.
+pub(crate) fn read_formula<R: Wait, F: Source>(
+    rt: &R,
+    alloc: Global,
+    source: &mut F,
+) -> Result<Formula, RunFault>
+    requires { F.failures source.old ≡ 0 }
+    ensures formula { IfOk result (λ formula. IfSome (F.rest source.old) (λ text. Spells MAX_VARIABLE text formula)) }
+    ensures fault { IfErr result (IsFormulaFault (F.rest source.old) (F.failures source.new)) }
+{
+    let mut reader = CnfReader::new(alloc, MAX_VARIABLE);
+    let mut room = [0; PIECE];
+    for _ in rt.forever() {
+        match pull_formula(source, &mut reader, &mut room) {
+            Ok(true) => return finish_formula(reader),
+            Ok(false) => {}
+            Err(SourceFault) => return Err(RunFault::FormulaRead),
+        }
+    }
+    unreachable!()
+}
+
+/// Pulls a piece and feeds it on, and tells whether the source has ended. A fault of the text is kept by the reader.
+fn pull_formula<F: Source>(
+    source: &mut F,
+    reader: &mut CnfReader,
+    room: &mut [u8],
+) -> Result<bool, SourceFault>
+    requires room { 0 < length room.old }
+    requires unfailed { F.failures source.old ≡ 0 }
+
+    ensures onward { IfOk result (λ ended. (text : List ℕ) → IsReadingFormula text reader.old (F.rest source.old)
+        → IsReadingFormula text reader.new (F.rest source.new) × (ended ≡ true → F.rest source.new ≡ Some [])) }
+
+    ensures unfailed { OnOk result (F.failures source.new ≡ 0) }
+    ensures failed { OnErr result (F.failures source.new ≡ 1) }
+    ensures max { reader.new.max ≡ reader.old.max }
+{
+    let count = source.pull(room)?;
+    if count == 0 {
+        return Ok(true);
+    }
+    let _ = reader.feed(&room[..count]);
+    Ok(false)
+}
+
+/// The formula that a reader was fed, once its source has ended.
+fn finish_formula(reader: CnfReader) -> Result<Formula, RunFault>
+    ensures formula { IfOk result (λ formula. (text : List ℕ) → IsReadingFormula text reader (Some []) → Spells reader.max text formula) }
+    ensures fault { IfErr result (IsFaultAtEnd reader) }
+{
+    match reader.finish() {
+        Ok(formula) => Ok(formula),
+        Err(fault) => match fault.kind {
+            CnfFaultKind::NoMemory => Err(RunFault::NoMemory),
+            _ => Err(RunFault::Formula(fault)),
+        },
+    }
+}
 
 /// Why there is no next line.
 #[derive(Clone, Copy, Debug)]

@@ -2,20 +2,17 @@
 ghost use Rattle.std.specs.Prelude.{◌≡◌, ◌+◌, ◌<◌, MatchResult, Ok, IfSome};
 ghost use Rattle.lj_text.specs.Lines.{all_said};
 ghost use Rattle.lj_book.specs.Calls.{take_reply};
-ghost use Rattle.lj_run.specs.Run.{entered, taken, IsLineEnd, IsCounted, IsRun, IsReadFailure, progress_of};
+ghost use Rattle.lj_run.specs.Run.{entered, taken, IsLineEnd, IsCounted, IsRun, IsReadFailure, progress_of, has_verdict};
 ghost use Rattle.lj_run.specs.Tally.{with_count, with_end, missed_at};
 
 use crate::outcome::{End, LineEnd};
-use crate::reading::{Miss, next_line};
+use crate::reading::{Miss, PIECE, next_line};
 use lj_book::{Book, Refusal};
 use lj_clause::MAX_VARIABLE;
 use lj_hint::{Marks, Tested};
 use lj_text::{Addition, Line, LineReader, Source};
 use std::alloc::Global;
 use std::sync::Wait;
-
-/// The most bytes that are pulled at a time.
-const PIECE: usize = 4096;
 
 /// What came of a stream: how many of its additions and deletions were accepted, and how it ended.
 #[derive(Clone, Copy, Debug)]
@@ -37,6 +34,7 @@ pub(crate) fn run_stream<R: Wait, S: Source>(
     requires { S.failures source.old ≡ 0 }
     ensures run { IfSome (S.rest source.old) (λ text. IsRun seat (all_said MAX_VARIABLE text) (progress_of book.old 0 0) (progress_of book.new result.added result.deleted) result.end) }
     ensures failed { IsReadFailure result.end → S.failures source.new ≡ 1 }
+    ensures formula { book.new.formula ≡ book.old.formula }
 {
     let mut reader = LineReader::new(alloc, MAX_VARIABLE);
     let mut marks = Marks::new(alloc);
@@ -48,7 +46,7 @@ pub(crate) fn run_stream<R: Wait, S: Source>(
         end: End::Stopped,
     };
     for _ in rt.forever() {
-        if book.verdict().is_some() {
+        if is_done(book) {
             return tally.ending(End::Stopped);
         }
         let line = match next_line(rt, source, &mut reader, &mut ended, &mut room) {
@@ -56,12 +54,19 @@ pub(crate) fn run_stream<R: Wait, S: Source>(
             Ok(None) => return tally.ending(End::Ended),
             Err(miss) => return tally.ending(missed(miss, reader.at())),
         };
-        match enter(book, seat, &line, &mut marks) {
+        match enter(book, seat, line, &mut marks) {
             Ok(count) => tally.count(count, book.history_len()),
             Err(end) => return tally.ending(End::Line(reader.at(), end)),
         }
     }
     unreachable!()
+}
+
+/// Whether the verdict stands, so that no more lines are read.
+fn is_done(book: &Book) -> bool
+    ensures { result ≡ has_verdict book.now }
+{
+    book.verdict().is_some()
 }
 
 impl Tally {
@@ -105,13 +110,13 @@ pub(crate) enum Count {
 pub(crate) fn enter(
     book: &mut Book,
     seat: u32,
-    line: &Line,
+    line: Line,
     marks: &mut Marks,
 ) -> Result<Count, LineEnd>
-    ensures { MatchResult result (λ count. (entered book.old seat line.now ≡ Ok book.new) × IsCounted line.now count) (λ end. (book.new ≡ book.old) × IsLineEnd end (entered book.old seat line.now)) }
+    ensures { MatchResult result (λ count. (entered book.old seat line ≡ Ok book.new) × IsCounted line count) (λ end. (book.new ≡ book.old) × IsLineEnd end (entered book.old seat line)) }
 {
     match line {
-        Line::Add(addition) => match add(book, seat, addition, marks) {
+        Line::Add(addition) => match add(book, seat, &addition, marks) {
             Ok(()) => Ok(Count::Addition),
             Err(end) => Err(end),
         },

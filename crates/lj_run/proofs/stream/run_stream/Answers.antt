@@ -1,26 +1,25 @@
-use Rattle.std.proofs.Common.{◌≡◌, ℕ, ◌+◌, ◌<◌, ◌≤◌, true, false, Option, Some, None, Ok, refl, sym, ap, ◌∙◌, subst, arith, length}
-use Rattle.std.specs.Prelude.{is_some, slice_get}
+use Rattle.std.proofs.Common.{◌≡◌, ℕ, ◌+◌, true, false, Option, Some, None, Ok, sym, ap, ◌∙◌, subst, arith}
+use Rattle.std.specs.Prelude.{slice_get}
 use Rattle.lj_text.specs.Lines.{all_said}
 use Rattle.lj_run.specs.Reading.{IsReading, IsNext, IsMiss, with_handed}
 use Rattle.lj_run.specs.Run.{IsRun, progress_of, has_verdict}
 use Rattle.lj_run.specs.declared.stream.Tally.{Tally}
-use Rattle.lj_run.specs.Tally.{with_count, missed_at}
 use Rattle.std.proofs.Common.{rules}
 use Rattle.lj_book.specs.State.{State}
 use Rattle.lj_run.specs.declared.outcome.End.TheVariants.{Line as AtLine}
-use Rattle.lj_run.proofs.RunLemmas.{count_more, RunsTo, run_stopped, run_ended, run_missed, run_refused, runs_on, entered_longer, if_some}
+use Rattle.lj_run.proofs.RunLemmas.{count_more, RunsTo, run_stopped, run_ended, run_missed, run_refused, runs_on, entered_longer, entered_formula, if_some}
 use Rattle.lj_run.proofs.stream.run_stream.Goals as goal
 
-pub returns-then-is_some-clause-run : goal.returns-then-is_some-clause-run
-returns-then-is_some-clause-run g c = if_some _ _ (λ text is.
-    let v : has_verdict c.loop.book ≡ true = ap is_some (sym c.verdict.ensures) ∙ sym c.is_some.ensures ∙ c.if-is_some.true in
+pub returns-then-is_done-clause-run : goal.returns-then-is_done-clause-run
+returns-then-is_done-clause-run g c = if_some _ _ (λ text is.
+    let v : has_verdict c.loop.book ≡ true = sym c.is_done.ensures ∙ c.if-is_done.true in
     let now = progress_of c.loop.book c.loop.tally.added c.loop.tally.deleted in
     let run = run_stopped c.args.seat text (progress_of c.args.book.now 0 0) now c.loop.reader c.loop.ended (g.S.Source.rest c.loop.source) (c.loop.invariant.runs text is) v in
     subst (λ (t : Tally). IsRun c.args.seat (all_said 134217727 text) (progress_of c.args.book.now 0 0) (progress_of c.loop.book t.added t.deleted) t.end) (sym c.ending.ensures) run)
 
 pub returns-in-Ok-None-clause-run : goal.returns-in-Ok-None-clause-run
 returns-in-Ok-None-clause-run g c = if_some _ _ (λ text is.
-    let v : has_verdict c.loop.book ≡ false = ap is_some (sym c.verdict.ensures) ∙ sym c.is_some.ensures ∙ c.if-is_some.false in
+    let v : has_verdict c.loop.book ≡ false = sym c.is_done.ensures ∙ c.if-is_done.false in
     let now = progress_of c.loop.book c.loop.tally.added c.loop.tally.deleted in
     let r = c.loop.invariant.runs text is in
     let next = subst (λ (o : Option _). IsNext (all_said c.loop.reader.max text) r.given c.next_line.new.reader.at o) c.in-Ok-None.field-0-is ((c.in-Ok-None.ensures.line text r.given r.reading).0) in
@@ -30,7 +29,7 @@ returns-in-Ok-None-clause-run g c = if_some _ _ (λ text is.
 
 pub returns-in-Err-clause-run : goal.returns-in-Err-clause-run
 returns-in-Err-clause-run g c = if_some _ _ (λ text is.
-    let v : has_verdict c.loop.book ≡ false = ap is_some (sym c.verdict.ensures) ∙ sym c.is_some.ensures ∙ c.if-is_some.false in
+    let v : has_verdict c.loop.book ≡ false = sym c.is_done.ensures ∙ c.if-is_done.false in
     let now = progress_of c.loop.book c.loop.tally.added c.loop.tally.deleted in
     let r = c.loop.invariant.runs text is in
     let miss = subst (λ (m : ℕ). IsMiss (all_said m text) r.given c.in-Err.miss) c.loop.invariant.max (c.in-Err.ensures.miss text r.given r.reading) in
@@ -45,7 +44,7 @@ count-requires g c =
 
 pub returns-in-Err-enter-clause-run : goal.returns-in-Err-enter-clause-run
 returns-in-Err-enter-clause-run g c = if_some _ _ (λ text is.
-    let v : has_verdict c.loop.book ≡ false = ap is_some (sym c.verdict.ensures) ∙ sym c.is_some.ensures ∙ c.if-is_some.false in
+    let v : has_verdict c.loop.book ≡ false = sym c.is_done.ensures ∙ c.if-is_done.false in
     let start = progress_of c.args.book.now 0 0 in
     let now = progress_of c.loop.book c.loop.tally.added c.loop.tally.deleted in
     let r = c.loop.invariant.runs text is in
@@ -56,8 +55,8 @@ returns-in-Err-enter-clause-run g c = if_some _ _ (λ text is.
     let same = subst (λ (b : State). IsRun c.args.seat (all_said 134217727 text) start (progress_of b c.loop.tally.added c.loop.tally.deleted) (AtLine c.at-in-Err-enter.result c.in-Err-enter.end)) (sym c.in-Err-enter.ensures.0) run in
     subst (λ (t : Tally). IsRun c.args.seat (all_said 134217727 text) start (progress_of c.enter.new.book t.added t.deleted) t.end) (sym c.ending-in-Err-enter.ensures) same)
 
-pub loop-preserved-in-Ok : goal.loop-preserved-in-Ok
-loop-preserved-in-Ok g c =
+pub loop-preserved : goal.loop-preserved
+loop-preserved g c =
     let longer = entered_longer c.loop.book c.enter.new.book c.args.seat c.in-Ok-Some.line c.in-Ok.ensures.0 in
     let more = ap (λ (t : Tally). t.added + t.deleted) c.count.ensures ∙ count_more c.loop.tally c.in-Ok.count in
     record {
@@ -68,33 +67,9 @@ loop-preserved-in-Ok g c =
       max = c.in-Ok-Some.ensures.max ∙ c.loop.invariant.max;
       room = search rules;
       counted = omega (arith, longer, more, c.loop.invariant.counted);
+      formula = entered_formula c.loop.book c.enter.new.book c.args.seat c.in-Ok-Some.line c.in-Ok.ensures.0 ∙ c.loop.invariant.formula;
       runs = λ text is.
-          let v : has_verdict c.loop.book ≡ false = ap is_some (sym c.verdict.ensures) ∙ sym c.is_some.ensures ∙ c.if-is_some.false in
-          let start = progress_of c.args.book.now 0 0 in
-          let rest = g.S.Source.rest c.next_line.new.source in
-          let r = c.loop.invariant.runs text is in
-          let both = c.in-Ok-Some.ensures.line text r.given r.reading in
-          let at_line = subst (λ (o : Option _). IsNext (all_said c.loop.reader.max text) r.given c.next_line.new.reader.at o) c.in-Ok-Some.field-0-is both.0 in
-          let next = subst (λ (m : ℕ). slice_get (all_said m text) r.given ≡ Some (record { line = c.next_line.new.reader.at; says = Ok c.in-Ok-Some.line })) c.loop.invariant.max at_line in
-          let reading = subst (λ (o : Option _). IsReading text (with_handed r.given o) c.next_line.new.reader c.next_line.new.ended rest) c.in-Ok-Some.field-0-is both.1 in
-          let on = runs_on c.args.seat text start c.loop.book c.enter.new.book c.loop.tally c.next_line.new.reader.at c.in-Ok-Some.line c.in-Ok.count r.given c.next_line.new.reader c.next_line.new.ended rest r.enters next reading v c.in-Ok.ensures.0 c.in-Ok.ensures.1 in
-          subst (λ (t : Tally). RunsTo c.args.seat text start (progress_of c.enter.new.book t.added t.deleted) c.next_line.new.reader c.next_line.new.ended rest) (sym c.count.ensures) on;
-    }
-
-pub loop-preserved-in-Ok-2 : goal.loop-preserved-in-Ok-2
-loop-preserved-in-Ok-2 g c =
-    let longer = entered_longer c.loop.book c.enter.new.book c.args.seat c.in-Ok-Some.line c.in-Ok.ensures.0 in
-    let more = ap (λ (t : Tally). t.added + t.deleted) c.count.ensures ∙ count_more c.loop.tally c.in-Ok.count in
-    record {
-      goes = tt;
-      finite = tt;
-      unfailed = c.in-Ok-Some.ensures.unfailed;
-      may_read = c.in-Ok-Some.ensures.may_read;
-      max = c.in-Ok-Some.ensures.max ∙ c.loop.invariant.max;
-      room = search rules;
-      counted = omega (arith, longer, more, c.loop.invariant.counted);
-      runs = λ text is.
-          let v : has_verdict c.loop.book ≡ false = ap is_some (sym c.verdict.ensures) ∙ sym c.is_some.ensures ∙ c.if-is_some.false in
+          let v : has_verdict c.loop.book ≡ false = sym c.is_done.ensures ∙ c.if-is_done.false in
           let start = progress_of c.args.book.now 0 0 in
           let rest = g.S.Source.rest c.next_line.new.source in
           let r = c.loop.invariant.runs text is in

@@ -13,6 +13,7 @@ invariant-loop g l = record {
   max : l.reader.max ≡ 134217727;
   room : length l.room ≡ 4096;
   counted : l.tally.added + l.tally.deleted ≤ length l.book.history;
+  formula : l.book.formula ≡ l.fn.book.formula;
   runs : (text : List ℕ) → g.S.Source.rest l.fn.source ≡ Some text
       → RunsTo l.seat text (progress_of l.fn.book 0 0) (progress_of l.book l.tally.added l.tally.deleted) l.reader l.ended (g.S.Source.rest l.source);
 }

@@ -1,0 +1,35 @@
+-- What comes of a run of streams one after the other.
+use Rattle.std.specs.Prelude.{◌≡◌, ℕ, ◌+◌, List, [], ◌∷◌, length, Option, Some, None, IfSome, if◌then◌else◌}
+use Rattle.lj_clause.specs.ClauseMap.{FormulaValue, formula_map}
+use Rattle.lj_text.specs.Lines.{all_said}
+use Rattle.lj_text.specs.Steps.{replay, refutes}
+use Rattle.lj_book.specs.State.{State, opening, live, steps_of}
+use Rattle.lj_book.specs.History.{IsReached}
+use Rattle.lj_run.specs.declared.outcome.Outcome.{Outcome}
+use Rattle.lj_run.specs.declared.outcome.Report.{Report}
+use Rattle.lj_run.specs.Run.{IsRun, Progress, progress_of}
+
+-- the state, and what a report counts
+abbrev pub reported : {S : Type 0} → State → Report S → Progress
+reported s report = record { state = s; added = report.added; deleted = report.deleted; imported = report.imported }
+
+-- Streams of these bytes run one after the other, the first under this seat, the next under the next, and lead from this state
+-- to the final one; the reports are theirs. Nothing is said of a stream that doesn't tell its bytes.
+abbrev pub RunInTurn : {S : Type 0} → ℕ → List (Option (List ℕ)) → State → List (Report S) → State → Type 0
+RunInTurn seat [] s [] final = s ≡ final
+RunInTurn seat [] s (report ∷ reports) final = ⊥
+RunInTurn seat (bytes ∷ streams) s [] final = ⊥
+RunInTurn seat (bytes ∷ streams) s (report ∷ reports) final = (next : State)
+    × (IfSome bytes (λ text. IsRun seat (all_said 134217727 text) (progress_of s 0 0) (reported next report) report.end) × RunInTurn (seat + 1) streams next reports final)
+
+-- The outcome of a run on a formula, of streams of these bytes. They lead in turn from a new book, with a seat for each, to a final
+-- state. Its history is legal, the steps are those of the history, and the live clauses are their replay. It is verified, with this
+-- formula, exactly where the steps refute it.
+pub record IsOutcome {S : Type 0} (formula : FormulaValue) (max_steps : ℕ) (streams : List (Option (List ℕ))) (outcome : Outcome S) : Type 0 where
+  pub final : State
+  pub runs : RunInTurn 0 streams (opening formula (length streams) max_steps) outcome.reports.items final
+  pub same : final.formula ≡ formula
+  pub legal : IsReached final
+  pub steps : outcome.steps.items ≡ steps_of final.history
+  pub replayed : replay (formula_map formula) outcome.steps.items ≡ Some (live final)
+  pub verified : outcome.verified ≡ (if refutes formula outcome.steps.items then Some formula else None)
