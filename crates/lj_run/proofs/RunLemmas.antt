@@ -188,7 +188,7 @@ no_fault_entered s seat (Delete numbers) kind e = no_fault_accepted (drop_reply 
 no_fault_entered s seat (Import number clause) kind e = cc
 
 meets_refused : (seat : ℕ) (s : State) (at : ℕ) (lines : List Said) (given : ℕ) (line : Line) (refusal : Refusal) → slice_get lines given ≡ Some (record { line = at; says = Ok line }) → IsLineEnd (Refused refusal) (entered s seat line) → MeetsRefused seat s at refusal (drop given lines)
-meets_refused seat s at lines given line refusals.NoMemory next is = tt
+meets_refused seat s at lines given line refusals.NoMemory next is = record { line = line; first = first_left lines given ∙ next }
 meets_refused seat s at lines given line refusals.SeatGone next is = refused_line seat s at lines given line (Refused refusals.SeatGone) next is
 meets_refused seat s at lines given line refusals.NumberTaken next is = refused_line seat s at lines given line (Refused refusals.NumberTaken) next is
 meets_refused seat s at lines given line (refusals.UnknownNumber n) next is = refused_line seat s at lines given line (Refused (refusals.UnknownNumber n)) next is

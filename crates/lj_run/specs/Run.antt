@@ -108,8 +108,14 @@ pub record MeetsRefusal (seat : ℕ) (s : State) (n : ℕ) (end : LineEnd) (rest
   pub first : slice_get rest 0 ≡ Some (record { line = n; says = Ok line })
   pub refused : entered s seat line ≡ Err end
 
+-- The first of the lines is this one, and its text has no fault.
+pub record MeetsLine (n : ℕ) (rest : List Said) : Type 0 where
+  pub line : Line
+  pub first : slice_get rest 0 ≡ Some (record { line = n; says = Ok line })
+
+-- the book refuses it; of the want of memory nothing more is said
 abbrev pub MeetsRefused : ℕ → State → ℕ → Refusal → List Said → Type 0
-MeetsRefused seat s n refusals.NoMemory rest = Unit {0}
+MeetsRefused seat s n refusals.NoMemory rest = MeetsLine n rest
 MeetsRefused seat s n refusal rest = MeetsRefusal seat s n (Refused refusal) rest
 
 -- The line at which a stream ends, and why. That a read failed is told of the source, and not of its lines.
