@@ -3,14 +3,12 @@ use Rattle.std.proofs.Common.{◌≡◌, ℕ, suc, Bool, List, [], ◌∷◌, �
 use Rattle.std.specs.Prelude.{All, IfSome, is_some, if◌then◌else◌}
 use Rattle.lj_clause.specs.ClauseMap.{FormulaValue, formula_map}
 use Rattle.lj_text.specs.Cnf.{Spells}
-use Rattle.lj_text.specs.Lines.{all_said}
 use Rattle.lj_text.specs.Steps.{replay, refutes}
 use Rattle.lj_book.specs.State.{State, opening, live, steps_of}
 use Rattle.lj_book.specs.History.{IsReached}
 use Rattle.lj_run.specs.declared.outcome.Outcome.{Outcome}
 use Rattle.lj_run.specs.declared.outcome.Report.{Report}
-use Rattle.lj_run.specs.Run.{IsRun, progress_of}
-use Rattle.lj_run.specs.InTurn.{IsOutcome, RunInTurn, reported}
+use Rattle.lj_run.specs.InTurn.{IsOutcome, IsReport, RunInTurn}
 
 -- a list of one, whose first is this one
 pub only_one : {X : Type 0} (xs ys rest : List X) (x : X) → ys ≡ xs → ys ≡ x ∷ rest → length xs ≡ 1 → xs ≡ x ∷ []
@@ -25,17 +23,16 @@ verified_is : (v : Option FormulaValue) (f g : FormulaValue) (b : Bool) → g �
 verified_is None f g b same some is = ap (λ c. if c then Some f else None) some
 verified_is (Some h) f g b same some is = ap Some (is ∙ same) ∙ ap (λ c. if c then Some f else None) some
 
-pub outcome_of_one : {S : Type 0} (f : FormulaValue) (max : ℕ) (bytes : Option (List ℕ)) (start final : State) (report : Report S) (outcome : Outcome S)
-    → start ≡ opening f 1 max → final.formula ≡ start.formula
-    → IfSome bytes (λ text. IsRun 0 (all_said 134217727 text) (progress_of start 0 0) (reported final report) report.end) → outcome.reports.items ≡ report ∷ []
+pub outcome_of_one : {S : Type 0} (rest : S → Option (List ℕ)) (f : FormulaValue) (max : ℕ) (bytes : Option (List ℕ)) (start final : State) (report : Report S) (outcome : Outcome S)
+    → start ≡ opening f 1 max → final.formula ≡ start.formula → IfSome bytes (IsReport rest 0 start final report) → outcome.reports.items ≡ report ∷ []
     → IsReached final → outcome.steps.items ≡ steps_of final.history → replay (formula_map final.formula) (steps_of final.history) ≡ Some (live final)
-    → is_some outcome.verified ≡ refutes final.formula (steps_of final.history) → IfSome outcome.verified (λ g. g ≡ final.formula) → IsOutcome f max (bytes ∷ []) outcome
-outcome_of_one f max bytes start final report outcome opened kept run reports reached steps replayed refuted verified =
+    → is_some outcome.verified ≡ refutes final.formula (steps_of final.history) → IfSome outcome.verified (λ g. g ≡ final.formula) → IsOutcome rest f max (bytes ∷ []) outcome
+outcome_of_one rest f max bytes start final report outcome opened kept run reports reached steps replayed refuted verified =
     let same : final.formula ≡ f = kept ∙ ap (λ (s : State). s.formula) opened in
     record {
       final = final;
-      runs = subst (λ rs. RunInTurn 0 (bytes ∷ []) (opening f 1 max) rs final) (sym reports)
-          (subst (λ s. RunInTurn 0 (bytes ∷ []) s (report ∷ []) final) opened (final, (run, refl)));
+      runs = subst (λ rs. RunInTurn rest 0 (bytes ∷ []) (opening f 1 max) rs final) (sym reports)
+          (subst (λ s. RunInTurn rest 0 (bytes ∷ []) s (report ∷ []) final) opened (final, (run, refl)));
       same = same;
       legal = reached;
       steps = steps;
@@ -49,6 +46,6 @@ one_report before after x none is = is ∙ ap (λ xs. xs ++ x ∷ []) none
 
 -- what is told of it, where the formula's source tells its bytes
 pub outcome_told : {S : Type 0} (rest : S → Option (List ℕ)) (told : Option (List ℕ)) (f : FormulaValue) (max : ℕ) (streams : List S) (stream : S) (outcome : Outcome S) → streams ≡ stream ∷ []
-    → IsOutcome f max (rest stream ∷ []) outcome → IfSome told (λ text. Spells 134217727 text f) → IfSome told (λ text. (x : FormulaValue) × Spells 134217727 text x × IsOutcome x max (map rest streams) outcome)
+    → IsOutcome rest f max (rest stream ∷ []) outcome → IfSome told (λ text. Spells 134217727 text f) → IfSome told (λ text. (x : FormulaValue) × Spells 134217727 text x × IsOutcome rest x max (map rest streams) outcome)
 outcome_told rest None f max streams stream outcome one is spells = tt
-outcome_told rest (Some text) f max streams stream outcome one is spells = (f, spells, subst (λ ss. IsOutcome f max (map rest ss) outcome) (sym one) is)
+outcome_told rest (Some text) f max streams stream outcome one is spells = (f, spells, subst (λ ss. IsOutcome rest f max (map rest ss) outcome) (sym one) is)

@@ -1,16 +1,19 @@
 -- The steps of reading a stream's lines.
-use Rattle.std.proofs.Common.{◌≡◌, ℕ, ◌+◌, Bool, true, false, List, ◌++◌, Option, None, Some, Result, Ok, Err, refl, sym, ap, ◌∙◌, subst, append_assoc, add-zero}
-use Rattle.std.specs.Prelude.{slice_get}
+use Rattle.std.proofs.Common.{◌≡◌, ℕ, ◌+◌, Bool, true, false, List, [], ◌∷◌, ◌++◌, length, Option, None, Some, Result, Ok, Err, refl, sym, ap, ◌∙◌, subst, append_assoc, add-zero}
+use Rattle.std.specs.Prelude.{slice_get, MatchBool, IfErr, IsErrAnd}
 use Rattle.std.proofs.lemmas.List.{append-nil}
 use Rattle.std.proofs.lemmas.Bool.{false≢true}
-use Rattle.std.specs.Io.KnownBytes.{Consumes}
+use Rattle.std.specs.Io.KnownBytes.{Consumes, Keeps}
 use Rattle.lj_text.specs.declared.line.Line.{Line}
 use Rattle.lj_text.specs.declared.lines.fault.LineFault.{LineFault}
 use Rattle.lj_text.specs.declared.lines.fault.LineFaultKind.{LineFaultKind}
-use Rattle.lj_text.specs.Lines.{Said, whole_said, all_said}
-use Rattle.lj_text.specs.LinesRead.{LinesRead, StandsAt, answer_of, told, place_of, handed_out}
+use Rattle.lj_text.specs.Lines.{Said, said_from, whole_said_from, whole_said, all_said}
+use Rattle.lj_text.specs.LinesRead.{LinesRead, StandsAt, StandsWithin, StandsBehind, answer_of, told, place_of, last_number, handed_out}
 use Rattle.lj_text.proofs.Fronts.{said_in_front}
-use Rattle.lj_run.specs.Reading.{IsReading, IsNext, with_handed}
+use Rattle.lj_text.proofs.StandLemmas.{whole-joined, get-behind}
+use Rattle.lj_run.specs.declared.reading.Miss.{Miss}
+use Rattle.lj_run.specs.declared.reading.Miss.TheVariants.{Failed, AtFault}
+use Rattle.lj_run.specs.Reading.{IsReading, IsNext, IsMiss, IsPieceMiss, FailsAt, with_handed}
 
 -- what known bytes leave of themselves
 pub consumed : (left : List ℕ) (rest : Option (List ℕ)) (piece : List ℕ) → Consumes (Some left) rest piece → (later : List ℕ) × (rest ≡ Some later) × (left ≡ piece ++ later)
@@ -99,3 +102,52 @@ last_fault_of_text max text given reader rest r fault e = ap (λ t. slice_get (a
 pub with_handed-is : (text : List ℕ) (given : ℕ) (line : Option Line) (new : LinesRead) (fed : List ℕ) → StandsAt new fed (given + handed_out (Ok line)) → StandsAt new fed (with_handed given line)
 with_handed-is text given None new fed h = subst (λ n. StandsAt new fed n) (add-zero given) h
 with_handed-is text given (Some line) new fed h = h
+
+same_end : {X : Type 0} (xs ys : List X) → slice_get ys 0 ≡ None → length xs ≡ length (xs ++ ys)
+same_end xs [] none = ap length (sym (append-nil xs))
+same_end xs (y ∷ ys) none = cc
+
+within : (reader : LinesRead) (text : List ℕ) (given : ℕ) → reader.finished ≡ false → StandsAt reader text given → StandsWithin reader text given
+within reader text given goes stands = subst (λ b. MatchBool b (StandsBehind reader text given) (StandsWithin reader text given)) goes stands
+
+-- where no whole line says more, all that the whole lines say were handed out
+all_handed : (reader : LinesRead) (text : List ℕ) (given : ℕ) → StandsWithin reader text given → slice_get (whole_said reader.max text) given ≡ None → given ≡ length (whole_said reader.max text)
+all_handed reader text given s none =
+    let done = said_from reader.max 0 s.lines in
+    let later = whole_said_from reader.max (0 + length s.lines) reader.ahead in
+    let is : whole_said reader.max text ≡ done ++ later = ap (whole_said reader.max) s.text_is ∙ whole-joined reader.max 0 s.lines reader.ahead s.whole in
+    let first : slice_get later 0 ≡ None = sym (get-behind done later) ∙ ap (λ n. slice_get (done ++ later) n) (sym s.given_is) ∙ ap (λ xs. slice_get xs given) (sym is) ∙ none in
+    s.given_is ∙ same_end done later first ∙ ap length (sym is)
+
+kept_left : (before after : Option (List ℕ)) (left : List ℕ) → before ≡ Some left → Keeps before after → after ≡ Some left
+kept_left before after left is keeps = go after (subst (λ b. Keeps b after) is keeps)
+  where
+    go : (o : Option (List ℕ)) → Keeps (Some left) o → o ≡ Some left
+    go None h = absurd h
+    go (Some xs) h = ap Some h
+
+-- a read failed, where no whole line of what was fed says more
+pub read_failed : (max : ℕ) (text : List ℕ) (given at : ℕ) (reader : LinesRead) (ended : Bool) (before after : Option (List ℕ)) (r : IsReading text given reader ended before) → reader.max ≡ max → reader.finished ≡ false
+    → Ok None ≡ answer_of (slice_get (whole_said reader.max r.fed) given) → at ≡ place_of (slice_get (whole_said reader.max r.fed) given) (last_number r.fed) → Keeps before after → FailsAt max text given at after
+read_failed max text given at reader ended before after r same goes answer place keeps =
+    let none = none_answered (slice_get (whole_said reader.max r.fed) given) answer in
+    record {
+      front = r.fed;
+      left = r.left;
+      rest_is = kept_left before after r.left r.rest_is keeps;
+      text_is = r.text_is;
+      at_is = place ∙ ap (λ o. place_of o (last_number r.fed)) none;
+      given_is = all_handed reader r.fed given (within reader r.fed given goes r.stands) none ∙ ap (λ m. length (whole_said m r.fed)) same;
+    }
+
+-- a miss that is passed on
+pub passed_on : {A : Type 0} (r : Result A Miss) (miss : Miss) (P : Miss → Type 0) → IsErrAnd r (λ e. e ≡ miss) → P miss → IfErr r P
+passed_on (Ok x) miss P is h = tt
+passed_on (Err e) miss P is h = subst P (sym is) h
+
+-- the miss of a piece is one of the line
+pub piece_miss : (max : ℕ) (text : List ℕ) (given at : ℕ) (old new : LinesRead) (ended : Bool) (before after : Option (List ℕ)) (r : IsReading text given old ended before) (miss : Miss) → old.max ≡ max → old.finished ≡ false
+    → Ok None ≡ answer_of (slice_get (whole_said old.max r.fed) given) → at ≡ place_of (slice_get (whole_said old.max r.fed) given) (last_number r.fed) → (moved : LinesRead) → moved.at ≡ at → IsPieceMiss moved new before after miss → IsMiss max text given new.at after miss
+piece_miss max text given at old new ended before after r Failed same goes answer place moved is h =
+    subst (λ n. FailsAt max text given n after) (sym is ∙ ap (λ (reader : LinesRead). reader.at) (sym h.0)) (read_failed max text given at old ended before after r same goes answer place h.1)
+piece_miss max text given at old new ended before after r (AtFault fault) same goes answer place moved is h = λ memory. absurd (false≢true (sym memory ∙ h))

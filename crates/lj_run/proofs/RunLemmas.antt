@@ -21,14 +21,15 @@ use Rattle.lj_run.specs.declared.outcome.LineEnd.TheVariants.{Fault, Refused, Re
 use Rattle.lj_run.specs.declared.stream.Count.{Count}
 use Rattle.lj_run.specs.declared.stream.Count.TheVariants.{Addition, Deletion}
 use Rattle.lj_hint.specs.Receipt.{receipt_of}
-use Rattle.lj_text.specs.Lines.{all_said}
+use Rattle.lj_text.specs.Lines.{whole_said, all_said}
+use Rattle.lj_text.proofs.Fronts.{all_said-front}
 use Rattle.lj_text.specs.LinesRead.{LinesRead, StandsAt, is_no_memory}
 use Rattle.lj_run.specs.Reading.{IsReading, IsMiss}
 use Rattle.lj_run.specs.declared.reading.Miss.{Miss}
 use Rattle.lj_run.specs.declared.reading.Miss.TheVariants.{Failed, AtFault}
 use Rattle.lj_run.specs.declared.stream.Tally.{Tally}
 use Rattle.lj_run.specs.Tally.{with_count, missed_at}
-use Rattle.lj_run.specs.Run.{if_accepted, walked, taken, entered, Progress, progress_of, counted, has_verdict, if_entered, said_entered, all_entered, IsCounted, IsLineEnd, MeetsFault, MeetsRefused, MeetsRefusal, EndsAtLine, EndsWith, IsRun, IsReadFailure, left_open}
+use Rattle.lj_run.specs.Run.{if_accepted, walked, taken, entered, Progress, progress_of, counted, has_verdict, if_entered, said_entered, all_entered, IsCounted, IsLineEnd, MeetsFault, MeetsRefused, MeetsRefusal, EndsAtLine, EndsWith, IsRun, IsReadFailure, IfReadFailed, IsFailedRead, left_open}
 
 -- ---- an entered line makes one entry
 
@@ -154,12 +155,33 @@ meets_fault kinds.NumberRange n lines given h = first_left lines given ∙ h ref
 meets_fault kinds.Syntax n lines given h = first_left lines given ∙ h refl
 meets_fault kinds.Truncated n lines given h = first_left lines given ∙ h refl
 
-at_miss : (seat : ℕ) (s : State) (at : ℕ) (lines : List Said) (given : ℕ) (miss : Miss) → has_verdict s ≡ false → IsMiss lines given miss → EndsWith seat s (drop given lines) (missed_at at miss)
-at_miss seat s at lines given Failed v h = (v, tt)
-at_miss seat s at lines given (AtFault fault) v h = (v, meets_fault fault.kind fault.line lines given h)
+at_miss : (seat : ℕ) (s : State) (at : ℕ) (text : List ℕ) (given : ℕ) (left : Option (List ℕ)) (miss : Miss) → has_verdict s ≡ false → IsMiss 134217727 text given at left miss → EndsWith seat s (drop given (all_said 134217727 text)) (missed_at at miss)
+at_miss seat s at text given left Failed v h = (v, tt)
+at_miss seat s at text given left (AtFault fault) v h = (v, meets_fault fault.kind fault.line (all_said 134217727 text) given h)
 
-pub run_missed : (seat : ℕ) (text : List ℕ) (start now : Progress) (reader : LinesRead) (ended : Bool) (rest : Option (List ℕ)) (r : RunsTo seat text start now reader ended rest) (at : ℕ) (miss : Miss) → has_verdict now.state ≡ false → IsMiss (all_said 134217727 text) r.given miss → IsRun seat (all_said 134217727 text) start now (missed_at at miss)
-run_missed seat text start now reader ended rest r at miss v h = record { count = r.given; enters = r.enters; ends = at_miss seat now.state at (all_said 134217727 text) r.given miss v h }
+pub run_missed : (seat : ℕ) (text : List ℕ) (start now : Progress) (reader : LinesRead) (ended : Bool) (rest left : Option (List ℕ)) (r : RunsTo seat text start now reader ended rest) (at : ℕ) (miss : Miss) → has_verdict now.state ≡ false → IsMiss 134217727 text r.given at left miss → IsRun seat (all_said 134217727 text) start now (missed_at at miss)
+run_missed seat text start now reader ended rest left r at miss v h = record { count = r.given; enters = r.enters; ends = at_miss seat now.state at text r.given left miss v h }
+
+take_front : {X : Type 0} (xs ys : List X) → take (length xs) (xs ++ ys) ≡ xs
+take_front [] ys = refl
+take_front (x ∷ xs) ys = ap (λ zs. x ∷ zs) (take_front xs ys)
+
+-- a read that failed: what the whole lines delivered say was entered
+pub run_failed : (seat : ℕ) (text : List ℕ) (start now : Progress) (reader : LinesRead) (ended : Bool) (rest left : Option (List ℕ)) (r : RunsTo seat text start now reader ended rest) (at : ℕ) (miss : Miss) → IsMiss 134217727 text r.given at left miss
+    → IfReadFailed (missed_at at miss) (IsFailedRead seat text left start now)
+run_failed seat text start now reader ended rest left r at (AtFault fault) h = tt
+run_failed seat text start now reader ended rest left r at Failed h =
+    let later = all_said-front 134217727 h.front h.left in
+    let said = whole_said 134217727 h.front in
+    let entered_are : take r.given (all_said 134217727 text) ≡ said = ap (λ t. take r.given (all_said 134217727 t)) h.text_is ∙ ap (take r.given) later.1 ∙ ap (λ n. take n (said ++ later.0)) h.given_is ∙ take_front said later.0 in
+    record {
+      front = h.front;
+      left = h.left;
+      rest_is = h.rest_is;
+      text_is = h.text_is;
+      line_is = h.at_is;
+      enters = ap (all_entered seat start) (sym entered_are) ∙ r.enters;
+    }
 
 refused_line : (seat : ℕ) (s : State) (at : ℕ) (lines : List Said) (given : ℕ) (line : Line) (end : LineEnd) → slice_get lines given ≡ Some (record { line = at; says = Ok line }) → entered s seat line ≡ Err end → MeetsRefusal seat s at end (drop given lines)
 refused_line seat s at lines given line end next is = record { line = line; first = first_left lines given ∙ next; refused = is }

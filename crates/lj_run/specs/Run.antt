@@ -1,12 +1,13 @@
 -- A run of one stream after another: what the lines of a stream make of a book's state.
-use Rattle.std.specs.Prelude.{◌≡◌, ℕ, ◌+◌, Bool, true, false, List, [], ◌∷◌, length, take, drop, Option, Some, None, Result, Ok, Err, is_some, option_and_then, slice_get, ℤ, if◌then◌else◌}
+use Rattle.std.specs.Prelude.{◌≡◌, ℕ, ◌+◌, Bool, true, false, List, [], ◌∷◌, ◌++◌, length, take, drop, Option, Some, None, Result, Ok, Err, is_some, option_and_then, slice_get, ℤ, if◌then◌else◌}
 use Rattle.lj_clause.specs.Walk.{Walk}
 use Rattle.lj_clause.specs.Walk as walk
 use Rattle.lj_text.specs.declared.line.Line.{Line}
 use Rattle.lj_text.specs.declared.line.Line.TheVariants.{Add, Delete, Import}
 use Rattle.lj_text.specs.declared.lines.fault.LineFaultKind.{LineFaultKind}
 use Rattle.lj_text.specs.declared.lines.fault.LineFaultKind.TheVariants as kinds
-use Rattle.lj_text.specs.Lines.{Said}
+use Rattle.lj_text.specs.Lines.{Said, whole_said}
+use Rattle.lj_text.specs.LinesRead.{last_number}
 use Rattle.lj_hint.specs.Case.{CaseValue, walk_of}
 use Rattle.lj_hint.specs.Receipt.{receipt_of}
 use Rattle.lj_book.specs.declared.refusal.Refusal.{Refusal}
@@ -118,7 +119,7 @@ abbrev pub MeetsRefused : ℕ → State → ℕ → Refusal → List Said → Ty
 MeetsRefused seat s n refusals.NoMemory rest = MeetsLine n rest
 MeetsRefused seat s n refusal rest = MeetsRefusal seat s n (Refused refusal) rest
 
--- The line at which a stream ends, and why. That a read failed is told of the source, and not of its lines.
+-- The line at which a stream ends, and why. That a read failed is told of the source, and not of its lines (IsFailedRead).
 abbrev pub EndsAtLine : ℕ → State → ℕ → LineEnd → List Said → Type 0
 EndsAtLine seat s n (Fault kind) rest = MeetsFault n kind rest
 EndsAtLine seat s n (Refused refusal) rest = MeetsRefused seat s n refusal rest
@@ -138,6 +139,23 @@ pub record IsRun (seat : ℕ) (lines : List Said) (start final : Progress) (end 
   pub count : ℕ
   pub enters : all_entered seat start (take count lines) ≡ Some final
   pub ends : EndsWith seat final.state (drop count lines) end
+
+-- A read of a stream failed in this line: what is left to come was not delivered, the line is the last of what was, and its
+-- whole lines lead from one progress to the other.
+pub record IsFailedRead (seat : ℕ) (text : List ℕ) (rest : Option (List ℕ)) (start final : Progress) (n : ℕ) : Type 0 where
+  pub front : List ℕ
+  pub left : List ℕ
+  pub rest_is : rest ≡ Some left
+  pub text_is : text ≡ front ++ left
+  pub line_is : n ≡ last_number front
+  pub enters : all_entered seat start (whole_said 134217727 front) ≡ Some final
+
+-- what holds where a stream ended at a read that failed
+abbrev pub IfReadFailed : End → (ℕ → Type 0) → Type 0
+IfReadFailed Ended P = Unit {0}
+IfReadFailed Stopped P = Unit {0}
+IfReadFailed (AtLine n ReadFailed) P = P n
+IfReadFailed (AtLine n end) P = Unit {0}
 
 -- a read failed
 abbrev pub IsReadFailure : End → Type 0

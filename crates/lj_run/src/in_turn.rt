@@ -2,10 +2,9 @@
 ghost use Rattle.std.specs.Prelude.{◌≡◌, length, map, All, None, IfOk, IfErr, IfSome};
 ghost use Rattle.lj_clause.specs.ClauseMap.{FormulaValue};
 ghost use Rattle.lj_text.specs.Cnf.{Spells};
-ghost use Rattle.lj_text.specs.Lines.{all_said};
 ghost use Rattle.lj_run.specs.FormulaReading.{IsFormulaFault};
-ghost use Rattle.lj_run.specs.InTurn.{IsOutcome, reported};
-ghost use Rattle.lj_run.specs.Run.{IsRun, IsReadFailure, progress_of};
+ghost use Rattle.lj_run.specs.InTurn.{IsOutcome, IsReport};
+ghost use Rattle.lj_run.specs.Run.{IsReadFailure};
 
 use crate::outcome::{Options, Outcome, ProofEnd, Report, RunFault};
 use crate::reading::read_formula;
@@ -37,7 +36,7 @@ pub fn run_in_turn<R: Wait, F: Source, S: Source + Drop, W: Sink>(
     requires streams_unfailed { All (λ stream. S.failures stream ≡ 0) streams.items }
 
     ensures outcome { IfOk result (λ outcome. IfSome (F.rest formula.old) (λ text. (f : FormulaValue) × Spells MAX_VARIABLE text f
-        × IsOutcome f options.now.max_steps (map (λ stream. S.rest stream) streams.items) outcome)) }
+        × IsOutcome (λ source. S.rest source) f options.now.max_steps (map (λ source. S.rest source) streams.items) outcome)) }
     ensures failed { IfOk result (λ outcome. All (λ report. IsReadFailure report.end → S.failures report.source ≡ 1) outcome.reports.items) }
     ensures fault { IfErr result (IsFormulaFault (F.rest formula.old) (F.failures formula.new)) }
 {
@@ -67,7 +66,7 @@ fn run_of<R: Wait, S: Source>(
     stream: S,
 ) -> Report<S>
     requires { S.failures stream ≡ 0 }
-    ensures run { IfSome (S.rest stream) (λ text. IsRun seat (all_said MAX_VARIABLE text) (progress_of book.old 0 0) (reported book.new result) result.end) }
+    ensures report { IfSome (S.rest stream) (IsReport (λ source. S.rest source) seat book.old book.new result) }
     ensures failed { IsReadFailure result.end → S.failures result.source ≡ 1 }
     ensures formula { book.new.formula ≡ book.old.formula }
 {

@@ -99,7 +99,7 @@ pub(crate) fn next_line<R: Wait, S: Source>(
     ensures line { IfOk result (λ line. (text : List ℕ) (given : ℕ) → IsReading text given reader.old ended.old (S.rest source.old)
         → IsNext (all_said reader.old.max text) given reader.new.at line × IsReading text (with_handed given line) reader.new ended.new (S.rest source.new)) }
     ensures miss { IfErr result (λ miss. (text : List ℕ) (given : ℕ) → IsReading text given reader.old ended.old (S.rest source.old)
-        → IsMiss (all_said reader.old.max text) given miss) }
+        → IsMiss reader.old.max text given reader.new.at (S.rest source.new) miss) }
 
     ensures may_read { OnOk result (MayRead reader.new ended.new) }
     ensures unfailed { OnOk result (S.failures source.new ≡ 0) }
@@ -137,7 +137,7 @@ fn pull_piece<S: Source>(
 
     ensures onward { OnOk result ((text : List ℕ) (given : ℕ) → IsReading text given reader.old ended.old (S.rest source.old)
         → IsReading text given reader.new ended.new (S.rest source.new)) }
-    ensures miss { IfErr result IsPieceMiss }
+    ensures miss { IfErr result (IsPieceMiss reader.old reader.new (S.rest source.old) (S.rest source.new)) }
 
     ensures may_read { OnOk result (MayRead reader.new ended.new) }
     ensures unfailed { OnOk result (S.failures source.new ≡ 0) }

@@ -2,7 +2,7 @@
 ghost use Rattle.std.specs.Prelude.{◌≡◌, ◌+◌, ◌<◌, MatchResult, Ok, IfSome};
 ghost use Rattle.lj_text.specs.Lines.{all_said};
 ghost use Rattle.lj_book.specs.Calls.{take_reply};
-ghost use Rattle.lj_run.specs.Run.{entered, taken, IsLineEnd, IsCounted, IsRun, IsReadFailure, progress_of, has_verdict};
+ghost use Rattle.lj_run.specs.Run.{entered, taken, IsLineEnd, IsCounted, IsRun, IsReadFailure, IfReadFailed, IsFailedRead, progress_of, has_verdict};
 ghost use Rattle.lj_run.specs.Tally.{with_count, with_end, missed_at};
 
 use crate::outcome::{End, LineEnd};
@@ -34,6 +34,7 @@ pub(crate) fn run_stream<R: Wait, S: Source>(
     requires { S.failures source.old ≡ 0 }
     ensures run { IfSome (S.rest source.old) (λ text. IsRun seat (all_said MAX_VARIABLE text) (progress_of book.old 0 0) (progress_of book.new result.added result.deleted) result.end) }
     ensures failed { IsReadFailure result.end → S.failures source.new ≡ 1 }
+    ensures failed_read { IfSome (S.rest source.old) (λ text. IfReadFailed result.end (IsFailedRead seat text (S.rest source.new) (progress_of book.old 0 0) (progress_of book.new result.added result.deleted))) }
     ensures formula { book.new.formula ≡ book.old.formula }
 {
     let mut reader = LineReader::new(alloc, MAX_VARIABLE);

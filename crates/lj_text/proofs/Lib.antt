@@ -8,7 +8,7 @@ mod FrontLemmas
 mod HeldLemmas
 mod PassLemmas
 mod ReaderLemmas
-mod StandLemmas
+pub mod StandLemmas
 mod TakeLemmas
 mod TokenLemmas
 pub mod Fronts

@@ -11,5 +11,5 @@ pub returns-clause-outcome : goal.returns-clause-outcome
 returns-clause-outcome g c =
     let one = only_one c.args.streams.items _ _ c.in-Some.stream c.into_iter.ensures.rest c.in-Some.ensures.cases.0 c.requires.one_stream in
     let reports = one_report _ _ _ c.new-reports.ensures.items c.in_ok-push.ensures.items in
-    let is = outcome_of_one c.in_ok-formula.formula c.args.options.now.max_steps (g.S.Source.rest c.in-Some.stream) c.in_ok-book.book c.run_of.new.book c.run_of.result _ c.in_ok-book.ensures c.run_of.ensures.formula c.run_of.ensures.run reports c.in_ok-steps.ensures.reached c.in_ok-steps.ensures.steps c.in_ok-steps.ensures.replayed c.in_ok-verified.ensures.refuted c.in_ok-verified.ensures.formula in
+    let is = outcome_of_one (λ stream. g.S.Source.rest stream) c.in_ok-formula.formula c.args.options.now.max_steps (g.S.Source.rest c.in-Some.stream) c.in_ok-book.book c.run_of.new.book c.run_of.result _ c.in_ok-book.ensures c.run_of.ensures.formula c.run_of.ensures.report reports c.in_ok-steps.ensures.reached c.in_ok-steps.ensures.steps c.in_ok-steps.ensures.replayed c.in_ok-verified.ensures.refuted c.in_ok-verified.ensures.formula in
     outcome_told (λ stream. g.S.Source.rest stream) (g.F.Source.rest c.args.formula.now) c.in_ok-formula.formula c.args.options.now.max_steps c.args.streams.items c.in-Some.stream _ one is c.in_ok-formula.ensures.formula

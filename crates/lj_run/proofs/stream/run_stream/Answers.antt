@@ -2,12 +2,12 @@ use Rattle.std.proofs.Common.{◌≡◌, ℕ, ◌+◌, true, false, Option, Some
 use Rattle.std.specs.Prelude.{slice_get}
 use Rattle.lj_text.specs.Lines.{all_said}
 use Rattle.lj_run.specs.Reading.{IsReading, IsNext, IsMiss, with_handed}
-use Rattle.lj_run.specs.Run.{IsRun, progress_of, has_verdict}
+use Rattle.lj_run.specs.Run.{IsRun, IfReadFailed, IsFailedRead, progress_of, has_verdict}
 use Rattle.lj_run.specs.declared.stream.Tally.{Tally}
 use Rattle.std.proofs.Common.{rules}
 use Rattle.lj_book.specs.State.{State}
 use Rattle.lj_run.specs.declared.outcome.End.TheVariants.{Line as AtLine}
-use Rattle.lj_run.proofs.RunLemmas.{count_more, RunsTo, run_stopped, run_ended, run_missed, run_refused, runs_on, entered_longer, entered_formula, if_some}
+use Rattle.lj_run.proofs.RunLemmas.{count_more, RunsTo, run_stopped, run_ended, run_missed, run_failed, run_refused, runs_on, entered_longer, entered_formula, if_some}
 use Rattle.lj_run.proofs.stream.run_stream.Goals as goal
 
 pub returns-then-is_done-clause-run : goal.returns-then-is_done-clause-run
@@ -32,10 +32,24 @@ returns-in-Err-clause-run g c = if_some _ _ (λ text is.
     let v : has_verdict c.loop.book ≡ false = sym c.is_done.ensures ∙ c.if-is_done.false in
     let now = progress_of c.loop.book c.loop.tally.added c.loop.tally.deleted in
     let r = c.loop.invariant.runs text is in
-    let miss = subst (λ (m : ℕ). IsMiss (all_said m text) r.given c.in-Err.miss) c.loop.invariant.max (c.in-Err.ensures.miss text r.given r.reading) in
-    let run = run_missed c.args.seat text (progress_of c.args.book.now 0 0) now c.loop.reader c.loop.ended (g.S.Source.rest c.loop.source) r c.at.result c.in-Err.miss v miss in
+    let left = g.S.Source.rest c.next_line.new.source in
+    let told = subst (λ (m : ℕ). IsMiss m text r.given c.next_line.new.reader.at left c.in-Err.miss) c.loop.invariant.max (c.in-Err.ensures.miss text r.given r.reading) in
+    let miss = subst (λ (n : ℕ). IsMiss 134217727 text r.given n left c.in-Err.miss) (sym c.at.ensures) told in
+    let run = run_missed c.args.seat text (progress_of c.args.book.now 0 0) now c.loop.reader c.loop.ended (g.S.Source.rest c.loop.source) left r c.at.result c.in-Err.miss v miss in
     let ended = c.ending-in-Err.ensures ∙ ap (λ e. record c.loop.tally { end = e }) c.missed.ensures in
     subst (λ (t : Tally). IsRun c.args.seat (all_said 134217727 text) (progress_of c.args.book.now 0 0) (progress_of c.loop.book t.added t.deleted) t.end) (sym ended) run)
+
+pub returns-in-Err-clause-failed_read : goal.returns-in-Err-clause-failed_read
+returns-in-Err-clause-failed_read g c = if_some _ _ (λ text is.
+    let now = progress_of c.loop.book c.loop.tally.added c.loop.tally.deleted in
+    let start = progress_of c.args.book.now 0 0 in
+    let r = c.loop.invariant.runs text is in
+    let left = g.S.Source.rest c.next_line.new.source in
+    let told = subst (λ (m : ℕ). IsMiss m text r.given c.next_line.new.reader.at left c.in-Err.miss) c.loop.invariant.max (c.in-Err.ensures.miss text r.given r.reading) in
+    let miss = subst (λ (n : ℕ). IsMiss 134217727 text r.given n left c.in-Err.miss) (sym c.at.ensures) told in
+    let failed = run_failed c.args.seat text start now c.loop.reader c.loop.ended (g.S.Source.rest c.loop.source) left r c.at.result c.in-Err.miss miss in
+    let ended = c.ending-in-Err.ensures ∙ ap (λ e. record c.loop.tally { end = e }) c.missed.ensures in
+    subst (λ (t : Tally). IfReadFailed t.end (IsFailedRead c.args.seat text left start (progress_of c.loop.book t.added t.deleted))) (sym ended) failed)
 
 pub count-requires : goal.count-requires
 count-requires g c =
