@@ -1,16 +1,25 @@
 -- What is true of the fields of a reader of lines, and its steps.
-use Rattle.std.specs.Prelude.{◌≡◌, ℕ, ◌-◌, ◌≤◌, List, length, take, drop, Some, if◌then◌else◌}
+use Rattle.std.specs.Prelude.{◌≡◌, ℕ, ◌-◌, ◌<◌, ◌≤◌, List, length, take, drop, get_or, Some, if◌then◌else◌}
 use Rattle.lj_text.specs.declared.lines.fault.LineFault.{LineFault}
 use Rattle.lj_text.specs.declared.lines.look.Found.{Found}
 use Rattle.lj_text.specs.Bytes.{line_number}
 use Rattle.lj_text.specs.LinesRead.{LinesRead, HasNoLineEnd, is_no_memory}
 
--- Bytes are held, the line to be read begins at start, and no line ends up to searched.
-pub record IsHeld (max start searched line : ℕ) (bytes : List ℕ) : Type 0 where
+-- the last byte is a line feed
+abbrev pub EndsLine : List ℕ → Type 0
+EndsLine bytes = get_or bytes (length bytes - 1) 0 ≡ 10
+
+-- Bytes are held in two parts: what stands behind start in the front, which isn't all done, and then the back. Where there is a back, the front ends a line.
+pub record IsParted (start : ℕ) (front back : List ℕ) : Type 0 where
+  pub begun : start ≤ length front
+  pub unread : 0 < length front → start < length front
+  pub parted : 0 < length back → EndsLine front
+
+-- Bytes are held, and no line ends among the first that were searched; their first line has a number.
+pub record IsHeld (max searched line : ℕ) (ahead : List ℕ) : Type 0 where
   pub max_is : max ≤ 134217727
-  pub begun : start ≤ searched
-  pub within : searched ≤ length bytes
-  pub none_before : HasNoLineEnd (take (searched - start) (drop start bytes))
+  pub within : searched ≤ length ahead
+  pub none_before : HasNoLineEnd (take searched ahead)
   pub before : ℕ
   pub line_is : line ≡ line_number before
 

@@ -2,6 +2,7 @@
 
 mod cut;
 mod fault;
+mod held;
 mod hints;
 mod literals;
 mod look;

@@ -1,12 +1,12 @@
 //! The next line that says something.
-ghost use Rattle.std.specs.Prelude.{◌≡◌, ◌≤◌, ℕ, length, take, IfOk, MatchResult, MatchBool, IsSome, Ok};
+ghost use Rattle.std.specs.Prelude.{◌≡◌, ◌-◌, ◌≤◌, ℕ, length, take, drop, IfOk, MatchResult, MatchBool, IsSome, Ok};
 ghost use Rattle.lj_text.specs.Bytes.{tokens_of, line_number};
 ghost use Rattle.lj_text.specs.LineReading.{IsTold, spoken};
 ghost use Rattle.lj_text.specs.Looking.{Looked, LookedBehind, Fails, FailsToEnd};
 ghost use Rattle.lj_text.specs.LinesRead.{HasNoLineEnd};
 
-use super::cut::first_line;
 use super::fault::LineFault;
+use super::held::Held;
 use super::parse::parse;
 use crate::line::Line;
 use std::alloc::Global;
@@ -48,19 +48,20 @@ pub(super) fn look(
     alloc: Global,
     max: u32,
     first: u64,
-    ahead: &[u8],
+    ahead: &Held,
     searched: usize,
 ) -> Result<Found, LineFault>
     requires max { max ≤ 134217727 }
     requires within { searched ≤ length ahead.now }
     requires none_before { HasNoLineEnd (take searched ahead.now) }
     ensures left { IfOk result (λ found. found.left ≤ length ahead.now) }
+    ensures open { IfOk result (λ found. found.line ≡ None → HasNoLineEnd (drop (length ahead.now - found.left) ahead.now)) }
     ensures found { (k : ℕ) → first ≡ line_number k → MatchResult result (λ found. Looked max k ahead.now found) (λ fault. Fails max k ahead.now fault) }
 {
-    let mut rest = ahead;
+    let mut rest = ahead.ahead();
     let mut none_before = searched;
     let mut number = first;
-    while let Some((bytes, after)) = first_line(rest, none_before) {
+    while let Some((bytes, after)) = rest.first_line(none_before) {
         let next = number.saturating_add(1);
         match parse_at(alloc, max, true, bytes, number)? {
             None => {}
@@ -93,7 +94,7 @@ pub(super) fn look_to_end(
     alloc: Global,
     max: u32,
     first: u64,
-    ahead: &[u8],
+    ahead: &Held,
     searched: usize,
 ) -> Result<(Found, bool), LineFault>
     requires max { max ≤ 134217727 }
@@ -105,7 +106,7 @@ pub(super) fn look_to_end(
     if found.line.is_some() {
         return Ok((found, false));
     }
-    let (_, last) = ahead.split_at(ahead.len() - found.left);
+    let last = ahead.last(found.left);
     let line = parse_at(alloc, max, false, last, found.number)?;
     let behind = Found {
         line,

@@ -1,5 +1,5 @@
 //! The reader of lines.
-ghost use Rattle.std.specs.Prelude.{◌≡◌, ◌+◌, ◌≤◌, ◌++◌, ◌⊎◌, ℕ, Bool, true, false, List, [], length, drop, Option, Some, None, Ok, Err, IfSome, IsSome, OnOk, OnErr, MatchBool, MatchResult, slice_get, vec_len};
+ghost use Rattle.std.specs.Prelude.{◌≡◌, ◌+◌, ◌≤◌, ◌++◌, ◌⊎◌, ℕ, Bool, true, false, List, [], length, Option, Some, None, Ok, Err, IfSome, IsSome, OnOk, OnErr, MatchBool, MatchResult, slice_get};
 ghost use Rattle.lj_text.specs.Bytes.{line_number};
 ghost use Rattle.lj_text.specs.Lines.{whole_said, all_said};
 ghost use Rattle.lj_text.specs.LinesRead.{StandsAt, wants_memory, answer_of, handed_out, fault_of, place_of, last_number};
@@ -7,6 +7,7 @@ ghost use Rattle.lj_text.specs.LinesHeld.{IsAhead, passed, kept};
 ghost use Rattle.lj_text.specs.Looking.{Looked, LookedBehind, Fails, FailsToEnd};
 
 use super::fault::{LineFault, LineFaultKind};
+use super::held::Held;
 use super::look::{Found, look, look_to_end};
 use crate::line::Line;
 use std::alloc::Global;
@@ -19,10 +20,8 @@ use std::marker::Model;
 pub struct LineReader {
     alloc: Global,
     max: u32,
-    bytes: Vec<u8>,
-    /// Where the line to be read begins.
-    start: usize,
-    /// No line ends between `start` and here.
+    held: Held,
+    /// No line ends among the first `searched` bytes that are held.
     searched: usize,
     /// The number of the line to be read.
     line: u64,
@@ -32,15 +31,14 @@ pub struct LineReader {
 }
 
 impl Model for LineReader {
-    ghost use Rattle.std.specs.Prelude.{drop};
     ghost use Rattle.lj_text.specs.LinesRead.{LinesRead};
     ghost use Rattle.lj_text.specs.LinesHeld.{IsHeld};
 
     ghost Value = { LinesRead };
 
-    ghost view = { λ r. record { max = r.max; ahead = drop r.start r.bytes.items; line = r.line; at = r.at; finished = r.finished; fault = r.fault } };
+    ghost view = { λ r. record { max = r.max; ahead = r.held; line = r.line; at = r.at; finished = r.finished; fault = r.fault } };
 
-    ghost invariant = { λ r. IsHeld r.max r.start r.searched r.line r.bytes.items };
+    ghost invariant = { λ r. IsHeld r.max r.searched r.line r.held };
 }
 
 impl LineReader {
@@ -54,8 +52,7 @@ impl LineReader {
         LineReader {
             alloc,
             max,
-            bytes: Vec::new(alloc),
-            start: 0,
+            held: Held::new(alloc),
             searched: 0,
             line: 1,
             at: 1,
@@ -79,25 +76,12 @@ impl LineReader {
         if let Some(fault) = self.fault {
             return Err(fault);
         }
-        self.make_room();
-        match self.bytes.extend_from_slice(piece) {
+        match self.held.push(piece) {
             Ok(()) => Ok(()),
             Err(_) => Err(LineFault {
                 kind: LineFaultKind::NoMemory,
                 line: self.line,
             }),
-        }
-    }
-
-    /// Lets go of the bytes of lines that are done, once they are more than the others: so over all calls it moves
-    /// no more bytes than were handed out.
-    fn make_room(&mut self)
-        ensures { self.new ≡ self.old }
-    {
-        if self.start > self.bytes.len() - self.start {
-            drop_front(&mut self.bytes, self.start);
-            self.searched -= self.start;
-            self.start = 0;
         }
     }
 
@@ -187,14 +171,7 @@ impl LineReader {
         ensures found { (k : ℕ) → self.now.line ≡ line_number k → MatchResult result (λ found. Looked self.now.max k self.now.ahead found) (λ fault. Fails self.now.max k self.now.ahead fault) }
         ensures counted { (k : ℕ) × (self.now.line ≡ line_number k) }
     {
-        let (_, ahead) = self.bytes.split_at(self.start);
-        look(
-            self.alloc,
-            self.max,
-            self.line,
-            ahead,
-            self.searched - self.start,
-        )
+        look(self.alloc, self.max, self.line, &self.held, self.searched)
     }
 
     /// The same, up to the end of the input.
@@ -202,14 +179,7 @@ impl LineReader {
         ensures found { (k : ℕ) → self.now.line ≡ line_number k → MatchResult result (λ found. MatchBool found.1 (LookedBehind self.now.max k self.now.ahead found.0) (Looked self.now.max k self.now.ahead found.0 × IsSome found.0.line)) (λ fault. FailsToEnd self.now.max k self.now.ahead fault) }
         ensures counted { (k : ℕ) × (self.now.line ≡ line_number k) }
     {
-        let (_, ahead) = self.bytes.split_at(self.start);
-        look_to_end(
-            self.alloc,
-            self.max,
-            self.line,
-            ahead,
-            self.searched - self.start,
-        )
+        look_to_end(self.alloc, self.max, self.line, &self.held, self.searched)
     }
 
     /// Goes on behind what was found.
@@ -218,8 +188,8 @@ impl LineReader {
         ensures line { result ≡ found.line }
         ensures passed { self.new ≡ passed self.old found }
     {
-        self.start = self.bytes.len() - found.left;
-        self.searched = self.start + found.searched;
+        self.held.keep_last(found.left);
+        self.searched = found.searched;
         self.line = found.number;
         self.at = found.at;
         found.line
@@ -234,14 +204,4 @@ impl LineReader {
             self.fault = Some(fault);
         }
     }
-}
-
-/// Takes bytes off the front.
-fn drop_front(bytes: &mut Vec<u8>, count: usize)
-    requires { count ≤ vec_len bytes.old }
-    ensures { bytes.new.items ≡ drop count bytes.old.items }
-{
-    let left = bytes.len() - count;
-    bytes.copy_within(count.., 0);
-    bytes.truncate(left);
 }
