@@ -1,0 +1,113 @@
+#!/usr/bin/env bash
+# Measures the readers of lj_text, and prints what it measures: their speed over 50 MB of LRAT lines beside that of
+# `wc -l`, the time that one line of a million tokens takes, and the memory that a formula's header takes.
+#
+# The program is read_lines.txt. It is no .rt file, since the gate refuses one that belongs to no crate of crates.txt.
+# It is proved and built in a scratch folder, by LLVM, over a copy of the library, and nothing is written here.
+#
+# Each time is that of a whole process, and the least of five. What is compared is run in turn, so that what else the
+# machine does is beside each alike.
+set -euo pipefail
+
+here=$(cd "$(dirname "$0")" && pwd)
+top=$(dirname "$here")
+scratch=$(mktemp -d)
+trap 'rm -rf "$scratch"' EXIT
+
+build() {
+    mkdir -p "$scratch/crates/read_lines/src"
+    cp -r "$top/crates/lj_clause" "$top/crates/lj_text" "$scratch/crates"
+    cp "$here/read_lines.txt" "$scratch/crates/read_lines/src/main.rt"
+    grep -E '^(lj_clause|lj_text):' "$top/crates.txt" > "$scratch/crates.txt"
+    echo 'read_lines: anyhow lj_clause lj_text' >> "$scratch/crates.txt"
+    git init -q "$scratch"
+    : > "$scratch/empty"
+    if ! (cd "$scratch/crates/read_lines" && rt run -- bytes "$scratch/empty" 1) > "$scratch/log" 2>&1; then
+        cat "$scratch/log" >&2
+        exit 1
+    fi
+}
+
+read_lines() {
+    "$scratch/crates/read_lines/out/read_lines" "$@" > "$scratch/printed"
+}
+
+# Prints a name and the microseconds that a command takes.
+timed() {
+    local name=$1 start
+    shift
+    start=${EPOCHREALTIME/[.,]/}
+    "$@"
+    echo "$name $((${EPOCHREALTIME/[.,]/} - start))"
+}
+
+# Ends all where a file's lines were not handed out, each once.
+handed_out() {
+    if ! grep -qx "lines $(wc -l < "$1")" "$scratch/printed"; then
+        echo "the lines handed out are not those of $1" >&2
+        exit 1
+    fi
+}
+
+# Of rows of a name and a number, each name with its least number.
+least() {
+    awk '!($1 in least) || $2 < least[$1] { least[$1] = $2 } END { for (name in least) print name, least[name] }'
+}
+
+speed() {
+    awk -v bytes=50000000 -f "$here/lines.awk" > "$scratch/lines"
+    for _ in 1 2 3 4 5; do
+        timed wc wc -l "$scratch/lines" | tail -n 1
+        for size in 4096 65536; do
+            timed "$size" read_lines lines "$scratch/lines" "$size"
+            handed_out "$scratch/lines"
+        done
+    done | least | awk -v bytes="$(wc -c < "$scratch/lines")" '
+        { micros[$1] = $2 }
+        END {
+            printf "wc -l: %.0f MB/s\n", bytes / micros["wc"]
+            for (size = 4096; size <= 65536; size *= 16)
+                printf "line reader, pieces of %d bytes: %.0f MB/s, %.0f times the time of wc -l\n", size, bytes / micros[size], micros[size] / micros["wc"]
+        }'
+}
+
+# A line of so many tokens: an addition of the clause 1 with the hints 1, 2 and on, or of the literals 1, 2 and on.
+long_line() {
+    awk -v what="$1" -v tokens="$2" 'BEGIN {
+        printf what == "hints" ? "5 1 0" : "5"
+        for (k = 1; k <= tokens; k++) printf " %d", k
+        print what == "hints" ? " 0" : " 0 0"
+    }'
+}
+
+long_lines() {
+    for what in hints literals; do
+        for millions in 1 2; do long_line "$what" "${millions}000000" > "$scratch/$millions"; done
+        for _ in 1 2 3 4 5; do
+            for millions in 1 2; do
+                timed "$millions" read_lines lines "$scratch/$millions" 4096
+                handed_out "$scratch/$millions"
+            done
+        done | least | awk -v what="$what" '
+            { ms[$1] = $2 / 1000 }
+            END { printf "one line of %s: %.0f ms at a million, %.0f ms at two, %.2f times as long\n", what, ms[1], ms[2], ms[2] / ms[1] }'
+    done
+}
+
+headers() {
+    echo 'p cnf 134217727 4294967295' > "$scratch/header"
+    for _ in 1 2 3 4 5; do
+        for text in empty header; do
+            read_lines formula "$scratch/$text" 4096
+            awk -v text="$text" '$1 == "VmHWM:" { print text, $2 }' "$scratch/printed"
+        done
+    done | least | awk '
+        { kilobytes[$1] = $2 }
+        END { printf "formula reader: %d kB at most for an empty text, %d kB for the largest header\n", kilobytes["empty"], kilobytes["header"] }'
+}
+
+build
+echo "load of the machine: $(cut -d ' ' -f 1-3 /proc/loadavg), processors: $(nproc)"
+speed
+long_lines
+headers
