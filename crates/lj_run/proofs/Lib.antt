@@ -2,3 +2,4 @@ mod FormulaLemmas
 mod InTurnLemmas
 mod ReadingLemmas
 mod RunLemmas
+mod WordsLemmas

@@ -1,0 +1,247 @@
+//! Whole runs of the program, over files in memory.
+use super::*;
+use crate::files::{MemoryFile, MemoryFiles};
+use lj_text::{FailingSink, FailingSource, MemorySink, MemorySource};
+use std::process::Abort;
+use std::test::Fail;
+
+/// The clauses `1 2`, `-1 2`, `1 -2` and `-1 -2`.
+const BINARY: &str = "p cnf 2 4\n1 2 0\n-1 2 0\n1 -2 0\n-1 -2 0\n";
+
+/// Files at the paths `cnf` and `lrat`.
+fn files_of(alloc: Global, formula: &str, stream: &str) -> Result<MemoryFiles, Fail> {
+    let mut files = MemoryFiles::new(alloc);
+    files.add("cnf", formula.as_bytes())?;
+    files.add("lrat", stream.as_bytes())?;
+    Ok(files)
+}
+
+/// What the program told, and how it ended.
+#[derive(Drop)]
+struct Told {
+    out: MemorySink,
+    err: MemorySink,
+    status: u8,
+}
+
+fn told_of<R: Wait, F: Files>(rt: &R, alloc: Global, words: &[&str], files: &mut F) -> Told {
+    let mut out = MemorySink::new(alloc);
+    let mut err = MemorySink::new(alloc);
+    let status = program(rt, alloc, words, files, &mut out, &mut err);
+    Told { out, err, status }
+}
+
+fn assert_told<R: Abort + Wait, F: Files>(
+    rt: &R,
+    alloc: Global,
+    words: &[&str],
+    files: &mut F,
+    out: &str,
+    err: &str,
+    status: u8,
+) {
+    let told = told_of(rt, alloc, words, files);
+    assert_eq!(rt; told.out.bytes(), out.as_bytes(), "standard output");
+    assert_eq!(rt; told.err.bytes(), err.as_bytes(), "standard error");
+    assert!(rt; told.status == status);
+}
+
+/// Asserts how the one stream ends, and the verdict.
+fn assert_streamed<R: Abort + Wait>(
+    rt: &R,
+    alloc: Global,
+    formula: &str,
+    stream: &str,
+    report: &str,
+    verified: bool,
+) -> Result<(), Fail> {
+    let mut files = files_of(alloc, formula, stream)?;
+    let (verdict, status) = match verified {
+        true => ("VERIFIED UNSAT", 0),
+        false => ("NOT VERIFIED", 1),
+    };
+    let out = format!(in alloc; "c stream 0: {report}\ns {verdict}\n")?;
+    assert_told(rt, alloc, &["cnf", "lrat"], &mut files, &out, "", status);
+    Ok(())
+}
+
+#[test]
+fn verified_streams(rt: HostRuntime) -> Result<(), Fail> {
+    for (formula, stream, report) in [
+        (
+            "p cnf 1 2\n1 0\n-1 0\n",
+            "3 0 1 2 0\n",
+            "1 added, 0 deleted, 0 imported, stopped",
+        ),
+        (
+            "p cnf 0 1\n0\n",
+            "2 0 1 0\n",
+            "1 added, 0 deleted, 0 imported, stopped",
+        ),
+        (
+            BINARY,
+            "5 2 0 1 2 0\n6 0 5 3 4 0\n",
+            "2 added, 0 deleted, 0 imported, stopped",
+        ),
+    ] {
+        assert_streamed(&rt, rt.alloc(), formula, stream, report, true)?;
+    }
+    Ok(())
+}
+
+#[test]
+fn streams_that_refute_nothing(rt: HostRuntime) -> Result<(), Fail> {
+    let alloc = rt.alloc();
+    assert_streamed(
+        &rt,
+        alloc,
+        "p cnf 0 1\n0\n",
+        "",
+        "0 added, 0 deleted, 0 imported, ended",
+        false,
+    )?;
+    for (stream, report) in [
+        (
+            "5 2 0 3 1 0\n",
+            "0 added, 0 deleted, 0 imported, line 1: HintNotUnit(1)",
+        ),
+        (
+            "5 0 0\n",
+            "0 added, 0 deleted, 0 imported, line 1: EmptyOpen",
+        ),
+        (
+            "4 2 0 1 2 0\n",
+            "0 added, 0 deleted, 0 imported, line 1: NumberTaken",
+        ),
+        (
+            "5 2 0 9 0\n",
+            "0 added, 0 deleted, 0 imported, line 1: UnknownNumber(9)",
+        ),
+        (
+            "5 -2 1 0 0\n",
+            "0 added, 0 deleted, 0 imported, line 1: NotYet",
+        ),
+        (
+            "5 2 0 1 2 0\n6 0 5 3 4",
+            "1 added, 0 deleted, 0 imported, line 2: Truncated",
+        ),
+        ("5 d 1 1 9 0\n", "0 added, 1 deleted, 0 imported, ended"),
+    ] {
+        assert_streamed(&rt, alloc, BINARY, stream, report, false)?;
+    }
+    Ok(())
+}
+
+#[test]
+fn faults_are_told(rt: HostRuntime) -> Result<(), Fail> {
+    let alloc = rt.alloc();
+    let mut files = files_of(alloc, BINARY, "")?;
+    files.add("5", b"p cnf 2 5\n1 2 0\n-1 2 0\n1 -2 0\n-1 -2 0\n")?;
+    for (words, err) in [
+        (["5", "lrat"], "lratjoin: 5: line 6: ClauseCount\n"),
+        (["none", "none as well"], "lratjoin: none: cannot read\n"),
+        (["cnf", "none"], "lratjoin: none: cannot read\n"),
+        (["-", "lrat"], "lratjoin: -: cannot read\n"),
+    ] {
+        assert_told(&rt, alloc, &words, &mut files, "", err, 2);
+    }
+    Ok(())
+}
+
+#[test]
+fn wrong_words_are_usage(rt: HostRuntime) -> Result<(), Fail> {
+    let alloc = rt.alloc();
+    let mut files = files_of(alloc, BINARY, "")?;
+    for words in [
+        [].as_slice(),
+        &["cnf"],
+        &["cnf", "lrat", "lrat"],
+        &["--unknown", "--help"],
+        &["--in-turn", "cnf", "lrat"],
+        &["cnf", "--", "-h", "lrat"],
+    ] {
+        let told = told_of(&rt, alloc, words, &mut files);
+        assert!(rt; told.out.bytes().is_empty() && !told.err.bytes().is_empty());
+        assert!(rt; told.status == 3);
+    }
+    Ok(())
+}
+
+#[test]
+fn help_and_version_are_told(rt: HostRuntime) -> Result<(), Fail> {
+    let alloc = rt.alloc();
+    let mut files = MemoryFiles::new(alloc);
+    for words in [["--help", "--unknown"], ["cnf", "-h"]] {
+        let told = told_of(&rt, alloc, &words, &mut files);
+        assert!(rt; !told.out.bytes().is_empty() && told.err.bytes().is_empty());
+        assert!(rt; told.status == 0);
+    }
+    for word in ["--version", "-V"] {
+        assert_told(&rt, alloc, &[word], &mut files, "lratjoin 0.1.0\n", "", 0);
+    }
+    Ok(())
+}
+
+#[test]
+fn standard_streams_fail(rt: HostRuntime) -> Result<(), Fail> {
+    let alloc = rt.alloc();
+    let mut files = files_of(alloc, BINARY, "")?;
+    for (words, room) in [
+        (["cnf", "lrat"].as_slice(), 0),
+        (&["cnf", "lrat"], 60),
+        (&["--help"], 0),
+    ] {
+        let mut out = FailingSink::new(MemorySink::new(alloc), room);
+        let mut err = MemorySink::new(alloc);
+        assert!(rt; program(&rt, alloc, words, &mut files, &mut out, &mut err) == 2);
+        assert_eq!(rt; err.bytes(), b"lratjoin: cannot write\n".as_slice());
+    }
+    let mut out = MemorySink::new(alloc);
+    let mut err = FailingSink::new(MemorySink::new(alloc), 0);
+    assert!(rt; program(&rt, alloc, &["cnf"], &mut files, &mut out, &mut err) == 3);
+    Ok(())
+}
+
+/// Files in memory, each of which fails once its bytes were pulled, but for `cnf`.
+#[derive(Drop)]
+struct FailingFiles(MemoryFiles);
+
+impl Files for FailingFiles {
+    type Input = FailingSource<MemorySource>;
+
+    type Output = MemoryFile;
+
+    ghost content = { λ _ _. None };
+
+    fn open(&mut self, path: &str) -> Option<FailingSource<MemorySource>> {
+        let pulls = if path == "cnf" { 2 } else { 1 };
+        Some(FailingSource::new(self.0.open(path)?, pulls))
+    }
+
+    fn create(&mut self, path: &str) -> Option<MemoryFile> {
+        self.0.create(path)
+    }
+}
+
+#[test]
+fn reads_fail(rt: HostRuntime) -> Result<(), Fail> {
+    let alloc = rt.alloc();
+    for (stream, report) in [
+        (
+            "5 2 0 1",
+            "0 added, 0 deleted, 0 imported, line 1: ReadFailed",
+        ),
+        (
+            "5 2 0 1 2 0\n6 0 5",
+            "1 added, 0 deleted, 0 imported, line 2: ReadFailed",
+        ),
+    ] {
+        let mut files = FailingFiles(files_of(alloc, BINARY, stream)?);
+        let out = format!(in alloc; "c stream 0: {report}\ns NOT VERIFIED\n")?;
+        assert_told(&rt, alloc, &["cnf", "lrat"], &mut files, &out, "", 1);
+    }
+    let mut files = FailingFiles(files_of(alloc, BINARY, BINARY)?);
+    let err = "lratjoin: lrat: cannot read\n";
+    assert_told(&rt, alloc, &["lrat", "cnf"], &mut files, "", err, 2);
+    Ok(())
+}

@@ -1,0 +1,26 @@
+//! What the words ask for.
+ghost use Rattle.std.specs.Prelude.{◌<◌, ◌≤◌, vec_len};
+
+/// What the words ask for.
+#[derive(Debug, Drop)]
+pub(crate) enum Request<'a> {
+    /// A run over these files.
+    Run(CommandLine<'a>),
+    /// The help, which is this text.
+    Help(String),
+    /// The name and the version, which are this text.
+    Version(String),
+    /// Nothing that the program knows. The text says why, and how the program is used.
+    Usage(String),
+}
+
+/// What a run is asked for.
+#[derive(Debug, Drop)]
+pub(crate) struct CommandLine<'a> {
+    /// The path of the formula.
+    pub formula: &'a str,
+    /// The paths of the streams, in their order, 1 to 64.
+    pub proofs: Vec<&'a str>,
+    ghost some: { 0 < vec_len proofs },
+    ghost seated: { vec_len proofs ≤ 64 },
+}
