@@ -1,5 +1,6 @@
 -- How the program ends.
-use Rattle.std.specs.Prelude.{ℕ, List, Bool, true, false}
+use Rattle.std.specs.Prelude.{◌≡◌, ℕ, List, ◌++◌, Bool, true, false, Option, codes}
+use Rattle.std.specs.Io.KnownBytes.{Appends}
 use Rattle.std.specs.Borrow.{Bor}
 use Rattle.lj_run.specs.declared.body.Status.{Status}
 use Rattle.lj_run.specs.declared.body.Status.TheVariants as statuses
@@ -30,3 +31,16 @@ abbrev pub fault_at : Bor (List ℕ) → RunFault → Fault
 fault_at path (run_faults.Formula fault) = faults.Formula path fault
 fault_at path run_faults.FormulaRead = faults.CannotRead path
 fault_at path run_faults.NoMemory = faults.NoMemory
+
+-- the line of a verdict
+abbrev pub verdict_line : Bool → List ℕ
+verdict_line true = codes "s VERIFIED UNSAT\n"
+verdict_line false = codes "s NOT VERIFIED\n"
+
+-- these bytes are the last ones
+abbrev pub EndsWith : List ℕ → List ℕ → Type 0
+EndsWith bytes last = (before : List ℕ) × (bytes ≡ before ++ last)
+
+-- what a sink took meanwhile ends with these bytes
+abbrev pub EndsByTelling : Option (List ℕ) → Option (List ℕ) → List ℕ → Type 0
+EndsByTelling old new last = (before : List ℕ) × Appends old new (before ++ last)

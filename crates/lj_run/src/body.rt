@@ -1,7 +1,8 @@
 //! The body of the program.
-ghost use Rattle.std.specs.Prelude.{◌≡◌, ◌<◌, ◌≤◌, IfOk, IfErr, All, is_some, length, vec_len};
-ghost use Rattle.lj_run.specs.Program.{code_of, status_of_fault, verdict_status, fault_at};
+ghost use Rattle.std.specs.Prelude.{◌≡◌, ◌<◌, ◌≤◌, IfOk, IfErr, All, false, is_some, length, string_bytes, vec_len};
+ghost use Rattle.lj_run.specs.Program.{code_of, status_of_fault, verdict_status, verdict_line, fault_at, EndsWith, EndsByTelling};
 ghost use Rattle.lj_run.specs.declared.body.Fault.TheVariants as faults;
+ghost use Rattle.lj_run.specs.declared.body.Status.TheVariants as statuses;
 
 use crate::command_line::{CommandLine, Request};
 use crate::files::Files;
@@ -64,6 +65,7 @@ pub fn program<R: Wait, S: AsStr, F: Files, O: Sink, E: Sink>(
 
     ensures status { result ≤ 3 }
     ensures told { result < 2 → O.failures out.new ≡ 0 }
+    ensures not_verified { result ≡ 1 → EndsByTelling (O.taken out.old) (O.taken out.new) (verdict_line false) }
     ensures quiet { result < 2 → err.new ≡ err.old }
     ensures usage { result ≡ 3 → out.new ≡ out.old }
 {
@@ -140,7 +142,8 @@ fn answer_of<'a, R: Wait, S: AsStr, F: Files>(
     words: &'a [S],
     files: &mut F,
 ) -> Result<Answer, Fault<'a>>
-    ensures { IfOk result (λ answer. code_of answer.status < 2) }
+    ensures status { IfOk result (λ answer. code_of answer.status < 2) }
+    ensures not_verified { IfOk result (λ answer. answer.status ≡ statuses.NotVerified → EndsWith (string_bytes answer.text) (verdict_line false)) }
 {
     match read_words(alloc, words)? {
         Request::Run(line) => run(rt, alloc, &line, files),
@@ -159,7 +162,8 @@ fn run<'a, R: Wait, F: Files>(
     line: &CommandLine<'a>,
     files: &mut F,
 ) -> Result<Answer, Fault<'a>>
-    ensures { IfOk result (λ answer. code_of answer.status < 2) }
+    ensures status { IfOk result (λ answer. code_of answer.status < 2) }
+    ensures not_verified { IfOk result (λ answer. answer.status ≡ statuses.NotVerified → EndsWith (string_bytes answer.text) (verdict_line false)) }
 {
     let mut formula = open(files, line.formula)?;
     let streams = open_all(alloc, files, &line.proofs)?;
@@ -201,25 +205,30 @@ fn open_all<'a, F: Files>(
     Ok(inputs)
 }
 
-/// The lines of an outcome.
+/// The lines of an outcome, the verdict last, and the status that the verdict gives.
 fn told<S>(alloc: Global, outcome: &Outcome<S>) -> Result<Answer, AllocError>
-    ensures { IfOk result (λ answer. answer.status ≡ verdict_status (is_some outcome.now.verified)) }
+    ensures status { IfOk result (λ answer. answer.status ≡ verdict_status (is_some outcome.now.verified)) }
+    ensures last { IfOk result (λ answer. EndsWith (string_bytes answer.text) (verdict_line (is_some outcome.now.verified))) }
 {
     let mut text = String::new(alloc);
     for (seat, report) in outcome.reports.iter().enumerate() {
         writeln!(text, "c stream {seat}: {report}")?;
     }
-    let status = match &outcome.verified {
-        Some(_) => {
-            text.push_str("s VERIFIED UNSAT\n")?;
-            Status::Done
-        }
-        None => {
-            text.push_str("s NOT VERIFIED\n")?;
-            Status::NotVerified
-        }
-    };
+    let (line, status) = verdict(outcome.verified.is_some());
+    text.push_str(line)?;
     Ok(Answer { text, status })
+}
+
+/// The line of a verdict, and the status that it gives.
+fn verdict(verified: bool) -> (&'static str, Status)
+    ensures line { result.0.now ≡ verdict_line verified }
+    ensures status { result.1 ≡ verdict_status verified }
+{
+    if verified {
+        ("s VERIFIED UNSAT\n", Status::Done)
+    } else {
+        ("s NOT VERIFIED\n", Status::NotVerified)
+    }
 }
 
 /// What is told of a run without an outcome, whose formula stands at this path.

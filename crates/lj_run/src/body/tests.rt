@@ -1,4 +1,6 @@
 //! Whole runs of the program, over files in memory.
+ghost use Rattle.std.specs.Prelude.{None};
+
 use super::*;
 use crate::files::{MemoryFile, MemoryFiles};
 use lj_text::{FailingSink, FailingSource, MemorySink, MemorySource};
