@@ -1,5 +1,5 @@
 //! What the words ask for.
-ghost use Rattle.std.specs.Prelude.{◌<◌, ◌≤◌, vec_len};
+ghost use Rattle.std.specs.Prelude.{◌≡◌, vec_len};
 
 /// What the words ask for.
 #[derive(Debug, Drop)]
@@ -19,8 +19,7 @@ pub(crate) enum Request<'a> {
 pub(crate) struct CommandLine<'a> {
     /// The path of the formula.
     pub formula: &'a str,
-    /// The paths of the streams, in their order, 1 to 64.
+    /// The paths of the streams, in their order: so far there is one.
     pub proofs: Vec<&'a str>,
-    ghost some: { 0 < vec_len proofs },
-    ghost seated: { vec_len proofs ≤ 64 },
+    ghost one: { vec_len proofs ≡ 1 },
 }
