@@ -1,9 +1,9 @@
 -- Words that are parsed give both paths.
-use Rattle.std.proofs.Common.{zero, suc, ◌≡◌, ◌<◌, ℕ, List, [], ◌∷◌, length, true, false, is_some, refl, sym, ap, ◌∙◌, subst, slice_index, slice_index_or, codes, arith, inl, inr, Result, Ok, Err, IfOk}
+use Rattle.std.proofs.Common.{zero, suc, ◌≡◌, ℕ, List, [], ◌∷◌, true, is_some, refl, sym, ap, ◌∙◌, subst, slice_index, codes, arith, inl, inr, Result, Ok, Err, IfOk}
 use Rattle.std.specs.List.{All}
 use Rattle.std.specs.Str.{bytes_eq}
 use Rattle.std.proofs.lemmas.List.Elements.{All-cons, All-nil}
-use Rattle.clap.specs.Built.{AddsArg, FitsChain, HasDistinctIds, IsAuto, IsParsedFrom}
+use Rattle.clap.specs.Built.{AddsArg, FitsChain, HasDistinctIds, IsParsedFrom}
 use Rattle.clap.specs.Matches.{found_of, first_value}
 use Rattle.clap.specs.declared.builder.arg.Arg.{Arg}
 use Rattle.clap.specs.declared.builder.command.Command.{Command}

@@ -1,6 +1,5 @@
-use Rattle.std.proofs.Common.{rules, ◌≡◌, IfOk, codes, is_some, true, ◌∷◌, [], List, ℕ}
-use Rattle.clap.specs.Matches.{found_of, first_value}
-use Rattle.lj_run.proofs.WordsLemmas.{both_given, BothGiven, if_ok_map}
+use Rattle.std.proofs.Common.{rules}
+use Rattle.lj_run.proofs.WordsLemmas.{both_given, if_ok_map}
 use Rattle.lj_run.proofs.words.parsed.Goals as goal
 
 -- src/words.rt:29:1
