@@ -38,8 +38,8 @@ verdict_line true = codes "s VERIFIED UNSAT\n"
 verdict_line false = codes "s NOT VERIFIED\n"
 
 -- these bytes are the last ones
-abbrev pub EndsWith : List ℕ → List ℕ → Type 0
-EndsWith bytes last = (before : List ℕ) × (bytes ≡ before ++ last)
+abbrev pub EndsIn : List ℕ → List ℕ → Type 0
+EndsIn bytes last = (before : List ℕ) × (bytes ≡ before ++ last)
 
 -- what a sink took meanwhile ends with these bytes
 abbrev pub EndsByTelling : Option (List ℕ) → Option (List ℕ) → List ℕ → Type 0

@@ -1,6 +1,6 @@
 //! The body of the program.
 ghost use Rattle.std.specs.Prelude.{◌≡◌, ◌<◌, ◌≤◌, IfOk, IfErr, All, false, is_some, length, string_bytes, vec_len};
-ghost use Rattle.lj_run.specs.Program.{code_of, status_of_fault, verdict_status, verdict_line, fault_at, EndsWith, EndsByTelling};
+ghost use Rattle.lj_run.specs.Program.{code_of, status_of_fault, verdict_status, verdict_line, fault_at, EndsIn, EndsByTelling};
 ghost use Rattle.lj_run.specs.declared.body.Fault.TheVariants as faults;
 ghost use Rattle.lj_run.specs.declared.body.Status.TheVariants as statuses;
 
@@ -143,7 +143,7 @@ fn answer_of<'a, R: Wait, S: AsStr, F: Files>(
     files: &mut F,
 ) -> Result<Answer, Fault<'a>>
     ensures status { IfOk result (λ answer. code_of answer.status < 2) }
-    ensures not_verified { IfOk result (λ answer. answer.status ≡ statuses.NotVerified → EndsWith (string_bytes answer.text) (verdict_line false)) }
+    ensures not_verified { IfOk result (λ answer. answer.status ≡ statuses.NotVerified → EndsIn (string_bytes answer.text) (verdict_line false)) }
 {
     match read_words(alloc, words)? {
         Request::Run(line) => run(rt, alloc, &line, files),
@@ -163,7 +163,7 @@ fn run<'a, R: Wait, F: Files>(
     files: &mut F,
 ) -> Result<Answer, Fault<'a>>
     ensures status { IfOk result (λ answer. code_of answer.status < 2) }
-    ensures not_verified { IfOk result (λ answer. answer.status ≡ statuses.NotVerified → EndsWith (string_bytes answer.text) (verdict_line false)) }
+    ensures not_verified { IfOk result (λ answer. answer.status ≡ statuses.NotVerified → EndsIn (string_bytes answer.text) (verdict_line false)) }
 {
     let mut formula = open(files, line.formula)?;
     let streams = open_all(alloc, files, &line.proofs)?;
@@ -208,7 +208,7 @@ fn open_all<'a, F: Files>(
 /// The lines of an outcome, the verdict last, and the status that the verdict gives.
 fn told<S>(alloc: Global, outcome: &Outcome<S>) -> Result<Answer, AllocError>
     ensures status { IfOk result (λ answer. answer.status ≡ verdict_status (is_some outcome.now.verified)) }
-    ensures last { IfOk result (λ answer. EndsWith (string_bytes answer.text) (verdict_line (is_some outcome.now.verified))) }
+    ensures last { IfOk result (λ answer. EndsIn (string_bytes answer.text) (verdict_line (is_some outcome.now.verified))) }
 {
     let mut text = String::new(alloc);
     for (seat, report) in outcome.reports.iter().enumerate() {
