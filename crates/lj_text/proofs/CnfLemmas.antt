@@ -1,5 +1,5 @@
 -- What the grammar reads on behind a token of the clauses.
-use Rattle.std.proofs.Common.{◌≡◌, ℕ, zero, suc, ◌+◌, ◌-◌, ◌<◌, ◌≤◌, Bool, true, false, not, ◌&&◌, ◌||◌, cond, List, [], ◌∷◌, ◌++◌, length, Option, None, Some, Result, Ok, Err, ℤ, pos, negsuc, unsigned_abs, ◌==◌, refl, sym, ap, ◌∙◌, subst, append_assoc, arith}
+use Rattle.std.proofs.Common.{◌≡◌, ℕ, zero, suc, ◌-◌, ◌<◌, ◌≤◌, Bool, true, false, not, ◌&&◌, ◌||◌, cond, List, [], ◌∷◌, ◌++◌, length, Option, Result, Ok, Err, ℤ, pos, negsuc, unsigned_abs, ◌==◌, refl, sym, ap, ◌∙◌, subst, append_assoc, arith}
 use Rattle.std.proofs.lemmas.Bool.{le-leb, lt-leb, false_from_ne_true}
 use Rattle.std.proofs.lemmas.Bool.Decides.{nat_tests}
 use Rattle.std.proofs.lemmas.List.{append-nil}
@@ -10,7 +10,7 @@ use Rattle.lj_clause.proofs.Among.{among, any_found, any_at}
 use Rattle.std.specs.List.{list_all, list_any}
 use Rattle.std.specs.Prelude.{nat_le}
 use Rattle.std.proofs.lemmas.List.Folds.{list_all-append}
-use Rattle.lj_clause.specs.ClauseMap.{FormulaValue, formula_of, names_up_to}
+use Rattle.lj_clause.specs.ClauseMap.{formula_of, names_up_to}
 use Rattle.lj_text.specs.declared.cnf.fault.CnfFault.{CnfFault}
 use Rattle.lj_text.specs.declared.cnf.fault.CnfFaultKind.TheVariants.{NoHeader, BadHeader, BadNumber, VariableRange, ClauseCount, Truncated, NoMemory}
 use Rattle.lj_text.specs.Lines.{with_read, then_read}

@@ -1,9 +1,8 @@
 -- What the whole lines at the front of a text say is what the text says first.
-use Rattle.std.proofs.Common.{◌≡◌, ℕ, zero, suc, ◌+◌, ◌<◌, Bool, true, false, cond, List, [], ◌∷◌, ◌++◌, length, Option, None, Some, refl, sym, ap, ◌∙◌, subst, append_assoc, arith}
+use Rattle.std.proofs.Common.{◌≡◌, ℕ, zero, suc, ◌+◌, true, false, List, [], ◌∷◌, ◌++◌, length, Some, refl, sym, ap, ◌∙◌, append_assoc, arith}
 use Rattle.std.proofs.lemmas.List.{append-nil}
 use Rattle.std.proofs.lemmas.List.Elements.{All-cons}
 use Rattle.std.specs.List.{AllByRecursion, slice_get}
-use Rattle.std.specs.Prelude.{◌==◌}
 use borrow.Author.Tests.{eqb-true}
 use Rattle.lj_text.specs.Bytes.{is_line_end}
 use Rattle.lj_text.specs.Lines.{Said, said_from, whole_said, all_said, all_said_from}

@@ -1,5 +1,5 @@
 -- What a reader of lines answers at each text at which it stands.
-use Rattle.std.proofs.Common.{◌≡◌, ℕ, zero, suc, ◌+◌, ◌-◌, ◌<◌, ◌≤◌, Bool, true, false, cond, List, [], ◌∷◌, ◌++◌, length, take, drop, Option, None, Some, Result, Ok, Err, refl, sym, ap, ◌∙◌, subst, append_assoc, arith, length-append}
+use Rattle.std.proofs.Common.{◌≡◌, ℕ, ◌+◌, ◌-◌, Bool, true, false, cond, List, [], ◌∷◌, ◌++◌, length, take, drop, Option, None, Some, Ok, refl, sym, ap, ◌∙◌, subst, append_assoc, arith, length-append}
 use Rattle.std.proofs.lemmas.List.{append-nil}
 use Rattle.std.specs.List.{AllByRecursion, slice_get}
 use Rattle.std.specs.Prelude.{MatchOption, MatchBool, is_some}
@@ -8,9 +8,9 @@ use Rattle.lj_text.specs.declared.lines.fault.LineFault.{LineFault}
 use Rattle.lj_text.specs.declared.lines.look.Found.{Found}
 use Rattle.lj_text.specs.Bytes.{line_number, lines_of}
 use Rattle.lj_text.specs.Lines.{Said, said_from, whole_said, all_said, whole_said_from, all_said_from, all_but_last}
-use Rattle.lj_text.specs.LinesRead.{LinesRead, HasNoLineEnd, joined, StandsWithin, StandsBehind, StandsAt, answer_of, handed_out, place_of, last_number, is_no_memory, told}
+use Rattle.lj_text.specs.LinesRead.{LinesRead, HasNoLineEnd, joined, StandsWithin, StandsBehind, StandsAt, answer_of, handed_out, place_of, last_number, is_no_memory}
 use Rattle.lj_text.specs.LinesHeld.{IsAhead, passed, kept}
-use Rattle.lj_text.specs.Looking.{Looked, LookedBehind, Fails, FailsToEnd, said_of}
+use Rattle.lj_text.specs.Looking.{Looked, LookedBehind, said_of}
 use Rattle.lj_text.proofs.StandLemmas.{whole-joined, all-joined, whole-none, get-behind, said_from-append, cut-joined, cut-none}
 use Rattle.lj_text.proofs.PassLemmas.{none-open, after_is}
 

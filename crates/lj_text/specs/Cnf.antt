@@ -1,5 +1,5 @@
 -- The grammar of formulas, over the lines of a text. Source: the DIMACS CNF format; the faults are own.
-use Rattle.std.specs.Prelude.{◌≡◌, ℕ, zero, suc, ◌+◌, ◌-◌, Bool, true, false, ◌==◌, nat_le, List, [], ◌∷◌, ◌++◌, length, map, codes, bytes_eq, Option, None, Some, Result, Ok, Err, ℤ, unsigned_abs, if◌then◌else◌}
+use Rattle.std.specs.Prelude.{◌≡◌, ℕ, zero, suc, ◌+◌, ◌-◌, ◌==◌, nat_le, List, [], ◌∷◌, ◌++◌, length, map, codes, bytes_eq, Option, None, Some, Result, Ok, Err, ℤ, unsigned_abs, if◌then◌else◌}
 use Rattle.lj_clause.specs.LiteralSet.{LiteralSet, from_literals}
 use Rattle.lj_clause.specs.ClauseMap.{FormulaValue, formula_of}
 use Rattle.lj_text.specs.declared.cnf.fault.CnfFault.{CnfFault}

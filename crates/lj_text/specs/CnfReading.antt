@@ -7,7 +7,7 @@ use Rattle.lj_clause.specs.Literal.{variable_of}
 use Rattle.std.specs.List.{list_all}
 use Rattle.lj_text.specs.declared.cnf.fault.CnfFault.{CnfFault}
 use Rattle.lj_text.specs.declared.cnf.fault.CnfFaultKind.{CnfFaultKind}
-use Rattle.lj_text.specs.declared.cnf.fault.CnfFaultKind.TheVariants.{NoHeader, BadHeader, BadNumber, VariableRange, ClauseCount, Truncated, NoMemory}
+use Rattle.lj_text.specs.declared.cnf.fault.CnfFaultKind.TheVariants.{BadNumber, VariableRange, NoMemory}
 use Rattle.lj_text.specs.Lines.{with_read, then_read}
 use Rattle.lj_text.specs.Cnf.{Place, place_at, literals_up_to, clauses_of}
 

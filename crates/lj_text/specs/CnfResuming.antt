@@ -1,11 +1,10 @@
 -- What the grammar reads on from a state.
-use Rattle.std.specs.Prelude.{◌≡◌, ℕ, ◌+◌, List, [], ◌∷◌, ◌++◌, length, Result, Ok, Err}
+use Rattle.std.specs.Prelude.{◌≡◌, ℕ, ◌+◌, List, length, Result, Ok, Err}
 use Rattle.lj_clause.specs.ClauseMap.{FormulaValue, formula_of}
 use Rattle.lj_text.specs.declared.cnf.fault.CnfFault.{CnfFault}
 use Rattle.lj_text.specs.declared.cnf.state.State.{State}
 use Rattle.lj_text.specs.declared.cnf.state.State.TheVariants.{Header, Clauses, Ended, Faulty}
-use Rattle.lj_text.specs.Bytes.{line_number, lines_of}
-use Rattle.lj_text.specs.Cnf.{Place, places_from, last_line, formula_from, read_cnf}
+use Rattle.lj_text.specs.Cnf.{Place, places_from, last_line, formula_from}
 use Rattle.lj_text.specs.CnfReading.{completed, IsTold}
 
 -- what the grammar reads of the lines that follow, where n lines stand before them

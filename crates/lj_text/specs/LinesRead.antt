@@ -1,12 +1,12 @@
 -- What a reader of lines holds of what was fed, and what it answers.
-use Rattle.std.specs.Prelude.{◌≡◌, ℕ, ◌+◌, Bool, true, false, List, [], ◌∷◌, ◌++◌, length, Option, None, Some, Result, Ok, Err, All, slice_get, MatchBool, refl}
+use Rattle.std.specs.Prelude.{◌≡◌, ℕ, Bool, true, false, List, [], ◌∷◌, ◌++◌, length, Option, None, Some, Result, Ok, Err, All, MatchBool}
 use Rattle.std.specs.List.{AllByRecursion}
 use Rattle.lj_text.specs.declared.lines.fault.LineFault.{LineFault}
 use Rattle.lj_text.specs.declared.lines.fault.LineFaultKind.{LineFaultKind}
-use Rattle.lj_text.specs.declared.lines.fault.LineFaultKind.TheVariants.{BadNumber, NumberRange, Syntax, Truncated, NoMemory}
+use Rattle.lj_text.specs.declared.lines.fault.LineFaultKind.TheVariants.{NoMemory}
 use Rattle.lj_text.specs.declared.line.Line.{Line}
 use Rattle.lj_text.specs.Bytes.{is_line_end, line_number, lines_of}
-use Rattle.lj_text.specs.Lines.{Said, said_from, whole_said, all_said, all_but_last}
+use Rattle.lj_text.specs.Lines.{Said, said_from, all_said, all_but_last}
 
 -- What a reader of lines holds.
 pub record LinesRead : Type 0 where

@@ -7,7 +7,7 @@ use Rattle.lj_text.specs.declared.line.Line.{Line}
 use Rattle.lj_text.specs.Bytes.{line_number, lines_of}
 use Rattle.lj_text.specs.Lines.{Said, said_from, whole_said_from, all_said_from, all_but_last}
 use Rattle.lj_text.specs.LinesRead.{HasNoLineEnd, joined, is_no_memory}
-use Rattle.std.specs.Prelude.{true, false}
+use Rattle.std.specs.Prelude.{false}
 
 -- what was found
 abbrev pub said_of : ℕ → Option Line → List Said

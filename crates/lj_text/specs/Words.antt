@@ -1,8 +1,7 @@
 -- How the readers hold a number: exactly up to the greatest, and no further.
-use Rattle.std.specs.Prelude.{◌≡◌, ℕ, suc, ◌+◌, ◌<◌, ◌≤◌, Option, None, Some, ℤ, pos, negsuc, unsigned_abs}
+use Rattle.std.specs.Prelude.{◌≡◌, ℕ, suc, ◌<◌, ◌≤◌, Option, None, Some, ℤ, pos, negsuc, unsigned_abs}
 use Rattle.lj_text.specs.declared.bytes.numbers.Word.{Word}
 use Rattle.lj_text.specs.declared.bytes.numbers.Word.TheVariants as words
-use Rattle.lj_text.specs.Bytes.{number_of}
 
 abbrev pub greatest : ℕ
 greatest = 9223372036854775807

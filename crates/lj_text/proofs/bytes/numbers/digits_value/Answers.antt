@@ -1,6 +1,5 @@
 use Rattle.lj_text.proofs.DigitLemmas.{read-step}
 use Rattle.std.proofs.Common.{arith, rules}
-use Rattle.std.proofs.lemmas.Grind.{common_steps}
 use Rattle.lj_text.proofs.bytes.numbers.digits_value.Goals as goal
 
 pub loop-rest-preserved : goal.loop-rest-preserved

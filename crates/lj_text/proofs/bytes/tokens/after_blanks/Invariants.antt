@@ -1,4 +1,4 @@
-use Rattle.std.proofs.Common.{◌≡◌, ◌≤◌, ℕ, length}
+use Rattle.std.proofs.Common.{◌≡◌, ◌≤◌, length}
 use Rattle.lj_text.specs.Bytes.{tokens_of}
 use Rattle.lj_text.proofs.bytes.tokens.after_blanks.Given as goal
 

@@ -1,10 +1,10 @@
-use Rattle.std.proofs.Common.{◌≡◌, ℕ, ◌++◌, [], ◌∷◌, List, sym, ap, ◌∙◌, subst, ◌+◌, arith, rules}
+use Rattle.std.proofs.Common.{◌≡◌, ℕ, ◌++◌, [], ◌∷◌, List, sym, ◌∙◌, subst, ◌+◌, arith, rules}
 use Rattle.lj_text.specs.LinesRead.{HasNoLineEnd}
 use Rattle.lj_text.specs.declared.cnf.state.State.TheVariants.{Faulty}
 use Rattle.lj_text.specs.CnfReading.{IsTold}
 use Rattle.lj_text.specs.CnfResuming.{resumed, Reads}
 use Rattle.lj_text.specs.CnfRead.{Taken}
-use Rattle.lj_text.proofs.TakeLemmas.{Going, going-more, taken-fault, taken-rest, no_line_end-both}
+use Rattle.lj_text.proofs.TakeLemmas.{going-more, taken-fault, taken-rest, no_line_end-both}
 use Rattle.lj_text.proofs.cnf.reader.take_piece.Goals as goal
 
 pub returns-in-Faulty : goal.returns-in-Faulty

@@ -1,4 +1,4 @@
-use Rattle.std.proofs.Common.{◌≡◌, true, sym, ap, ◌∙◌, drop, arith, length-drop, get_or}
+use Rattle.std.proofs.Common.{ap, ◌∙◌, arith, get_or}
 use Rattle.lj_text.specs.Bytes.{is_line_end}
 use Rattle.lj_text.proofs.CutLemmas.{none_up_to}
 use Rattle.lj_text.proofs.lines.cut.first_line.Goals as goal

@@ -1,4 +1,4 @@
-use Rattle.std.proofs.Common.{◌≡◌, ◌≤◌, length, take}
+use Rattle.std.proofs.Common.{◌≤◌, length, take}
 use Rattle.lj_text.specs.LinesRead.{HasNoLineEnd}
 use Rattle.lj_text.proofs.PassLemmas.{Passed}
 use Rattle.lj_text.proofs.lines.look.look.Given as goal

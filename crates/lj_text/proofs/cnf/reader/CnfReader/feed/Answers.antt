@@ -1,9 +1,8 @@
-use Rattle.std.proofs.Common.{◌≡◌, ℕ, ◌++◌, [], ◌∷◌, List, Option, None, Some, sym, ap, ◌∙◌, subst}
+use Rattle.std.proofs.Common.{◌≡◌, Option, sym, subst}
 use Rattle.lj_text.specs.declared.cnf.state.State.{State}
 use Rattle.lj_text.specs.declared.cnf.fault.CnfFault.{CnfFault}
 use Rattle.lj_text.specs.CnfRead.{CnfRead, StandsAt, IsFaultOf, Taken}
-use Rattle.lj_text.specs.Cnf.{HasFault}
-use Rattle.lj_text.proofs.TakeLemmas.{stands-fed, fault-fed, fault-again}
+use Rattle.lj_text.proofs.TakeLemmas.{stands-fed}
 use Rattle.lj_text.proofs.cnf.reader.CnfReader.feed.Goals as goal
 
 pub returns-clause-stands : goal.returns-clause-stands

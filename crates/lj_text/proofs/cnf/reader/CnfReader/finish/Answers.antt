@@ -1,6 +1,6 @@
-use Rattle.std.proofs.Common.{◌≡◌, ℕ, ◌+◌, [], ◌∷◌, List, Some, sym, ap, ◌∙◌, subst}
+use Rattle.std.proofs.Common.{◌≡◌, ℕ, ◌+◌, [], ◌∷◌, List, sym, subst}
 use Rattle.lj_text.specs.CnfResuming.{resumed, Reads}
-use Rattle.lj_text.specs.CnfRead.{CnfRead, StandsAt, IsAnswer, IsFaultOf}
+use Rattle.lj_text.specs.CnfRead.{CnfRead, StandsAt, IsAnswer}
 use Rattle.lj_text.specs.Cnf.{HasFault}
 use Rattle.lj_text.proofs.TakeLemmas.{answered, fault-again_end}
 use Rattle.lj_text.proofs.cnf.reader.CnfReader.finish.Goals as goal

@@ -1,6 +1,6 @@
-use Rattle.std.proofs.Common.{◌≡◌, false, true, length, Ok, Err, sym, ap, ◌∙◌}
-use Rattle.lj_text.specs.LinesRead.{LinesRead, StandsAt, StandsWithin, answer_of, place_of, last_number, handed_out}
-use Rattle.lj_text.specs.LinesHeld.{passed, kept}
+use Rattle.std.proofs.Common.{length, Ok, sym, ap, ◌∙◌}
+use Rattle.lj_text.specs.LinesRead.{LinesRead, answer_of, place_of, last_number}
+use Rattle.lj_text.specs.LinesHeld.{passed}
 use Rattle.lj_text.proofs.ReaderLemmas.{at_true, at_false, all-at, all-found, behind-found, answers, stands-passed, stands-behind, place-some, place-behind, ahead-found, ahead-behind, within-of, stands-of, stands-kept, kept-at, kept-max}
 use Rattle.lj_text.proofs.lines.reader.LineReader.finish.Goals as goal
 

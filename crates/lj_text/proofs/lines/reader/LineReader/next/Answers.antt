@@ -1,5 +1,5 @@
-use Rattle.std.proofs.Common.{◌≡◌, false, length, Ok, Err, sym, ap, ◌∙◌}
-use Rattle.lj_text.specs.LinesRead.{LinesRead, StandsAt, StandsWithin, answer_of, place_of, last_number, handed_out}
+use Rattle.std.proofs.Common.{length, Ok, sym, ap, ◌∙◌}
+use Rattle.lj_text.specs.LinesRead.{LinesRead, answer_of, place_of, last_number}
 use Rattle.lj_text.specs.LinesHeld.{passed}
 use Rattle.lj_text.proofs.ReaderLemmas.{whole-at, whole-found, answers, stands-passed, place-whole, ahead-found, within-of, stands-of, kept-at}
 use Rattle.lj_text.proofs.lines.reader.LineReader.next.Goals as goal
