@@ -1,6 +1,7 @@
 #!/usr/bin/env bash
 # Measures the readers of lj_text, and prints what it measures: their speed over 50 MB of LRAT lines beside that of
-# `wc -l`, the time that one line of a million tokens takes, and the memory that a formula's header takes.
+# `wc -l` and of a plain reader in C, the time that one line of a million tokens takes, the speed and the memory for lines
+# of 100 MB that are meant to be slow or to take much, and the memory that a formula's header takes.
 #
 # The program is read_lines.txt. It is no .rt file, since the gate refuses one that belongs to no crate of crates.txt.
 # It is proved and built in a scratch folder, by LLVM, over a copy of the library, and nothing is written here.
@@ -26,6 +27,7 @@ build() {
         cat "$scratch/log" >&2
         exit 1
     fi
+    gcc -O2 -x c -o "$scratch/lines_c" "$here/lines_c.txt"
 }
 
 read_lines() {
@@ -58,6 +60,7 @@ speed() {
     awk -v bytes=50000000 -f "$here/lines.awk" > "$scratch/lines"
     for _ in 1 2 3 4 5; do
         timed wc wc -l "$scratch/lines" | tail -n 1
+        timed c "$scratch/lines_c" "$scratch/lines" | tail -n 1
         for size in 4096 65536; do
             timed "$size" read_lines lines "$scratch/lines" "$size"
             handed_out "$scratch/lines"
@@ -66,8 +69,9 @@ speed() {
         { micros[$1] = $2 }
         END {
             printf "wc -l: %.0f MB/s\n", bytes / micros["wc"]
+            printf "plain reader in C: %.0f MB/s\n", bytes / micros["c"]
             for (size = 4096; size <= 65536; size *= 16)
-                printf "line reader, pieces of %d bytes: %.0f MB/s, %.0f times the time of wc -l\n", size, bytes / micros[size], micros[size] / micros["wc"]
+                printf "line reader, pieces of %d bytes: %.0f MB/s, %.1f times the time of C\n", size, bytes / micros[size], micros[size] / micros["c"]
         }'
 }
 
@@ -94,6 +98,39 @@ long_lines() {
     done
 }
 
+# One line of so many bytes, which is the same token again and again but for its ends.
+repeated() {
+    local shape=$1 bytes=$2 front token back
+    case $shape in
+        hints) front='5 2 0' token=' 1' back=' 0' ;;
+        hints_behind_a_long_one) front='5 2 0 4294967296' token=' 1' back=' 0' ;;
+        literals) front='5' token=' 1' back=' 0 0' ;;
+        deletion) front='5 d' token=' 1' back=' 0' ;;
+        groups) front='5 2 0' token=' -1' back=' 0' ;;
+        greatest_numbers) front='5 2 0' token=' 9223372036854775807' back=' 0' ;;
+        leading_zeros) front='5 2 0' token=' 0000000000000000000000001' back=' 0' ;;
+        blanks) front='5 2 0' token=' ' back=' 0' ;;
+    esac
+    printf '%s' "$front"
+    yes "$token" 2> "$scratch/ended" | tr -d '\n' | head -c $((bytes / ${#token} * ${#token})) || true
+    echo "$back"
+}
+
+hostile() {
+    for shape in hints hints_behind_a_long_one literals deletion groups greatest_numbers leading_zeros blanks; do
+        for megabytes in 10 100; do
+            repeated "$shape" "${megabytes}000000" > "$scratch/$megabytes"
+            for _ in 1 2 3; do
+                timed "$megabytes" read_lines lines "$scratch/$megabytes" 65536
+                handed_out "$scratch/$megabytes"
+            done
+        done | least | awk -v shape="$shape" '
+            { least[$1] = $2 }
+            END { printf "one line of 100 MB, %s: %.0f MB/s, %.1f times as long as 10 MB\n", shape, 1e8 / least[100], least[100] / least[10] }'
+        awk -v shape="$shape" '$1 == "VmHWM:" { printf "one line of 100 MB, %s: %.1f bytes of memory for each byte\n", shape, $2 * 1024 / 1e8 }' "$scratch/printed"
+    done
+}
+
 headers() {
     echo 'p cnf 134217727 4294967295' > "$scratch/header"
     for _ in 1 2 3 4 5; do
@@ -110,4 +147,5 @@ build
 echo "load of the machine: $(cut -d ' ' -f 1-3 /proc/loadavg), processors: $(nproc)"
 speed
 long_lines
+hostile
 headers

@@ -14,7 +14,7 @@ use Rattle.lj_book.specs.declared.entry.Call.TheVariants as calls
 use Rattle.lj_book.specs.declared.entry.Entry.{Entry}
 use Rattle.lj_book.specs.Tables.{Tables, is_here, joint_of, is_held, is_among, with_table, without_keys}
 use Rattle.lj_book.specs.State.{State, steps_of, live, opening, is_refutation, verdict_from, verdict, IsUnsatisfiable}
-use Rattle.lj_book.specs.History.{died, after, IsReached}
+use Rattle.lj_book.specs.History.{died, after_entry, IsReached}
 use Rattle.lj_book.specs.Calls.{drop_entry}
 use Rattle.lj_book.specs.Kept.{IsKept}
 use Rattle.lj_book.proofs.HistoryLaws.{IsSound, IsSound-reached, IsReached-opening, IsReached-after, live-opening, live-drop, steps_of-push, additions-append, none_added, has_table}
@@ -76,13 +76,13 @@ pub verdict-stays : (es : List Entry) (e : Entry) (place : ℕ) → verdict es �
 unfolding or_else
 verdict-stays es e place some = verdict_from-push 0 es e ∙ ap (λ o. or_else o (if is_refutation e.step then Some (0 + length es) else None)) some
 
-deletion_is_none : (ns : List ℕ) → is_refutation (if_some ns) ≡ false
+pub deletion_is_none : (ns : List ℕ) → is_refutation (if_some ns) ≡ false
 deletion_is_none [] = refl
 deletion_is_none (n ∷ ns) = refl
 
 -- ---- a drop
 
-pub IsKept-drop : (s : State) (m n : ClauseMap) (count : ℕ) (refuted : Option ℕ) (seat : ℕ) (numbers : List ℕ) → IsKept s m count refuted → is_here s.tables seat ≡ true → n ≡ without m (died s (with_table (without_keys numbers) s.tables seat)) → IsKept (after s (drop_entry s seat numbers)) n count refuted
+pub IsKept-drop : (s : State) (m n : ClauseMap) (count : ℕ) (refuted : Option ℕ) (seat : ℕ) (numbers : List ℕ) → IsKept s m count refuted → is_here s.tables seat ≡ true → n ≡ without m (died s (with_table (without_keys numbers) s.tables seat)) → IsKept (after_entry s (drop_entry s seat numbers)) n count refuted
 IsKept-drop s m n count refuted seat numbers kept here is =
     let dead = died s (with_table (without_keys numbers) s.tables seat) in
     let e = drop_entry s seat numbers in
@@ -102,7 +102,7 @@ found_dead s seat numbers rising dead tables sound here is sorted same found =
     let t = has_table s.tables seat here in
     found ∙ ap (λ (ts : Tables). filter (λ n. not (is_held ts n)) rising) is ∙ died_are s seat t.0 numbers rising sound t.1 sorted same
 
-pub dropped_state : (s : State) (seat : ℕ) (numbers written dead : List ℕ) (tables : Tables) (step : Option Step) (history : List Entry) → tables ≡ with_table (without_keys numbers) s.tables seat → written ≡ numbers → dead ≡ died s (with_table (without_keys numbers) s.tables seat) → step ≡ if_some dead → history ≡ s.history ++ record { seat = seat; call = calls.Drop written; step = step } ∷ [] → ◌≡◌ {A = State} (record { formula = s.formula; max_steps = s.max_steps; tables = tables; history = history }) (after s (drop_entry s seat numbers))
+pub dropped_state : (s : State) (seat : ℕ) (numbers written dead : List ℕ) (tables : Tables) (step : Option Step) (history : List Entry) → tables ≡ with_table (without_keys numbers) s.tables seat → written ≡ numbers → dead ≡ died s (with_table (without_keys numbers) s.tables seat) → step ≡ if_some dead → history ≡ s.history ++ record { seat = seat; call = calls.Drop written; step = step } ∷ [] → ◌≡◌ {A = State} (record { formula = s.formula; max_steps = s.max_steps; tables = tables; history = history }) (after_entry s (drop_entry s seat numbers))
 dropped_state s seat numbers written dead tables step history is same found step_is pushed =
     same_state s.formula s.max_steps tables _ history _ is
     (pushed

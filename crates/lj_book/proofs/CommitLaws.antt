@@ -21,10 +21,11 @@ use Rattle.lj_hint.specs.declared.pair.Pair.{Pair}
 use Rattle.lj_hint.specs.Hints.{named, numbers}
 use Rattle.lj_hint.specs.Receipt.{ReceiptValue, IsReceipt}
 use Rattle.lj_book.specs.declared.entry.Entry.{Entry}
-use Rattle.lj_book.specs.Tables.{Table, Tables, is_here, is_bound, with_table}
+use Rattle.lj_book.specs.Tables.{Table, Tables, is_here, is_bound, is_held, with_table}
 use Rattle.lj_book.specs.State.{State, steps_of, added, next, live, verdict}
-use Rattle.lj_book.specs.History.{after, IsLegal}
-use Rattle.lj_book.specs.Calls.{is_same, is_clause, is_live_as, first_stale, entry_with, commit_entry, stale_or, commit_refusal}
+use Rattle.lj_book.specs.History.{after_entry, IsLegal}
+use Rattle.lj_book.specs.Lookup.{is_same, is_clause}
+use Rattle.lj_book.specs.Calls.{is_live_as, first_stale, entry_with, commit_entry, stale_or, commit_refusal}
 use Rattle.lj_book.specs.declared.refusal.Refusal.TheVariants.{SeatGone, NumberTaken, Full}
 use Rattle.lj_book.specs.Kept.{IsKept, refuted_after}
 use Rattle.lj_book.proofs.HistoryLaws.{IsSound, IsSound-reached, IsReached-after, live-addition, live-held, steps_of-push, additions-append}
@@ -46,7 +47,7 @@ same_tests true b f g = sym (f refl)
 same_tests false true f g = g refl
 same_tests false false f g = refl
 
-same_clauses : (c d : LiteralSet) → is_same c d ≡ true → c ≡ d
+pub same_clauses : (c d : LiteralSet) → is_same c d ≡ true → c ≡ d
 same_clauses c d h =
     let parts = and_parts (list_all (holds d) (literals c)) (list_all (holds c) (literals d)) h in
     same_set c d (λ q. same_tests (holds c q) (holds d q) (λ e. all_hold d (literals c) parts.0 q (sym (holds-literals c q) ∙ e)) (λ e. all_hold c (literals d) parts.1 q (sym (holds-literals d q) ∙ e)))
@@ -59,7 +60,7 @@ each_holds d (l ∷ ls) h = and_from (holds d l) (list_all (holds d) ls) (h l (a
     or_later true b h = refl
     or_later false b h = h
 
-same_itself : (c : LiteralSet) → is_same c c ≡ true
+pub same_itself : (c : LiteralSet) → is_same c c ≡ true
 same_itself c =
     let all = each_holds c (literals c) (λ q m. holds-literals c q ∙ m) in
     and_from (list_all (holds c) (literals c)) (list_all (holds c) (literals c)) all all
@@ -117,12 +118,15 @@ can_commit s r h = go (is_here s.tables r.seat) (is_bound s.tables r.seat r.own)
 
 -- ---- the entry of a commit is legal
 
-not_there : (s : State) → IsSound s → fin.contains_key (live s) (next s) ≡ false
+pub not_there : (s : State) → IsSound s → fin.contains_key (live s) (next s) ≡ false
 not_there s sound = go (fin.contains_key (live s) (next s)) refl
   where
     go : (b : Bool) → fin.contains_key (live s) (next s) ≡ b → b ≡ false
     go true e = let low = sound.given_below (next s) (sound.held_given (next s) (sym (live-held s sound (next s)) ∙ e)) in absurd (omega arith)
     go false e = refl
+
+pub not_held_at_next : (s : State) → IsSound s → is_held s.tables (next s) ≡ false
+not_held_at_next s sound = sym (live-held s sound (next s)) ∙ not_there s sound
 
 pub no_clause_at_next : (s : State) → IsSound s → fin.get (live s) (next s) ≡ None
 no_clause_at_next s sound = go (fin.get (live s) (next s)) (not_there s sound)
@@ -154,7 +158,7 @@ refuted_next s r None is =
       | false ↦ λ e. is ∙ sym (verdict-same s.history (commit_entry s r) e)
     ] refl
 
-pub IsKept-commit : (s : State) (r : ReceiptValue) (m n : ClauseMap) (count : ℕ) (refuted : Option ℕ) → IsKept s m count refuted → IsReceipt r → CanCommit s r → n ≡ fin.insert m (next s) r.lemma.clause → IsKept (after s (commit_entry s r)) n (count + 1) (refuted_after refuted (length s.history) r.lemma.clause)
+pub IsKept-commit : (s : State) (r : ReceiptValue) (m n : ClauseMap) (count : ℕ) (refuted : Option ℕ) → IsKept s m count refuted → IsReceipt r → CanCommit s r → n ≡ fin.insert m (next s) r.lemma.clause → IsKept (after_entry s (commit_entry s r)) n (count + 1) (refuted_after refuted (length s.history) r.lemma.clause)
 IsKept-commit s r m n count refuted kept receipt can is =
     let sound = IsSound-reached s kept.reached in
     let a : Addition = record { number = next s; lemma = r.lemma; hints = numbers r.listed; groups = [] } in
@@ -167,7 +171,7 @@ IsKept-commit s r m n count refuted kept receipt can is =
       first_empty = refuted_next s r refuted kept.first_empty;
     }
 
-pub committed_state : (s : State) (r : ReceiptValue) (joint : ℕ) (entry : Entry) (tables : Tables) (history : List Entry) → joint ≡ next s → entry ≡ entry_with joint r → tables ≡ with_table (λ t. fin.insert t r.own joint) s.tables r.seat → history ≡ s.history ++ entry ∷ [] → ◌≡◌ {A = State} (record { formula = s.formula; max_steps = s.max_steps; tables = tables; history = history }) (after s (commit_entry s r))
+pub committed_state : (s : State) (r : ReceiptValue) (joint : ℕ) (entry : Entry) (tables : Tables) (history : List Entry) → joint ≡ next s → entry ≡ entry_with joint r → tables ≡ with_table (λ t. fin.insert t r.own joint) s.tables r.seat → history ≡ s.history ++ entry ∷ [] → ◌≡◌ {A = State} (record { formula = s.formula; max_steps = s.max_steps; tables = tables; history = history }) (after_entry s (commit_entry s r))
 committed_state s r joint entry tables history is made bound pushed =
     same_state s.formula s.max_steps tables _ history _
     (bound ∙ ap (λ (j : ℕ). with_table (λ (t : Table). fin.insert t r.own j) s.tables r.seat) is)

@@ -59,7 +59,7 @@ below-keys : {X : Type 0} (x : ℕ) (es : List (ℕ × X)) → below_all nat_cmp
 below-keys x [] = refl
 below-keys x (e ∷ es) = ap (λ b. is_lt (nat_cmp x e.0) && b) (below-keys x es)
 
-sorted-keys : {X : Type 0} (es : List (ℕ × X)) → is_sorted nat_cmp (as_entries (map (λ e. e.0) es)) ≡ is_sorted nat_cmp es
+pub sorted-keys : {X : Type 0} (es : List (ℕ × X)) → is_sorted nat_cmp (as_entries (map (λ e. e.0) es)) ≡ is_sorted nat_cmp es
 sorted-keys [] = refl
 sorted-keys (e ∷ es) = λ i. below-keys e.0 es i && sorted-keys es i
 

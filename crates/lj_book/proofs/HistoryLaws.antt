@@ -24,9 +24,10 @@ use Rattle.lj_text.specs.Needed.{additions, if_some}
 use Rattle.lj_book.specs.declared.entry.Call.{Call}
 use Rattle.lj_book.specs.declared.entry.Call.TheVariants as calls
 use Rattle.lj_book.specs.declared.entry.Entry.{Entry}
-use Rattle.lj_book.specs.Tables.{Table, Tables, table_of, is_here, is_bound, is_held, is_among, with_table, without_keys, up_to}
+use Rattle.lj_book.specs.Tables.{Table, Tables, table_of, is_here, is_bound, is_held, holds_joint, is_among, with_table, with_binding, without_keys, without_seat, up_to}
+use Rattle.lj_book.specs.Lookup.{least_number}
 use Rattle.lj_book.specs.State.{State, steps_of, next, with_additions, given_out, live, opening}
-use Rattle.lj_book.specs.History.{died, after, after_all, IsLegalCall, IsLegal, AreLegal, IsReached}
+use Rattle.lj_book.specs.History.{died, with_found, some_lives, after_entry, after_entries, IsLegalCall, IsLegal, AreLegal, IsReached}
 use Rattle.lj_book.proofs.NumberMaps.{same_map}
 use Rattle.lj_book.proofs.TableLaws.{held_counts, count-insert, count-up_to, count-without_keys, holders-with_table, holders-replicate, free_in_table}
 
@@ -69,13 +70,13 @@ additions-append [] ys = sym (grind arith)
 additions-append (steps.Add a ∷ xs) ys = let rest = additions-append xs ys in omega arith
 additions-append (steps.Delete numbers ∷ xs) ys = additions-append xs ys
 
-replay-push : (p q : ClauseMap) (xs : List Step) (x : Step) → replay p xs ≡ Some q → is_accepted q x ≡ true → replay p (xs ++ x ∷ []) ≡ Some (text.after q x)
+replay-push : (p q : ClauseMap) (xs : List Step) (x : Step) → replay p xs ≡ Some q → is_accepted q x ≡ true → replay p (xs ++ x ∷ []) ≡ Some (text.after_step q x)
 replay-push p q [] x e h =
     let is : p ≡ q = cc in
-    ap (λ (m : ClauseMap). if is_accepted m x then Some (text.after m x) else None) is ∙ ap (λ b. if b then Some (text.after q x) else None) h
+    ap (λ (m : ClauseMap). if is_accepted m x then Some (text.after_step m x) else None) is ∙ ap (λ b. if b then Some (text.after_step q x) else None) h
 replay-push p q (y ∷ xs) x e h =
-    elim (is_accepted p y) as (λ b. (if b then replay (text.after p y) xs else None) ≡ Some q → (if b then replay (text.after p y) (xs ++ x ∷ []) else None) ≡ Some (text.after q x)) [
-      | true ↦ λ f. replay-push (text.after p y) q xs x f h
+    elim (is_accepted p y) as (λ b. (if b then replay (text.after_step p y) xs else None) ≡ Some q → (if b then replay (text.after_step p y) (xs ++ x ∷ []) else None) ≡ Some (text.after_step q x)) [
+      | true ↦ λ f. replay-push (text.after_step p y) q xs x f h
       | false ↦ λ f. cc
     ] e
 
@@ -108,15 +109,15 @@ has_table ts seat h = go (table_of ts seat) refl
     go (Some t) e = (t, e)
 
 -- the clauses that an addition leaves
-pub live-addition : (s : State) (seat own : ℕ) (a : Addition) → IsSound s → is_here s.tables seat ≡ true → is_bound s.tables seat own ≡ false → a.number ≡ next s → live (after s (record { seat = seat; call = calls.Add own a.lemma; step = Some (steps.Add a) })) ≡ fin.insert (live s) a.number a.lemma.clause
+pub live-addition : (s : State) (seat own : ℕ) (a : Addition) → IsSound s → is_here s.tables seat ≡ true → is_bound s.tables seat own ≡ false → a.number ≡ next s → live (after_entry s (record { seat = seat; call = calls.Add own a.lemma; step = Some (steps.Add a) })) ≡ fin.insert (live s) a.number a.lemma.clause
 live-addition s seat own a sound here free num =
     let t = has_table s.tables seat here in
     let e : Entry = record { seat = seat; call = calls.Add own a.lemma; step = Some (steps.Add a) } in
-    let given : given_out (after s e) ≡ fin.insert (given_out s) a.number a.lemma.clause =
+    let given : given_out (after_entry s e) ≡ fin.insert (given_out s) a.number a.lemma.clause =
     ap (with_additions (formula_map s.formula)) (steps_of-push s.history e) ∙ with_additions-append (formula_map s.formula) (steps_of s.history) (steps.Add a ∷ []) in
     same_map _ _ (λ q.
-    get-live (after s e) q
-    ∙ ap (λ b. cond b (fin.get (given_out (after s e)) q) None) (held-bind s.tables seat own (next s) q t.0 t.1 (free_in_table s.tables seat own t.0 t.1 free))
+    get-live (after_entry s e) q
+    ∙ ap (λ b. cond b (fin.get (given_out (after_entry s e)) q) None) (held-bind s.tables seat own (next s) q t.0 t.1 (free_in_table s.tables seat own t.0 t.1 free))
     ∙ ap (λ o. cond (next s == q || is_held s.tables q) o None) (ap (λ (m : ClauseMap). fin.get m q) given ∙ fin.get-insert nat_cmp_total (given_out s) a.number a.lemma.clause q)
     ∙ joined (next s == q) (is_held s.tables q) (eq_by_cmp nat_cmp q a.number) (unsigned_tied q a.number ∙ ap (λ n. q == n) num ∙ turned q (next s)) (Some a.lemma.clause) (fin.get (given_out s) q)
     ∙ ap (cond (eq_by_cmp nat_cmp q a.number) (Some a.lemma.clause)) (sym (get-live s q))
@@ -132,19 +133,19 @@ live-addition s seat own a sound here free num =
     joined false true false e x y = refl
     joined false false false e x y = refl
 
-next-addition : (s : State) (seat own : ℕ) (lemma : LemmaValue) (a : Addition) → next (after s (record { seat = seat; call = calls.Add own lemma; step = Some (steps.Add a) })) ≡ next s + 1
+next-addition : (s : State) (seat own : ℕ) (lemma : LemmaValue) (a : Addition) → next (after_entry s (record { seat = seat; call = calls.Add own lemma; step = Some (steps.Add a) })) ≡ next s + 1
 next-addition s seat own lemma a =
     let e : Entry = record { seat = seat; call = calls.Add own lemma; step = Some (steps.Add a) } in
     let more = ap (λ ss. length (additions ss)) (steps_of-push s.history e) ∙ additions-append (steps_of s.history) (steps.Add a ∷ []) in
     omega arith
 
-sound-addition : (s : State) (seat own : ℕ) (a : Addition) → IsSound s → is_here s.tables seat ≡ true → is_bound s.tables seat own ≡ false → a.number ≡ next s → is_accepted (live s) (steps.Add a) ≡ true → IsSound (after s (record { seat = seat; call = calls.Add own a.lemma; step = Some (steps.Add a) }))
+sound-addition : (s : State) (seat own : ℕ) (a : Addition) → IsSound s → is_here s.tables seat ≡ true → is_bound s.tables seat own ≡ false → a.number ≡ next s → is_accepted (live s) (steps.Add a) ≡ true → IsSound (after_entry s (record { seat = seat; call = calls.Add own a.lemma; step = Some (steps.Add a) }))
 sound-addition s seat own a sound here free num accepted =
     let t = has_table s.tables seat here in
     let e : Entry = record { seat = seat; call = calls.Add own a.lemma; step = Some (steps.Add a) } in
-    let given : given_out (after s e) ≡ fin.insert (given_out s) a.number a.lemma.clause =
+    let given : given_out (after_entry s e) ≡ fin.insert (given_out s) a.number a.lemma.clause =
     ap (with_additions (formula_map s.formula)) (steps_of-push s.history e) ∙ with_additions-append (formula_map s.formula) (steps_of s.history) (steps.Add a ∷ []) in
-    let has : (q : ℕ) → fin.contains_key (given_out (after s e)) q ≡ (next s == q || fin.contains_key (given_out s) q) = λ q.
+    let has : (q : ℕ) → fin.contains_key (given_out (after_entry s e)) q ≡ (next s == q || fin.contains_key (given_out s) q) = λ q.
     ap (λ (m : ClauseMap). fin.contains_key m q) given
     ∙ ap is_some (fin.get-insert nat_cmp_total (given_out s) a.number a.lemma.clause q)
     ∙ one_more (eq_by_cmp nat_cmp q a.number) (next s == q) (unsigned_tied q a.number ∙ ap (λ n. q == n) num ∙ turned q (next s)) (Some a.lemma.clause) (fin.get (given_out s) q) refl in
@@ -234,26 +235,37 @@ all_named p test (n ∷ ns) h = λ i. (first ∙ refl) i && all_named p test ns 
     first : fin.contains_key p n ≡ true
     first = h n (or_left (n == n) (is_among ns n) (itself n))
 
-pub live-drop : (s : State) (seat : ℕ) (numbers : List ℕ) (step : Option Step) → IsSound s → is_here s.tables seat ≡ true → additions (cons_option step []) ≡ [] → live (after s (record { seat = seat; call = calls.Drop numbers; step = step })) ≡ without (live s) (died s (with_table (without_keys numbers) s.tables seat))
-live-drop s seat numbers step sound here none =
-    let t = has_table s.tables seat here in
-    let ts : Tables = with_table (without_keys numbers) s.tables seat in
-    let e : Entry = record { seat = seat; call = calls.Drop numbers; step = step } in
-    let given : given_out (after s e) ≡ given_out s =
-    ap (with_additions (formula_map s.formula)) (steps_of-push s.history e) ∙ with_additions-append (formula_map s.formula) (steps_of s.history) (cons_option step []) ∙ same (given_out s) step none in
-    same_map _ _ (λ q.
-    get-live (after s e) q
-    ∙ ap (λ (m : ClauseMap). cond (is_held ts q) (fin.get m q) None) given
-    ∙ held_after (is_held ts q) (is_held s.tables q) (held-drop s.tables seat q numbers t.0 t.1) (fin.contains_key (live s) q) (live-held s sound q) (fin.get (given_out s) q)
+-- ---- an entry that adds nothing
+
+-- the state with other tables and one entry more
+abbrev pub with_entry : State → Tables → Entry → State
+with_entry s ts e = record s { tables = ts; history = s.history ++ e ∷ [] }
+
+none_given : (p : ClauseMap) (step : Option Step) → additions (cons_option step []) ≡ [] → with_additions p (cons_option step []) ≡ p
+none_given p None none = refl
+none_given p (Some (steps.Add a)) none = cc
+none_given p (Some (steps.Delete ns)) none = refl
+
+given-same : (s : State) (ts : Tables) (e : Entry) → additions (cons_option e.step []) ≡ [] → given_out (with_entry s ts e) ≡ given_out s
+given-same s ts e none =
+    ap (with_additions (formula_map s.formula)) (steps_of-push s.history e) ∙ with_additions-append (formula_map s.formula) (steps_of s.history) (cons_option e.step []) ∙ none_given (given_out s) e.step none
+
+next-same : (s : State) (ts : Tables) (e : Entry) → additions (cons_option e.step []) ≡ [] → next (with_entry s ts e) ≡ next s
+next-same s ts e none =
+    let count = ap (λ ss. length (additions ss)) (steps_of-push s.history e) ∙ additions-append (steps_of s.history) (cons_option e.step []) in
+    let nothing = ap length none in
+    omega arith
+
+-- the clauses that are left where nothing more is held than before
+pub live-fewer : (s : State) (ts : Tables) (e : Entry) → IsSound s → ((q : ℕ) → is_held ts q ≡ true → is_held s.tables q ≡ true) → additions (cons_option e.step []) ≡ [] → live (with_entry s ts e) ≡ without (live s) (died s ts)
+live-fewer s ts e sound fewer none = same_map _ _ (λ q.
+    get-live (with_entry s ts e) q
+    ∙ ap (λ (m : ClauseMap). cond (is_held ts q) (fin.get m q) None) (given-same s ts e none)
+    ∙ held_after (is_held ts q) (is_held s.tables q) (fewer q) (fin.contains_key (live s) q) (live-held s sound q) (fin.get (given_out s) q)
     ∙ ap (λ o. cond (not (is_held ts q) && fin.contains_key (live s) q) None o) (sym (get-live s q))
     ∙ ap (λ b. cond b None (fin.get (live s) q)) (sym (among-died s ts q))
     ∙ sym (get-without (live s) (died s ts) q))
   where
-    same : (p : ClauseMap) (step : Option Step) → additions (cons_option step []) ≡ [] → with_additions p (cons_option step []) ≡ p
-    same p None none = refl
-    same p (Some (steps.Add a)) none = cc
-    same p (Some (steps.Delete ns)) none = refl
-
     held_after : {X : Type 0} (h before : Bool) → (h ≡ true → before ≡ true) → (lives : Bool) → lives ≡ before → (o : Option X) → cond h o None ≡ cond (not h && lives) None (cond before o None)
     held_after true true imp lives e o = refl
     held_after true false imp lives e o = absurd (false≢true (imp refl))
@@ -271,50 +283,106 @@ pub none_added : (ns : List ℕ) → additions (cons_option (if_some ns) []) ≡
 none_added [] = refl
 none_added (n ∷ ns) = refl
 
-sound-drop : (s : State) (seat : ℕ) (numbers : List ℕ) → IsSound s → is_here s.tables seat ≡ true → IsSound (after s (record { seat = seat; call = calls.Drop numbers; step = if_some (died s (with_table (without_keys numbers) s.tables seat)) }))
-sound-drop s seat numbers sound here =
-    let t = has_table s.tables seat here in
-    let ts : Tables = with_table (without_keys numbers) s.tables seat in
-    let step = if_some (died s ts) in
-    let e : Entry = record { seat = seat; call = calls.Drop numbers; step = step } in
-    let none = none_added (died s ts) in
-    let given : given_out (after s e) ≡ given_out s =
-    ap (with_additions (formula_map s.formula)) (steps_of-push s.history e) ∙ with_additions-append (formula_map s.formula) (steps_of s.history) (cons_option step []) ∙ same (given_out s) step none in
-    let count = ap (λ ss. length (additions ss)) (steps_of-push s.history e) ∙ additions-append (steps_of s.history) (cons_option step []) in
-    let nothing = ap length none in
+pub none_added_by : (step : Option Step) (ns : List ℕ) → step ≡ if_some ns → additions (cons_option step []) ≡ []
+none_added_by step ns is = ap (λ o. additions (cons_option o [])) is ∙ none_added ns
+
+sound-fewer : (s : State) (ts : Tables) (e : Entry) → IsSound s → ((q : ℕ) → is_held ts q ≡ true → is_held s.tables q ≡ true) → e.step ≡ if_some (died s ts) → IsSound (with_entry s ts e)
+sound-fewer s ts e sound fewer is =
+    let none = none_added_by e.step (died s ts) is in
+    let given = given-same s ts e none in
+    let upto = next-same s ts e none in
     record {
-      held_given = λ q h. ap (λ (m : ClauseMap). fin.contains_key m q) given ∙ sound.held_given q (held-drop s.tables seat q numbers t.0 t.1 h);
+      held_given = λ q h. ap (λ (m : ClauseMap). fin.contains_key m q) given ∙ sound.held_given q (fewer q h);
       given_below = λ q h. let low = sound.given_below q (sym (ap (λ (m : ClauseMap). fin.contains_key m q) given) ∙ h) in omega arith;
       replayed =
-          ap (replay (formula_map s.formula)) (steps_of-push s.history e)
+          ap (replay (formula_map s.formula)) (steps_of-push s.history e ∙ ap (λ o. steps_of s.history ++ cons_option o []) is)
           ∙ replay-died (formula_map s.formula) (live s) (steps_of s.history) (died s ts) sound.replayed (all_named (live s) (λ n. true) (died s ts) (λ q h. (and_parts (not (is_held ts q)) (fin.contains_key (live s) q) (sym (among-died s ts q) ∙ h)).1))
-          ∙ ap Some (sym (live-drop s seat numbers step sound here none));
+          ∙ ap Some (sym (live-fewer s ts e sound fewer none));
     }
+
+-- the clauses where the same is held as before
+pub live-same : (s : State) (ts : Tables) (e : Entry) → ((q : ℕ) → is_held ts q ≡ is_held s.tables q) → e.step ≡ None → live (with_entry s ts e) ≡ live s
+live-same s ts e same is = same_map _ _ (λ q.
+    get-live (with_entry s ts e) q
+    ∙ ap (λ (m : ClauseMap). cond (is_held ts q) (fin.get m q) None) (given-same s ts e (none_added_by e.step [] is))
+    ∙ ap (λ b. cond b (fin.get (given_out s) q) None) (same q)
+    ∙ sym (get-live s q))
+
+sound-same : (s : State) (ts : Tables) (e : Entry) → IsSound s → ((q : ℕ) → is_held ts q ≡ is_held s.tables q) → e.step ≡ None → IsSound (with_entry s ts e)
+sound-same s ts e sound same is =
+    let none = none_added_by e.step [] is in
+    let given = given-same s ts e none in
+    let upto = next-same s ts e none in
+    record {
+      held_given = λ q h. ap (λ (m : ClauseMap). fin.contains_key m q) given ∙ sound.held_given q (sym (same q) ∙ h);
+      given_below = λ q h. let low = sound.given_below q (sym (ap (λ (m : ClauseMap). fin.contains_key m q) given) ∙ h) in omega arith;
+      replayed =
+          ap (replay (formula_map s.formula)) (steps_of-push s.history e ∙ ap (λ o. steps_of s.history ++ cons_option o []) is ∙ append-nil (steps_of s.history))
+          ∙ sound.replayed
+          ∙ ap Some (sym (live-same s ts e same is));
+    }
+
+-- ---- a drop
+
+pub live-drop : (s : State) (seat : ℕ) (numbers : List ℕ) (step : Option Step) → IsSound s → is_here s.tables seat ≡ true → additions (cons_option step []) ≡ [] → live (after_entry s (record { seat = seat; call = calls.Drop numbers; step = step })) ≡ without (live s) (died s (with_table (without_keys numbers) s.tables seat))
+live-drop s seat numbers step sound here none =
+    let t = has_table s.tables seat here in
+    live-fewer s (with_table (without_keys numbers) s.tables seat) (record { seat = seat; call = calls.Drop numbers; step = step }) sound (λ q. held-drop s.tables seat q numbers t.0 t.1) none
+
+-- ---- a leave
+
+held-leave : (ts : Tables) (seat q : ℕ) → is_held (without_seat ts seat) q ≡ true → is_held ts q ≡ true
+held-leave [] seat q h = h
+held-leave (t ∷ ts) zero q h = or_right (holds_joint q t) (is_held ts q) h
+held-leave (t ∷ ts) (suc seat) q h = elim (or_cases (holds_joint q t) (is_held (without_seat ts seat) q) h) [
+  | inl e ↦ or_left (holds_joint q t) (is_held ts q) e
+  | inr e ↦ or_right (holds_joint q t) (is_held ts q) (held-leave ts seat q e)
+]
+
+pub live-leave : (s : State) (seat : ℕ) (step : Option Step) → IsSound s → additions (cons_option step []) ≡ [] → live (after_entry s (record { seat = seat; call = calls.Leave; step = step })) ≡ without (live s) (died s (without_seat s.tables seat))
+live-leave s seat step sound none = live-fewer s (without_seat s.tables seat) (record { seat = seat; call = calls.Leave; step = step }) sound (held-leave s.tables seat) none
+
+-- ---- a binding of a live number
+
+pub held-found : (s : State) (seat own : ℕ) (o : Option ℕ) → IsSound s → is_here s.tables seat ≡ true → is_bound s.tables seat own ≡ false → some_lives s o ≡ true → (q : ℕ) → is_held (with_found s.tables seat own o) q ≡ is_held s.tables q
+held-found s seat own None sound here free lives q = refl
+held-found s seat own (Some joint) sound here free lives q =
+    let t = has_table s.tables seat here in
+    held-bind s.tables seat own joint q t.0 t.1 (free_in_table s.tables seat own t.0 t.1 free)
+    ∙ already (joint == q) (is_held s.tables q) (λ e. sym (ap (is_held s.tables) (here_is joint q e)) ∙ sym (live-held s sound joint) ∙ lives)
   where
-    same : (p : ClauseMap) (step : Option Step) → additions (cons_option step []) ≡ [] → with_additions p (cons_option step []) ≡ p
-    same p None none = refl
-    same p (Some (steps.Add a)) none = cc
-    same p (Some (steps.Delete ns)) none = refl
+    here_is : (a b : ℕ) → (a == b) ≡ true → a ≡ b
+    here_is a b e = grind (arith, nat_tests)
+
+    already : (a b : Bool) → (a ≡ true → b ≡ true) → (a || b) ≡ b
+    already true b h = sym (h refl)
+    already false b h = refl
 
 -- ---- whole histories
 
-sound-call : (s : State) (seat : ℕ) (call : Call) (step : Option Step) → IsSound s → IsLegalCall s seat call step → IsSound (after s (record { seat = seat; call = call; step = step }))
+sound-call : (s : State) (seat : ℕ) (call : Call) (step : Option Step) → IsSound s → IsLegalCall s seat call step → IsSound (after_entry s (record { seat = seat; call = call; step = step }))
 sound-call s seat (calls.Add own lemma) None sound legal = absurd legal.addition
 sound-call s seat (calls.Add own lemma) (Some (steps.Delete numbers)) sound legal = absurd legal.addition
 sound-call s seat (calls.Add own lemma) (Some (steps.Add a)) sound legal =
-    subst (λ (l : LemmaValue). IsSound (after s (record { seat = seat; call = calls.Add own l; step = Some (steps.Add a) }))) legal.addition.1.0
+    subst (λ (l : LemmaValue). IsSound (after_entry s (record { seat = seat; call = calls.Add own l; step = Some (steps.Add a) }))) legal.addition.1.0
     (sound-addition s seat own a sound legal.here legal.unbound legal.addition.0 legal.addition.1.1.0)
 sound-call s seat (calls.Drop numbers) step sound legal =
-    subst (λ (o : Option Step). IsSound (after s (record { seat = seat; call = calls.Drop numbers; step = o }))) (sym legal.deletes)
-    (sound-drop s seat numbers sound legal.here)
+    let t = has_table s.tables seat legal.here in
+    sound-fewer s (with_table (without_keys numbers) s.tables seat) (record { seat = seat; call = calls.Drop numbers; step = step }) sound (λ q. held-drop s.tables seat q numbers t.0 t.1) legal.deletes
+sound-call s seat (calls.Adopt own joint) step sound legal =
+    sound-same s (with_binding s.tables seat own joint) (record { seat = seat; call = calls.Adopt own joint; step = step }) sound (held-found s seat own (Some joint) sound legal.here legal.unbound legal.lives) legal.stepless
+sound-call s seat (calls.Import own clause) step sound legal =
+    sound-same s (with_found s.tables seat own (least_number (live s) clause)) (record { seat = seat; call = calls.Import own clause; step = step }) sound (held-found s seat own (least_number (live s) clause) sound legal.here legal.unbound legal.lives) legal.stepless
+sound-call s seat calls.Leave step sound legal =
+    sound-fewer s (without_seat s.tables seat) (record { seat = seat; call = calls.Leave; step = step }) sound (held-leave s.tables seat) legal.deletes
 
 -- a legal entry keeps it
-pub IsSound-after : (s : State) (e : Entry) → IsSound s → IsLegal s e → IsSound (after s e)
+pub IsSound-after : (s : State) (e : Entry) → IsSound s → IsLegal s e → IsSound (after_entry s e)
 IsSound-after s e sound legal = sound-call s e.seat e.call e.step sound legal
 
-IsSound-after_all : (s : State) (es : List Entry) → IsSound s → AreLegal s es → IsSound (after_all s es)
+IsSound-after_all : (s : State) (es : List Entry) → IsSound s → AreLegal s es → IsSound (after_entries s es)
 IsSound-after_all s [] sound legal = sound
-IsSound-after_all s (e ∷ es) sound legal = IsSound-after_all (after s e) es (IsSound-after s e sound legal.0) legal.1
+IsSound-after_all s (e ∷ es) sound legal = IsSound-after_all (after_entry s e) es (IsSound-after s e sound legal.0) legal.1
 
 -- ---- the opening
 
@@ -383,19 +451,19 @@ IsSound-reached s r = subst IsSound r.leads (IsSound-after_all (opening s.formul
 pub IsReached-opening : (f : FormulaValue) (seats max_steps : ℕ) → 0 < seats → IsReached (opening f seats max_steps)
 IsReached-opening f seats max_steps some = record { seats = seats; some_seat = some; legal = tt; leads = refl }
 
-AreLegal-push : (s : State) (es : List Entry) (e : Entry) → AreLegal s es → IsLegal (after_all s es) e → AreLegal s (es ++ e ∷ [])
+AreLegal-push : (s : State) (es : List Entry) (e : Entry) → AreLegal s es → IsLegal (after_entries s es) e → AreLegal s (es ++ e ∷ [])
 AreLegal-push s [] e legal last = (last, tt)
-AreLegal-push s (x ∷ es) e legal last = (legal.0, AreLegal-push (after s x) es e legal.1 last)
+AreLegal-push s (x ∷ es) e legal last = (legal.0, AreLegal-push (after_entry s x) es e legal.1 last)
 
-after_all-push : (s : State) (es : List Entry) (e : Entry) → after_all s (es ++ e ∷ []) ≡ after (after_all s es) e
+after_all-push : (s : State) (es : List Entry) (e : Entry) → after_entries s (es ++ e ∷ []) ≡ after_entry (after_entries s es) e
 after_all-push s [] e = refl
-after_all-push s (x ∷ es) e = after_all-push (after s x) es e
+after_all-push s (x ∷ es) e = after_all-push (after_entry s x) es e
 
 -- and a legal entry leads on
-pub IsReached-after : (s : State) (e : Entry) → IsReached s → IsLegal s e → IsReached (after s e)
+pub IsReached-after : (s : State) (e : Entry) → IsReached s → IsLegal s e → IsReached (after_entry s e)
 IsReached-after s e r legal = record {
   seats = r.seats;
   some_seat = r.some_seat;
   legal = AreLegal-push (opening s.formula r.seats s.max_steps) s.history e r.legal (subst (λ (t : State). IsLegal t e) (sym r.leads) legal);
-  leads = after_all-push (opening s.formula r.seats s.max_steps) s.history e ∙ ap (λ (t : State). after t e) r.leads;
+  leads = after_all-push (opening s.formula r.seats s.max_steps) s.history e ∙ ap (λ (t : State). after_entry t e) r.leads;
 }

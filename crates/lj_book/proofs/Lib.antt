@@ -7,3 +7,18 @@ pub mod Copies
 pub mod BookLaws
 pub mod CommitLaws
 pub mod TakeLaws
+pub mod SoloTables
+pub mod SoloStates
+pub mod SoloMoves
+pub mod SoloTakes
+pub mod SoloWorlds
+pub mod SoloSteps
+pub mod SoloRuns
+pub mod Scans
+pub mod BindingLaws
+pub mod LeaveLaws
+mod HolderBounds
+pub mod PlayLaws
+mod Slots
+pub mod InsideLaws
+pub mod LineLaws

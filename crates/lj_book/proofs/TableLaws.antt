@@ -70,6 +70,10 @@ count-without_keys numbers t n =
     let is = ap (λ es. occurrences (map (λ (e : ℕ × ℕ). e.1) es) n) (entries-retain_keys t (λ own. not (is_among numbers own))) in
     omega arith
 
+-- nothing holds a number that isn't held
+pub none_held : (ts : Tables) (n : ℕ) → is_held ts n ≡ false → holders_of ts n ≡ 0
+none_held ts n h = let e : nat_lt 0 (holders_of ts n) ≡ false = sym (held_counts ts n) ∙ h in grind (arith, nat_tests)
+
 with_table_counts : (change : Table → Table) (ts : Tables) (seat : ℕ) (t : Table) (n : ℕ) → table_of ts seat ≡ Some t → holders_of (with_table change ts seat) n + count_in (Some t) n ≡ holders_of ts n + count_in (Some (change t)) n
 with_table_counts change [] seat t n h = cc
 with_table_counts change (None ∷ ts) zero t n h = cc
@@ -407,7 +411,7 @@ up_to-above (suc k) q h =
     apart : (q == suc k) ≡ false
     apart = grind (arith, nat_tests)
 
-count-empty : (q : ℕ) → count_in (Some fin.empty) q ≡ 0
+pub count-empty : (q : ℕ) → count_in (Some fin.empty) q ≡ 0
 count-empty q = ap (λ es. occurrences (map (λ (e : ℕ × ℕ). e.1) es) q) entries-empty
 
 -- each number up to the last is held once by such a table

@@ -1,10 +1,9 @@
 -- The sequential object: for each call on a state its reply, the first refusal that holds if one does, and the entry that
 -- an accepted call makes. The state after an accepted call is the one that its entry leaves; after a refused one it is the
 -- state before.
-use Rattle.std.specs.Prelude.{◌≡◌, ℕ, nat_lt, Bool, false, ◌&&◌, List, [], ◌∷◌, length, Option, Some, None, option_map, option_and_then, if◌then◌else◌, Result, Ok, Err, MatchResult}
-use Rattle.std.specs.List.{list_all}
+use Rattle.std.specs.Prelude.{◌≡◌, ℕ, nat_lt, Bool, false, List, [], ◌∷◌, length, Option, Some, None, option_map, option_and_then, if◌then◌else◌, Result, Ok, Err, MatchResult}
 use Rattle.std.specs.FinMap as fin
-use Rattle.lj_clause.specs.LiteralSet.{LiteralSet, holds, literals}
+use Rattle.lj_clause.specs.LiteralSet.{LiteralSet}
 use Rattle.lj_clause.specs.ClauseMap.{ClauseMap}
 use Rattle.lj_clause.specs.Rat.{HintGroup}
 use Rattle.lj_text.specs.declared.line.Addition.{Addition}
@@ -14,19 +13,22 @@ use Rattle.lj_hint.specs.declared.pair.Pair.{Pair}
 use Rattle.lj_hint.specs.Hints.{numbers}
 use Rattle.lj_hint.specs.Case.{CaseValue, case_of}
 use Rattle.lj_hint.specs.Receipt.{ReceiptValue}
+use Rattle.lj_book.specs.declared.entry.Call.{Call}
 use Rattle.lj_book.specs.declared.entry.Call.TheVariants as calls
 use Rattle.lj_book.specs.declared.entry.Entry.{Entry}
 use Rattle.lj_book.specs.declared.entry.Added.{Added}
 use Rattle.lj_book.specs.declared.entry.Dropped.{Dropped}
+use Rattle.lj_book.specs.declared.entry.Imported.{Imported}
 use Rattle.lj_book.specs.declared.refusal.Refusal.{Refusal}
-use Rattle.lj_book.specs.declared.refusal.Refusal.TheVariants.{SeatGone, NumberTaken, UnknownNumber, GroupRepeated, Stale, Full, NoMemory}
-use Rattle.lj_book.specs.Tables.{Tables, table_of, is_here, is_bound, is_among, joint_of, with_table, without_keys, keys_lost}
+use Rattle.lj_book.specs.declared.refusal.Refusal.TheVariants.{SeatGone, NumberTaken, UnknownNumber, GroupRepeated, Stale, NoSuchClause, Full, NoMemory}
+use Rattle.lj_book.specs.Tables.{Tables, table_of, is_here, is_bound, is_among, joint_of, with_table, without_keys, without_seat, keys_lost}
+use Rattle.lj_book.specs.Lookup.{is_clause, least_number}
 use Rattle.lj_book.specs.State.{State, added, next, live}
 use Rattle.lj_book.specs.History.{died}
 
 -- The answer of a call is the reply that it has here. NoMemory may stand in place of any reply.
 abbrev pub IsRefusal : {A : Type 0} → Refusal → Result A Refusal → Type 0
-IsRefusal NoMemory reply = Unit {0}
+IsRefusal (NoMemory _) reply = Unit {0}
 IsRefusal e reply = reply ≡ Err e
 
 abbrev pub IsReplyBy : {A B : Type 0} → (A → B) → Result A Refusal → Result B Refusal → Type 0
@@ -59,15 +61,15 @@ abbrev pub pairs_of : (ℕ → Option Pair) → List ℕ → Result (List Pair) 
 pairs_of pair [] = Ok []
 pairs_of pair (own ∷ owns) = if_held own (pair own) (λ p. with_pair p (pairs_of pair owns))
 
-abbrev pub with_group : Pair → Result (List Pair) Refusal → Result (List (Pair × List Pair)) Refusal → Result (List (Pair × List Pair)) Refusal
-with_group candidate (Err e) later = Err e
-with_group candidate (Ok hints) (Err e) = Err e
-with_group candidate (Ok hints) (Ok groups) = Ok ((candidate, hints) ∷ groups)
+abbrev pub with_group_pair : Pair → Result (List Pair) Refusal → Result (List (Pair × List Pair)) Refusal → Result (List (Pair × List Pair)) Refusal
+with_group_pair candidate (Err e) later = Err e
+with_group_pair candidate (Ok hints) (Err e) = Err e
+with_group_pair candidate (Ok hints) (Ok groups) = Ok ((candidate, hints) ∷ groups)
 
 -- the groups, each candidate before its hints
 abbrev pub group_pairs_of : (ℕ → Option Pair) → List HintGroup → Result (List (Pair × List Pair)) Refusal
 group_pairs_of pair [] = Ok []
-group_pairs_of pair (g ∷ gs) = if_held g.candidate (pair g.candidate) (λ p. with_group p (pairs_of pair g.hints) (group_pairs_of pair gs))
+group_pairs_of pair (g ∷ gs) = if_held g.candidate (pair g.candidate) (λ p. with_group_pair p (pairs_of pair g.hints) (group_pairs_of pair gs))
 
 abbrev pub is_seen : List ℕ → Option ℕ → Bool
 is_seen seen None = false
@@ -111,16 +113,52 @@ abbrev pub drop_reply : State → ℕ → List ℕ → Result Dropped Refusal
 drop_reply s seat numbers =
     if is_here s.tables seat then Ok (record { place = length s.history; count = keys_lost numbers (table_of s.tables seat) }) else Err SeatGone
 
+-- ---- leaving
+
+-- the entry of a leave: its step deletes what died
+abbrev pub leave_entry : State → ℕ → Entry
+leave_entry s seat = record { seat = seat; call = calls.Leave; step = if_some (died s (without_seat s.tables seat)) }
+
+-- the place of the entry
+abbrev pub leave_reply : State → ℕ → Result ℕ Refusal
+leave_reply s seat = if is_here s.tables seat then Ok (length s.history) else Err SeatGone
+
+-- ---- binding an own number to a live clause
+
+-- the refusal of a binding of the seat's own number, whatever it is to be bound to
+abbrev pub free_refusal : State → ℕ → ℕ → Option Refusal
+free_refusal s seat own =
+    if is_here s.tables seat then (if is_bound s.tables seat own then Some NumberTaken else None) else Some SeatGone
+
+-- the reply that is left where nothing was refused before
+abbrev pub if_free : {A : Type 0} → Option Refusal → Result A Refusal → Result A Refusal
+if_free None later = later
+if_free (Some e) later = Err e
+
+-- the entry of a call that binds an own number to a live clause has no step
+abbrev pub binding_entry : ℕ → Call → Entry
+binding_entry seat call = record { seat = seat; call = call; step = None }
+
+abbrev pub adopt_entry : ℕ → ℕ → ℕ → Entry
+adopt_entry seat own joint = binding_entry seat (calls.Adopt own joint)
+
+-- the place of the entry, where the joint number lives
+abbrev pub adopt_reply : State → ℕ → ℕ → ℕ → Result ℕ Refusal
+adopt_reply s seat own joint =
+    if_free (free_refusal s seat own) (if fin.contains_key (live s) joint then Ok (length s.history) else Err NoSuchClause)
+
+abbrev pub import_entry : ℕ → ℕ → LiteralSet → Entry
+import_entry seat own clause = binding_entry seat (calls.Import own clause)
+
+abbrev pub imported_at : ℕ → Option ℕ → Result Imported Refusal
+imported_at place None = Err NoSuchClause
+imported_at place (Some joint) = Ok (record { place = place; joint = joint })
+
+-- the place of the entry and the least live number with exactly this clause, where there is one
+abbrev pub import_reply : State → ℕ → ℕ → LiteralSet → Result Imported Refusal
+import_reply s seat own clause = if_free (free_refusal s seat own) (imported_at (length s.history) (least_number (live s) clause))
+
 -- ---- committing a receipt
-
--- whether the two clauses are the same set
-abbrev pub is_same : LiteralSet → LiteralSet → Bool
-is_same c d = list_all (holds d) (literals c) && list_all (holds c) (literals d)
-
--- whether there is a clause, and it is this one
-abbrev pub is_clause : LiteralSet → Option LiteralSet → Bool
-is_clause c None = false
-is_clause c (Some d) = is_same c d
 
 -- whether the pair's number lives with that very clause
 abbrev pub is_live_as : ClauseMap → Pair → Bool

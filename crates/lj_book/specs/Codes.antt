@@ -1,7 +1,9 @@
 -- How a proof stores steps and entries.
 use Rattle.std.specs.Prelude.{◌≡◌, ℕ, List, Option, ◌⊎◌, refl}
 use Rattle.std.proofs.Common.{inl, inr}
+use base.Stored.{coded_unit}
 use Rattle.std.specs.Coded.{Coded, code_by, coded×, coded⊎, coded_list, coded_option, coded_ℕ}
+use Rattle.lj_clause.specs.LiteralSet.{LiteralSet, literal_set_code}
 use Rattle.lj_clause.specs.Lemma.{LemmaValue, lemma_code}
 use Rattle.lj_clause.specs.Rat.{HintGroup, hint_group_code}
 use Rattle.lj_text.specs.declared.line.Addition.{Addition}
@@ -29,20 +31,36 @@ step_back (steps.Delete numbers) = refl
 abbrev pub step_code : Coded Step
 step_code = code_by (Addition ⊎ List ℕ) (coded⊎ addition_code (coded_list coded_ℕ)) step_parts step_from step_back
 
-abbrev pub call_parts : Call → (ℕ × LemmaValue) ⊎ List ℕ
-call_parts (calls.Add own lemma) = inl (own, lemma)
-call_parts (calls.Drop numbers) = inr numbers
+-- the parts of a call, where each variant has its place
+abbrev pub CallParts : Type 0
+CallParts = (ℕ × LemmaValue) ⊎ (List ℕ ⊎ ((ℕ × ℕ) ⊎ ((ℕ × LiteralSet) ⊎ Unit {0})))
 
-abbrev pub call_from : (ℕ × LemmaValue) ⊎ List ℕ → Call
+abbrev pub call_parts : Call → CallParts
+call_parts (calls.Add own lemma) = inl (own, lemma)
+call_parts (calls.Drop numbers) = inr (inl numbers)
+call_parts (calls.Adopt own joint) = inr (inr (inl (own, joint)))
+call_parts (calls.Import own clause) = inr (inr (inr (inl (own, clause))))
+call_parts calls.Leave = inr (inr (inr (inr tt)))
+
+abbrev pub call_from : CallParts → Call
 call_from (inl p) = calls.Add p.0 p.1
-call_from (inr numbers) = calls.Drop numbers
+call_from (inr (inl numbers)) = calls.Drop numbers
+call_from (inr (inr (inl p))) = calls.Adopt p.0 p.1
+call_from (inr (inr (inr (inl p)))) = calls.Import p.0 p.1
+call_from (inr (inr (inr (inr _)))) = calls.Leave
 
 abbrev pub call_back : (c : Call) → call_from (call_parts c) ≡ c
 call_back (calls.Add own lemma) = refl
 call_back (calls.Drop numbers) = refl
+call_back (calls.Adopt own joint) = refl
+call_back (calls.Import own clause) = refl
+call_back calls.Leave = refl
 
 abbrev pub call_code : Coded Call
-call_code = code_by ((ℕ × LemmaValue) ⊎ List ℕ) (coded⊎ (coded× coded_ℕ lemma_code) (coded_list coded_ℕ)) call_parts call_from call_back
+call_code =
+    code_by CallParts
+    (coded⊎ (coded× coded_ℕ lemma_code) (coded⊎ (coded_list coded_ℕ) (coded⊎ (coded× coded_ℕ coded_ℕ) (coded⊎ (coded× coded_ℕ literal_set_code) coded_unit))))
+    call_parts call_from call_back
 
 abbrev pub entry_code : Coded Entry
 entry_code = code_by (ℕ × (Call × Option Step)) (coded× coded_ℕ (coded× call_code (coded_option step_code))) (λ e. (e.seat, (e.call, e.step))) (λ p. record { seat = p.0; call = p.1.0; step = p.1.1 }) (λ _. refl)

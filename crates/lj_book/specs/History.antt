@@ -1,5 +1,5 @@
 -- What an entry leaves, and when a history is legal.
-use Rattle.std.specs.Prelude.{◌≡◌, ℕ, ◌<◌, true, false, not, List, [], ◌∷◌, ◌++◌, Option, Some, None, filter}
+use Rattle.std.specs.Prelude.{◌≡◌, ℕ, ◌<◌, Bool, true, false, not, List, [], ◌∷◌, ◌++◌, Option, Some, None, filter}
 use Rattle.std.specs.FinMap as fin
 use Rattle.lj_clause.specs.Lemma.{LemmaValue}
 use Rattle.lj_text.specs.declared.step.Step.{Step}
@@ -9,26 +9,40 @@ use Rattle.lj_text.specs.Needed.{if_some}
 use Rattle.lj_book.specs.declared.entry.Call.{Call}
 use Rattle.lj_book.specs.declared.entry.Call.TheVariants as calls
 use Rattle.lj_book.specs.declared.entry.Entry.{Entry}
-use Rattle.lj_book.specs.Tables.{Tables, is_here, is_bound, is_held, with_table, without_keys}
+use Rattle.lj_book.specs.Tables.{Tables, is_here, is_bound, is_held, with_table, with_binding, without_keys, without_seat}
+use Rattle.lj_book.specs.Lookup.{least_number}
 use Rattle.lj_book.specs.State.{State, added, next, live, opening}
 
--- the tables that a call leaves, where an addition takes this joint number
-abbrev pub tables_after : Tables → ℕ → ℕ → Call → Tables
-tables_after tables joint seat (calls.Add own lemma) = with_table (λ t. fin.insert t own joint) tables seat
-tables_after tables joint seat (calls.Drop numbers) = with_table (without_keys numbers) tables seat
+-- the tables where the seat's own number is bound to the joint number, if there is one
+abbrev pub with_found : Tables → ℕ → ℕ → Option ℕ → Tables
+with_found tables seat own None = tables
+with_found tables seat own (Some joint) = with_binding tables seat own joint
+
+-- the tables that a call of the seat leaves: an addition takes the next joint number
+abbrev pub tables_after : State → ℕ → Call → Tables
+tables_after s seat (calls.Add own lemma) = with_binding s.tables seat own (next s)
+tables_after s seat (calls.Drop numbers) = with_table (without_keys numbers) s.tables seat
+tables_after s seat (calls.Adopt own joint) = with_binding s.tables seat own joint
+tables_after s seat (calls.Import own clause) = with_found s.tables seat own (least_number (live s) clause)
+tables_after s seat calls.Leave = without_seat s.tables seat
 
 -- the numbers that are live and no longer are with these tables, rising
 abbrev pub died : State → Tables → List ℕ
 died s tables = filter (λ n. not (is_held tables n)) (fin.keys (live s))
 
+-- whether there is a number, and a clause lives under it
+abbrev pub some_lives : State → Option ℕ → Bool
+some_lives s None = false
+some_lives s (Some joint) = fin.contains_key (live s) joint
+
 -- the state that an entry leaves
-abbrev pub after : State → Entry → State
-after s e = record s { tables = tables_after s.tables (next s) e.seat e.call; history = s.history ++ e ∷ [] }
+abbrev pub after_entry : State → Entry → State
+after_entry s e = record s { tables = tables_after s e.seat e.call; history = s.history ++ e ∷ [] }
 
 -- the state that a list of entries leaves
-abbrev pub after_all : State → List Entry → State
-after_all s [] = s
-after_all s (e ∷ es) = after_all (after s e) es
+abbrev pub after_entries : State → List Entry → State
+after_entries s [] = s
+after_entries s (e ∷ es) = after_entries (after_entry s e) es
 
 -- The step adds the lemma under the next number, is accepted by the live clauses, and is in recorded form.
 abbrev pub IsAdditionOf : State → LemmaValue → Option Step → Type 0
@@ -49,9 +63,25 @@ pub record IsLegalDrop (s : State) (seat : ℕ) (numbers : List ℕ) (step : Opt
   pub here : is_here s.tables seat ≡ true
   pub deletes : step ≡ if_some (died s (with_table (without_keys numbers) s.tables seat))
 
+-- An own number is bound to a joint number legally where the seat is there, its own number is unbound, the joint
+-- number lives, and there is no step.
+pub record IsLegalBinding (s : State) (seat own : ℕ) (joint : Option ℕ) (step : Option Step) : Type 0 where
+  pub here : is_here s.tables seat ≡ true
+  pub unbound : is_bound s.tables seat own ≡ false
+  pub lives : some_lives s joint ≡ true
+  pub stepless : step ≡ None
+
+-- A leave is legal where the seat is there and the step, if there is one, deletes what died.
+pub record IsLegalLeave (s : State) (seat : ℕ) (step : Option Step) : Type 0 where
+  pub here : is_here s.tables seat ≡ true
+  pub deletes : step ≡ if_some (died s (without_seat s.tables seat))
+
 abbrev pub IsLegalCall : State → ℕ → Call → Option Step → Type 0
 IsLegalCall s seat (calls.Add own lemma) step = IsLegalAddition s seat own lemma step
 IsLegalCall s seat (calls.Drop numbers) step = IsLegalDrop s seat numbers step
+IsLegalCall s seat (calls.Adopt own joint) step = IsLegalBinding s seat own (Some joint) step
+IsLegalCall s seat (calls.Import own clause) step = IsLegalBinding s seat own (least_number (live s) clause) step
+IsLegalCall s seat calls.Leave step = IsLegalLeave s seat step
 
 -- The entry is legal in the state.
 abbrev pub IsLegal : State → Entry → Type 0
@@ -60,11 +90,11 @@ IsLegal s e = IsLegalCall s e.seat e.call e.step
 -- Each entry is legal in the state that those before it leave.
 abbrev pub AreLegal : State → List Entry → Type 0
 AreLegal s [] = Unit {0}
-AreLegal s (e ∷ es) = IsLegal s e × AreLegal (after s e) es
+AreLegal s (e ∷ es) = IsLegal s e × AreLegal (after_entry s e) es
 
 -- A legal history leads from the opening with some seats to the state.
 pub record IsReached (s : State) : Type 0 where
   pub seats : ℕ
   pub some_seat : 0 < seats
   pub legal : AreLegal (opening s.formula seats s.max_steps) s.history
-  pub leads : after_all (opening s.formula seats s.max_steps) s.history ≡ s
+  pub leads : after_entries (opening s.formula seats s.max_steps) s.history ≡ s

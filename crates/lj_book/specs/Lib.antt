@@ -1,8 +1,16 @@
 pub mod Codes
 pub mod Tables
 pub mod Holders
+pub mod Lookup
 pub mod State
 pub mod Calls
+pub mod Inside
+pub mod JointLines
 pub mod Kept
 pub mod Fronts
 pub mod History
+pub mod Events
+pub mod Worlds
+pub mod Solo
+pub mod RefusalText
+pub mod Slots

@@ -46,6 +46,16 @@ with_table change [] seat = []
 with_table change (t ∷ ts) zero = option_map change t ∷ ts
 with_table change (t ∷ ts) (suc seat) = t ∷ with_table change ts seat
 
+-- the tables where the seat's own number is bound to the joint number
+abbrev pub with_binding : Tables → ℕ → ℕ → ℕ → Tables
+with_binding tables seat own joint = with_table (λ t. fin.insert t own joint) tables seat
+
+-- the tables where the seat has left
+abbrev pub without_seat : Tables → ℕ → Tables
+without_seat [] seat = []
+without_seat (t ∷ ts) zero = None ∷ ts
+without_seat (t ∷ ts) (suc seat) = t ∷ without_seat ts seat
+
 -- whether the number is among these
 abbrev pub is_among : List ℕ → ℕ → Bool
 is_among numbers n = list_any (λ m. m == n) numbers
@@ -53,6 +63,11 @@ is_among numbers n = list_any (λ m. m == n) numbers
 -- the table without these own numbers
 abbrev pub without_keys : List ℕ → Table → Table
 without_keys numbers t = fin.retain_keys t (λ own. not (is_among numbers own))
+
+-- the own numbers of the table, rising
+abbrev pub own_numbers : Option Table → List ℕ
+own_numbers None = []
+own_numbers (Some t) = fin.keys t
 
 -- how many keys it has more than without these
 abbrev pub keys_lost : List ℕ → Option Table → ℕ

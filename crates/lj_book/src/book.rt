@@ -1,13 +1,20 @@
 //! The book.
-ghost use Rattle.std.specs.Prelude.{◌≡◌, ◌<◌, ◌+◌, length, OnOk, OnErr, IfOk, IfErr, option_copied, slice_get, is_some, IfSome, None, Some};
+ghost use Rattle.std.specs.Prelude.{◌≡◌, ◌<◌, ◌+◌, length, OnOk, OnErr, IfOk, IfErr, Err, option_copied, slice_get, is_some, IfSome, None, Some};
 ghost use Rattle.std.specs.FinMap as fin;
 ghost use Rattle.lj_clause.specs.ClauseMap.{formula_map};
 ghost use Rattle.lj_clause.specs.Truth.{IsSatisfiable};
 ghost use Rattle.lj_text.specs.Steps.{replay, refutes};
 ghost use Rattle.lj_text.specs.Needed.{if_some};
+ghost use Rattle.lj_book.specs.Lookup.{numbers_holding};
 ghost use Rattle.lj_book.specs.State.{State, opening, live, steps_of, verdict};
-ghost use Rattle.lj_book.specs.History.{IsReached, after};
-ghost use Rattle.lj_book.specs.Calls.{IsReply, drop_reply, drop_entry, commit_refusal, commit_told, commit_reply, commit_entry, answer_alone, take_reply};
+ghost use Rattle.lj_book.specs.History.{IsReached, after_entry};
+ghost use Rattle.lj_book.specs.Calls.{IsReply, drop_reply, drop_entry, commit_refusal, commit_told, commit_reply, commit_entry, answer_alone, take_reply, free_refusal};
+
+mod adopting;
+mod inside;
+pub mod laws;
+mod leaving;
+mod playing;
 
 use crate::committing::{enter_clause, entry_with, first_stale, refuted_at};
 use crate::dying::{bury, no_longer_held, rising};
@@ -17,7 +24,7 @@ use crate::refusal::Refusal;
 use crate::seat_tables::SeatTables;
 use crate::taking::case_of;
 use crate::verified::Verified;
-use lj_clause::{Clause, Formula, NoMemory};
+use lj_clause::{Clause, Formula, Lit, NoMemory};
 use lj_hint::{Case, Receipt};
 use lj_text::{Addition, Numbers, Step};
 use std::alloc::Global;
@@ -83,10 +90,20 @@ impl Book {
 
     /// The formula that the book was opened with.
     pub fn formula(&self) -> &Formula
-        ensures formula { result.now ≡ self.now.formula }
-        ensures reached { IsReached self.now }
+        ensures { result.now ≡ self.now.formula }
     {
         &self.formula
+    }
+
+    /// The numbers of the live clauses that hold a literal, rising.
+    ///
+    /// # Errors
+    /// [`NoMemory`] where a growth was refused.
+    pub fn candidates(&self, lit: Lit) -> Result<Vec<u64>, NoMemory>
+        ensures { IfOk result (λ numbers. numbers.items ≡ numbers_holding (live self.now) lit) }
+    {
+        let alloc = *self.history.allocator();
+        self.clauses.numbers_holding(alloc, lit)
     }
 
     /// The live clause of a joint number.
@@ -98,9 +115,7 @@ impl Book {
 
     /// The number of entries in the history.
     pub fn history_len(&self) -> u64
-        ensures len { result ≡ length self.now.history }
-        ensures replayed { replay (formula_map self.now.formula) (steps_of self.now.history) ≡ Some (live self.now) }
-        ensures satisfiable { IsSatisfiable (formula_map self.now.formula) → IsSatisfiable (live self.now) }
+        ensures { result ≡ length self.now.history }
     {
         self.history.len() as u64
     }
@@ -155,7 +170,8 @@ impl Book {
     /// [`Refusal::SeatGone`], [`Refusal::NumberTaken`], [`Refusal::UnknownNumber`], [`Refusal::GroupRepeated`], and
     /// [`Refusal::NoMemory`] where a growth was refused.
     pub fn take(&self, seat: u32, addition: &Addition) -> Result<Case, Refusal>
-        ensures { IsReply result (take_reply self.now seat addition.now) }
+        ensures reply { IsReply result (take_reply self.now seat addition.now) }
+        ensures refused { IfSome (free_refusal self.now seat addition.now.number) (λ e. result ≡ Err e) }
     {
         if !self.tables.is_here(seat) {
             return Err(Refusal::SeatGone);
@@ -174,7 +190,8 @@ impl Book {
     /// [`Refusal::NoMemory`] where a growth was refused.
     pub fn commit(&mut self, receipt: Receipt) -> Result<Added, (Refusal, Receipt)>
         ensures reply { IsReply (answer_alone result) (commit_reply self.old receipt) }
-        ensures ok { OnOk result (self.new ≡ after self.old (commit_entry self.old receipt)) }
+        ensures refused { IfErr (commit_reply self.old receipt) (λ e. result ≡ Err (e, receipt)) }
+        ensures ok { OnOk result (self.new ≡ after_entry self.old (commit_entry self.old receipt)) }
         ensures err { OnErr result (self.new ≡ self.old) }
         ensures back { IfErr result (λ e. e.1 ≡ receipt) }
     {
@@ -183,7 +200,7 @@ impl Book {
         }
         match self.enter(&receipt) {
             Ok(added) => Ok(added),
-            Err(NoMemory) => Err((Refusal::NoMemory, receipt)),
+            Err(e) => Err((Refusal::NoMemory(e), receipt)),
         }
     }
 
@@ -210,7 +227,7 @@ impl Book {
     fn enter(&mut self, receipt: &Receipt) -> Result<Added, NoMemory>
         requires { commit_refusal self.old receipt.now ≡ None }
         ensures told { IfOk result (λ added. added ≡ commit_told self.old) }
-        ensures ok { OnOk result (self.new ≡ after self.old (commit_entry self.old receipt.now)) }
+        ensures ok { OnOk result (self.new ≡ after_entry self.old (commit_entry self.old receipt.now)) }
         ensures err { OnErr result (self.new ≡ self.old) }
     {
         let joint = self.formula.len() as u64 + 1 + u64::from(self.added);
@@ -231,7 +248,8 @@ impl Book {
     /// [`Refusal::SeatGone`], and [`Refusal::NoMemory`] where a growth was refused.
     pub fn drop_numbers(&mut self, seat: u32, numbers: &[u64]) -> Result<Dropped, Refusal>
         ensures reply { IsReply result (drop_reply self.old seat numbers.now) }
-        ensures ok { OnOk result (self.new ≡ after self.old (drop_entry self.old seat numbers.now)) }
+        ensures refused { IfErr (drop_reply self.old seat numbers.now) (λ e. result ≡ Err e) }
+        ensures ok { OnOk result (self.new ≡ after_entry self.old (drop_entry self.old seat numbers.now)) }
         ensures err { OnErr result (self.new ≡ self.old) }
     {
         if !self.tables.is_here(seat) {
@@ -239,7 +257,7 @@ impl Book {
         }
         let alloc = *self.history.allocator();
         let call = Call::Drop {
-            numbers: Numbers::new(Vec::from_slice(alloc, numbers)?),
+            numbers: Numbers::from_slice(alloc, numbers)?,
         };
         let joints = rising(self.tables.joints(alloc, seat, numbers)?);
         self.history.reserve(1)?;

@@ -2,7 +2,7 @@
 ghost use Rattle.std.specs.Prelude.{◌≡◌, OnOk, OnErr, IfOk, None, true, false};
 ghost use Rattle.std.specs.FinMap as fin;
 ghost use Rattle.lj_hint.specs.Hints.{numbers};
-ghost use Rattle.lj_book.specs.Tables.{is_here, is_bound, with_table};
+ghost use Rattle.lj_book.specs.Tables.{is_here, is_bound, is_held, with_table};
 ghost use Rattle.lj_book.specs.Calls.{is_live_as, first_stale, entry_with};
 ghost use Rattle.lj_book.specs.Kept.{refuted_after};
 
@@ -79,14 +79,45 @@ pub fn enter_clause(
     requires here { is_here tables.old receipt.now.seat ≡ true }
     requires unbound { is_bound tables.old receipt.now.seat receipt.now.own ≡ false }
     requires new { fin.get clauses.old joint ≡ None }
+    requires unheld { is_held tables.old joint ≡ false }
     ensures clauses { OnOk result (clauses.new ≡ fin.insert clauses.old joint receipt.now.lemma.clause) }
     ensures tables { OnOk result (tables.new
         ≡ with_table (λ t. fin.insert t receipt.now.own joint) tables.old receipt.now.seat) }
     ensures err { OnErr result ((clauses.new ≡ clauses.old) × (tables.new ≡ tables.old)) }
 {
     let clause = receipt.lemma().clause().copy()?;
+    bind_clause(
+        clauses,
+        tables,
+        joint,
+        receipt.seat(),
+        receipt.own(),
+        clause,
+    )
+}
+
+/// Gives the clause this new number, and binds the seat's own number to it: both, or neither.
+///
+/// # Errors
+/// [`NoMemory`] where a growth was refused.
+pub fn bind_clause(
+    clauses: &mut NumberMap<Clause>,
+    tables: &mut SeatTables,
+    joint: u64,
+    seat: u32,
+    own: u64,
+    clause: Clause,
+) -> Result<(), NoMemory>
+    requires here { is_here tables.old seat ≡ true }
+    requires unbound { is_bound tables.old seat own ≡ false }
+    requires new { fin.get clauses.old joint ≡ None }
+    requires unheld { is_held tables.old joint ≡ false }
+    ensures clauses { OnOk result (clauses.new ≡ fin.insert clauses.old joint clause) }
+    ensures tables { OnOk result (tables.new ≡ with_table (λ t. fin.insert t own joint) tables.old seat) }
+    ensures err { OnErr result ((clauses.new ≡ clauses.old) × (tables.new ≡ tables.old)) }
+{
     clauses.insert(joint, clause)?;
-    if let Err(e) = tables.bind(receipt.seat(), receipt.own(), joint) {
+    if let Err(e) = tables.bind(seat, own, joint) {
         clauses.remove(joint);
         return Err(e);
     }

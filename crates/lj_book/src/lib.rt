@@ -5,15 +5,25 @@ mod book;
 mod committing;
 mod dying;
 mod entry;
+mod event;
+#[cfg(test)]
+mod inside_tests;
+mod joint_line;
+mod line_tests;
 mod number_map;
+mod own_map;
 mod refusal;
 mod seat_tables;
+mod solo_laws;
 mod taking;
 #[cfg(test)]
 mod tests;
+mod tree_map;
 mod verified;
 
-pub use book::Book;
-pub use entry::{Added, Call, Dropped, Entry};
+pub use book::{Book, laws};
+pub use entry::{Added, Call, Dropped, Entry, Imported};
+pub use event::{Event, Reply};
 pub use refusal::Refusal;
+pub use solo_laws::{fresh_receipts_are_not_stale, tidy_seats_are_alone};
 pub use verified::Verified;

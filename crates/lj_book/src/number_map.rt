@@ -1,28 +1,33 @@
 //! Maps from numbers.
-ghost use Rattle.std.specs.Prelude.{◌≡◌, IsTrue, ◌↔◌, OnOk, OnErr, IsOk, option_copied, is_some, None};
+ghost use Rattle.std.specs.Prelude.{◌≡◌, ◌<◌, ◌≤◌, OnOk, OnErr, option_copied, length, None};
 ghost use Rattle.std.specs.FinMap as fin;
+ghost use Rattle.lj_book.specs.Slots.{slot_map};
+
+mod scanning;
 
 use lj_clause::NoMemory;
 use std::alloc::Global;
-use std::collections::BTreeMap;
 use std::marker::Model;
 
-/// A map from numbers, seen as a finite map. Each call takes O(log n) time.
+/// A map from numbers that lie close together, as joint numbers do, seen as a finite map: one slot for each number up
+/// to the greatest that was ever set. Each call takes constant time, but that setting a greater number makes the slots
+/// up to it.
 #[derive(Drop)]
 pub struct NumberMap<V> {
-    entries: BTreeMap<u64, V>,
+    slots: Vec<Option<V>>,
 }
 
 impl<V> Model for NumberMap<V> {
     ghost use Rattle.std.specs.Ordering.{nat_cmp};
     ghost use Rattle.std.specs.Coded.{coded_ℕ};
     ghost use Rattle.std.specs.FinMap as fin;
+    ghost use Rattle.lj_book.specs.Slots.{slot_map};
 
     ghost Value = { fin.FinMap nat_cmp V };
 
     ghost coded = { fin.code coded_ℕ V.code };
 
-    ghost view = { λ m. fin.from_entries m.entries.entries };
+    ghost view = { λ m. slot_map m.slots.items };
 }
 
 impl<V: Drop> NumberMap<V> {
@@ -31,7 +36,7 @@ impl<V: Drop> NumberMap<V> {
         ensures { result ≡ fin.empty }
     {
         NumberMap {
-            entries: BTreeMap::new(alloc),
+            slots: Vec::new(alloc),
         }
     }
 
@@ -39,14 +44,17 @@ impl<V: Drop> NumberMap<V> {
     pub fn get(&self, key: u64) -> Option<&V>
         ensures { option_copied result ≡ fin.get self.now key }
     {
-        self.entries.get(&key)
+        match self.slots.get(key as usize) {
+            Some(slot) => slot.as_ref(),
+            None => None,
+        }
     }
 
     /// Whether there is a value at the key.
     pub fn contains_key(&self, key: u64) -> bool
         ensures { result ≡ fin.contains_key self.now key }
     {
-        self.entries.contains_key(&key)
+        self.get(key).is_some()
     }
 
     /// Sets the value at the key. Takes no memory where the key is there already.
@@ -58,7 +66,9 @@ impl<V: Drop> NumberMap<V> {
         ensures err { OnErr result (self.new ≡ self.old) }
         ensures absent { OnErr result (fin.get self.old key ≡ None) }
     {
-        self.entries.insert(key, value)?;
+        let at = key as usize;
+        cover(&mut self.slots, at)?;
+        self.slots[at] = Some(value);
         Ok(())
     }
 
@@ -67,6 +77,23 @@ impl<V: Drop> NumberMap<V> {
         ensures before { result ≡ fin.get self.old key }
         ensures removed { self.new ≡ fin.remove self.old key }
     {
-        self.entries.remove(&key)
+        let at = key as usize;
+        if at < self.slots.len() {
+            self.slots[at].take()
+        } else {
+            None
+        }
     }
+}
+
+/// Adds empty slots, so that there is one at this place.
+fn cover<V: Drop>(slots: &mut Vec<Option<V>>, at: usize) -> Result<(), NoMemory>
+    ensures there { OnOk result (at < length slots.new.items) }
+    ensures same { slot_map slots.new.items ≡ slot_map slots.old.items }
+    ensures past { OnErr result (length slots.old.items ≤ at) }
+{
+    for _ in slots.len()..=at {
+        slots.push(None)?;
+    }
+    Ok(())
 }

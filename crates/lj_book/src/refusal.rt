@@ -1,62 +1,92 @@
 //! Why a call was refused.
 ghost use Rattle.std.specs.Prelude.{◌≡◌};
+ghost use Rattle.lj_clause.specs.Memory.{no_memory};
 ghost use Rattle.lj_book.specs.declared.refusal.Refusal.TheVariants.{NoMemory as OutOfMemory};
 
+use lj_clause::NoMemory;
 use std::alloc::{AllocError, AllocFailed};
-use thiserror::Error;
+use std::error::Error;
+use std::fmt;
 
 /// Why a call was refused. The book is then as it was. A call tells the first refusal, in this order, that holds.
-#[derive(Clone, Copy, Debug, PartialEq, Eq, Error)]
+#[derive(Clone, Copy, Debug, PartialEq, Eq)]
 pub enum Refusal {
     /// No such seat, or it has left.
-    #[error("SeatGone")]
     SeatGone,
     /// The own number is bound.
-    #[error("NumberTaken")]
     NumberTaken,
     /// The first own number, in the order written, that the seat doesn't hold.
-    #[error("UnknownNumber({0})")]
     UnknownNumber(u64),
     /// The own number of the first group whose joint clause has an earlier group.
-    #[error("GroupRepeated({0})")]
     GroupRepeated(u64),
     /// The place of the hint, counted from 1, at which the walk over the first list is stuck.
-    #[error("HintNotUnit({0})")]
     HintNotUnit(u64),
     /// The walk of an empty lemma is open.
-    #[error("EmptyOpen")]
     EmptyOpen,
+    /// The first candidate whose test isn't closed has no group.
+    MissingGroup(u64),
+    /// The first candidate whose test isn't closed, and the place in its group, counted from 1, at which the walk is
+    /// stuck.
+    GroupStuck(u64, u64),
+    /// The first candidate whose test isn't closed has a group, and its walk is open.
+    GroupOpen(u64),
     /// The first joint number that the receipt lists and that doesn't live with that very clause.
-    #[error("Stale({0})")]
     Stale(u64),
+    /// No such live clause.
+    NoSuchClause,
     /// The history holds as many additions as it may.
-    #[error("Full")]
     Full,
     /// A growth of memory was refused.
-    #[error("NoMemory")]
-    NoMemory,
+    NoMemory(NoMemory),
 }
 
-impl From<AllocError> for Refusal {
-    ghost from_gives = { λ _ e. e ≡ OutOfMemory };
+impl fmt::Display for Refusal {
+    ghost use Rattle.std.specs.Prelude.{Some};
+    ghost use Rattle.lj_book.specs.RefusalText.{refusal_text};
 
-    fn from(_: AllocError) -> Refusal {
-        Refusal::NoMemory
+    ghost output = { λ refusal. Some (refusal_text refusal) };
+
+    fn fmt<W: fmt::Write>(&self, f: &mut fmt::Formatter<W>) -> fmt::Result {
+        match self {
+            Refusal::SeatGone => f.write_str("SeatGone"),
+            Refusal::NumberTaken => f.write_str("NumberTaken"),
+            Refusal::UnknownNumber(number) => write!(f, "UnknownNumber({number})"),
+            Refusal::GroupRepeated(number) => write!(f, "GroupRepeated({number})"),
+            Refusal::HintNotUnit(place) => write!(f, "HintNotUnit({place})"),
+            Refusal::EmptyOpen => f.write_str("EmptyOpen"),
+            Refusal::MissingGroup(joint) => write!(f, "MissingGroup({joint})"),
+            Refusal::GroupStuck(joint, place) => write!(f, "GroupStuck({joint}, {place})"),
+            Refusal::GroupOpen(joint) => write!(f, "GroupOpen({joint})"),
+            Refusal::Stale(joint) => write!(f, "Stale({joint})"),
+            Refusal::NoSuchClause => f.write_str("NoSuchClause"),
+            Refusal::Full => f.write_str("Full"),
+            Refusal::NoMemory(_) => f.write_str("NoMemory"),
+        }
+    }
+}
+
+impl Error for Refusal {}
+
+impl From<AllocError> for Refusal {
+    ghost from_gives = { λ _ refusal. refusal ≡ OutOfMemory no_memory };
+
+    fn from(e: AllocError) -> Refusal {
+        Refusal::NoMemory(e.into())
     }
 }
 
 impl<T: Drop> From<AllocFailed<T>> for Refusal {
-    ghost from_gives = { λ _ e. e ≡ OutOfMemory };
+    ghost from_gives = { λ _ refusal. refusal ≡ OutOfMemory no_memory };
 
-    fn from(_: AllocFailed<T>) -> Refusal {
-        Refusal::NoMemory
+    fn from(e: AllocFailed<T>) -> Refusal {
+        Refusal::NoMemory(e.into())
     }
 }
 
-impl From<lj_clause::NoMemory> for Refusal {
-    ghost from_gives = { λ _ e. e ≡ OutOfMemory };
+impl From<NoMemory> for Refusal {
+    ghost from_gives = { λ e refusal. refusal ≡ OutOfMemory e };
 
-    fn from(_: lj_clause::NoMemory) -> Refusal {
-        Refusal::NoMemory
+    fn from(e: NoMemory) -> Refusal {
+        Refusal::NoMemory(e)
     }
 }

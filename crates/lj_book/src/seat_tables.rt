@@ -1,10 +1,11 @@
 //! The tables of the seats.
 ghost use Rattle.std.specs.Prelude.{◌≡◌, ℕ, ◌+◌, ◌^◌, ◌<◌, ◌≤◌, IsTrue, ◌↔◌, OnOk, OnErr, IfOk, is_some, option_copied, filter_map, Some, None, replicate, length, true, false};
 ghost use Rattle.std.specs.FinMap as fin;
-ghost use Rattle.lj_book.specs.Tables.{up_to, table_of, is_here, joint_of, is_bound, with_table, without_keys, is_held, keys_lost};
-ghost use Rattle.lj_book.specs.Holders.{count_at, one_if_at, all_up_to};
+ghost use Rattle.lj_book.specs.Tables.{up_to, table_of, is_here, joint_of, is_bound, with_table, without_keys, without_seat, is_held, own_numbers, keys_lost};
+ghost use Rattle.lj_book.specs.Holders.{count_at, holders_of, one_if_at, all_up_to};
 
 use crate::number_map::NumberMap;
+use crate::own_map::OwnMap;
 use lj_clause::NoMemory;
 use std::alloc::Global;
 use std::marker::Model;
@@ -12,7 +13,7 @@ use std::marker::Model;
 /// The table of each seat, from own numbers to joint numbers, and none for a seat that has left.
 #[derive(Drop)]
 pub struct SeatTables {
-    seats: Vec<Option<NumberMap<u64>>>,
+    seats: Vec<Option<OwnMap<u64>>>,
     /// How many own numbers of all seats are bound to each joint number, so that none has to be looked for.
     holders: NumberMap<u64>,
 }
@@ -85,19 +86,16 @@ impl SeatTables {
     /// Binds an own number that isn't bound to a joint number.
     ///
     /// # Errors
-    /// [`NoMemory`] where a growth was refused, and for more bindings of one joint number than a `u64` counts, for
-    /// which no memory is there.
+    /// [`NoMemory`] where a growth was refused.
     pub fn bind(&mut self, seat: u32, own: u64, joint: u64) -> Result<(), NoMemory>
         requires here { is_here self.old seat ≡ true }
         requires unbound { is_bound self.old seat own ≡ false }
+        requires room { holders_of self.old joint < length self.old + 2 ^ 63 }
         ensures ok { OnOk result (self.new ≡ with_table (λ t. fin.insert t own joint) self.old seat) }
         ensures err { OnErr result (self.new ≡ self.old) }
     {
         let at = seat as usize;
-        let held = count(&self.holders, joint);
-        let Some(held) = held.checked_add(1) else {
-            return Err(NoMemory);
-        };
+        let held = count(&self.holders, joint) + 1;
         match &mut self.seats[at] {
             Some(table) => bind_in(table, &mut self.holders, own, joint, held),
             None => Ok(()),
@@ -132,6 +130,38 @@ impl SeatTables {
         count
     }
 
+    /// The own numbers of the seat that are bound, rising.
+    ///
+    /// # Errors
+    /// [`NoMemory`] where a growth was refused.
+    pub fn own_numbers(&self, alloc: Global, seat: u32) -> Result<Vec<u64>, NoMemory>
+        ensures { IfOk result (λ numbers. numbers.items ≡ own_numbers (table_of self.now seat)) }
+    {
+        match table_in(&self.seats, seat) {
+            Some(table) => table.keys(alloc),
+            None => Ok(Vec::new(alloc)),
+        }
+    }
+
+    /// Gives the seat up, with all its own numbers, which are these.
+    pub fn leave(&mut self, seat: u32, numbers: &[u64])
+        requires here { is_here self.old seat ≡ true }
+        requires all { numbers.now ≡ own_numbers (table_of self.old seat) }
+        ensures { self.new ≡ without_seat self.old seat }
+    {
+        let _ = self.unbind_all(seat, numbers);
+        self.close(seat);
+    }
+
+    /// Gives up a seat that holds nothing.
+    fn close(&mut self, seat: u32)
+        requires { table_of self.old seat ≡ Some fin.empty }
+        ensures { self.new ≡ without_seat self.old seat }
+    {
+        let at = seat as usize;
+        self.seats[at] = None;
+    }
+
     /// The joint numbers that these own numbers are bound to, for those that are, in their order.
     ///
     /// # Errors
@@ -154,7 +184,7 @@ fn same_tables(
     alloc: Global,
     seats: u32,
     clauses: u64,
-) -> Result<Vec<Option<NumberMap<u64>>>, NoMemory>
+) -> Result<Vec<Option<OwnMap<u64>>>, NoMemory>
     requires { clauses < 2 ^ 63 }
     ensures { IfOk result (λ tables. tables.items ≡ replicate seats (Some (up_to clauses))) }
 {
@@ -167,11 +197,11 @@ fn same_tables(
 }
 
 /// The table that binds each number from 1 to this one to itself.
-fn numbers_up_to(alloc: Global, last: u64) -> Result<NumberMap<u64>, NoMemory>
+fn numbers_up_to(alloc: Global, last: u64) -> Result<OwnMap<u64>, NoMemory>
     requires { last < 2 ^ 63 }
     ensures { IfOk result (λ table. table ≡ up_to last) }
 {
-    let mut table = NumberMap::new(alloc);
+    let mut table = OwnMap::new(alloc);
     for number in 0..last {
         table.insert(number + 1, number + 1)?;
     }
@@ -192,7 +222,7 @@ fn counts_up_to(alloc: Global, last: u64, count: u64) -> Result<NumberMap<u64>, 
 
 /// Binds the own number in the table, and sets the count of the joint number: both, or neither.
 fn bind_in(
-    table: &mut NumberMap<u64>,
+    table: &mut OwnMap<u64>,
     holders: &mut NumberMap<u64>,
     own: u64,
     joint: u64,
@@ -212,7 +242,7 @@ fn bind_in(
 }
 
 /// Takes the own number out of the table, and one from the count of its joint number. Answers whether it was there.
-fn unbind_in(table: &mut NumberMap<u64>, holders: &mut NumberMap<u64>, own: u64) -> bool
+fn unbind_in(table: &mut OwnMap<u64>, holders: &mut NumberMap<u64>, own: u64) -> bool
     requires { (joint : ℕ) → fin.get table.old own ≡ Some joint → 0 < count_at holders.old joint }
     ensures bound { result ≡ fin.contains_key table.old own }
     ensures table { table.new ≡ fin.remove table.old own }
@@ -228,7 +258,7 @@ fn unbind_in(table: &mut NumberMap<u64>, holders: &mut NumberMap<u64>, own: u64)
 }
 
 /// The table of a seat.
-fn table_in(seats: &[Option<NumberMap<u64>>], seat: u32) -> Option<&NumberMap<u64>>
+fn table_in(seats: &[Option<OwnMap<u64>>], seat: u32) -> Option<&OwnMap<u64>>
     ensures { option_copied result ≡ table_of seats.now seat }
 {
     match seats.get(seat as usize) {

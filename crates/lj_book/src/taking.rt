@@ -7,9 +7,10 @@ ghost use Rattle.lj_book.specs.Calls.{IsReply, IsReplyBy, case_with, pair_in, pa
 use crate::number_map::NumberMap;
 use crate::refusal::Refusal;
 use crate::seat_tables::SeatTables;
+use crate::tree_map::TreeMap;
 use lj_clause::{Clause, NoMemory};
 use lj_hint::{Case, Pair};
-use lj_text::{Addition, Group};
+use lj_text::{Addition, Group, Numbers};
 use std::alloc::Global;
 
 /// The case of an addition, whose seat is there and whose own number is free.
@@ -27,7 +28,7 @@ pub fn case_of(
         (pairs_of (pair_in tables.now clauses.now seat) addition.now.hints)
         (group_pairs_of (pair_in tables.now clauses.now seat) addition.now.groups)) }
 {
-    let hints = match pairs_of(alloc, tables, clauses, seat, addition.hints.as_slice()) {
+    let hints = match pairs_of(alloc, tables, clauses, seat, &addition.hints) {
         Ok(hints) => hints,
         Err(refusal) => return Err(refusal),
     };
@@ -74,12 +75,12 @@ fn pairs_of(
     tables: &SeatTables,
     clauses: &NumberMap<Clause>,
     seat: u32,
-    numbers: &[u64],
+    numbers: &Numbers,
 ) -> Result<Vec<Pair>, Refusal>
     ensures { IsReplyBy (λ v. v.items) result (pairs_of (pair_in tables.now clauses.now seat) numbers.now) }
 {
     let mut pairs = Vec::new(alloc);
-    for &own in numbers {
+    for own in numbers.iter() {
         let Some(pair) = pair_in(tables, clauses, seat, own)? else {
             return Err(Refusal::UnknownNumber(own));
         };
@@ -107,7 +108,7 @@ fn group_pairs_of(
         let Some(candidate) = pair_in(tables, clauses, seat, group.candidate)? else {
             return Err(Refusal::UnknownNumber(group.candidate));
         };
-        match pairs_of(alloc, tables, clauses, seat, group.hints.as_slice()) {
+        match pairs_of(alloc, tables, clauses, seat, &group.hints) {
             Ok(hints) => pairs.push((candidate, hints))?,
             Err(refusal) => return Err(refusal),
         }
@@ -119,7 +120,7 @@ fn group_pairs_of(
 ///
 /// # Errors
 /// [`NoMemory`] where a growth was refused.
-fn repeated_group(
+pub(crate) fn repeated_group(
     alloc: Global,
     tables: &SeatTables,
     seat: u32,
@@ -127,7 +128,7 @@ fn repeated_group(
 ) -> Result<Option<u64>, NoMemory>
     ensures { IfOk result (λ own. own ≡ repeated_after (joint_of tables.now seat) [] groups.now) }
 {
-    let mut seen: NumberMap<()> = NumberMap::new(alloc);
+    let mut seen: TreeMap<()> = TreeMap::new(alloc);
     for group in groups {
         if let Some(joint) = tables.joint(seat, group.candidate) {
             if seen.contains_key(joint) {

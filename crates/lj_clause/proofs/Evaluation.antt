@@ -10,7 +10,7 @@ use Rattle.std.specs.FinMap as fin
 use Rattle.std.specs.FinMap.Entries.{put, find, by_order}
 use Rattle.lj_clause.specs.Literal.{lit_cmp, lit_cmp_total}
 use Rattle.lj_clause.specs.LiteralSet.{LiteralSet, no_literals, holds, with_literal, literals, from_literals, with_negations, negations}
-use Rattle.lj_clause.specs.Listed.{ListedClause, clause_of, clauses_of}
+use Rattle.lj_clause.specs.Listed.{ListedClause, clause_of, listed_clauses}
 use Rattle.lj_clause.specs.Walk.{Walk, Closed, Open, Stuck, Hint, rest, is_contradictory, by_rest, by_hint, walk_over, hints_in, walk}
 use Rattle.lj_clause.specs.Rat.{HintGroup, NamedGroup, RatAnswer, Covered, groups_in, group_of, candidates, by_candidate, candidate_walk, rat_over, rat}
 use Rattle.lj_clause.proofs.LiteralSets.{holds-from_literals}
@@ -96,18 +96,18 @@ find-listed : (q : ℕ) (es : List ListedClause) → find nat_cmp q (map clause_
 find-listed q [] = refl
 find-listed q (e ∷ es) = elim (eq_by_cmp nat_cmp q e.0) as (λ b. cond b (Some (from_literals e.1)) (find nat_cmp q (map clause_of es)) ≡ option_map from_literals (cond b (Some e.1) (find nat_cmp q es))) [ true ↦ refl | false ↦ find-listed q es ]
 
-pub get-listed : (es : List ListedClause) (q : ℕ) → fin.get (clauses_of es) q ≡ option_map from_literals (find nat_cmp q es)
+pub get-listed : (es : List ListedClause) (q : ℕ) → fin.get (listed_clauses es) q ≡ option_map from_literals (find nat_cmp q es)
 get-listed es q = fin.get-from_entries nat_cmp_total (map clause_of es) q ∙ find-listed q es
 
 abbrev pub hints_listed : List ListedClause → List ℕ → List ListedHint
 hints_listed es numbers = map (λ n. (n, find nat_cmp n es)) numbers
 
-pub hints-listed : (es : List ListedClause) (numbers : List ℕ) → hints_in (clauses_of es) numbers ≡ map hint_of (hints_listed es numbers)
+pub hints-listed : (es : List ListedClause) (numbers : List ℕ) → hints_in (listed_clauses es) numbers ≡ map hint_of (hints_listed es numbers)
 hints-listed es [] = refl
 hints-listed es (n ∷ ns) = λ i. record { number = n; clause = get-listed es n i } ∷ hints-listed es ns i
 
 -- a walk over clauses that are written as lists
-pub walk-evaluated : (es : List ListedClause) (lemma : List ℤ) (numbers : List ℕ) → walk (clauses_of es) (negations (from_literals lemma)) numbers ≡ walk_listed (negations_listed [] (listed lemma)) (hints_listed es numbers)
+pub walk-evaluated : (es : List ListedClause) (lemma : List ℤ) (numbers : List ℕ) → walk (listed_clauses es) (negations (from_literals lemma)) numbers ≡ walk_listed (negations_listed [] (listed lemma)) (hints_listed es numbers)
 walk-evaluated es lemma numbers =
     (λ i. walk_over (with_negations no_literals (literals-listed lemma i)) (hints-listed es numbers i))
     ∙ ap (λ s. walk_over s (map hint_of (hints_listed es numbers))) (with_negations-listed [] (listed lemma))
@@ -122,7 +122,7 @@ named_group g = record { candidate = g.0; hints = map hint_of g.1 }
 abbrev groups_listed : List ListedClause → List HintGroup → List ListedGroup
 groups_listed es groups = map (λ g. (g.candidate, hints_listed es g.hints)) groups
 
-groups-listed : (es : List ListedClause) (groups : List HintGroup) → groups_in (clauses_of es) groups ≡ map named_group (groups_listed es groups)
+groups-listed : (es : List ListedClause) (groups : List HintGroup) → groups_in (listed_clauses es) groups ≡ map named_group (groups_listed es groups)
 groups-listed es [] = refl
 groups-listed es (g ∷ gs) = λ i. record { candidate = g.candidate; hints = hints-listed es g.hints i } ∷ groups-listed es gs i
 
@@ -182,11 +182,11 @@ filter-listed q (e ∷ es) =
 abbrev candidates_listed : List ListedClause → ℤ → List ListedClause
 candidates_listed es pivot = filter (λ e. among e.1 (neg_ℤ pivot)) (in_places nat_cmp es)
 
-candidates-listed : (es : List ListedClause) (pivot : ℤ) → candidates (clauses_of es) pivot ≡ map clause_of (candidates_listed es pivot)
+candidates-listed : (es : List ListedClause) (pivot : ℤ) → candidates (listed_clauses es) pivot ≡ map clause_of (candidates_listed es pivot)
 candidates-listed es pivot = ap (filter (λ (e : ℕ × LiteralSet). holds e.1 (neg_ℤ pivot))) (entries-from_entries (map clause_of es) ∙ places-listed es) ∙ filter-listed (neg_ℤ pivot) (in_places nat_cmp es)
 
 -- the test of the candidates in a map that is written as a list
-pub rat-evaluated : (es : List ListedClause) (lemma : List ℤ) (pivot : ℤ) (groups : List HintGroup) → rat (clauses_of es) (negations (from_literals lemma)) pivot groups ≡ rat_listed (negations_listed [] (listed lemma)) pivot (groups_listed es groups) (candidates_listed es pivot)
+pub rat-evaluated : (es : List ListedClause) (lemma : List ℤ) (pivot : ℤ) (groups : List HintGroup) → rat (listed_clauses es) (negations (from_literals lemma)) pivot groups ≡ rat_listed (negations_listed [] (listed lemma)) pivot (groups_listed es groups) (candidates_listed es pivot)
 rat-evaluated es lemma pivot groups =
     (λ i. rat_over (with_negations no_literals (literals-listed lemma i)) pivot (groups-listed es groups i) (candidates-listed es pivot i))
     ∙ ap (λ s. rat_over s pivot (map named_group (groups_listed es groups)) (map clause_of (candidates_listed es pivot))) (with_negations-listed [] (listed lemma))

@@ -9,3 +9,4 @@ pub mod Rat
 pub mod Listed
 pub mod Examples
 pub mod Laws
+pub mod Memory

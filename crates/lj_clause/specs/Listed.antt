@@ -12,5 +12,5 @@ abbrev pub clause_of : ListedClause → ℕ × LiteralSet
 clause_of e = (e.0, from_literals e.1)
 
 -- the clauses under their numbers
-abbrev pub clauses_of : List ListedClause → ClauseMap
-clauses_of es = fin.from_entries (map clause_of es)
+abbrev pub listed_clauses : List ListedClause → ClauseMap
+listed_clauses es = fin.from_entries (map clause_of es)

@@ -8,16 +8,18 @@ use crate::lit::Lit;
 use crate::memory::NoMemory;
 use std::alloc::Global;
 use std::marker::Model;
+use std::sync::Arc;
 
 /// A clause: the finite set of its literals. It may hold a literal and its negation.
 #[derive(Debug, Drop)]
 pub struct Clause {
-    /// Each literal once, in strict order.
-    lits: Vec<Lit>,
+    /// Each literal once, in strict order. Whoever holds a copy of the clause shares them.
+    lits: Arc<Vec<Lit>>,
 }
 
 impl Model for Clause {
     ghost use Rattle.std.specs.List.Sorted.{IsStrictlySortedBy};
+    ghost use Rattle.std.specs.Arc.{arc_value};
     ghost use Rattle.lj_clause.specs.Literal.{lit_cmp};
     ghost use Rattle.lj_clause.specs.LiteralSet.{LiteralSet, literal_set_code, from_literals};
 
@@ -25,9 +27,9 @@ impl Model for Clause {
 
     ghost coded = { literal_set_code };
 
-    ghost view = { λ c. from_literals c.lits.items };
+    ghost view = { λ c. from_literals (arc_value c.lits).items };
 
-    ghost invariant = { λ c. IsStrictlySortedBy lit_cmp c.lits.items };
+    ghost invariant = { λ c. IsStrictlySortedBy lit_cmp (arc_value c.lits).items };
 }
 
 impl Clause {
@@ -38,8 +40,9 @@ impl Clause {
     pub fn from_lits(alloc: Global, lits: &[Lit]) -> Result<Clause, NoMemory>
         ensures { IfOk result (λ clause. clause ≡ from_literals lits.now) }
     {
+        let lits = in_order(alloc, lits)?;
         Ok(Clause {
-            lits: in_order(alloc, lits)?,
+            lits: Arc::new(alloc, lits)?,
         })
     }
 
@@ -64,16 +67,15 @@ impl Clause {
         &self.lits
     }
 
-    /// A clause of its own with the same literals.
+    /// The same clause for another holder, which shares its literals. Takes constant time.
     ///
     /// # Errors
-    /// [`NoMemory`] where a growth was refused.
+    /// [`NoMemory`] where the share was refused.
     pub fn copy(&self) -> Result<Clause, NoMemory>
         ensures { IfOk result (λ clause. clause ≡ self.now) }
     {
-        let alloc = *self.lits.allocator();
         Ok(Clause {
-            lits: Vec::from_slice(alloc, &self.lits)?,
+            lits: Arc::try_clone(&self.lits)?,
         })
     }
 }

@@ -1,6 +1,6 @@
 //! Literals.
-ghost use Rattle.std.specs.Prelude.{◌≡◌, ◌<◌, ◌≤◌, SomeIff, neg_ℤ};
-ghost use Rattle.lj_clause.specs.Literal.{IsLiteral, variable_of};
+ghost use Rattle.std.specs.Prelude.{◌≡◌, ◌+◌, ◌*◌, ◌<◌, ◌≤◌, SomeIff, neg_ℤ};
+ghost use Rattle.lj_clause.specs.Literal.{IsLiteral, variable_of, place_of};
 
 use std::cmp::Ordering;
 use std::fmt;
@@ -27,13 +27,13 @@ impl Model for Lit {
 
     ghost coded = { coded_ℤ };
 
-    ghost use Rattle.lj_clause.specs.LitCode.{literal_of, IsCode, code_of, literal_back};
+    ghost use Rattle.lj_clause.specs.LitCode.{literal_of, IsCode, lit_code_of, literal_back};
 
     ghost view = { literal_of };
 
     ghost invariant = { IsCode };
 
-    ghost inverse = { code_of };
+    ghost inverse = { lit_code_of };
 
     ghost inverse_ok = { literal_back };
 }
@@ -72,6 +72,16 @@ impl Lit {
         ensures in_range { (0 < result) × (result ≤ MAX_VARIABLE) }
     {
         self.code / 2
+    }
+
+    /// The place of the literal in the order of literals, so that it can index an array: twice the variable, and one
+    /// more for its negation.
+    #[inline]
+    pub fn place(self) -> usize
+        ensures place { result ≡ place_of self }
+        ensures in_range { result ≤ 2 * MAX_VARIABLE + 1 }
+    {
+        self.code as usize
     }
 
     /// The literal of the same variable that is true where this one isn't.

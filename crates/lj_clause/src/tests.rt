@@ -1,6 +1,6 @@
 //! What no clause says: that a call succeeds, what is printed, and values worked out by hand.
 use crate::{Clause, Formula, Lemma, Lit, MAX_VARIABLE, NoMemory};
-use std::alloc::Global;
+use std::alloc::{AllocError, Global};
 use std::process::Abort;
 use std::test::Fail;
 
@@ -63,8 +63,9 @@ fn literals_print_as_numbers(rt: HostRuntime) -> Result<(), Fail> {
     let alloc = rt.alloc();
     let three = lit(&rt, 3);
     let not_three = lit(&rt, -3);
-    let text = format!(in alloc; "{three} {not_three} {not_three:?} {NoMemory}")?;
-    assert_eq!(rt; text.as_str(), "3 -3 -3 NoMemory");
+    let refused = NoMemory::from(AllocError);
+    let text = format!(in alloc; "{three} {not_three} {not_three:?} {refused} {refused:?}")?;
+    assert_eq!(rt; text.as_str(), "3 -3 -3 NoMemory NoMemory");
     Ok(())
 }
 

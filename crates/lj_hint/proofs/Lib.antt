@@ -4,3 +4,6 @@ pub mod Rests
 pub mod Walks
 pub mod Used
 pub mod Receipts
+pub mod StampLaws
+pub mod TrailLaws
+pub mod RatTests

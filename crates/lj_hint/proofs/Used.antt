@@ -1,13 +1,14 @@
 -- The hints that a closed walk read make a receipt.
-use Rattle.std.proofs.Common.{◌≡◌, ℕ, ap, refl, sym, ◌∙◌, length, take}
+use Rattle.std.proofs.Common.{◌≡◌, ℕ, ap, refl, sym, ◌∙◌, ◌≤◌, length, take, arith, min}
 use Rattle.std.specs.Prelude.{List, [], ◌∷◌, map, Some}
 use Rattle.std.specs.List.{take-map}
+use Rattle.std.proofs.lemmas.List.{length-take, length-map}
 use Rattle.lj_clause.specs.LiteralSet.{LiteralSet}
 use Rattle.lj_clause.specs.Walk.{Walk, Closed, Open, Stuck, Hint, walk_over}
 use Rattle.lj_clause.proofs.WalkLaws.{walk_over-used, used-numbers}
 use Rattle.lj_hint.specs.declared.pair.Pair.{Pair}
 use Rattle.lj_hint.specs.declared.walk.Ending.TheVariants.{ClosedAfter}
-use Rattle.lj_hint.specs.Hints.{named, numbers}
+use Rattle.lj_hint.specs.Hints.{named, numbers, hint_numbers}
 use Rattle.lj_hint.specs.Ending.{ending_of}
 
 closed_walk : (w : Walk) (read : ℕ) → ClosedAfter read ≡ ending_of w → (used : List ℕ) × (w ≡ Closed used) × (length used ≡ read)
@@ -33,3 +34,13 @@ pub closed_by_read : (a : LiteralSet) (ps : List Pair) (read : ℕ) → ClosedAf
 closed_by_read a ps read e =
     let w = closed_walk (walk_over a (named ps)) read e in
     ap (λ k. walk_over a (named (take k ps))) (sym w.2) ∙ first_used a ps w.0 w.1 ∙ ap (λ k. Closed (numbers (take k ps))) w.2
+
+-- a closed walk read the first hints, and there are so many
+pub closed_reads : (a : LiteralSet) (hs : List Hint) (read : ℕ) → ClosedAfter read ≡ ending_of (walk_over a hs) → (walk_over a hs ≡ Closed (hint_numbers (take read hs))) × (read ≤ length hs)
+closed_reads a hs read e =
+    let w = closed_walk (walk_over a hs) read e in
+    let numbers = used-numbers a hs w.0 w.1 in
+    let count : min (length w.0) (length hs) ≡ length w.0 = sym (length-take (length w.0) hs) ∙ sym (length-map (take (length w.0) hs) (λ (h : Hint). h.number)) ∙ ap length numbers in (
+      w.1 ∙ ap Closed (sym numbers ∙ ap (λ (k : ℕ). hint_numbers (take k hs)) w.2),
+      (let all = w.2 in omega arith),
+    )

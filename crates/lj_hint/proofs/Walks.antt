@@ -1,13 +1,12 @@
 -- A walk, told from the hints that it has read and what is left.
 use Rattle.std.proofs.Common.{◌≡◌, ℕ, suc, ◌+◌, ◌<◌, ◌≤◌, ap, refl, sym, ◌∙◌, length, take, drop, get_or, arith, add-one, length-append, drop-cons}
-use Rattle.std.specs.Prelude.{ℤ, true, false, cond, List, [], ◌∷◌, ◌++◌}
+use Rattle.std.specs.Prelude.{ℤ, true, false, cond, List, [], ◌∷◌, ◌++◌, map, Option, Some, None}
 use Rattle.std.proofs.lemmas.List.{take_more, length-take-le, length-map, drop_all, map-append}
 use Rattle.lj_clause.specs.LiteralSet.{LiteralSet, with_literal}
 use Rattle.lj_clause.specs.Walk.{Walk, Closed, Open, Stuck, Hint, rest, is_contradictory, after_hint, by_rest, by_hint, walk_over}
-use Rattle.lj_hint.specs.declared.pair.Pair.{Pair}
 use Rattle.lj_hint.specs.declared.walk.Rest.TheVariants.{Nothing, One, More}
 use Rattle.lj_hint.specs.declared.walk.Ending.TheVariants.{ClosedAfter, StuckAt}
-use Rattle.lj_hint.specs.Hints.{named, numbers}
+use Rattle.lj_hint.specs.Hints.{no_hint, number_at, clause_at, hint_numbers}
 use Rattle.lj_hint.specs.Rest.{seen}
 use Rattle.lj_hint.specs.Ending.{ending_of}
 
@@ -33,56 +32,61 @@ after_hints-Stuck [] place = ap Stuck (omega arith)
 after_hints-Stuck (n ∷ ns) place = let e : suc (length ns + place) ≡ suc (length ns) + place = omega arith in ap (after_hint n) (after_hints-Stuck ns place) ∙ ap Stuck e
 
 -- the walk of a over the hints from this index on, after those before it
-abbrev pub walk_from : LiteralSet → List Pair → ℕ → Walk
-walk_from a ps i = after_hints (numbers (take i ps)) (walk_over a (named (drop i ps)))
+abbrev pub walk_from : LiteralSet → List Hint → ℕ → Walk
+walk_from a hs i = after_hints (hint_numbers (take i hs)) (walk_over a (drop i hs))
 
-closed_at_once : (a : LiteralSet) (hs : List Hint) → is_contradictory a ≡ true → walk_over a hs ≡ Closed []
+pub closed_at_once : (a : LiteralSet) (hs : List Hint) → is_contradictory a ≡ true → walk_over a hs ≡ Closed []
 unfolding walk_over
 closed_at_once a [] e = ap (λ b. cond b (Closed []) (Open a)) e
 closed_at_once a (h ∷ hs) e = ap (λ b. cond b (Closed []) (by_hint h.number h.clause a (λ l. walk_over (with_literal a l) hs))) e
 
-open_at_end : (a : LiteralSet) → is_contradictory a ≡ false → walk_over a [] ≡ Open a
+pub open_at_end : (a : LiteralSet) → is_contradictory a ≡ false → walk_over a [] ≡ Open a
 unfolding walk_over
 open_at_end a e = ap (λ b. cond b (Closed []) (Open a)) e
 
-at_hint : (a : LiteralSet) (p : Pair) (ps : List Pair) → is_contradictory a ≡ false → walk_over a (named (p ∷ ps)) ≡ by_rest p.joint (rest p.clause a) (λ l. walk_over (with_literal a l) (named ps))
+at_hint : (a : LiteralSet) (h : Hint) (hs : List Hint) → is_contradictory a ≡ false → walk_over a (h ∷ hs) ≡ by_hint h.number h.clause a (λ l. walk_over (with_literal a l) hs)
 unfolding walk_over
-at_hint a p ps e = ap (λ b. cond b (Closed []) (by_rest p.joint (rest p.clause a) (λ l. walk_over (with_literal a l) (named ps)))) e
+at_hint a h hs e = ap (λ b. cond b (Closed []) (by_hint h.number h.clause a (λ l. walk_over (with_literal a l) hs))) e
 
-count_read : (ps : List Pair) (i : ℕ) → i ≤ length ps → length (numbers (take i ps)) ≡ i
-count_read ps i le = length-map (take i ps) (λ (p : Pair). p.joint) ∙ length-take-le i ps le
+count_read : (hs : List Hint) (i : ℕ) → i ≤ length hs → length (hint_numbers (take i hs)) ≡ i
+count_read hs i le = length-map (take i hs) (λ (h : Hint). h.number) ∙ length-take-le i hs le
 
 -- a contradictory set closes the walk before the next hint
-pub ends_contradictory : (a : LiteralSet) (ps : List Pair) (i : ℕ) → is_contradictory a ≡ true → i ≤ length ps → ClosedAfter i ≡ ending_of (walk_from a ps i)
-ends_contradictory a ps i e le =
+pub ends_contradictory : (a : LiteralSet) (hs : List Hint) (i : ℕ) → is_contradictory a ≡ true → i ≤ length hs → ClosedAfter i ≡ ending_of (walk_from a hs i)
+ends_contradictory a hs i e le =
     sym
-    (ap (λ w. ending_of (after_hints (numbers (take i ps)) w)) (closed_at_once a (named (drop i ps)) e)
-    ∙ ap ending_of (after_hints-Closed (numbers (take i ps)) [])
-    ∙ ap ClosedAfter (length-append (numbers (take i ps)) [] ∙ omega (arith, count_read ps i le)))
+    (ap (λ w. ending_of (after_hints (hint_numbers (take i hs)) w)) (closed_at_once a (drop i hs) e)
+    ∙ ap ending_of (after_hints-Closed (hint_numbers (take i hs)) [])
+    ∙ ap ClosedAfter (length-append (hint_numbers (take i hs)) [] ∙ omega (arith, count_read hs i le)))
 
 -- after the last hint a walk whose set isn't contradictory is open
-pub ends_open : (a : LiteralSet) (ps : List Pair) (i : ℕ) → is_contradictory a ≡ false → length ps ≤ i → walk_from a ps i ≡ Open a
-ends_open a ps i e le =
-    ap (λ qs. after_hints (numbers (take i ps)) (walk_over a (named qs))) (drop_all i ps le)
-    ∙ ap (after_hints (numbers (take i ps))) (open_at_end a e)
-    ∙ after_hints-Open (numbers (take i ps)) a
+pub ends_open : (a : LiteralSet) (hs : List Hint) (i : ℕ) → is_contradictory a ≡ false → length hs ≤ i → walk_from a hs i ≡ Open a
+ends_open a hs i e le =
+    ap (λ qs. after_hints (hint_numbers (take i hs)) (walk_over a qs)) (drop_all i hs le)
+    ∙ ap (after_hints (hint_numbers (take i hs))) (open_at_end a e)
+    ∙ after_hints-Open (hint_numbers (take i hs)) a
 
 -- A step of a walk at a hint that it reads.
-pub record Reads (a : LiteralSet) (ps : List Pair) (i : ℕ) (p : Pair) : Type 0 where
-  pub is : p ≡ get_or ps i p
-  pub within : i < length ps
+pub record Reads (a : LiteralSet) (hs : List Hint) (i : ℕ) (clause : Option LiteralSet) : Type 0 where
+  pub is : clause ≡ clause_at hs i
+  pub within : i < length hs
   pub open_yet : is_contradictory a ≡ false
 
-at_index : (a : LiteralSet) (ps : List Pair) (i : ℕ) (p : Pair) → Reads a ps i p → walk_from a ps i ≡ after_hints (numbers (take i ps)) (by_rest p.joint (rest p.clause a) (λ l. walk_over (with_literal a l) (named (drop (i + 1) ps))))
-at_index a ps i p r =
-    let cut : drop i ps ≡ p ∷ drop (i + 1) ps = rw add-one (drop-cons ps i p r.within ∙ ap (λ q. q ∷ drop (suc i) ps) (sym r.is)) in
-    ap (λ qs. after_hints (numbers (take i ps)) (walk_over a (named qs))) cut
-    ∙ ap (after_hints (numbers (take i ps))) (at_hint a p (drop (i + 1) ps) r.open_yet)
+abbrev onward : LiteralSet → List Hint → ℕ → ℤ → Walk
+onward a hs i l = walk_over (with_literal a l) (drop (i + 1) hs)
 
-numbers_more : (ps : List Pair) (i : ℕ) (p : Pair) → p ≡ get_or ps i p → i < length ps → numbers (take i ps) ++ p.joint ∷ [] ≡ numbers (take (i + 1) ps)
-numbers_more ps i p is lt =
-    sym (map-append (λ (q : Pair). q.joint) (take i ps) (p ∷ []))
-    ∙ ap numbers (ap (λ q. take i ps ++ q ∷ []) is ∙ sym (take_more ps i p lt))
+at_index : (a : LiteralSet) (hs : List Hint) (i : ℕ) (clause : Option LiteralSet) → Reads a hs i clause → walk_from a hs i ≡ after_hints (hint_numbers (take i hs)) (by_hint (number_at hs i) clause a (onward a hs i))
+at_index a hs i clause r =
+    let cut : drop i hs ≡ get_or hs i no_hint ∷ drop (i + 1) hs = rw add-one (drop-cons hs i no_hint r.within) in
+    ap (λ qs. after_hints (hint_numbers (take i hs)) (walk_over a qs)) cut
+    ∙ ap (after_hints (hint_numbers (take i hs))) (at_hint a (get_or hs i no_hint) (drop (i + 1) hs) r.open_yet)
+    ∙ ap (λ c. after_hints (hint_numbers (take i hs)) (by_hint (number_at hs i) c a (onward a hs i))) (sym r.is)
+
+-- one number more
+pub numbers_more : (hs : List Hint) (i : ℕ) → i < length hs → hint_numbers (take i hs) ++ number_at hs i ∷ [] ≡ hint_numbers (take (i + 1) hs)
+numbers_more hs i lt =
+    sym (map-append (λ (h : Hint). h.number) (take i hs) (get_or hs i no_hint ∷ []))
+    ∙ ap hint_numbers (sym (take_more hs i no_hint lt))
 
 left_nothing : (ls : List ℤ) → Nothing ≡ seen ls → ls ≡ []
 left_nothing [] e = refl
@@ -100,23 +104,31 @@ left_more (l ∷ []) n onward e = cc
 left_more (l ∷ m ∷ ls) n onward e = refl
 
 -- a false clause closes the walk at its hint
-pub ends_closed : (a : LiteralSet) (ps : List Pair) (i : ℕ) (p : Pair) → Reads a ps i p → Nothing ≡ seen (rest p.clause a) → ClosedAfter (i + 1) ≡ ending_of (walk_from a ps i)
-ends_closed a ps i p r e =
+pub ends_closed : (a : LiteralSet) (hs : List Hint) (i : ℕ) (d : LiteralSet) → Reads a hs i (Some d) → Nothing ≡ seen (rest d a) → ClosedAfter (i + 1) ≡ ending_of (walk_from a hs i)
+ends_closed a hs i d r e =
     sym
-    (ap ending_of (at_index a ps i p r ∙ ap (λ ls. after_hints (numbers (take i ps)) (by_rest p.joint ls (λ l. walk_over (with_literal a l) (named (drop (i + 1) ps))))) (left_nothing (rest p.clause a) e) ∙ after_hints-Closed (numbers (take i ps)) (p.joint ∷ []))
-    ∙ ap ClosedAfter (length-append (numbers (take i ps)) (p.joint ∷ []) ∙ (let n : length (numbers (take i ps)) ≡ i = count_read ps i (omega (arith, r.within)) in omega arith)))
+    (ap ending_of (at_index a hs i (Some d) r ∙ ap (λ ls. after_hints (hint_numbers (take i hs)) (by_rest (number_at hs i) ls (onward a hs i))) (left_nothing (rest d a) e) ∙ after_hints-Closed (hint_numbers (take i hs)) (number_at hs i ∷ []))
+    ∙ ap ClosedAfter (length-append (hint_numbers (take i hs)) (number_at hs i ∷ []) ∙ (let n : length (hint_numbers (take i hs)) ≡ i = count_read hs i (omega (arith, r.within)) in omega arith)))
+
+stuck_here : (a : LiteralSet) (hs : List Hint) (i : ℕ) → i < length hs → walk_from a hs i ≡ after_hints (hint_numbers (take i hs)) (Stuck 1) → StuckAt (i + 1) ≡ ending_of (walk_from a hs i)
+stuck_here a hs i lt e =
+    sym
+    (ap ending_of (e ∙ after_hints-Stuck (hint_numbers (take i hs)) 1)
+    ∙ ap StuckAt (let n : length (hint_numbers (take i hs)) ≡ i = count_read hs i (omega (arith, lt)) in omega arith))
 
 -- a clause with two literals left stops it there
-pub ends_stuck : (a : LiteralSet) (ps : List Pair) (i : ℕ) (p : Pair) → Reads a ps i p → More ≡ seen (rest p.clause a) → StuckAt (i + 1) ≡ ending_of (walk_from a ps i)
-ends_stuck a ps i p r e =
-    sym
-    (ap ending_of (at_index a ps i p r ∙ ap (after_hints (numbers (take i ps))) (left_more (rest p.clause a) p.joint (λ l. walk_over (with_literal a l) (named (drop (i + 1) ps))) e) ∙ after_hints-Stuck (numbers (take i ps)) 1)
-    ∙ ap StuckAt (let n : length (numbers (take i ps)) ≡ i = count_read ps i (omega (arith, r.within)) in omega arith))
+pub ends_stuck : (a : LiteralSet) (hs : List Hint) (i : ℕ) (d : LiteralSet) → Reads a hs i (Some d) → More ≡ seen (rest d a) → StuckAt (i + 1) ≡ ending_of (walk_from a hs i)
+ends_stuck a hs i d r e =
+    stuck_here a hs i r.within (at_index a hs i (Some d) r ∙ ap (after_hints (hint_numbers (take i hs))) (left_more (rest d a) (number_at hs i) (onward a hs i) e))
+
+-- and so does a hint that names no clause
+pub ends_nowhere : (a : LiteralSet) (hs : List Hint) (i : ℕ) → Reads a hs i None → StuckAt (i + 1) ≡ ending_of (walk_from a hs i)
+ends_nowhere a hs i r = stuck_here a hs i r.within (at_index a hs i None r)
 
 -- a unit clause makes its literal true, and the walk goes on
-pub goes_on : (a : LiteralSet) (ps : List Pair) (i : ℕ) (p : Pair) (l : ℤ) → Reads a ps i p → One l ≡ seen (rest p.clause a) → walk_from a ps i ≡ walk_from (with_literal a l) ps (i + 1)
-goes_on a ps i p l r e =
-    at_index a ps i p r
-    ∙ ap (λ ls. after_hints (numbers (take i ps)) (by_rest p.joint ls (λ l. walk_over (with_literal a l) (named (drop (i + 1) ps))))) (left_one (rest p.clause a) l e)
-    ∙ sym (after_hints-append (numbers (take i ps)) p.joint (walk_over (with_literal a l) (named (drop (i + 1) ps))))
-    ∙ ap (λ ns. after_hints ns (walk_over (with_literal a l) (named (drop (i + 1) ps)))) (numbers_more ps i p r.is r.within)
+pub goes_on : (a : LiteralSet) (hs : List Hint) (i : ℕ) (d : LiteralSet) (l : ℤ) → Reads a hs i (Some d) → One l ≡ seen (rest d a) → walk_from a hs i ≡ walk_from (with_literal a l) hs (i + 1)
+goes_on a hs i d l r e =
+    at_index a hs i (Some d) r
+    ∙ ap (λ ls. after_hints (hint_numbers (take i hs)) (by_rest (number_at hs i) ls (onward a hs i))) (left_one (rest d a) l e)
+    ∙ sym (after_hints-append (hint_numbers (take i hs)) (number_at hs i) (walk_over (with_literal a l) (drop (i + 1) hs)))
+    ∙ ap (λ ns. after_hints ns (walk_over (with_literal a l) (drop (i + 1) hs))) (numbers_more hs i r.within)

@@ -1,5 +1,5 @@
 -- The hints of a case, as a walk reads them.
-use Rattle.std.specs.Prelude.{ℕ, List, map, Some}
+use Rattle.std.specs.Prelude.{ℕ, List, map, Option, Some, None, slice_index_or}
 use Rattle.std.specs.Coded.{Coded, code_by, coded×, coded_ℕ}
 use Rattle.std.specs.Prelude.{refl}
 use Rattle.lj_clause.specs.LiteralSet.{LiteralSet, literal_set_code}
@@ -17,3 +17,19 @@ named pairs = map (λ p. record { number = p.joint; clause = Some p.clause }) pa
 -- the numbers of these pairs
 abbrev pub numbers : List Pair → List ℕ
 numbers pairs = map (λ p. p.joint) pairs
+
+-- a hint that names nothing
+abbrev pub no_hint : Hint
+no_hint = record { number = 0; clause = None }
+
+-- the number of the hint at an index, 0 where there is none
+abbrev pub number_at : List Hint → ℕ → ℕ
+number_at hints index = (slice_index_or hints index no_hint).number
+
+-- the clause that the hint at an index names, if it names one
+abbrev pub clause_at : List Hint → ℕ → Option LiteralSet
+clause_at hints index = (slice_index_or hints index no_hint).clause
+
+-- the numbers of hints
+abbrev pub hint_numbers : List Hint → List ℕ
+hint_numbers hints = map (λ h. h.number) hints

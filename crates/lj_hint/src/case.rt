@@ -1,10 +1,12 @@
 //! Cases: what a test needs of an addition.
+use crate::hint_list::PairHints;
 use crate::marks::Marks;
 use crate::pair::Pair;
 use crate::receipt::Receipt;
 use crate::tested::Tested;
 use crate::walk::{Ending, walk_negation};
-use lj_clause::{Lemma, NoMemory};
+use lj_clause::Lemma;
+use std::alloc::Global;
 use std::marker::Model;
 
 /// A seat's addition, with the clauses that its hints name. It is tested without the book.
@@ -31,7 +33,7 @@ impl Case {
     ghost use Rattle.std.specs.Prelude.{◌≡◌, ◌≤◌, length};
     ghost use Rattle.lj_hint.specs.Case.{case_of, groups_of, walk_of};
     ghost use Rattle.lj_hint.specs.Receipt.{receipt_of, IsReceipt};
-    ghost use Rattle.lj_hint.specs.Tested.{answer_of, IfAnswered, IfNoMemory};
+    ghost use Rattle.lj_hint.specs.Tested.{tested_of, IfAnswered, IfNoMemory};
 
     /// The case of a seat's addition under its own number: the first list of hints, and the groups, each a
     /// candidate and its hints. Takes no memory.
@@ -88,18 +90,24 @@ impl Case {
         &self.groups
     }
 
+    /// Where the memory of its lists comes from.
+    pub(crate) fn allocator(&self) -> Global {
+        *self.hints.allocator()
+    }
+
     /// The walk of the lemma's negation over the first list of hints; the groups aren't looked at. The room may
     /// have served any walk before, and may serve any after, whatever the answer. Takes O(n log n) time for the n
     /// literals that it reads.
     pub fn test(self, marks: &mut Marks) -> Tested
-        ensures walk { IfAnswered result (λ answer. answer ≡ answer_of self (walk_of self)) }
+        ensures walk { IfAnswered result (λ answer. answer ≡ tested_of self (walk_of self)) }
         ensures no_memory { IfNoMemory result (λ case. case ≡ self) }
     {
-        match walk_negation(&mut marks.lits, self.lemma.clause(), &self.hints) {
+        let hints = PairHints { pairs: &self.hints };
+        match walk_negation(&mut marks.lits, self.lemma.clause(), &hints) {
             Ok(Ending::ClosedAfter(read)) => Tested::Closed(self.into_receipt(read)),
             Ok(Ending::StaysOpen) => Tested::Open(self),
             Ok(Ending::StuckAt(place)) => Tested::Stuck(place),
-            Err(NoMemory) => Tested::NoMemory(self),
+            Err(e) => Tested::NoMemory(self, e),
         }
     }
 

@@ -2,19 +2,34 @@
 #![tactic(auto)]
 
 mod case;
+mod hint_list;
+mod joint_group;
 mod laws;
+mod live;
+mod live_line;
 mod marks;
+mod open_case;
+mod page;
+mod pages;
 mod pair;
+mod rat;
+mod rat_refusal;
 mod receipt;
 mod tested;
 #[cfg(test)]
 mod tests;
+mod trail;
 mod true_lits;
 mod walk;
 
 pub use case::Case;
+pub use joint_group::JointGroup;
 pub use laws::receipt_implies;
+pub use live::Live;
+pub use live_line::{LineRefusal, Passed, test_line};
 pub use marks::Marks;
+pub use open_case::rat_test;
 pub use pair::Pair;
+pub use rat_refusal::RatRefusal;
 pub use receipt::Receipt;
 pub use tested::Tested;

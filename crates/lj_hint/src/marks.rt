@@ -1,4 +1,6 @@
 //! The working room of walks.
+ghost use Rattle.std.specs.Prelude.{◌<◌};
+
 use crate::true_lits::TrueLits;
 use std::alloc::Global;
 use std::marker::Model;
@@ -18,8 +20,15 @@ impl Model for Marks {
 impl Marks {
     /// Room without a literal. Takes no memory.
     pub fn new(alloc: Global) -> Marks {
+        Marks::starting_at(alloc, 1)
+    }
+
+    /// The same, where the first walk takes the stamp after this one, for tests of the greatest.
+    pub(crate) fn starting_at(alloc: Global, stamp: u32) -> Marks
+        requires { 0 < stamp }
+    {
         Marks {
-            lits: TrueLits::new(alloc),
+            lits: TrueLits::starting_at(alloc, stamp),
         }
     }
 }

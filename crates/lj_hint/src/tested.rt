@@ -1,6 +1,7 @@
 //! The answers of a test.
 use crate::case::Case;
 use crate::receipt::Receipt;
+use lj_clause::NoMemory;
 
 /// How the test of a case ended.
 #[derive(Debug, Drop)]
@@ -12,5 +13,5 @@ pub enum Tested {
     /// The walk is stuck at the hint of this place, counted from 1: its clause has two or more literals left.
     Stuck(u64),
     /// A growth was refused: the case as it was.
-    NoMemory(Case),
+    NoMemory(Case, NoMemory),
 }

@@ -17,7 +17,7 @@ fn twice<T, F: Fn() -> Result<T, NoMemory>>(make: F) -> Result<T, NoMemory>
     requires { F.IsAlwaysCallable make }
 {
     match make() {
-        Err(NoMemory) => make(),
+        Err(_) => make(),
         made => made,
     }
 }
@@ -74,7 +74,7 @@ fn assert_case(rt: &impl Abort, case: &Case, lemma: &[i32], hints: &[u64]) {
 /// The answer for a case of these, asked again where a growth was refused.
 fn answer(rt: &impl Abort, case: Case, lemma: &[i32], hints: &[u64], marks: &mut Marks) -> Tested {
     match case.test(marks) {
-        Tested::NoMemory(case) => {
+        Tested::NoMemory(case, _) => {
             assert_case(rt, &case, lemma, hints);
             case.test(marks)
         }
@@ -116,6 +116,29 @@ fn the_walk_closes(rt: HostRuntime) -> Result<(), Fail> {
     let tested = answer(&rt, case, &[1, -1], &[1], &mut marks);
     assert_closed(&rt, tested, &[]);
     Ok(())
+}
+
+/// The first walk takes the greatest stamp, and the second clears the pages.
+#[test]
+fn walks_go_on_after_the_greatest_stamp(rt: HostRuntime) -> Result<(), Fail> {
+    let alloc = rt.alloc();
+    let mut marks = Marks::starting_at(alloc, u32::MAX - 1);
+    for _ in 0..3 {
+        let case = twice(|| numbered(alloc, &[2], &[1, 2, 3]))?;
+        let tested = answer(&rt, case, &[2], &[1, 2, 3], &mut marks);
+        assert_closed(&rt, tested, &[1, 2]);
+        let case = twice(|| case_of_great_variable(alloc))?;
+        let tested = answer(&rt, case, &[134217727], &[6], &mut marks);
+        assert_closed(&rt, tested, &[6]);
+    }
+    Ok(())
+}
+
+/// The lemma 134217727 over the clause of that literal: only the pages of its variable are made.
+fn case_of_great_variable(alloc: Global) -> Result<Case, NoMemory> {
+    let mut hints = Vec::new(alloc);
+    hints.push(pair(alloc, 6, &[134217727])?)?;
+    case(alloc, &[134217727], hints)
 }
 
 #[test]

@@ -1,92 +1,139 @@
 //! The literals that a walk holds true.
-ghost use Rattle.std.specs.Prelude.{◌≡◌, neg_ℤ, OnOk, OnErr};
-ghost use Rattle.lj_clause.specs.LiteralSet.{no_literals, holds, with_literal, with_negations};
+ghost use Rattle.std.specs.Prelude.{◌≡◌, ◌<◌, [], filter, not, neg_ℤ, length, take, true, false, OnOk, OnErr, IsOk};
+ghost use Rattle.std.specs.Ordering.{eq_by_cmp};
+ghost use Rattle.lj_clause.specs.Literal.{lit_cmp};
+ghost use Rattle.lj_clause.specs.LiteralSet.{from_literals, holds, with_negations};
 ghost use Rattle.lj_clause.specs.Walk.{is_contradictory};
+ghost use Rattle.lj_hint.specs.Trail.{with_mark, Extends};
 
+use crate::trail::Trail;
 use lj_clause::{Lit, NoMemory};
 use std::alloc::Global;
-use std::collections::BTreeSet;
 use std::marker::Model;
 
-/// A set of literals, which knows whether it holds a literal and its negation.
+/// A set of literals, which knows whether it holds a literal and its negation, and can be taken back to what it was.
 #[derive(Drop)]
 pub struct TrueLits {
-    lits: BTreeSet<Lit>,
+    trail: Trail,
     contradictory: bool,
 }
 
 impl Model for TrueLits {
-    ghost use Rattle.std.specs.Prelude.{◌≡◌};
-    ghost use Rattle.lj_clause.specs.LiteralSet.{LiteralSet, literal_set_code, from_literals};
+    ghost use Rattle.std.specs.Prelude.{◌≡◌, List, ℤ};
+    ghost use Rattle.lj_clause.specs.LiteralSet.{from_literals};
     ghost use Rattle.lj_clause.specs.Walk.{is_contradictory};
 
-    ghost Value = { LiteralSet };
+    ghost Value = { List ℤ };
 
-    ghost coded = { literal_set_code };
+    ghost view = { λ s. s.trail };
 
-    ghost view = { λ s. from_literals s.lits.keys };
-
-    ghost invariant = { λ s. s.contradictory ≡ is_contradictory (from_literals s.lits.keys) };
+    ghost invariant = { λ s. s.contradictory ≡ is_contradictory (from_literals s.trail) };
 }
 
 impl TrueLits {
-    /// The set without a literal.
-    pub fn new(alloc: Global) -> TrueLits
-        ensures { result ≡ no_literals }
+    /// The set without a literal, where the first that come in take this stamp. Takes no memory.
+    pub fn starting_at(alloc: Global, stamp: u32) -> TrueLits
+        requires { 0 < stamp }
+        ensures { result ≡ [] }
     {
         TrueLits {
-            lits: BTreeSet::new(alloc),
+            trail: Trail::starting_at(alloc, stamp),
             contradictory: false,
         }
     }
 
     /// Takes every literal out.
     pub fn clear(&mut self)
-        ensures { self.new ≡ no_literals }
+        ensures { self.new ≡ [] }
     {
-        self.lits.clear();
+        self.trail.clear();
         self.contradictory = false;
     }
 
-    /// Whether the literal is in the set. Takes O(log n) time.
-    pub fn holds(&self, lit: Lit) -> bool
-        ensures { result ≡ holds self.now lit }
+    /// The number of literals.
+    pub fn len(&self) -> usize
+        ensures { result ≡ length self.now }
     {
-        self.lits.contains(&lit)
+        self.trail.len()
+    }
+
+    /// Whether the literal is in the set. Takes constant time.
+    #[inline]
+    pub fn holds(&self, lit: Lit) -> bool
+        ensures { result ≡ holds (from_literals self.now) lit }
+    {
+        self.trail.holds(lit)
     }
 
     /// Whether a literal and its negation are in the set.
+    #[inline]
     pub fn is_contradictory(&self) -> bool
-        ensures { result ≡ is_contradictory self.now }
+        ensures { result ≡ is_contradictory (from_literals self.now) }
     {
         self.contradictory
     }
 
-    /// Puts the literal into the set. Takes O(log n) time, and no memory where the literal is there already.
+    /// Puts the literal into the set. Takes constant time, but for the first of its page, and no memory where the
+    /// literal is there already.
     ///
     /// # Errors
     /// [`NoMemory`] where a growth was refused.
+    #[inline]
     pub fn insert(&mut self, lit: Lit) -> Result<(), NoMemory>
-        ensures ok { OnOk result (self.new ≡ with_literal self.old lit) }
+        ensures ok { OnOk result (self.new ≡ with_mark self.old lit) }
         ensures err { OnErr result (self.new ≡ self.old) }
+        ensures there { holds (from_literals self.old) lit ≡ true → IsOk result }
     {
+        if self.trail.holds(lit) {
+            return Ok(());
+        }
         prove!(lit.variable() > 0);
-        let met = self.lits.contains(&lit.negated());
-        self.lits.insert(lit)?;
+        let met = self.trail.holds(lit.negated());
+        self.trail.push(lit)?;
         self.contradictory |= met;
         Ok(())
     }
 
-    /// Puts the negation of each of these literals into the set. Takes O(n log n) time.
+    /// Puts the negation of each of these literals into the set.
     ///
     /// # Errors
     /// [`NoMemory`] where a growth was refused.
     pub fn insert_negations(&mut self, lits: &[Lit]) -> Result<(), NoMemory>
-        ensures { OnOk result (self.new ≡ with_negations self.old lits.now) }
+        ensures ok { OnOk result (from_literals self.new ≡ with_negations (from_literals self.old) lits.now) }
+        ensures extends { Extends self.old self.new }
     {
         for lit in lits {
             self.insert(lit.negated())?;
         }
         Ok(())
+    }
+
+    /// Puts the negation of each of these literals but one into the set.
+    ///
+    /// # Errors
+    /// [`NoMemory`] where a growth was refused.
+    pub fn insert_negations_but(&mut self, lits: &[Lit], but: Lit) -> Result<(), NoMemory>
+        ensures ok { OnOk result (from_literals self.new ≡ with_negations (from_literals self.old)
+            (filter (λ m. not (eq_by_cmp lit_cmp m but)) lits.now)) }
+        ensures extends { Extends self.old self.new }
+    {
+        for other in lits {
+            if *other != but {
+                self.insert(other.negated())?;
+            }
+        }
+        Ok(())
+    }
+
+    /// Takes the set back to what it was with so many literals, where it held no literal and its negation. Takes
+    /// constant time for each literal that came in since.
+    pub fn take_back(&mut self, len: usize)
+        requires { is_contradictory (from_literals (take len self.old)) ≡ false }
+        ensures { self.new ≡ take len self.old }
+    {
+        while self.trail.len() > len {
+            self.trail.pop();
+        }
+        self.contradictory = false;
     }
 }

@@ -1,12 +1,12 @@
 //! The walk over hints: hinted unit propagation.
-ghost use Rattle.std.specs.Prelude.{◌≡◌, IfOk};
-ghost use Rattle.lj_clause.specs.LiteralSet.{negations};
-ghost use Rattle.lj_clause.specs.Walk.{rest, walk_over, Open};
-ghost use Rattle.lj_hint.specs.Hints.{named};
+ghost use Rattle.std.specs.Prelude.{◌≡◌, IfOk, false};
+ghost use Rattle.lj_clause.specs.LiteralSet.{from_literals, negations};
+ghost use Rattle.lj_clause.specs.Walk.{rest, walk_over, is_contradictory, Open};
+ghost use Rattle.lj_hint.specs.Trail.{Extends};
 ghost use Rattle.lj_hint.specs.Rest.{seen};
 ghost use Rattle.lj_hint.specs.Ending.{ending_of};
 
-use crate::pair::Pair;
+use crate::hint_list::HintList;
 use crate::true_lits::TrueLits;
 use lj_clause::{Clause, Lit, NoMemory};
 
@@ -36,12 +36,15 @@ pub enum Ending {
 ///
 /// # Errors
 /// [`NoMemory`] where a growth was refused.
-pub fn walk_negation(
+pub fn walk_negation<H: HintList>(
     held: &mut TrueLits,
     clause: &Clause,
-    hints: &[Pair],
+    hints: &H,
 ) -> Result<Ending, NoMemory>
-    ensures { IfOk result (λ ending. ending ≡ ending_of (walk_over (negations clause.now) (named hints.now))) }
+    ensures ending { IfOk result (λ ending. ending ≡ ending_of (walk_over (negations clause.now) (H.hints hints.now))) }
+    ensures held { result ≡ Ok Ending.StaysOpen
+        → walk_over (negations clause.now) (H.hints hints.now) ≡ Open (from_literals held.new) }
+    ensures consistent { result ≡ Ok Ending.StaysOpen → is_contradictory (from_literals held.new) ≡ false }
 {
     held.clear();
     held.insert_negations(clause.lits())?;
@@ -52,29 +55,37 @@ pub fn walk_negation(
 ///
 /// # Errors
 /// [`NoMemory`] where a growth was refused.
-pub fn walk(held: &mut TrueLits, hints: &[Pair]) -> Result<Ending, NoMemory>
-    ensures ending { IfOk result (λ ending. ending ≡ ending_of (walk_over held.old (named hints.now))) }
-    ensures held { result ≡ Ok Ending.StaysOpen → walk_over held.old (named hints.now) ≡ Open held.new }
+#[inline(never)]
+pub fn walk<H: HintList>(held: &mut TrueLits, hints: &H) -> Result<Ending, NoMemory>
+    ensures ending { IfOk result (λ ending. ending ≡ ending_of (walk_over (from_literals held.old) (H.hints hints.now))) }
+    ensures held { result ≡ Ok Ending.StaysOpen
+        → walk_over (from_literals held.old) (H.hints hints.now) ≡ Open (from_literals held.new) }
+    ensures consistent { result ≡ Ok Ending.StaysOpen → is_contradictory (from_literals held.new) ≡ false }
+    ensures extends { Extends held.old held.new }
 {
-    for (index, hint) in hints.iter().enumerate() {
+    let count = hints.count();
+    for index in 0..count {
         if held.is_contradictory() {
             return Ok(Ending::ClosedAfter(index));
         }
-        match rest_of(held, &hint.clause) {
+        let Some(clause) = hints.clause(index) else {
+            return Ok(Ending::StuckAt(index as u64 + 1));
+        };
+        match rest_of(held, clause) {
             Rest::Nothing => return Ok(Ending::ClosedAfter(index + 1)),
             Rest::One(lit) => held.insert(lit)?,
             Rest::More => return Ok(Ending::StuckAt(index as u64 + 1)),
         }
     }
     if held.is_contradictory() {
-        return Ok(Ending::ClosedAfter(hints.len()));
+        return Ok(Ending::ClosedAfter(count));
     }
     Ok(Ending::StaysOpen)
 }
 
 /// The literals of the clause whose negation isn't held.
 pub fn rest_of(held: &TrueLits, clause: &Clause) -> Rest
-    ensures { result ≡ seen (rest clause.now held.now) }
+    ensures { result ≡ seen (rest clause.now (from_literals held.now)) }
 {
     let mut found = Rest::Nothing;
     let lits = clause.lits();

@@ -1,5 +1,12 @@
+mod AskedLemmas
+mod CheckLemmas
+mod FaultKinds
 mod FormulaLemmas
+mod GivenLemmas
 mod InTurnLemmas
+mod ProgramLemmas
 mod ReadingLemmas
 mod RunLemmas
+mod StartLemmas
+mod TextLemmas
 mod WordsLemmas

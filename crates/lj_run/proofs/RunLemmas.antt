@@ -1,67 +1,58 @@
 -- The steps of a stream's run.
 use Rattle.std.proofs.Common.{◌≡◌, ℕ, zero, suc, ◌+◌, Bool, true, false, cond, List, [], ◌∷◌, ◌++◌, length, take, drop, Option, None, Some, Result, Ok, Err, refl, sym, ap, ◌∙◌, arith, add-one, length-append}
-use Rattle.std.specs.Prelude.{ℤ, IfSome, slice_get, option_and_then}
-use Rattle.std.proofs.lemmas.Bool.{false≢true}
-use Rattle.lj_clause.specs.Walk as walk
+use Rattle.std.specs.Prelude.{slice_get, option_and_then}
+use Rattle.std.proofs.lemmas.List.{append-nil}
 use Rattle.lj_text.specs.declared.line.Line.{Line}
 use Rattle.lj_text.specs.declared.line.Line.TheVariants.{Add, Delete, Import}
 use Rattle.lj_text.specs.declared.lines.fault.LineFaultKind.{LineFaultKind}
 use Rattle.lj_text.specs.declared.lines.fault.LineFaultKind.TheVariants as kinds
 use Rattle.lj_text.specs.Lines.{Said}
-use Rattle.lj_hint.specs.Case.{CaseValue, walk_of}
 use Rattle.lj_book.specs.declared.refusal.Refusal.{Refusal}
 use Rattle.lj_book.specs.declared.refusal.Refusal.TheVariants as refusals
 use Rattle.lj_book.specs.State.{State}
-use Rattle.lj_book.specs.History.{after}
-use Rattle.lj_book.specs.Calls.{take_reply, commit_reply, commit_entry, drop_reply, drop_entry}
+use Rattle.lj_book.specs.History.{after_entry}
+use Rattle.lj_book.specs.Calls.{drop_reply, drop_entry, import_reply, import_entry}
+use Rattle.lj_book.specs.Inside.{inside_reply, inside_entry}
 use Rattle.lj_book.specs.declared.entry.Entry.{Entry}
 use Rattle.lj_run.specs.declared.outcome.End.TheVariants.{Ended, Stopped, Line as AtLine}
 use Rattle.lj_run.specs.declared.outcome.LineEnd.{LineEnd}
-use Rattle.lj_run.specs.declared.outcome.LineEnd.TheVariants.{Fault, Refused, ReadFailed, NotYet}
+use Rattle.lj_run.specs.declared.outcome.LineEnd.TheVariants.{Fault, Refused, ReadFailed}
 use Rattle.lj_run.specs.declared.stream.Count.{Count}
-use Rattle.lj_run.specs.declared.stream.Count.TheVariants.{Addition, Deletion}
-use Rattle.lj_hint.specs.Receipt.{receipt_of}
+use Rattle.lj_run.specs.declared.stream.Count.TheVariants.{Addition, Deletion, Importing}
 use Rattle.lj_text.specs.Lines.{whole_said, all_said}
 use Rattle.lj_text.proofs.Fronts.{all_said-front}
-use Rattle.lj_text.specs.LinesRead.{LinesRead, StandsAt, is_no_memory}
-use Rattle.lj_run.specs.Reading.{IsReading, IsMiss}
+use Rattle.lj_text.specs.LinesRead.{LinesRead, LineReaderStandsAt, is_line_no_memory}
+use Rattle.lj_text.specs.Streams.{SourceState, HasGiven}
+use Rattle.lj_run.specs.Reading.{LineRead, LineMissed, IsMiss, reads_failed}
 use Rattle.lj_run.specs.declared.reading.Miss.{Miss}
 use Rattle.lj_run.specs.declared.reading.Miss.TheVariants.{Failed, AtFault}
 use Rattle.lj_run.specs.declared.stream.Tally.{Tally}
 use Rattle.lj_run.specs.Tally.{with_count, missed_at}
-use Rattle.lj_run.specs.Run.{if_accepted, walked, taken, entered, Progress, progress_of, counted, has_verdict, if_entered, said_entered, all_entered, IsCounted, IsLineEnd, MeetsFault, MeetsRefused, MeetsRefusal, EndsAtLine, EndsWith, IsRun, IsReadFailure, IfReadFailed, IsFailedRead, left_open}
+use Rattle.lj_run.specs.Run.{if_accepted, line_reply, Progress, progress_of, with_line, has_verdict, if_entered, said_entered, all_entered, IsCounted, IsLineEnd, MeetsFault, MeetsRefused, MeetsRefusal, EndsAtLine, EndsWith, IsRun, IsStreamRun, IfReadFailed, IsFailedRead, failed_reads}
+use Rattle.lj_run.proofs.GivenLemmas.{given_none, given_on}
 
 -- ---- an entered line makes one entry
 
 OneMore : State → State → Type 0
-OneMore s t = (e : Entry) × (after s e ≡ t)
+OneMore s t = (e : Entry) × (after_entry s e ≡ t)
 
-one_accepted : {A : Type 0} (r : Result A Refusal) (s t : State) (e : Entry) → if_accepted r (after s e) ≡ Ok t → OneMore s t
+one_accepted : {A : Type 0} (r : Result A Refusal) (s t : State) (e : Entry) → if_accepted r (after_entry s e) ≡ Ok t → OneMore s t
 unfolding OneMore
 one_accepted (Ok x) s t e is = (e, cc)
 one_accepted (Err refusal) s t e is = cc
 
-one_walked : (s t : State) (c : CaseValue) (w : walk.Walk) → walked s c w ≡ Ok t → OneMore s t
-one_walked s t c (walk.Closed used) is = one_accepted (commit_reply s (receipt_of c (length used))) s t (commit_entry s (receipt_of c (length used))) is
-one_walked s t c (walk.Open held) is = cc
-one_walked s t c (walk.Stuck place) is = cc
-
-one_taken : (s t : State) (r : Result CaseValue Refusal) → taken s r ≡ Ok t → OneMore s t
-one_taken s t (Ok c) is = one_walked s t c (walk_of c) is
-one_taken s t (Err refusal) is = cc
-
-one_entered : (s t : State) (seat : ℕ) (line : Line) → entered s seat line ≡ Ok t → OneMore s t
-one_entered s t seat (Add a) is = one_taken s t (take_reply s seat a) is
+one_entered : (s t : State) (seat : ℕ) (line : Line) → line_reply s seat line ≡ Ok t → OneMore s t
+one_entered s t seat (Add a) is = one_accepted (inside_reply s seat a) s t (inside_entry s seat a) is
 one_entered s t seat (Delete numbers) is = one_accepted (drop_reply s seat numbers) s t (drop_entry s seat numbers) is
-one_entered s t seat (Import number clause) is = cc
+one_entered s t seat (Import number clause) is = one_accepted (import_reply s seat number clause) s t (import_entry seat number clause) is
 
-pub entered_longer : (s t : State) (seat : ℕ) (line : Line) → entered s seat line ≡ Ok t → length t.history ≡ length s.history + 1
+pub entered_longer : (s t : State) (seat : ℕ) (line : Line) → line_reply s seat line ≡ Ok t → length t.history ≡ length s.history + 1
 unfolding OneMore
 entered_longer s t seat line is =
     let more = one_entered s t seat line is in
     ap (λ (u : State). length u.history) (sym more.1) ∙ length-append s.history (more.0 ∷ [])
 
-pub entered_formula : (s t : State) (seat : ℕ) (line : Line) → entered s seat line ≡ Ok t → t.formula ≡ s.formula
+pub entered_formula : (s t : State) (seat : ℕ) (line : Line) → line_reply s seat line ≡ Ok t → t.formula ≡ s.formula
 unfolding OneMore
 entered_formula s t seat line is = ap (λ (u : State). u.formula) (sym (one_entered s t seat line is).1)
 
@@ -100,90 +91,128 @@ none_left [] (suc n) e = refl
 none_left (x ∷ xs) zero e = cc
 none_left (x ∷ xs) (suc n) e = none_left xs n e
 
-counted_is : (s t : State) (tally : Tally) (line : Line) (count : Count) → IsCounted line count → counted (progress_of s tally.added tally.deleted) line t ≡ progress_of t (with_count tally count).added (with_count tally count).deleted
-counted_is s t tally (Add a) count is = ap (λ c. progress_of t (with_count tally c).added (with_count tally c).deleted) (sym is)
-counted_is s t tally (Delete numbers) count is = ap (λ c. progress_of t (with_count tally c).added (with_count tally c).deleted) (sym is)
-counted_is s t tally (Import number clause) count is = absurd is
+counted_is : (s t : State) (tally : Tally) (line : Line) (count : Count) → IsCounted line count → with_line (progress_of s tally.added tally.deleted tally.imported) line t ≡ progress_of t (with_count tally count).added (with_count tally count).deleted (with_count tally count).imported
+counted_is s t tally (Add a) count is = ap (λ c. progress_of t (with_count tally c).added (with_count tally c).deleted (with_count tally c).imported) (sym is)
+counted_is s t tally (Delete numbers) count is = ap (λ c. progress_of t (with_count tally c).added (with_count tally c).deleted (with_count tally c).imported) (sym is)
+counted_is s t tally (Import number clause) count is = ap (λ c. progress_of t (with_count tally c).added (with_count tally c).deleted (with_count tally c).imported) (sym is)
 
-one_line : (seat : ℕ) (s t : State) (tally : Tally) (n : ℕ) (line : Line) (count : Count) → has_verdict s ≡ false → entered s seat line ≡ Ok t → IsCounted line count
-    → all_entered seat (progress_of s tally.added tally.deleted) (record { line = n; says = Ok line } ∷ []) ≡ Some (progress_of t (with_count tally count).added (with_count tally count).deleted)
+one_line : (seat : ℕ) (s t : State) (tally : Tally) (n : ℕ) (line : Line) (count : Count) → has_verdict s ≡ false → line_reply s seat line ≡ Ok t → IsCounted line count
+    → all_entered seat (progress_of s tally.added tally.deleted tally.imported) (record { line = n; says = Ok line } ∷ []) ≡ Some (progress_of t (with_count tally count).added (with_count tally count).deleted (with_count tally count).imported)
 one_line seat s t tally n line count open_state is count_is =
-    (λ i. cond (open_state i) None (option_and_then (λ q. all_entered seat q []) (if_entered (progress_of s tally.added tally.deleted) line (is i))))
+    (λ i. cond (open_state i) None (option_and_then (λ q. all_entered seat q []) (if_entered (progress_of s tally.added tally.deleted tally.imported) line (is i))))
     ∙ ap Some (counted_is s t tally line count count_is)
 
 -- ---- the run so far
 
--- So many lines of the text were entered, and led to this progress; the reader goes on behind them.
-pub record RunsTo (seat : ℕ) (text : List ℕ) (start now : Progress) (reader : LinesRead) (ended : Bool) (rest : Option (List ℕ)) : Type 0 where
-  pub given : ℕ
-  pub reading : IsReading text given reader ended rest
-  pub enters : all_entered seat start (take given (all_said 134217727 text)) ≡ Some now
+-- The source gave a text, of which so many lines were entered, and led to this progress; the reader stands behind them.
+pub record RunsTo (seat : ℕ) (before after : SourceState) (start now : Progress) (reader : LinesRead) : Type 0 where
+  pub text : List ℕ
+  pub gave : HasGiven before after text
+  pub handed : ℕ
+  pub stands : LineReaderStandsAt reader text handed
+  pub enters : all_entered seat start (take handed (all_said 134217727 text)) ≡ Some now
 
-pub runs_begin : (seat : ℕ) (text : List ℕ) (s : State) (reader : LinesRead) (rest : Option (List ℕ)) → StandsAt reader [] 0 → rest ≡ Some text → RunsTo seat text (progress_of s 0 0) (progress_of s 0 0) reader false rest
-runs_begin seat text s reader rest stands is = record {
-  given = 0;
-  reading = record { fed = []; left = text; rest_is = is; text_is = refl; stands = stands; at_end = λ e. absurd (false≢true e) };
-  enters = refl;
-}
+pub runs_begin : (seat : ℕ) (before : SourceState) (s : State) (reader : LinesRead) → LineReaderStandsAt reader [] 0 → RunsTo seat before before (progress_of s 0 0 0) (progress_of s 0 0 0) reader
+runs_begin seat before s reader stands = record { text = []; gave = given_none before; handed = 0; stands = stands; enters = refl }
+
+-- the lines entered are the first ones of what the source gave since, too
+enters_since : (seat : ℕ) (start now : Progress) (text piece : List ℕ) (handed : ℕ) → take handed (all_said 134217727 (text ++ piece)) ≡ take handed (all_said 134217727 text)
+    → all_entered seat start (take handed (all_said 134217727 text)) ≡ Some now → all_entered seat start (take handed (all_said 134217727 (text ++ piece))) ≡ Some now
+enters_since seat start now text piece handed same enters = ap (all_entered seat start) same ∙ enters
 
 -- a line was read and entered
-pub runs_on : (seat : ℕ) (text : List ℕ) (start : Progress) (s t : State) (tally : Tally) (at : ℕ) (line : Line) (count : Count) (given : ℕ) (reader : LinesRead) (ended : Bool) (rest : Option (List ℕ))
-    → all_entered seat start (take given (all_said 134217727 text)) ≡ Some (progress_of s tally.added tally.deleted)
-    → slice_get (all_said 134217727 text) given ≡ Some (record { line = at; says = Ok line }) → IsReading text (given + 1) reader ended rest
-    → has_verdict s ≡ false → entered s seat line ≡ Ok t → IsCounted line count
-    → RunsTo seat text start (progress_of t (with_count tally count).added (with_count tally count).deleted) reader ended rest
-runs_on seat text start s t tally at line count given reader ended rest enters next reading open_state is count_is = record {
-  given = given + 1;
-  reading = reading;
-  enters = ap (all_entered seat start) (rw add-one (take_next (all_said 134217727 text) given (record { line = at; says = Ok line }) next))
-      ∙ more_entered seat start (progress_of s tally.added tally.deleted) (take given (all_said 134217727 text)) (record { line = at; says = Ok line }) enters
-      ∙ one_line seat s t tally at line count open_state is count_is;
-}
+pub runs_on : (seat : ℕ) (start : Progress) (s t : State) (tally : Tally) (line : Line) (count : Count) (reader new : LinesRead) (first before after : SourceState)
+    → (r : RunsTo seat first before start (progress_of s tally.added tally.deleted tally.imported) reader) → LineRead 134217727 r.text r.handed new before after (Some line)
+    → has_verdict s ≡ false → line_reply s seat line ≡ Ok t → IsCounted line count
+    → RunsTo seat first after start (progress_of t (with_count tally count).added (with_count tally count).deleted (with_count tally count).imported) new
+runs_on seat start s t tally line count reader new first before after r read open_state is count_is =
+    let now = progress_of s tally.added tally.deleted tally.imported in
+    let said : Said = record { line = new.at; says = Ok line } in
+    let lines = all_said 134217727 (r.text ++ read.piece) in
+    record {
+      text = r.text ++ read.piece;
+      gave = given_on first before after r.text read.piece r.gave read.gave;
+      handed = r.handed + 1;
+      stands = read.stands;
+      enters = ap (all_entered seat start) (rw add-one (take_next lines r.handed said read.next))
+          ∙ more_entered seat start now (take r.handed lines) said (enters_since seat start now r.text read.piece r.handed read.same r.enters)
+          ∙ one_line seat s t tally new.at line count open_state is count_is;
+    }
 
 -- ---- the end of a run
 
-pub run_stopped : (seat : ℕ) (text : List ℕ) (start now : Progress) (reader : LinesRead) (ended : Bool) (rest : Option (List ℕ)) → RunsTo seat text start now reader ended rest → has_verdict now.state ≡ true → IsRun seat (all_said 134217727 text) start now Stopped
-run_stopped seat text start now reader ended rest r v = record { count = r.given; enters = r.enters; ends = v }
+pub run_stopped : (seat : ℕ) (before after : SourceState) (start now : Progress) (reader : LinesRead) → RunsTo seat before after start now reader → has_verdict now.state ≡ true → after.failures ≡ 0
+    → IsStreamRun seat before after start now Stopped
+run_stopped seat before after start now reader r v unfailed = record {
+  text = r.text;
+  gave = r.gave;
+  runs = record { count = r.handed; enters = r.enters; ends = v };
+  failed_read = tt;
+  ended = λ e. cc;
+  failures = unfailed;
+}
 
-pub run_ended : (seat : ℕ) (text : List ℕ) (start now : Progress) (reader : LinesRead) (ended : Bool) (rest : Option (List ℕ)) (r : RunsTo seat text start now reader ended rest) → has_verdict now.state ≡ false → slice_get (all_said 134217727 text) r.given ≡ None → IsRun seat (all_said 134217727 text) start now Ended
-run_ended seat text start now reader ended rest r v none = record { count = r.given; enters = r.enters; ends = (none_left (all_said 134217727 text) r.given none, v) }
+pub run_ended : (seat : ℕ) (first before after : SourceState) (start now : Progress) (reader new : LinesRead) (r : RunsTo seat first before start now reader) → LineRead 134217727 r.text r.handed new before after None → has_verdict now.state ≡ false → after.failures ≡ 0
+    → IsStreamRun seat first after start now Ended
+run_ended seat first before after start now reader new r read v unfailed =
+    let lines = all_said 134217727 (r.text ++ read.piece) in
+    record {
+      text = r.text ++ read.piece;
+      gave = given_on first before after r.text read.piece r.gave read.gave;
+      runs = record { count = r.handed; enters = enters_since seat start now r.text read.piece r.handed read.same r.enters; ends = (none_left lines r.handed read.next, v) };
+      failed_read = tt;
+      ended = λ e. read.ended refl;
+      failures = unfailed;
+    }
 
-meets_fault : (kind : LineFaultKind) (n : ℕ) (lines : List Said) (given : ℕ) → (is_no_memory kind ≡ false → slice_get lines given ≡ Some (record { line = n; says = Err kind })) → MeetsFault n kind (drop given lines)
-meets_fault kinds.NoMemory n lines given h = tt
+meets_fault : (kind : LineFaultKind) (n : ℕ) (lines : List Said) (given : ℕ) → (is_line_no_memory kind ≡ false → slice_get lines given ≡ Some (record { line = n; says = Err kind })) → MeetsFault n kind (drop given lines)
+meets_fault (kinds.NoMemory e) n lines given h = tt
 meets_fault kinds.BadNumber n lines given h = first_left lines given ∙ h refl
 meets_fault kinds.NumberRange n lines given h = first_left lines given ∙ h refl
 meets_fault kinds.Syntax n lines given h = first_left lines given ∙ h refl
 meets_fault kinds.Truncated n lines given h = first_left lines given ∙ h refl
 
-at_miss : (seat : ℕ) (s : State) (at : ℕ) (text : List ℕ) (given : ℕ) (left : Option (List ℕ)) (miss : Miss) → has_verdict s ≡ false → IsMiss 134217727 text given at left miss → EndsWith seat s (drop given (all_said 134217727 text)) (missed_at at miss)
-at_miss seat s at text given left Failed v h = (v, tt)
-at_miss seat s at text given left (AtFault fault) v h = (v, meets_fault fault.kind fault.line (all_said 134217727 text) given h)
-
-pub run_missed : (seat : ℕ) (text : List ℕ) (start now : Progress) (reader : LinesRead) (ended : Bool) (rest left : Option (List ℕ)) (r : RunsTo seat text start now reader ended rest) (at : ℕ) (miss : Miss) → has_verdict now.state ≡ false → IsMiss 134217727 text r.given at left miss → IsRun seat (all_said 134217727 text) start now (missed_at at miss)
-run_missed seat text start now reader ended rest left r at miss v h = record { count = r.given; enters = r.enters; ends = at_miss seat now.state at text r.given left miss v h }
+at_miss : (seat : ℕ) (s : State) (at : ℕ) (text : List ℕ) (handed : ℕ) (miss : Miss) → has_verdict s ≡ false → IsMiss 134217727 text handed at miss → EndsWith seat s (drop handed (all_said 134217727 text)) (missed_at at miss)
+at_miss seat s at text handed Failed v h = (v, tt)
+at_miss seat s at text handed (AtFault fault) v h = (v, meets_fault fault.kind fault.line (all_said 134217727 text) handed h)
 
 take_front : {X : Type 0} (xs ys : List X) → take (length xs) (xs ++ ys) ≡ xs
 take_front [] ys = refl
 take_front (x ∷ xs) ys = ap (λ zs. x ∷ zs) (take_front xs ys)
 
 -- a read that failed: what the whole lines delivered say was entered
-pub run_failed : (seat : ℕ) (text : List ℕ) (start now : Progress) (reader : LinesRead) (ended : Bool) (rest left : Option (List ℕ)) (r : RunsTo seat text start now reader ended rest) (at : ℕ) (miss : Miss) → IsMiss 134217727 text r.given at left miss
-    → IfReadFailed (missed_at at miss) (IsFailedRead seat text left start now)
-run_failed seat text start now reader ended rest left r at (AtFault fault) h = tt
-run_failed seat text start now reader ended rest left r at Failed h =
-    let later = all_said-front 134217727 h.front h.left in
-    let said = whole_said 134217727 h.front in
-    let entered_are : take r.given (all_said 134217727 text) ≡ said = ap (λ t. take r.given (all_said 134217727 t)) h.text_is ∙ ap (take r.given) later.1 ∙ ap (λ n. take n (said ++ later.0)) h.given_is ∙ take_front said later.0 in
+failed_line : (seat : ℕ) (text : List ℕ) (start now : Progress) (handed at : ℕ) (miss : Miss) → all_entered seat start (take handed (all_said 134217727 text)) ≡ Some now → IsMiss 134217727 text handed at miss
+    → IfReadFailed (missed_at at miss) (IsFailedRead seat text start now)
+failed_line seat text start now handed at (AtFault fault) enters h = tt
+failed_line seat text start now handed at Failed enters h =
+    let later = all_said-front 134217727 text [] in
+    let said = whole_said 134217727 text in
+    let entered_are : take handed (all_said 134217727 text) ≡ said =
+    ap (λ t. take handed (all_said 134217727 t)) (sym (append-nil text)) ∙ ap (take handed) later.1 ∙ ap (λ n. take n (said ++ later.0)) h.handed_is ∙ take_front said later.0 in
+    record { line_is = h.at_is; enters = ap (all_entered seat start) (sym entered_are) ∙ enters }
+
+no_end_missed : (at : ℕ) (miss : Miss) → missed_at at miss ≡ Ended → ⊥
+no_end_missed at Failed e = cc
+no_end_missed at (AtFault fault) e = cc
+
+reads_missed : (at : ℕ) (miss : Miss) → failed_reads (missed_at at miss) ≡ reads_failed miss
+reads_missed at Failed = refl
+reads_missed at (AtFault fault) = refl
+
+pub run_missed : (seat : ℕ) (first before after : SourceState) (start now : Progress) (reader : LinesRead) (r : RunsTo seat first before start now reader) (at : ℕ) (miss : Miss) → LineMissed 134217727 r.text r.handed at before after miss
+    → has_verdict now.state ≡ false → after.failures ≡ reads_failed miss → IsStreamRun seat first after start now (missed_at at miss)
+run_missed seat first before after start now reader r at miss m v failures =
+    let enters = enters_since seat start now r.text m.piece r.handed m.same r.enters in
     record {
-      front = h.front;
-      left = h.left;
-      rest_is = h.rest_is;
-      text_is = h.text_is;
-      line_is = h.at_is;
-      enters = ap (all_entered seat start) (sym entered_are) ∙ r.enters;
+      text = r.text ++ m.piece;
+      gave = given_on first before after r.text m.piece r.gave m.gave;
+      runs = record { count = r.handed; enters = enters; ends = at_miss seat now.state at (r.text ++ m.piece) r.handed miss v m.is };
+      failed_read = failed_line seat (r.text ++ m.piece) start now r.handed at miss enters m.is;
+      ended = λ e. absurd (no_end_missed at miss e);
+      failures = failures ∙ sym (reads_missed at miss);
     }
 
-refused_line : (seat : ℕ) (s : State) (at : ℕ) (lines : List Said) (given : ℕ) (line : Line) (end : LineEnd) → slice_get lines given ≡ Some (record { line = at; says = Ok line }) → entered s seat line ≡ Err end → MeetsRefusal seat s at end (drop given lines)
+refused_line : (seat : ℕ) (s : State) (at : ℕ) (lines : List Said) (given : ℕ) (line : Line) (end : LineEnd) → slice_get lines given ≡ Some (record { line = at; says = Ok line }) → line_reply s seat line ≡ Err end → MeetsRefusal seat s at end (drop given lines)
 refused_line seat s at lines given line end next is = record { line = line; first = first_left lines given ∙ next; refused = is }
 
 -- a call tells no fault of a text
@@ -191,26 +220,13 @@ no_fault_accepted : {A : Type 0} (r : Result A Refusal) (s : State) (kind : Line
 no_fault_accepted (Ok x) s kind e = cc
 no_fault_accepted (Err refusal) s kind e = cc
 
-no_fault_open : (o : Option ℤ) (kind : LineFaultKind) → ◌≡◌ {A = Result State LineEnd} (Err (left_open o)) (Err (Fault kind)) → ⊥
-no_fault_open None kind e = cc
-no_fault_open (Some pivot) kind e = cc
+no_fault_entered : (s : State) (seat : ℕ) (line : Line) (kind : LineFaultKind) → line_reply s seat line ≡ Err (Fault kind) → ⊥
+no_fault_entered s seat (Add a) kind e = no_fault_accepted (inside_reply s seat a) (after_entry s (inside_entry s seat a)) kind e
+no_fault_entered s seat (Delete numbers) kind e = no_fault_accepted (drop_reply s seat numbers) (after_entry s (drop_entry s seat numbers)) kind e
+no_fault_entered s seat (Import number clause) kind e = no_fault_accepted (import_reply s seat number clause) (after_entry s (import_entry seat number clause)) kind e
 
-no_fault_walked : (s : State) (c : CaseValue) (w : walk.Walk) (kind : LineFaultKind) → walked s c w ≡ Err (Fault kind) → ⊥
-no_fault_walked s c (walk.Closed used) kind e = no_fault_accepted (commit_reply s (receipt_of c (length used))) (after s (commit_entry s (receipt_of c (length used)))) kind e
-no_fault_walked s c (walk.Open held) kind e = no_fault_open c.lemma.pivot kind e
-no_fault_walked s c (walk.Stuck place) kind e = cc
-
-no_fault_taken : (s : State) (r : Result CaseValue Refusal) (kind : LineFaultKind) → taken s r ≡ Err (Fault kind) → ⊥
-no_fault_taken s (Ok c) kind e = no_fault_walked s c (walk_of c) kind e
-no_fault_taken s (Err refusal) kind e = cc
-
-no_fault_entered : (s : State) (seat : ℕ) (line : Line) (kind : LineFaultKind) → entered s seat line ≡ Err (Fault kind) → ⊥
-no_fault_entered s seat (Add a) kind e = no_fault_taken s (take_reply s seat a) kind e
-no_fault_entered s seat (Delete numbers) kind e = no_fault_accepted (drop_reply s seat numbers) (after s (drop_entry s seat numbers)) kind e
-no_fault_entered s seat (Import number clause) kind e = cc
-
-meets_refused : (seat : ℕ) (s : State) (at : ℕ) (lines : List Said) (given : ℕ) (line : Line) (refusal : Refusal) → slice_get lines given ≡ Some (record { line = at; says = Ok line }) → IsLineEnd (Refused refusal) (entered s seat line) → MeetsRefused seat s at refusal (drop given lines)
-meets_refused seat s at lines given line refusals.NoMemory next is = record { line = line; first = first_left lines given ∙ next }
+meets_refused : (seat : ℕ) (s : State) (at : ℕ) (lines : List Said) (given : ℕ) (line : Line) (refusal : Refusal) → slice_get lines given ≡ Some (record { line = at; says = Ok line }) → IsLineEnd (Refused refusal) (line_reply s seat line) → MeetsRefused seat s at refusal (drop given lines)
+meets_refused seat s at lines given line (refusals.NoMemory e) next is = record { line = line; first = first_left lines given ∙ next }
 meets_refused seat s at lines given line refusals.SeatGone next is = refused_line seat s at lines given line (Refused refusals.SeatGone) next is
 meets_refused seat s at lines given line refusals.NumberTaken next is = refused_line seat s at lines given line (Refused refusals.NumberTaken) next is
 meets_refused seat s at lines given line (refusals.UnknownNumber n) next is = refused_line seat s at lines given line (Refused (refusals.UnknownNumber n)) next is
@@ -219,17 +235,15 @@ meets_refused seat s at lines given line (refusals.HintNotUnit n) next is = refu
 meets_refused seat s at lines given line refusals.EmptyOpen next is = refused_line seat s at lines given line (Refused refusals.EmptyOpen) next is
 meets_refused seat s at lines given line (refusals.Stale n) next is = refused_line seat s at lines given line (Refused (refusals.Stale n)) next is
 meets_refused seat s at lines given line refusals.Full next is = refused_line seat s at lines given line (Refused refusals.Full) next is
+meets_refused seat s at lines given line (refusals.MissingGroup n) next is = refused_line seat s at lines given line (Refused (refusals.MissingGroup n)) next is
+meets_refused seat s at lines given line (refusals.GroupStuck n m) next is = refused_line seat s at lines given line (Refused (refusals.GroupStuck n m)) next is
+meets_refused seat s at lines given line (refusals.GroupOpen n) next is = refused_line seat s at lines given line (Refused (refusals.GroupOpen n)) next is
+meets_refused seat s at lines given line refusals.NoSuchClause next is = refused_line seat s at lines given line (Refused refusals.NoSuchClause) next is
 
-at_refusal : (seat : ℕ) (s : State) (at : ℕ) (lines : List Said) (given : ℕ) (line : Line) (end : LineEnd) → slice_get lines given ≡ Some (record { line = at; says = Ok line }) → IsLineEnd end (entered s seat line) → EndsAtLine seat s at end (drop given lines)
+at_refusal : (seat : ℕ) (s : State) (at : ℕ) (lines : List Said) (given : ℕ) (line : Line) (end : LineEnd) → slice_get lines given ≡ Some (record { line = at; says = Ok line }) → IsLineEnd end (line_reply s seat line) → EndsAtLine seat s at end (drop given lines)
 at_refusal seat s at lines given line (Fault kind) next is = absurd (no_fault_entered s seat line kind is)
 at_refusal seat s at lines given line (Refused refusal) next is = meets_refused seat s at lines given line refusal next is
 at_refusal seat s at lines given line ReadFailed next is = tt
-at_refusal seat s at lines given line NotYet next is = refused_line seat s at lines given line NotYet next is
-
-pub run_refused : (seat : ℕ) (text : List ℕ) (start now : Progress) (reader : LinesRead) (ended : Bool) (rest : Option (List ℕ)) (given at : ℕ) (line : Line) (end : LineEnd)
-    → all_entered seat start (take given (all_said 134217727 text)) ≡ Some now → slice_get (all_said 134217727 text) given ≡ Some (record { line = at; says = Ok line })
-    → has_verdict now.state ≡ false → IsLineEnd end (entered now.state seat line) → IsRun seat (all_said 134217727 text) start now (AtLine at end)
-run_refused seat text start now reader ended rest given at line end enters next v is = record { count = given; enters = enters; ends = (v, at_refusal seat now.state at (all_said 134217727 text) given line end next is) }
 
 -- ---- what is not told
 
@@ -237,36 +251,37 @@ no_read_accepted : {A : Type 0} (r : Result A Refusal) (s : State) → if_accept
 no_read_accepted (Ok x) s e = cc
 no_read_accepted (Err refusal) s e = cc
 
-no_read_open : (o : Option ℤ) → ◌≡◌ {A = Result State LineEnd} (Err (left_open o)) (Err ReadFailed) → ⊥
-no_read_open None e = cc
-no_read_open (Some pivot) e = cc
-
-no_read_walked : (s : State) (c : CaseValue) (w : walk.Walk) → walked s c w ≡ Err ReadFailed → ⊥
-no_read_walked s c (walk.Closed used) e = no_read_accepted (commit_reply s (receipt_of c (length used))) (after s (commit_entry s (receipt_of c (length used)))) e
-no_read_walked s c (walk.Open held) e = no_read_open c.lemma.pivot e
-no_read_walked s c (walk.Stuck place) e = cc
-
-no_read_taken : (s : State) (r : Result CaseValue Refusal) → taken s r ≡ Err ReadFailed → ⊥
-no_read_taken s (Ok c) e = no_read_walked s c (walk_of c) e
-no_read_taken s (Err refusal) e = cc
-
-no_read_entered : (s : State) (seat : ℕ) (line : Line) → entered s seat line ≡ Err ReadFailed → ⊥
-no_read_entered s seat (Add a) e = no_read_taken s (take_reply s seat a) e
-no_read_entered s seat (Delete numbers) e = no_read_accepted (drop_reply s seat numbers) (after s (drop_entry s seat numbers)) e
-no_read_entered s seat (Import number clause) e = cc
+no_read_entered : (s : State) (seat : ℕ) (line : Line) → line_reply s seat line ≡ Err ReadFailed → ⊥
+no_read_entered s seat (Add a) e = no_read_accepted (inside_reply s seat a) (after_entry s (inside_entry s seat a)) e
+no_read_entered s seat (Delete numbers) e = no_read_accepted (drop_reply s seat numbers) (after_entry s (drop_entry s seat numbers)) e
+no_read_entered s seat (Import number clause) e = no_read_accepted (import_reply s seat number clause) (after_entry s (import_entry seat number clause)) e
 
 -- a line that the book doesn't accept is no failed read
-pub no_read_failure : (s : State) (seat : ℕ) (line : Line) (at : ℕ) (end : LineEnd) → IsLineEnd end (entered s seat line) → IsReadFailure (AtLine at end) → ⊥
-no_read_failure s seat line at (Fault kind) is read = read
-no_read_failure s seat line at (Refused refusal) is read = read
-no_read_failure s seat line at ReadFailed is read = no_read_entered s seat line is
-no_read_failure s seat line at NotYet is read = read
+no_read_refused : (s : State) (seat : ℕ) (line : Line) (at : ℕ) (end : LineEnd) → IsLineEnd end (line_reply s seat line) → failed_reads (AtLine at end) ≡ 0
+no_read_refused s seat line at (Fault kind) is = refl
+no_read_refused s seat line at (Refused refusal) is = refl
+no_read_refused s seat line at ReadFailed is = absurd (no_read_entered s seat line is)
 
-pub if_some : {X : Type 0} (o : Option X) (Q : X → Type 0) → ((x : X) → o ≡ Some x → Q x) → IfSome o Q
-if_some None Q f = tt
-if_some (Some x) Q f = f x refl
+no_read_line : (s : State) (seat : ℕ) (line : Line) (at : ℕ) (end : LineEnd) (P : ℕ → Type 0) → IsLineEnd end (line_reply s seat line) → IfReadFailed (AtLine at end) P
+no_read_line s seat line at (Fault kind) P is = tt
+no_read_line s seat line at (Refused refusal) P is = tt
+no_read_line s seat line at ReadFailed P is = absurd (no_read_entered s seat line is)
+
+pub run_refused : (seat : ℕ) (first before after : SourceState) (start now : Progress) (reader new : LinesRead) (r : RunsTo seat first before start now reader) (line : Line) (end : LineEnd) → LineRead 134217727 r.text r.handed new before after (Some line)
+    → has_verdict now.state ≡ false → after.failures ≡ 0 → IsLineEnd end (line_reply now.state seat line) → IsStreamRun seat first after start now (AtLine new.at end)
+run_refused seat first before after start now reader new r line end read v unfailed is =
+    let text = r.text ++ read.piece in
+    record {
+      text = text;
+      gave = given_on first before after r.text read.piece r.gave read.gave;
+      runs = record { count = r.handed; enters = enters_since seat start now r.text read.piece r.handed read.same r.enters; ends = (v, at_refusal seat now.state new.at (all_said 134217727 text) r.handed line end read.next is) };
+      failed_read = no_read_line now.state seat line new.at end (IsFailedRead seat text start now) is;
+      ended = λ e. cc;
+      failures = unfailed ∙ sym (no_read_refused now.state seat line new.at end is);
+    }
 
 -- one line more is counted
-pub count_more : (tally : Tally) (count : Count) → (with_count tally count).added + (with_count tally count).deleted ≡ tally.added + tally.deleted + 1
+pub count_more : (tally : Tally) (count : Count) → (with_count tally count).added + (with_count tally count).deleted + (with_count tally count).imported ≡ tally.added + tally.deleted + tally.imported + 1
 count_more tally Addition = omega arith
 count_more tally Deletion = omega arith
+count_more tally Importing = omega arith

@@ -1,8 +1,11 @@
+pub mod Checking
 pub mod Files
 pub mod FormulaReading
 pub mod InTurn
+pub mod OutcomeText
 pub mod Program
 pub mod Reading
 pub mod Run
+pub mod Starting
 pub mod Tally
 pub mod Words

@@ -1,46 +1,182 @@
--- How the program ends.
-use Rattle.std.specs.Prelude.{◌≡◌, ℕ, List, ◌++◌, Bool, true, false, Option, codes}
-use Rattle.std.specs.Io.KnownBytes.{Appends}
+-- How the program ends, and what it tells.
+use Rattle.std.specs.Prelude.{◌≡◌, ◌⊎◌, ◌≤◌, ℕ, List, [], ◌∷◌, ◌++◌, map, Option, None, Contains, IfSome, codes, decimal, string_bytes}
+use Rattle.std.specs.Io.KnownBytes.{Keeps}
 use Rattle.std.specs.Borrow.{Bor}
-use Rattle.lj_run.specs.declared.body.Status.{Status}
-use Rattle.lj_run.specs.declared.body.Status.TheVariants as statuses
-use Rattle.lj_run.specs.declared.body.Fault.{Fault}
-use Rattle.lj_run.specs.declared.body.Fault.TheVariants as faults
-use Rattle.lj_run.specs.declared.outcome.RunFault.{RunFault}
+use Rattle.lj_clause.specs.ClauseMap.{FormulaValue}
+use Rattle.lj_text.specs.declared.cnf.fault.CnfFault.{CnfFault}
+use Rattle.lj_text.specs.Cnf.{HasFault, Spells}
+use Rattle.lj_text.specs.FaultNames.{cnf_fault_name}
+use Rattle.lj_text.specs.Streams.{SourceState}
+use Rattle.lj_book.specs.State.{IsUnsatisfiable}
+use Rattle.lj_run.specs.Checking.{IsPrinted, IsCutText}
+use Rattle.lj_run.specs.Words.{Asked, a_run, the_help, the_version, the_usage}
+use Rattle.lj_run.specs.declared.checking.CheckFault.{CheckFault}
+use Rattle.lj_run.specs.declared.checking.CheckFault.TheVariants as check_faults
+use Rattle.lj_run.specs.declared.checking.Verdict.{Verdict}
+use Rattle.lj_run.specs.declared.checking.Verdict.TheVariants.{Verified, NotVerified}
+use Rattle.lj_run.specs.declared.fault.Fault.{Fault}
+use Rattle.lj_run.specs.declared.fault.Fault.TheVariants as faults
 use Rattle.lj_run.specs.declared.outcome.RunFault.TheVariants as run_faults
+use Rattle.lj_run.specs.declared.status.Status.{Status}
+use Rattle.lj_run.specs.declared.status.Status.TheVariants as statuses
+
+-- ---- statuses
 
 -- the number that a status ends with
-abbrev pub code_of : Status → ℕ
-code_of statuses.Done = 0
-code_of statuses.NotVerified = 1
-code_of statuses.Fault = 2
-code_of statuses.Usage = 3
+abbrev pub status_code : Status → ℕ
+status_code statuses.Done = 0
+status_code statuses.NotVerified = 1
+status_code statuses.Fault = 2
+status_code statuses.Usage = 3
 
 -- the status where the formula is verified, or isn't
-abbrev pub verdict_status : Bool → Status
-verdict_status true = statuses.Done
-verdict_status false = statuses.NotVerified
+abbrev pub verdict_status : Verdict → Status
+verdict_status Verified = statuses.Done
+verdict_status NotVerified = statuses.NotVerified
 
 -- the status after a fault
 abbrev pub status_of_fault : Fault → Status
 status_of_fault (faults.Usage text) = statuses.Usage
 status_of_fault fault = statuses.Fault
 
--- what is told of a run of the formula at a path that has no outcome
-abbrev pub fault_at : Bor (List ℕ) → RunFault → Fault
-fault_at path (run_faults.Formula fault) = faults.Formula path fault
-fault_at path run_faults.FormulaRead = faults.CannotRead path
-fault_at path run_faults.NoMemory = faults.NoMemory
+-- ---- what is told on standard error
 
--- the line of a verdict
-abbrev pub verdict_line : Bool → List ℕ
-verdict_line true = codes "s VERIFIED UNSAT\n"
-verdict_line false = codes "s NOT VERIFIED\n"
+-- what is told of a check of the formula at a path that has no answer
+abbrev pub fault_at : Bor (List ℕ) → CheckFault → Fault
+fault_at path (check_faults.Run (run_faults.Formula fault)) = faults.Formula path fault
+fault_at path (check_faults.Run run_faults.FormulaRead) = faults.CannotRead path
+fault_at path (check_faults.Run (run_faults.NoMemory e)) = faults.NoMemory e
+fault_at path check_faults.CannotWrite = faults.CannotWrite
 
--- these bytes are the last ones
-abbrev pub EndsIn : List ℕ → List ℕ → Type 0
-EndsIn bytes last = (before : List ℕ) × (bytes ≡ before ++ last)
+-- the line of a fault of the formula's text at a path
+abbrev pub formula_fault_text : List ℕ → CnfFault → List ℕ
+formula_fault_text path fault =
+    (codes "lratjoin: " ++ (path ++ codes ": line ")) ++ (decimal fault.line ++ (codes ": " ++ (cnf_fault_name fault.kind ++ codes "\n")))
 
--- what a sink took meanwhile ends with these bytes
-abbrev pub EndsByTelling : Option (List ℕ) → Option (List ℕ) → List ℕ → Type 0
-EndsByTelling old new last = (before : List ℕ) × Appends old new (before ++ last)
+-- the line of a fault; usage is told by its text
+abbrev pub fault_text : Fault → List ℕ
+fault_text (faults.Formula path fault) = formula_fault_text path.now fault
+fault_text (faults.CannotRead path) = codes "lratjoin: " ++ (path.now ++ codes ": cannot read\n")
+fault_text faults.CannotWrite = codes "lratjoin: cannot write\n"
+fault_text (faults.NoMemory e) = codes "lratjoin: NoMemory\n"
+fault_text faults.OutOfMemory = codes "lratjoin: NoMemory\n"
+fault_text (faults.Usage text) = string_bytes text
+
+-- a growth of memory was refused
+abbrev pub IsNoMemory : Fault → Type 0
+IsNoMemory (faults.NoMemory e) = Unit {0}
+IsNoMemory faults.OutOfMemory = Unit {0}
+IsNoMemory fault = ⊥
+
+-- the file at this path, whose bytes are told so, can't be opened, or memory was refused; a file whose bytes are told can be opened
+abbrev pub IsOpenFault : List ℕ → Option (List ℕ) → Fault → Type 0
+IsOpenFault path content (faults.CannotRead p) = (p.now ≡ path) × (content ≡ None)
+IsOpenFault path content fault = IsNoMemory fault
+
+-- the file at one of these paths can't be opened, or memory was refused
+abbrev pub IsAnOpenFault : (List ℕ → Option (List ℕ)) → List (List ℕ) → Fault → Type 0
+IsAnOpenFault content paths (faults.CannotRead p) = Contains paths p.now × (content p.now ≡ None)
+IsAnOpenFault content paths fault = IsNoMemory fault
+
+-- ---- the files of a run
+
+-- The state of a source that was just opened at a path: it has given nothing and hasn't failed, and what is told of the path's file
+-- is still to come.
+pub record IsOpened (content : Option (List ℕ)) (source : SourceState) : Type 0 where
+  pub fresh : source.given ≡ []
+  pub unfailed : source.failures ≡ 0
+  pub bytes : Keeps content source.rest
+
+-- inputs that were just opened at paths of which this is told
+abbrev pub HasInputs : {I : Type 0} → (I → SourceState) → List (Option (List ℕ)) → List I → Type 0
+HasInputs seen [] [] = Unit {0}
+HasInputs seen [] (input ∷ inputs) = ⊥
+HasInputs seen (content ∷ contents) [] = ⊥
+HasInputs seen (content ∷ contents) (input ∷ inputs) = IsOpened content (seen input) × HasInputs seen contents inputs
+
+-- The files of a run: that of the formula, as it was opened and once it was read, and those of the streams as they were opened.
+pub record RunInputs {I : Type 0} (seen : I → SourceState) (content : List ℕ → Option (List ℕ)) (formula : List ℕ) (proofs : List (List ℕ)) : Type 0 where
+  pub opened : I
+  pub after : I
+  pub streams : List I
+  pub formula_is : IsOpened (content formula) (seen opened)
+  pub streams_are : HasInputs seen (map content proofs) streams
+
+-- ---- what is printed
+
+-- the greatest number of additions that a run accepts where words don't say it
+abbrev pub most_steps : ℕ
+most_steps = 4294967295
+
+-- What is printed of a run of the files at these paths, with this verdict.
+pub record IsRunPrinted {I : Type 0} (seen : I → SourceState) (content : List ℕ → Option (List ℕ)) (formula : List ℕ) (proofs : List (List ℕ)) (verdict : Verdict) (text : List ℕ) : Type 0 where
+  pub inputs : RunInputs seen content formula proofs
+  pub printed : IsPrinted (seen inputs.opened) (seen inputs.after) seen most_steps inputs.streams verdict text
+
+-- A beginning of what is printed of a run of the files at these paths was taken, and not all.
+pub record IsRunCut {I : Type 0} (seen : I → SourceState) (content : List ℕ → Option (List ℕ)) (formula : List ℕ) (proofs : List (List ℕ)) (old new : List ℕ) : Type 0 where
+  pub inputs : RunInputs seen content formula proofs
+  pub cut : IsCutText (seen inputs.opened) (seen inputs.after) seen most_steps inputs.streams old new
+
+-- What was taken is what is printed of a run of the files at these paths, and this is the status of its verdict.
+pub record IsRunAnswered {I : Type 0} (seen : I → SourceState) (content : List ℕ → Option (List ℕ)) (formula : List ℕ) (proofs : List (List ℕ)) (old new : List ℕ) (status : ℕ) : Type 0 where
+  pub verdict : Verdict
+  pub text : List ℕ
+  pub printed : IsRunPrinted seen content formula proofs verdict text
+  pub took : new ≡ old ++ text
+  pub status_is : status ≡ status_code (verdict_status verdict)
+
+-- this text spells a formula that no assignment satisfies
+pub record SpellsUnsatisfiable (text : List ℕ) : Type 0 where
+  pub formula : FormulaValue
+  pub spells : Spells 134217727 text formula
+  pub unsatisfiable : IsUnsatisfiable formula
+
+-- ---- how the program ends
+
+-- what holds where words ask for a run
+abbrev pub IfRun : Asked → (List ℕ → List (List ℕ) → Type 0) → Type 0
+IfRun (a_run formula proofs) P = P formula proofs
+IfRun the_help P = Unit {0}
+IfRun the_version P = Unit {0}
+IfRun the_usage P = Unit {0}
+
+-- words ask for a run, of which this holds
+abbrev pub IsRunAnd : Asked → (List ℕ → List (List ℕ) → Type 0) → Type 0
+IsRunAnd (a_run formula proofs) P = P formula proofs
+IsRunAnd the_help P = ⊥
+IsRunAnd the_version P = ⊥
+IsRunAnd the_usage P = ⊥
+
+-- the program may end with this status where words ask for this
+abbrev pub MayEnd : Asked → ℕ → Type 0
+MayEnd (a_run formula proofs) status = status ≤ 2
+MayEnd the_help status = (status ≡ 0) ⊎ (status ≡ 2)
+MayEnd the_version status = (status ≡ 0) ⊎ (status ≡ 2)
+MayEnd the_usage status = (status ≡ 2) ⊎ (status ≡ 3)
+
+-- what was asked for was answered with this status
+abbrev pub IsAnswered : {I : Type 0} → (I → SourceState) → (List ℕ → Option (List ℕ)) → Asked → List ℕ → List ℕ → Status → Type 0
+IsAnswered seen content (a_run formula proofs) old new status = IsRunAnswered seen content formula proofs old new (status_code status)
+IsAnswered seen content the_help old new status = status ≡ statuses.Done
+IsAnswered seen content the_version old new status = status ≡ statuses.Done
+IsAnswered seen content the_usage old new status = ⊥
+
+-- The fault is right of what words ask for, where this is told of files and the output has failed so often: a fault of the text of
+-- FORMULA; a path that can't be opened, or FORMULA whose read failed; an output that failed; usage. Nothing is said of the want of memory.
+abbrev pub IsFaultOf : Asked → (List ℕ → Option (List ℕ)) → ℕ → Fault → Type 0
+IsFaultOf asked content failures (faults.Formula path fault) =
+    IsRunAnd asked (λ formula proofs. (path.now ≡ formula) × IfSome (content formula) (λ text. HasFault 134217727 text fault))
+IsFaultOf asked content failures (faults.CannotRead path) =
+    IsRunAnd asked (λ formula proofs. (path.now ≡ formula) ⊎ (Contains proofs path.now × (content path.now ≡ None)))
+IsFaultOf asked content failures faults.CannotWrite = failures ≡ 1
+IsFaultOf asked content failures (faults.NoMemory e) = Unit {0}
+IsFaultOf asked content failures faults.OutOfMemory = Unit {0}
+IsFaultOf asked content failures (faults.Usage text) = asked ≡ the_usage
+
+-- A right fault was told, and this is its status.
+pub record IsFaultTold (asked : Asked) (content : List ℕ → Option (List ℕ)) (failures : ℕ) (old new : List ℕ) (status : ℕ) : Type 0 where
+  pub fault : Fault
+  pub right : IsFaultOf asked content failures fault
+  pub took : new ≡ old ++ fault_text fault
+  pub status_is : status ≡ status_code (status_of_fault fault)

@@ -1,9 +1,9 @@
 -- How the lines of a stream are read from its source.
-use Rattle.std.specs.Prelude.{◌≡◌, ℕ, ◌+◌, Bool, true, false, List, [], ◌++◌, length, Option, None, Some, Ok, Err, slice_get}
-use Rattle.std.specs.Io.KnownBytes.{Keeps}
+use Rattle.std.specs.Prelude.{◌≡◌, ℕ, ◌+◌, Bool, true, false, List, [], ◌++◌, length, take, Option, None, Some, Ok, Err, slice_get}
 use Rattle.lj_text.specs.declared.line.Line.{Line}
 use Rattle.lj_text.specs.Lines.{Said, whole_said, all_said}
-use Rattle.lj_text.specs.LinesRead.{LinesRead, StandsAt, is_no_memory, last_number}
+use Rattle.lj_text.specs.LinesRead.{LinesRead, LineReaderStandsAt, is_line_no_memory, last_number}
+use Rattle.lj_text.specs.Streams.{SourceState, HasGiven, HasEnded}
 use Rattle.lj_run.specs.declared.reading.Miss.{Miss}
 use Rattle.lj_run.specs.declared.reading.Miss.TheVariants.{Failed, AtFault}
 
@@ -12,45 +12,63 @@ pub record MayRead (reader : LinesRead) (ended : Bool) : Type 0 where
   pub no_fault : reader.fault ≡ None
   pub goes_on : ended ≡ false → reader.finished ≡ false
 
--- What was pulled of the text was fed, `given` of the lines were handed out, and the rest is still to come.
-pub record IsReading (text : List ℕ) (given : ℕ) (reader : LinesRead) (ended : Bool) (rest : Option (List ℕ)) : Type 0 where
-  pub fed : List ℕ
-  pub left : List ℕ
-  pub rest_is : rest ≡ Some left
-  pub text_is : text ≡ fed ++ left
-  pub stands : StandsAt reader fed given
-  pub at_end : ended ≡ true → left ≡ []
+-- The source gave a piece, and the reader stands behind it.
+pub record PieceRead (fed : List ℕ) (handed : ℕ) (reader : LinesRead) (before after : SourceState) : Type 0 where
+  pub piece : List ℕ
+  pub gave : HasGiven before after piece
+  pub stands : LineReaderStandsAt reader (fed ++ piece) handed
 
 -- the next of these lines is this one, of this number; none where there are no more
 abbrev pub IsNext : List Said → ℕ → ℕ → Option Line → Type 0
-IsNext lines given at None = slice_get lines given ≡ None
-IsNext lines given at (Some line) = slice_get lines given ≡ Some (record { line = at; says = Ok line })
+IsNext lines handed at None = slice_get lines handed ≡ None
+IsNext lines handed at (Some line) = slice_get lines handed ≡ Some (record { line = at; says = Ok line })
 
 -- how many lines were handed out, with this one
 abbrev pub with_handed : ℕ → Option Line → ℕ
-with_handed given None = given
-with_handed given (Some line) = given + 1
+with_handed handed None = handed
+with_handed handed (Some line) = handed + 1
 
--- A read failed behind a front of the text, in its last line: the lines handed out are those that its whole lines say.
-pub record FailsAt (max : ℕ) (text : List ℕ) (given at : ℕ) (rest : Option (List ℕ)) : Type 0 where
-  pub front : List ℕ
-  pub left : List ℕ
-  pub rest_is : rest ≡ Some left
-  pub text_is : text ≡ front ++ left
-  pub at_is : at ≡ last_number front
-  pub given_is : given ≡ length (whole_said max front)
+-- The source gave a piece behind what the reader was fed. In all of that the lines handed out before are the same, and this one
+-- is the next; where there is none, the source has ended.
+pub record LineRead (max : ℕ) (fed : List ℕ) (handed : ℕ) (reader : LinesRead) (before after : SourceState) (line : Option Line) : Type 0 where
+  pub piece : List ℕ
+  pub gave : HasGiven before after piece
+  pub same : take handed (all_said max (fed ++ piece)) ≡ take handed (all_said max fed)
+  pub next : IsNext (all_said max (fed ++ piece)) handed reader.at line
+  pub stands : LineReaderStandsAt reader (fed ++ piece) (with_handed handed line)
+  pub ended : line ≡ None → HasEnded after
 
--- the next line of the text is at fault, or a read failed; nothing is said of the want of memory
-abbrev pub IsMiss : ℕ → List ℕ → ℕ → ℕ → Option (List ℕ) → Miss → Type 0
-IsMiss max text given at rest Failed = FailsAt max text given at rest
-IsMiss max text given at rest (AtFault fault) = is_no_memory fault.kind ≡ false → slice_get (all_said max text) given ≡ Some (record { line = fault.line; says = Err fault.kind })
+-- A read failed in the last line of a text: the lines handed out are those that its whole lines say.
+pub record FailsAt (max : ℕ) (text : List ℕ) (handed at : ℕ) : Type 0 where
+  pub at_is : at ≡ last_number text
+  pub handed_is : handed ≡ length (whole_said max text)
 
--- a read failed only where a failure was counted
-abbrev pub CountsFailure : ℕ → Miss → Type 0
-CountsFailure failures Failed = failures ≡ 1
-CountsFailure failures (AtFault fault) = Unit {0}
+-- the next line of a text is at fault, or a read failed; nothing is said of the want of memory
+abbrev pub IsMiss : ℕ → List ℕ → ℕ → ℕ → Miss → Type 0
+IsMiss max text handed at Failed = FailsAt max text handed at
+IsMiss max text handed at (AtFault fault) = is_line_no_memory fault.kind ≡ false → slice_get (all_said max text) handed ≡ Some (record { line = fault.line; says = Err fault.kind })
 
--- only the want of memory is told of a piece, and a read that failed left all as it was
-abbrev pub IsPieceMiss : LinesRead → LinesRead → Option (List ℕ) → Option (List ℕ) → Miss → Type 0
-IsPieceMiss old new before after Failed = (new ≡ old) × Keeps before after
-IsPieceMiss old new before after (AtFault fault) = is_no_memory fault.kind ≡ true
+-- The source gave a piece behind what the reader was fed. In all of that the lines handed out before are the same, and the next
+-- one is missed.
+pub record LineMissed (max : ℕ) (fed : List ℕ) (handed at : ℕ) (before after : SourceState) (miss : Miss) : Type 0 where
+  pub piece : List ℕ
+  pub gave : HasGiven before after piece
+  pub same : take handed (all_said max (fed ++ piece)) ≡ take handed (all_said max fed)
+  pub is : IsMiss max (fed ++ piece) handed at miss
+
+-- how many reads failed
+abbrev pub reads_failed : Miss → ℕ
+reads_failed Failed = 1
+reads_failed (AtFault fault) = 0
+
+-- a read that failed gave nothing; only the want of memory is told of a piece
+abbrev pub IsPieceOf : Miss → List ℕ → Type 0
+IsPieceOf Failed piece = piece ≡ []
+IsPieceOf (AtFault fault) piece = is_line_no_memory fault.kind ≡ true
+
+-- A piece was missed, and the reader is as it was.
+pub record PieceMissed (old new : LinesRead) (before after : SourceState) (miss : Miss) : Type 0 where
+  pub piece : List ℕ
+  pub gave : HasGiven before after piece
+  pub is : IsPieceOf miss piece
+  pub same : new ≡ old

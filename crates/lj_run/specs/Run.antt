@@ -1,26 +1,24 @@
--- A run of one stream after another: what the lines of a stream make of a book's state.
+-- What the lines of a stream make of a book's state.
 use Rattle.std.specs.Prelude.{◌≡◌, ℕ, ◌+◌, Bool, true, false, List, [], ◌∷◌, ◌++◌, length, take, drop, Option, Some, None, Result, Ok, Err, is_some, option_and_then, slice_get, ℤ, if◌then◌else◌}
-use Rattle.lj_clause.specs.Walk.{Walk}
-use Rattle.lj_clause.specs.Walk as walk
 use Rattle.lj_text.specs.declared.line.Line.{Line}
 use Rattle.lj_text.specs.declared.line.Line.TheVariants.{Add, Delete, Import}
 use Rattle.lj_text.specs.declared.lines.fault.LineFaultKind.{LineFaultKind}
 use Rattle.lj_text.specs.declared.lines.fault.LineFaultKind.TheVariants as kinds
-use Rattle.lj_text.specs.Lines.{Said, whole_said}
+use Rattle.lj_text.specs.Lines.{Said, whole_said, all_said}
 use Rattle.lj_text.specs.LinesRead.{last_number}
-use Rattle.lj_hint.specs.Case.{CaseValue, walk_of}
-use Rattle.lj_hint.specs.Receipt.{receipt_of}
+use Rattle.lj_text.specs.Streams.{SourceState, HasGiven, HasEnded}
 use Rattle.lj_book.specs.declared.refusal.Refusal.{Refusal}
 use Rattle.lj_book.specs.declared.refusal.Refusal.TheVariants as refusals
 use Rattle.lj_book.specs.State.{State, verdict}
-use Rattle.lj_book.specs.History.{after}
-use Rattle.lj_book.specs.Calls.{take_reply, commit_reply, commit_entry, drop_reply, drop_entry}
+use Rattle.lj_book.specs.History.{after_entry}
+use Rattle.lj_book.specs.Calls.{drop_reply, drop_entry, import_reply, import_entry}
+use Rattle.lj_book.specs.Inside.{inside_reply, inside_entry}
 use Rattle.lj_run.specs.declared.stream.Count.{Count}
-use Rattle.lj_run.specs.declared.stream.Count.TheVariants.{Addition, Deletion}
+use Rattle.lj_run.specs.declared.stream.Count.TheVariants.{Addition, Deletion, Importing}
 use Rattle.lj_run.specs.declared.outcome.End.{End}
 use Rattle.lj_run.specs.declared.outcome.End.TheVariants.{Ended, Stopped, Line as AtLine}
 use Rattle.lj_run.specs.declared.outcome.LineEnd.{LineEnd}
-use Rattle.lj_run.specs.declared.outcome.LineEnd.TheVariants.{Fault, Refused, ReadFailed, NotYet}
+use Rattle.lj_run.specs.declared.outcome.LineEnd.TheVariants.{Fault, Refused, ReadFailed}
 
 -- ---- one line
 
@@ -29,30 +27,15 @@ abbrev pub if_accepted : {A : Type 0} → Result A Refusal → State → Result 
 if_accepted (Ok reply) s = Ok s
 if_accepted (Err refusal) s = Err (Refused refusal)
 
--- an addition whose walk stays open: the empty lemma is refused, and a pivot isn't tested yet
-abbrev pub left_open : Option ℤ → LineEnd
-left_open None = Refused refusals.EmptyOpen
-left_open (Some pivot) = NotYet
-
--- a case that was taken, by the end of its walk: a closed one is committed with the hints that were read
-abbrev pub walked : State → CaseValue → Walk → Result State LineEnd
-walked s c (walk.Closed used) = let r = receipt_of c (length used) in if_accepted (commit_reply s r) (after s (commit_entry s r))
-walked s c (walk.Open held) = Err (left_open c.lemma.pivot)
-walked s c (walk.Stuck place) = Err (Refused (refusals.HintNotUnit place))
-
-abbrev pub taken : State → Result CaseValue Refusal → Result State LineEnd
-taken s (Ok c) = walked s c (walk_of c)
-taken s (Err refusal) = Err (Refused refusal)
-
 -- A stream's line given to the book: the state that it leaves, or why it isn't accepted.
-abbrev pub entered : State → ℕ → Line → Result State LineEnd
-entered s seat (Add a) = taken s (take_reply s seat a)
-entered s seat (Delete numbers) = if_accepted (drop_reply s seat numbers) (after s (drop_entry s seat numbers))
-entered s seat (Import number clause) = Err NotYet
+abbrev pub line_reply : State → ℕ → Line → Result State LineEnd
+line_reply s seat (Add a) = if_accepted (inside_reply s seat a) (after_entry s (inside_entry s seat a))
+line_reply s seat (Delete numbers) = if_accepted (drop_reply s seat numbers) (after_entry s (drop_entry s seat numbers))
+line_reply s seat (Import number clause) = if_accepted (import_reply s seat number clause) (after_entry s (import_entry seat number clause))
 
 -- the answer that a line isn't accepted is right, unless memory ran out
 abbrev pub IsLineEnd : {A : Type 0} → LineEnd → Result A LineEnd → Type 0
-IsLineEnd (Refused refusals.NoMemory) reply = Unit {0}
+IsLineEnd (Refused (refusals.NoMemory _)) reply = Unit {0}
 IsLineEnd end reply = reply ≡ Err end
 
 -- ---- the lines of a stream
@@ -64,31 +47,31 @@ pub record Progress : Type 0 where
   pub deleted : ℕ
   pub imported : ℕ
 
--- the progress of a stream without imports
-abbrev pub progress_of : State → ℕ → ℕ → Progress
-progress_of s added deleted = record { state = s; added = added; deleted = deleted; imported = 0 }
+-- the progress of a stream with these counts
+abbrev pub progress_of : State → ℕ → ℕ → ℕ → Progress
+progress_of s added deleted imported = record { state = s; added = added; deleted = deleted; imported = imported }
 
 -- what a line is counted as
 abbrev pub IsCounted : Line → Count → Type 0
 IsCounted (Add a) count = count ≡ Addition
 IsCounted (Delete numbers) count = count ≡ Deletion
-IsCounted (Import number clause) count = ⊥
+IsCounted (Import number clause) count = count ≡ Importing
 
 -- the progress with a line counted, and the state that it left
-abbrev pub counted : Progress → Line → State → Progress
-counted p (Add a) s = record p { state = s; added = p.added + 1 }
-counted p (Delete numbers) s = record p { state = s; deleted = p.deleted + 1 }
-counted p (Import number clause) s = record p { state = s; imported = p.imported + 1 }
+abbrev pub with_line : Progress → Line → State → Progress
+with_line p (Add a) s = record p { state = s; added = p.added + 1 }
+with_line p (Delete numbers) s = record p { state = s; deleted = p.deleted + 1 }
+with_line p (Import number clause) s = record p { state = s; imported = p.imported + 1 }
 
 abbrev pub has_verdict : State → Bool
 has_verdict s = is_some (verdict s.history)
 
 abbrev pub if_entered : Progress → Line → Result State LineEnd → Option Progress
-if_entered p line (Ok s) = Some (counted p line s)
+if_entered p line (Ok s) = Some (with_line p line s)
 if_entered p line (Err end) = None
 
 abbrev pub said_entered : ℕ → Progress → Result Line LineFaultKind → Option Progress
-said_entered seat p (Ok line) = if_entered p line (entered p.state seat line)
+said_entered seat p (Ok line) = if_entered p line (line_reply p.state seat line)
 said_entered seat p (Err kind) = None
 
 -- what lines leave, where none is at fault or refused and the verdict stands before none of them
@@ -100,14 +83,14 @@ all_entered seat p (said ∷ more) = if has_verdict p.state then None else optio
 
 -- the first of the lines is this one, and its text has this fault; nothing is said of the want of memory
 abbrev pub MeetsFault : ℕ → LineFaultKind → List Said → Type 0
-MeetsFault n kinds.NoMemory rest = Unit {0}
+MeetsFault n (kinds.NoMemory _) rest = Unit {0}
 MeetsFault n kind rest = slice_get rest 0 ≡ Some (record { line = n; says = Err kind })
 
 -- The first of the lines is this one, and it isn't accepted for this reason.
 pub record MeetsRefusal (seat : ℕ) (s : State) (n : ℕ) (end : LineEnd) (rest : List Said) : Type 0 where
   pub line : Line
   pub first : slice_get rest 0 ≡ Some (record { line = n; says = Ok line })
-  pub refused : entered s seat line ≡ Err end
+  pub refused : line_reply s seat line ≡ Err end
 
 -- The first of the lines is this one, and its text has no fault.
 pub record MeetsLine (n : ℕ) (rest : List Said) : Type 0 where
@@ -116,15 +99,14 @@ pub record MeetsLine (n : ℕ) (rest : List Said) : Type 0 where
 
 -- the book refuses it; of the want of memory nothing more is said
 abbrev pub MeetsRefused : ℕ → State → ℕ → Refusal → List Said → Type 0
-MeetsRefused seat s n refusals.NoMemory rest = MeetsLine n rest
+MeetsRefused seat s n (refusals.NoMemory _) rest = MeetsLine n rest
 MeetsRefused seat s n refusal rest = MeetsRefusal seat s n (Refused refusal) rest
 
--- The line at which a stream ends, and why. That a read failed is told of the source, and not of its lines (IsFailedRead).
+-- The line at which a stream ends, and why. Of a read that failed see IsFailedRead.
 abbrev pub EndsAtLine : ℕ → State → ℕ → LineEnd → List Said → Type 0
 EndsAtLine seat s n (Fault kind) rest = MeetsFault n kind rest
 EndsAtLine seat s n (Refused refusal) rest = MeetsRefused seat s n refusal rest
 EndsAtLine seat s n ReadFailed rest = Unit {0}
-EndsAtLine seat s n NotYet rest = MeetsRefusal seat s n NotYet rest
 
 -- a stream ends so in this state, with these lines still to come: at its end, before its next line where the verdict stands,
 -- or at that line
@@ -140,15 +122,11 @@ pub record IsRun (seat : ℕ) (lines : List Said) (start final : Progress) (end 
   pub enters : all_entered seat start (take count lines) ≡ Some final
   pub ends : EndsWith seat final.state (drop count lines) end
 
--- A read of a stream failed in this line: what is left to come was not delivered, the line is the last of what was, and its
--- whole lines lead from one progress to the other.
-pub record IsFailedRead (seat : ℕ) (text : List ℕ) (rest : Option (List ℕ)) (start final : Progress) (n : ℕ) : Type 0 where
-  pub front : List ℕ
-  pub left : List ℕ
-  pub rest_is : rest ≡ Some left
-  pub text_is : text ≡ front ++ left
-  pub line_is : n ≡ last_number front
-  pub enters : all_entered seat start (whole_said 134217727 front) ≡ Some final
+-- A read of a stream failed in this line: it is the last of what the source gave, and the whole lines of that lead from one
+-- progress to the other.
+pub record IsFailedRead (seat : ℕ) (text : List ℕ) (start final : Progress) (n : ℕ) : Type 0 where
+  pub line_is : n ≡ last_number text
+  pub enters : all_entered seat start (whole_said 134217727 text) ≡ Some final
 
 -- what holds where a stream ended at a read that failed
 abbrev pub IfReadFailed : End → (ℕ → Type 0) → Type 0
@@ -157,9 +135,19 @@ IfReadFailed Stopped P = Unit {0}
 IfReadFailed (AtLine n ReadFailed) P = P n
 IfReadFailed (AtLine n end) P = Unit {0}
 
--- a read failed
-abbrev pub IsReadFailure : End → Type 0
-IsReadFailure Ended = ⊥
-IsReadFailure Stopped = ⊥
-IsReadFailure (AtLine n ReadFailed) = Unit {0}
-IsReadFailure (AtLine n end) = ⊥
+-- how many reads of a stream failed that ended so
+abbrev pub failed_reads : End → ℕ
+failed_reads Ended = 0
+failed_reads Stopped = 0
+failed_reads (AtLine n ReadFailed) = 1
+failed_reads (AtLine n end) = 0
+
+-- A stream under this seat led from one progress to the other, and ended so. What its source gave meanwhile are its lines: all of
+-- them where it ended, as the source has then, and the first ones else. A read failed exactly where that is how it ended.
+pub record IsStreamRun (seat : ℕ) (before after : SourceState) (start final : Progress) (end : End) : Type 0 where
+  pub text : List ℕ
+  pub gave : HasGiven before after text
+  pub runs : IsRun seat (all_said 134217727 text) start final end
+  pub failed_read : IfReadFailed end (IsFailedRead seat text start final)
+  pub ended : end ≡ Ended → HasEnded after
+  pub failures : after.failures ≡ failed_reads end

@@ -1,14 +1,44 @@
 //! Files by their paths: those of the machine, and those of a map in memory.
-ghost use Rattle.std.specs.Prelude.{◌≡◌, ◌≢◌, ℕ, Option, List, [], None, false, IsTrue, IfSome, OnSome, OnOk, OnErr};
+ghost use Rattle.std.specs.Prelude.{◌≡◌, ◌≢◌, ℕ, Option, List, [], None, Err, false, IsTrue, IsSome, IfOk, OnSome, OnOk, OnErr};
 ghost use Rattle.std.specs.Io.KnownBytes.{Keeps};
+ghost use Rattle.lj_run.specs.declared.files.FileFault.TheVariants as file_faults;
 
+use lj_clause::NoMemory;
 use lj_text::{MemorySink, MemorySource, ReaderSource, Sink, SinkFault, Source, WriterSink};
-use std::alloc::{AllocError, Global};
+use std::alloc::{AllocError, AllocFailed, Global};
 use std::cell::RefCell;
 use std::collections::BTreeMap;
 use std::fs;
 use std::marker::Model;
 use std::rc::Rc;
+use thiserror::Error;
+
+/// Why a file wasn't opened or created.
+#[derive(Clone, Copy, Debug, PartialEq, Eq, Error)]
+pub enum FileFault {
+    /// It can't be.
+    #[error("cannot open")]
+    CannotOpen,
+    /// A growth of memory was refused.
+    #[error("NoMemory")]
+    NoMemory(NoMemory),
+}
+
+impl From<AllocError> for FileFault {
+    ghost from_gives = { λ _ fault. fault ≢ file_faults.CannotOpen };
+
+    fn from(e: AllocError) -> FileFault {
+        FileFault::NoMemory(e.into())
+    }
+}
+
+impl<T: Drop> From<AllocFailed<T>> for FileFault {
+    ghost from_gives = { λ _ fault. fault ≢ file_faults.CannotOpen };
+
+    fn from(e: AllocFailed<T>) -> FileFault {
+        FileFault::NoMemory(e.into())
+    }
+}
 
 /// Opens paths as sources and creates them as sinks.
 pub trait Files {
@@ -19,16 +49,19 @@ pub trait Files {
     /// The bytes at a path, where the files tell them.
     ghost content: { Self → List ℕ → Option (List ℕ) };
 
-    /// The bytes of the file at a path. None where it can't be opened.
-    fn open(&mut self, path: &str) -> Option<Self::Input>
-        ensures unfailed { IfSome result (λ input. Self.Input.failures input ≡ 0) }
-        ensures bytes { IfSome result (λ input. Keeps (content self.old path.now) (Self.Input.rest input)) }
-        ensures same { (other : List ℕ) → Keeps (content self.old other) (content self.new other) };
+    /// The bytes of the file at a path, from their front on. A file whose bytes are told can be opened. The files stay as they are.
+    fn open(&mut self, path: &str) -> Result<Self::Input, FileFault>
+        ensures unfailed { IfOk result (λ input. Self.Input.failures input ≡ 0) }
+        ensures fresh { IfOk result (λ input. Self.Input.given input ≡ []) }
+        ensures bytes { IfOk result (λ input. Keeps (content self.old path.now) (Self.Input.rest input)) }
+        ensures there { IsSome (content self.old path.now) → result ≢ Err file_faults.CannotOpen }
+        ensures same { (other : List ℕ) → content self.new other ≡ content self.old other };
 
-    /// An empty file at a path, in place of one that stood there. None where it can't be created.
-    fn create(&mut self, path: &str) -> Option<Self::Output>
-        ensures unfailed { IfSome result (λ output. Self.Output.failures output ≡ 0) }
-        ensures others { (other : List ℕ) → other ≢ path.now → Keeps (content self.old other) (content self.new other) };
+    /// An empty file at a path, in place of one that stood there. The others stay as they are.
+    fn create(&mut self, path: &str) -> Result<Self::Output, FileFault>
+        ensures unfailed { IfOk result (λ output. Self.Output.failures output ≡ 0) }
+        ensures fresh { IfOk result (λ output. Self.Output.taken output ≡ []) }
+        ensures others { (other : List ℕ) → other ≢ path.now → content self.new other ≡ content self.old other };
 }
 
 /// The files of the machine that the runtime reaches. It tells no bytes.
@@ -42,14 +75,18 @@ impl<'a, R: std::rt::Files> Files for MachineFiles<'a, R> {
 
     ghost content = { λ _ _. None };
 
-    fn open(&mut self, path: &str) -> Option<ReaderSource<R::File>> {
-        let file = fs::open(self.0, path).ok()?;
-        Some(ReaderSource::new(file))
+    fn open(&mut self, path: &str) -> Result<ReaderSource<R::File>, FileFault> {
+        match fs::open(self.0, path) {
+            Ok(file) => Ok(ReaderSource::new(file)),
+            Err(_) => Err(FileFault::CannotOpen),
+        }
     }
 
-    fn create(&mut self, path: &str) -> Option<WriterSink<R::File>> {
-        let file = fs::create(self.0, path).ok()?;
-        Some(WriterSink::new(file))
+    fn create(&mut self, path: &str) -> Result<WriterSink<R::File>, FileFault> {
+        match fs::create(self.0, path) {
+            Ok(file) => Ok(WriterSink::new(file)),
+            Err(_) => Err(FileFault::CannotOpen),
+        }
     }
 }
 
@@ -78,7 +115,9 @@ impl Drop for MemoryFile {
 impl Sink for MemoryFile {
     ghost use Rattle.std.specs.Prelude.{Some};
 
-    ghost taken = { λ file. Some file.0 };
+    ghost taken = { λ file. file.0 };
+
+    ghost contents = { λ file. Some file.0 };
 
     ghost failures = { λ file. file.1 };
 
@@ -113,8 +152,10 @@ impl MemoryFiles {
     /// Puts a file with these bytes at a path.
     pub fn add(&mut self, path: &str, bytes: &[u8]) -> Result<(), AllocError>
         ensures added { OnOk result (bytes_at self.new path.now ≡ Some bytes.now) }
-        ensures others { OnOk result ((other : List ℕ) → other ≢ path.now → bytes_at self.new other ≡ bytes_at self.old other) }
+        ensures others { (other : List ℕ) → other ≢ path.now → bytes_at self.new other ≡ bytes_at self.old other }
+        ensures known { (other : List ℕ) → other ≢ path.now → is_file self.new other ≡ is_file self.old other }
         ensures err { OnErr result ((any : List ℕ) → bytes_at self.new any ≡ bytes_at self.old any) }
+        ensures err_known { OnErr result ((any : List ℕ) → is_file self.new any ≡ is_file self.old any) }
     {
         let bytes = bytes.to_vec(self.alloc)?;
         let path = String::from_str(self.alloc, path)?;
@@ -127,13 +168,15 @@ impl MemoryFiles {
     pub fn written(&self, path: &str) -> Option<Vec<u8>>
         ensures { OnSome result (IsTrue (is_file self.now path.now)) }
     {
-        copy_of(self.alloc, self.created.get(path)?)
+        copy_of(self.alloc, self.created.get(path)?).ok()
     }
 }
 
-fn copy_of(alloc: Global, slot: &Rc<RefCell<Vec<u8>>>) -> Option<Vec<u8>> {
-    let bytes = slot.try_borrow().ok()?;
-    bytes.as_slice().to_vec(alloc).ok()
+fn copy_of(alloc: Global, slot: &Rc<RefCell<Vec<u8>>>) -> Result<Vec<u8>, FileFault> {
+    match slot.try_borrow() {
+        Ok(bytes) => Ok(bytes.as_slice().to_vec(alloc)?),
+        Err(_) => Err(FileFault::CannotOpen),
+    }
 }
 
 impl Files for MemoryFiles {
@@ -146,32 +189,39 @@ impl Files for MemoryFiles {
 
     ghost content = { bytes_at };
 
-    fn open(&mut self, path: &str) -> Option<MemorySource>
-        ensures bytes { IfSome result (λ input. Keeps (bytes_at self.old path.now) (Some input)) }
-        ensures same { (other : List ℕ) → Keeps (bytes_at self.old other) (bytes_at self.new other) }
-        ensures known { OnSome result (IsTrue (is_file self.old path.now)) }
+    fn open(&mut self, path: &str) -> Result<MemorySource, FileFault>
+        ensures fresh { IfOk result (λ input. input.given ≡ []) }
+        ensures bytes { IfOk result (λ input. Keeps (bytes_at self.old path.now) (Some input.rest)) }
+        ensures there { IsSome (bytes_at self.old path.now) → result ≢ Err file_faults.CannotOpen }
+        ensures missing { is_file self.old path.now ≡ false → result ≡ Err file_faults.CannotOpen }
+        ensures same { (other : List ℕ) → bytes_at self.new other ≡ bytes_at self.old other }
+        ensures unchanged { self.new ≡ self.old }
     {
         let bytes = match self.added.get(path) {
-            Some(bytes) => bytes.as_slice().to_vec(self.alloc).ok()?,
-            None => copy_of(self.alloc, self.created.get(path)?)?,
+            Some(bytes) => bytes.as_slice().to_vec(self.alloc)?,
+            None => match self.created.get(path) {
+                Some(slot) => copy_of(self.alloc, slot)?,
+                None => return Err(FileFault::CannotOpen),
+            },
         };
-        Some(MemorySource::new(bytes))
+        Ok(MemorySource::new(bytes))
     }
 
-    fn create(&mut self, path: &str) -> Option<MemoryFile>
-        ensures unfailed { IfSome result (λ output. output.1 ≡ 0) }
-        ensures empty { IfSome result (λ output. output.0 ≡ []) }
-        ensures others { (other : List ℕ) → other ≢ path.now → Keeps (bytes_at self.old other) (bytes_at self.new other) }
-        ensures untold { OnSome result (bytes_at self.new path.now ≡ None) }
-        ensures known { OnSome result (IsTrue (is_file self.new path.now)) }
+    fn create(&mut self, path: &str) -> Result<MemoryFile, FileFault>
+        ensures unfailed { IfOk result (λ output. output.1 ≡ 0) }
+        ensures fresh { IfOk result (λ output. output.0 ≡ []) }
+        ensures others { (other : List ℕ) → other ≢ path.now → bytes_at self.new other ≡ bytes_at self.old other }
+        ensures others_known { (other : List ℕ) → other ≢ path.now → is_file self.new other ≡ is_file self.old other }
+        ensures untold { OnOk result (bytes_at self.new path.now ≡ None) }
+        ensures known { OnOk result (IsTrue (is_file self.new path.now)) }
     {
-        let slot = Rc::new(self.alloc, RefCell::new(Vec::new(self.alloc))).ok()?;
-        let shared = slot.clone().ok()?;
-        let key = String::from_str(self.alloc, path).ok()?;
-        self.created.insert(key, shared).ok()?;
+        let slot = Rc::new(self.alloc, RefCell::new(Vec::new(self.alloc)))?;
+        let shared = slot.clone()?;
+        let key = String::from_str(self.alloc, path)?;
+        self.created.insert(key, shared)?;
         let _ = self.added.remove(path);
         let sink = MemorySink::new(self.alloc);
-        Some(MemoryFile { sink, slot })
+        Ok(MemoryFile { sink, slot })
     }
 }
 

@@ -1,10 +1,9 @@
 //! The run of streams one after the other, on one book.
-ghost use Rattle.std.specs.Prelude.{◌≡◌, length, map, All, None, IfOk, IfErr, IfSome};
+ghost use Rattle.std.specs.Prelude.{◌≡◌, ◌<◌, ◌≤◌, length, All, None, IfOk, IfErr};
 ghost use Rattle.lj_clause.specs.ClauseMap.{FormulaValue};
-ghost use Rattle.lj_text.specs.Cnf.{Spells};
-ghost use Rattle.lj_run.specs.FormulaReading.{IsFormulaFault};
-ghost use Rattle.lj_run.specs.InTurn.{IsOutcome, IsReport};
-ghost use Rattle.lj_run.specs.Run.{IsReadFailure};
+ghost use Rattle.lj_text.specs.Streams.{source_state};
+ghost use Rattle.lj_run.specs.FormulaReading.{GaveFormula, IsFormulaFault};
+ghost use Rattle.lj_run.specs.InTurn.{IsOutcome, IsReport, RunInTurn, streams_by_seat};
 
 use crate::outcome::{Options, Outcome, ProofEnd, Report, RunFault};
 use crate::reading::read_formula;
@@ -12,14 +11,14 @@ use crate::stream::run_stream;
 use lj_book::Book;
 use lj_clause::MAX_VARIABLE;
 use lj_text::{Sink, Source};
-use std::alloc::Global;
+use std::alloc::{AllocFailed, Global};
 use std::sync::Wait;
 
-/// Reads a formula, and runs the streams one after the other on one book of it, each under a seat of its own. So far there
-/// is one stream, no closing one, and no proof is asked for.
+/// Reads a formula, and runs the streams one after the other on one book of it, each under a seat of its own: the closing
+/// one has the last seat, and runs last. No proof is asked for so far.
 ///
 /// # Errors
-/// The fault of the formula's text, a read of it that failed, or want of memory outside the stream.
+/// The fault of the formula's text, a read of it that failed, or want of memory outside the streams.
 pub fn run_in_turn<R: Wait, F: Source, S: Source + Drop, W: Sink>(
     rt: &R,
     alloc: Global,
@@ -29,24 +28,24 @@ pub fn run_in_turn<R: Wait, F: Source, S: Source + Drop, W: Sink>(
     options: &Options,
     out: Option<&mut W>,
 ) -> Result<Outcome<S>, RunFault>
-    requires one_stream { length streams.items ≡ 1 }
-    requires none_closing { closing ≡ None }
+    requires some { 0 < length (streams_by_seat streams.items closing) }
+    requires at_most { length (streams_by_seat streams.items closing) ≤ 1024 }
     requires none_asked { out ≡ None }
     requires unfailed { F.failures formula.old ≡ 0 }
-    requires streams_unfailed { All (λ stream. S.failures stream ≡ 0) streams.items }
+    requires streams_unfailed { All (λ stream. S.failures stream ≡ 0) (streams_by_seat streams.items closing) }
 
-    ensures outcome { IfOk result (λ outcome. IfSome (F.rest formula.old) (λ text. (f : FormulaValue) × Spells MAX_VARIABLE text f
-        × IsOutcome (λ source. S.rest source) f options.now.max_steps (map (λ source. S.rest source) streams.items) outcome)) }
-    ensures failed { IfOk result (λ outcome. All (λ report. IsReadFailure report.end → S.failures report.source ≡ 1) outcome.reports.items) }
-    ensures fault { IfErr result (IsFormulaFault (F.rest formula.old) (F.failures formula.new)) }
+    ensures outcome { IfOk result (λ outcome. (f : FormulaValue)
+        × GaveFormula (source_state F.given F.ended F.rest F.failures formula.old)
+        (source_state F.given F.ended F.rest F.failures formula.new) f
+        × IsOutcome (source_state S.given S.ended S.rest S.failures) f options.now.max_steps
+        (streams_by_seat streams.items closing) outcome) }
+    ensures fault { IfErr result (IsFormulaFault (source_state F.given F.ended F.rest F.failures formula.old)
+        (source_state F.given F.ended F.rest F.failures formula.new)) }
 {
     let formula = read_formula(rt, alloc, formula)?;
-    let mut book = Book::open(alloc, formula, 1, options.max_steps)?;
-    let Some(stream) = streams.into_iter().next() else {
-        unreachable!()
-    };
-    let mut reports = Vec::new(alloc);
-    reports.push(run_of(rt, alloc, &mut book, 0, stream))?;
+    let streams = by_seat(streams, closing)?;
+    let mut book = Book::open(alloc, formula, streams.len() as u32, options.max_steps)?;
+    let reports = run_all(rt, alloc, &mut book, streams)?;
     let verified = book.verified()?;
     let steps = book.into_steps()?;
     Ok(Outcome {
@@ -55,6 +54,39 @@ pub fn run_in_turn<R: Wait, F: Source, S: Source + Drop, W: Sink>(
         steps,
         proof: ProofEnd::NotAsked,
     })
+}
+
+/// The streams by their seats, the closing one last.
+fn by_seat<S: Drop>(streams: Vec<S>, closing: Option<S>) -> Result<Vec<S>, AllocFailed<S>>
+    ensures { IfOk result (λ all. all.items ≡ streams_by_seat streams.items closing) }
+{
+    let mut all = streams;
+    if let Some(last) = closing {
+        all.push(last)?;
+    }
+    Ok(all)
+}
+
+/// Runs the streams in turn, the first under seat 0, and reports of each.
+fn run_all<R: Wait, S: Source + Drop>(
+    rt: &R,
+    alloc: Global,
+    book: &mut Book,
+    streams: Vec<S>,
+) -> Result<Vec<Report<S>>, AllocFailed<Report<S>>>
+    requires at_most { length streams.items ≤ 1024 }
+    requires unfailed { All (λ stream. S.failures stream ≡ 0) streams.items }
+    ensures reports { IfOk result (λ reports. RunInTurn (source_state S.given S.ended S.rest S.failures) 0 streams.items
+        book.old reports.items book.new) }
+    ensures formula { book.new.formula ≡ book.old.formula }
+{
+    let mut reports = Vec::new(alloc);
+    let mut seat = 0;
+    for stream in streams {
+        reports.push(run_of(rt, alloc, book, seat, stream))?;
+        seat += 1;
+    }
+    Ok(reports)
 }
 
 /// Runs a stream under a seat, and reports of it.
@@ -66,8 +98,7 @@ fn run_of<R: Wait, S: Source>(
     stream: S,
 ) -> Report<S>
     requires { S.failures stream ≡ 0 }
-    ensures report { IfSome (S.rest stream) (IsReport (λ source. S.rest source) seat book.old book.new result) }
-    ensures failed { IsReadFailure result.end → S.failures result.source ≡ 1 }
+    ensures report { IsReport (source_state S.given S.ended S.rest S.failures) seat book.old book.new stream result }
     ensures formula { book.new.formula ≡ book.old.formula }
 {
     let mut source = stream;
@@ -75,7 +106,7 @@ fn run_of<R: Wait, S: Source>(
     Report {
         added: tally.added,
         deleted: tally.deleted,
-        imported: 0,
+        imported: tally.imported,
         end: tally.end,
         source,
     }

@@ -2,15 +2,23 @@
 #![tactic(auto)]
 
 mod body;
+mod checking;
 mod command_line;
+mod fault;
 pub mod files;
 mod in_turn;
+mod opening;
 pub mod outcome;
+mod printing;
 mod reading;
+mod starting;
+mod status;
 mod stream;
 mod words;
 
 pub use body::program;
-pub use files::{Files, MachineFiles, MemoryFile, MemoryFiles};
+pub use checking::{CheckFault, Verdict, check};
+pub use files::{FileFault, Files, MachineFiles, MemoryFile, MemoryFiles};
 pub use in_turn::run_in_turn;
 pub use outcome::{End, LineEnd, Options, Outcome, ProofEnd, Report, RunFault};
+pub use starting::start;

@@ -1,13 +1,14 @@
 //! What a run is given, and what comes of it.
 ghost use Rattle.std.specs.Prelude.{◌≡◌};
+ghost use Rattle.lj_clause.specs.Memory.{no_memory};
 ghost use Rattle.lj_run.specs.declared.outcome.RunFault.TheVariants as run_faults;
 
 use lj_book::{Refusal, Verified};
 use lj_clause::NoMemory;
 use lj_text::{CnfFault, LineFaultKind, Step};
 use std::alloc::{AllocError, AllocFailed};
+use std::error::Error;
 use std::fmt;
-use thiserror::Error;
 
 /// What a run is asked for beside its inputs.
 #[derive(Clone, Copy, Debug, PartialEq, Eq)]
@@ -44,14 +45,16 @@ pub struct Report<S> {
 }
 
 impl<S> fmt::Display for Report<S> {
+    ghost use Rattle.std.specs.Prelude.{Some};
+    ghost use Rattle.lj_run.specs.OutcomeText.{report_text};
+
+    ghost output = { λ report. Some (report_text report) };
+
     fn fmt<W: fmt::Write>(&self, f: &mut fmt::Formatter<W>) -> fmt::Result {
-        let Report {
-            added,
-            deleted,
-            imported,
-            end,
-            source: _,
-        } = self;
+        let added = self.added;
+        let deleted = self.deleted;
+        let imported = self.imported;
+        let end = self.end;
         write!(
             f,
             "{added} added, {deleted} deleted, {imported} imported, {end}"
@@ -71,31 +74,47 @@ pub enum End {
 }
 
 impl fmt::Display for End {
+    ghost use Rattle.std.specs.Prelude.{Some};
+    ghost use Rattle.lj_run.specs.OutcomeText.{end_text};
+
+    ghost output = { λ end. Some (end_text end) };
+
     fn fmt<W: fmt::Write>(&self, f: &mut fmt::Formatter<W>) -> fmt::Result {
         match self {
-            End::Ended => write!(f, "ended"),
-            End::Stopped => write!(f, "stopped"),
+            End::Ended => f.write_str("ended"),
+            End::Stopped => f.write_str("stopped"),
             End::Line(line, why) => write!(f, "line {line}: {why}"),
         }
     }
 }
 
 /// Why a line wasn't accepted.
-#[derive(Clone, Copy, Debug, PartialEq, Eq, Error)]
+#[derive(Clone, Copy, Debug, PartialEq, Eq)]
 pub enum LineEnd {
     /// Its text is at fault.
-    #[error("{0}")]
     Fault(LineFaultKind),
     /// The book refused it.
-    #[error("{0}")]
     Refused(Refusal),
     /// A read of the stream failed.
-    #[error("ReadFailed")]
     ReadFailed,
-    /// Lines of its form aren't checked yet.
-    #[error("NotYet")]
-    NotYet,
 }
+
+impl fmt::Display for LineEnd {
+    ghost use Rattle.std.specs.Prelude.{Some};
+    ghost use Rattle.lj_run.specs.OutcomeText.{line_end_text};
+
+    ghost output = { λ end. Some (line_end_text end) };
+
+    fn fmt<W: fmt::Write>(&self, f: &mut fmt::Formatter<W>) -> fmt::Result {
+        match self {
+            LineEnd::Fault(kind) => write!(f, "{kind}"),
+            LineEnd::Refused(refusal) => write!(f, "{refusal}"),
+            LineEnd::ReadFailed => f.write_str("ReadFailed"),
+        }
+    }
+}
+
+impl Error for LineEnd {}
 
 impl From<LineFaultKind> for LineEnd {
     ghost use Rattle.lj_run.specs.declared.outcome.LineEnd.TheVariants.{Fault};
@@ -125,7 +144,7 @@ pub enum ProofEnd {
 }
 
 /// Why a run has no outcome.
-#[derive(Clone, Copy, Debug, PartialEq, Eq, Error)]
+#[derive(Clone, Copy, Debug, PartialEq, Eq, thiserror::Error)]
 pub enum RunFault {
     /// The formula's text is at fault.
     #[error("line {}: {}", .0.line, .0.kind)]
@@ -135,29 +154,29 @@ pub enum RunFault {
     FormulaRead,
     /// A growth of memory was refused outside a stream.
     #[error("NoMemory")]
-    NoMemory,
+    NoMemory(NoMemory),
 }
 
 impl From<AllocError> for RunFault {
-    ghost from_gives = { λ _ fault. fault ≡ run_faults.NoMemory };
+    ghost from_gives = { λ _ fault. fault ≡ run_faults.NoMemory no_memory };
 
-    fn from(_: AllocError) -> RunFault {
-        RunFault::NoMemory
+    fn from(e: AllocError) -> RunFault {
+        RunFault::NoMemory(e.into())
     }
 }
 
 impl<T: Drop> From<AllocFailed<T>> for RunFault {
-    ghost from_gives = { λ _ fault. fault ≡ run_faults.NoMemory };
+    ghost from_gives = { λ _ fault. fault ≡ run_faults.NoMemory no_memory };
 
-    fn from(_: AllocFailed<T>) -> RunFault {
-        RunFault::NoMemory
+    fn from(e: AllocFailed<T>) -> RunFault {
+        RunFault::NoMemory(e.into())
     }
 }
 
 impl From<NoMemory> for RunFault {
-    ghost from_gives = { λ _ fault. fault ≡ run_faults.NoMemory };
+    ghost from_gives = { λ e fault. fault ≡ run_faults.NoMemory e };
 
-    fn from(_: NoMemory) -> RunFault {
-        RunFault::NoMemory
+    fn from(e: NoMemory) -> RunFault {
+        RunFault::NoMemory(e)
     }
 }

@@ -1,9 +1,10 @@
 //! Formulas and the lines of streams, read from their sources in pieces.
-ghost use Rattle.std.specs.Prelude.{◌≡◌, ◌<◌, ℕ, List, [], length, true, false, Some, IfSome, OnOk, OnErr, IfOk, IfErr, MatchResult};
+ghost use Rattle.std.specs.Prelude.{◌≡◌, ◌<◌, ℕ, List, [], length, true, false, OnOk, OnErr, IfOk, IfErr};
 ghost use Rattle.lj_text.specs.Cnf.{Spells};
-ghost use Rattle.lj_text.specs.Lines.{all_said};
-ghost use Rattle.lj_run.specs.FormulaReading.{IsReadingFormula, IsFormulaFault, IsFaultAtEnd};
-ghost use Rattle.lj_run.specs.Reading.{MayRead, IsReading, IsNext, with_handed, IsMiss, CountsFailure, IsPieceMiss};
+ghost use Rattle.lj_text.specs.LinesRead.{LineReaderStandsAt};
+ghost use Rattle.lj_text.specs.Streams.{source_state, HasEnded};
+ghost use Rattle.lj_run.specs.FormulaReading.{IsReadingFormula, FormulaReadOn, GaveFormula, IsFormulaFault, IsFaultAtEnd};
+ghost use Rattle.lj_run.specs.Reading.{MayRead, PieceRead, LineRead, LineMissed, PieceMissed, reads_failed};
 
 use crate::outcome::RunFault;
 use lj_clause::{Formula, MAX_VARIABLE};
@@ -12,7 +13,7 @@ use std::alloc::Global;
 use std::sync::Wait;
 
 /// The most bytes that are pulled at a time.
-pub(crate) const PIECE: usize = 4096;
+pub(crate) const PIECE: usize = 65_536;
 
 /// The formula that a source's bytes spell. A source that has failed is told before a fault of its text.
 pub(crate) fn read_formula<R: Wait, F: Source>(
@@ -21,8 +22,10 @@ pub(crate) fn read_formula<R: Wait, F: Source>(
     source: &mut F,
 ) -> Result<Formula, RunFault>
     requires { F.failures source.old ≡ 0 }
-    ensures formula { IfOk result (λ formula. IfSome (F.rest source.old) (λ text. Spells MAX_VARIABLE text formula)) }
-    ensures fault { IfErr result (IsFormulaFault (F.rest source.old) (F.failures source.new)) }
+    ensures formula { IfOk result (GaveFormula (source_state F.given F.ended F.rest F.failures source.old)
+        (source_state F.given F.ended F.rest F.failures source.new)) }
+    ensures fault { IfErr result (IsFormulaFault (source_state F.given F.ended F.rest F.failures source.old)
+        (source_state F.given F.ended F.rest F.failures source.new)) }
 {
     let mut reader = CnfReader::new(alloc, MAX_VARIABLE);
     let mut room = [0; PIECE];
@@ -45,8 +48,11 @@ fn pull_formula<F: Source>(
     requires room { 0 < length room.old }
     requires unfailed { F.failures source.old ≡ 0 }
 
-    ensures onward { IfOk result (λ ended. (text : List ℕ) → IsReadingFormula text reader.old (F.rest source.old)
-        → IsReadingFormula text reader.new (F.rest source.new) × (ended ≡ true → F.rest source.new ≡ Some [])) }
+    ensures onward { OnOk result ((fed : List ℕ) → IsReadingFormula fed reader.old → FormulaReadOn fed reader.new
+        (source_state F.given F.ended F.rest F.failures source.old)
+        (source_state F.given F.ended F.rest F.failures source.new)) }
+    ensures ended { IfOk result (λ ended. ended ≡ true
+        → HasEnded (source_state F.given F.ended F.rest F.failures source.new)) }
 
     ensures unfailed { OnOk result (F.failures source.new ≡ 0) }
     ensures failed { OnErr result (F.failures source.new ≡ 1) }
@@ -62,13 +68,13 @@ fn pull_formula<F: Source>(
 
 /// The formula that a reader was fed, once its source has ended.
 fn finish_formula(reader: CnfReader) -> Result<Formula, RunFault>
-    ensures formula { IfOk result (λ formula. (text : List ℕ) → IsReadingFormula text reader (Some []) → Spells reader.max text formula) }
+    ensures formula { IfOk result (λ formula. (fed : List ℕ) → IsReadingFormula fed reader → Spells reader.max fed formula) }
     ensures fault { IfErr result (IsFaultAtEnd reader) }
 {
     match reader.finish() {
         Ok(formula) => Ok(formula),
         Err(fault) => match fault.kind {
-            CnfFaultKind::NoMemory => Err(RunFault::NoMemory),
+            CnfFaultKind::NoMemory(e) => Err(RunFault::NoMemory(e)),
             _ => Err(RunFault::Formula(fault)),
         },
     }
@@ -95,15 +101,22 @@ pub(crate) fn next_line<R: Wait, S: Source>(
     requires room { 0 < length room.old }
     requires unfailed { S.failures source.old ≡ 0 }
     requires may_read { MayRead reader.old ended.old }
+    requires ended { ended.old ≡ true → HasEnded (source_state S.given S.ended S.rest S.failures source.old) }
 
-    ensures line { IfOk result (λ line. (text : List ℕ) (given : ℕ) → IsReading text given reader.old ended.old (S.rest source.old)
-        → IsNext (all_said reader.old.max text) given reader.new.at line × IsReading text (with_handed given line) reader.new ended.new (S.rest source.new)) }
-    ensures miss { IfErr result (λ miss. (text : List ℕ) (given : ℕ) → IsReading text given reader.old ended.old (S.rest source.old)
-        → IsMiss reader.old.max text given reader.new.at (S.rest source.new) miss) }
+    ensures line { IfOk result (λ line. (fed : List ℕ) (handed : ℕ) → LineReaderStandsAt reader.old fed handed
+        → LineRead reader.old.max fed handed reader.new
+        (source_state S.given S.ended S.rest S.failures source.old)
+        (source_state S.given S.ended S.rest S.failures source.new) line) }
+    ensures miss { IfErr result (λ miss. (fed : List ℕ) (handed : ℕ) → LineReaderStandsAt reader.old fed handed
+        → LineMissed reader.old.max fed handed reader.new.at
+        (source_state S.given S.ended S.rest S.failures source.old)
+        (source_state S.given S.ended S.rest S.failures source.new) miss) }
 
     ensures may_read { OnOk result (MayRead reader.new ended.new) }
+    ensures ended { OnOk result (ended.new ≡ true
+        → HasEnded (source_state S.given S.ended S.rest S.failures source.new)) }
     ensures unfailed { OnOk result (S.failures source.new ≡ 0) }
-    ensures failed { IfErr result (CountsFailure (S.failures source.new)) }
+    ensures failures { IfErr result (λ miss. S.failures source.new ≡ reads_failed miss) }
     ensures max { reader.new.max ≡ reader.old.max }
 {
     for _ in rt.forever() {
@@ -135,14 +148,21 @@ fn pull_piece<S: Source>(
     requires may_read { MayRead reader.old ended.old }
     requires goes_on { ended.old ≡ false }
 
-    ensures onward { OnOk result ((text : List ℕ) (given : ℕ) → IsReading text given reader.old ended.old (S.rest source.old)
-        → IsReading text given reader.new ended.new (S.rest source.new)) }
-    ensures miss { IfErr result (IsPieceMiss reader.old reader.new (S.rest source.old) (S.rest source.new)) }
+    ensures onward { OnOk result ((fed : List ℕ) (handed : ℕ) → LineReaderStandsAt reader.old fed handed
+        → PieceRead fed handed reader.new
+        (source_state S.given S.ended S.rest S.failures source.old)
+        (source_state S.given S.ended S.rest S.failures source.new)) }
+    ensures miss { IfErr result (PieceMissed reader.old reader.new
+        (source_state S.given S.ended S.rest S.failures source.old)
+        (source_state S.given S.ended S.rest S.failures source.new)) }
 
     ensures may_read { OnOk result (MayRead reader.new ended.new) }
+    ensures ended { OnOk result (ended.new ≡ true
+        → HasEnded (source_state S.given S.ended S.rest S.failures source.new)) }
     ensures unfailed { OnOk result (S.failures source.new ≡ 0) }
-    ensures failed { IfErr result (CountsFailure (S.failures source.new)) }
+    ensures failures { IfErr result (λ miss. S.failures source.new ≡ reads_failed miss) }
     ensures max { reader.new.max ≡ reader.old.max }
+    ensures at { reader.new.at ≡ reader.old.at }
 {
     match source.pull(room) {
         Ok(0) => {

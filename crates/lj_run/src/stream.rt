@@ -1,24 +1,26 @@
 //! The run of one stream on a book.
-ghost use Rattle.std.specs.Prelude.{◌≡◌, ◌+◌, ◌<◌, MatchResult, Ok, IfSome};
-ghost use Rattle.lj_text.specs.Lines.{all_said};
-ghost use Rattle.lj_book.specs.Calls.{take_reply};
-ghost use Rattle.lj_run.specs.Run.{entered, taken, IsLineEnd, IsCounted, IsRun, IsReadFailure, IfReadFailed, IsFailedRead, progress_of, has_verdict};
+ghost use Rattle.std.specs.Prelude.{◌≡◌, ◌+◌, ◌<◌, MatchResult, Ok};
+ghost use Rattle.lj_text.specs.Streams.{source_state};
+ghost use Rattle.lj_run.specs.Run.{line_reply, IsLineEnd, IsCounted, IsStreamRun, progress_of, has_verdict};
+ghost use Rattle.lj_text.specs.declared.line.Line.TheVariants.{Delete};
+ghost use Rattle.lj_run.specs.declared.outcome.LineEnd.TheVariants.{Refused};
 ghost use Rattle.lj_run.specs.Tally.{with_count, with_end, missed_at};
 
 use crate::outcome::{End, LineEnd};
 use crate::reading::{Miss, PIECE, next_line};
 use lj_book::{Book, Refusal};
 use lj_clause::MAX_VARIABLE;
-use lj_hint::{Marks, Tested};
-use lj_text::{Addition, Line, LineReader, Source};
+use lj_hint::Marks;
+use lj_text::{Line, LineReader, Numbers, Source};
 use std::alloc::Global;
 use std::sync::Wait;
 
-/// What came of a stream: how many of its additions and deletions were accepted, and how it ended.
+/// What came of a stream: how many of its additions, deletions and imports were accepted, and how it ended.
 #[derive(Clone, Copy, Debug)]
 pub(crate) struct Tally {
     pub added: u64,
     pub deleted: u64,
+    pub imported: u64,
     pub end: End,
 }
 
@@ -32,9 +34,11 @@ pub(crate) fn run_stream<R: Wait, S: Source>(
     source: &mut S,
 ) -> Tally
     requires { S.failures source.old ≡ 0 }
-    ensures run { IfSome (S.rest source.old) (λ text. IsRun seat (all_said MAX_VARIABLE text) (progress_of book.old 0 0) (progress_of book.new result.added result.deleted) result.end) }
-    ensures failed { IsReadFailure result.end → S.failures source.new ≡ 1 }
-    ensures failed_read { IfSome (S.rest source.old) (λ text. IfReadFailed result.end (IsFailedRead seat text (S.rest source.new) (progress_of book.old 0 0) (progress_of book.new result.added result.deleted))) }
+    ensures run { IsStreamRun seat
+        (source_state S.given S.ended S.rest S.failures source.old)
+        (source_state S.given S.ended S.rest S.failures source.new)
+        (progress_of book.old 0 0 0)
+        (progress_of book.new result.added result.deleted result.imported) result.end }
     ensures formula { book.new.formula ≡ book.old.formula }
 {
     let mut reader = LineReader::new(alloc, MAX_VARIABLE);
@@ -44,6 +48,7 @@ pub(crate) fn run_stream<R: Wait, S: Source>(
     let mut tally = Tally {
         added: 0,
         deleted: 0,
+        imported: 0,
         end: End::Stopped,
     };
     for _ in rt.forever() {
@@ -73,12 +78,13 @@ fn is_done(book: &Book) -> bool
 impl Tally {
     /// Counts a line, which is one of so many entries.
     fn count(&mut self, count: Count, entries: u64)
-        requires { self.old.added + self.old.deleted < entries }
+        requires { self.old.added + self.old.deleted + self.old.imported < entries }
         ensures { self.new ≡ with_count self.old count }
     {
         match count {
             Count::Addition => self.added += 1,
             Count::Deletion => self.deleted += 1,
+            Count::Importing => self.imported += 1,
         }
     }
 
@@ -105,6 +111,7 @@ fn missed(miss: Miss, at: u64) -> End
 pub(crate) enum Count {
     Addition,
     Deletion,
+    Importing,
 }
 
 /// Gives a line to the book.
@@ -114,38 +121,31 @@ pub(crate) fn enter(
     line: Line,
     marks: &mut Marks,
 ) -> Result<Count, LineEnd>
-    ensures { MatchResult result (λ count. (entered book.old seat line ≡ Ok book.new) × IsCounted line count) (λ end. (book.new ≡ book.old) × IsLineEnd end (entered book.old seat line)) }
+    ensures { MatchResult result (λ count. (line_reply book.old seat line ≡ Ok book.new) × IsCounted line count) (λ end. (book.new ≡ book.old) × IsLineEnd end (line_reply book.old seat line)) }
 {
     match line {
-        Line::Add(addition) => match add(book, seat, &addition, marks) {
-            Ok(()) => Ok(Count::Addition),
-            Err(end) => Err(end),
-        },
-        Line::Delete(numbers) => match book.drop_numbers(seat, numbers.as_slice()) {
-            Ok(_) => Ok(Count::Deletion),
+        Line::Add(addition) => match book.add_inside(seat, &addition, marks) {
+            Ok(_) => Ok(Count::Addition),
             Err(refusal) => Err(LineEnd::Refused(refusal)),
         },
-        Line::Import { .. } => Err(LineEnd::NotYet),
+        Line::Delete(numbers) => match delete(book, seat, &numbers) {
+            Ok(()) => Ok(Count::Deletion),
+            Err(refusal) => Err(LineEnd::Refused(refusal)),
+        },
+        Line::Import { number, clause } => match book.import(seat, number, &clause) {
+            Ok(_) => Ok(Count::Importing),
+            Err(refusal) => Err(LineEnd::Refused(refusal)),
+        },
     }
 }
 
-/// Takes an addition, tests it, and commits it where its first list of hints closes.
-fn add(book: &mut Book, seat: u32, addition: &Addition, marks: &mut Marks) -> Result<(), LineEnd>
-    ensures { MatchResult result (λ _. taken book.old (take_reply book.old seat addition.now) ≡ Ok book.new) (λ end. (book.new ≡ book.old) × IsLineEnd end (taken book.old (take_reply book.old seat addition.now))) }
+/// Drops the numbers of a seat.
+fn delete(book: &mut Book, seat: u32, numbers: &Numbers) -> Result<(), Refusal>
+    ensures { MatchResult result
+        (λ _. line_reply book.old seat (Delete numbers.now) ≡ Ok book.new)
+        (λ refusal. (book.new ≡ book.old) × IsLineEnd (Refused refusal) (line_reply book.old seat (Delete numbers.now))) }
 {
-    match book.take(seat, addition) {
-        Ok(case) => match case.test(marks) {
-            Tested::Closed(receipt) => match book.commit(receipt) {
-                Ok(_) => Ok(()),
-                Err((refusal, _)) => Err(LineEnd::Refused(refusal)),
-            },
-            Tested::Open(case) => match case.lemma().pivot() {
-                None => Err(LineEnd::Refused(Refusal::EmptyOpen)),
-                Some(_) => Err(LineEnd::NotYet),
-            },
-            Tested::Stuck(place) => Err(LineEnd::Refused(Refusal::HintNotUnit(place))),
-            Tested::NoMemory(_) => Err(LineEnd::Refused(Refusal::NoMemory)),
-        },
-        Err(refusal) => Err(LineEnd::Refused(refusal)),
-    }
+    let list = numbers.to_vec()?;
+    book.drop_numbers(seat, &list)?;
+    Ok(())
 }

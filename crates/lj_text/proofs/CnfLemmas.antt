@@ -15,7 +15,7 @@ use Rattle.lj_text.specs.declared.cnf.fault.CnfFault.{CnfFault}
 use Rattle.lj_text.specs.declared.cnf.fault.CnfFaultKind.TheVariants.{NoHeader, BadHeader, BadNumber, VariableRange, ClauseCount, Truncated, NoMemory}
 use Rattle.lj_text.specs.Lines.{with_read, then_read}
 use Rattle.lj_text.specs.Cnf.{Place, Percent, NoNumber, Number, number_at, fault_in, literals_up_to, clauses_of}
-use Rattle.lj_text.specs.CnfReading.{Begun, completed, clauses_after, IsTold, IsNumberUpTo, is_up_to, Goes, places_behind}
+use Rattle.lj_text.specs.CnfReading.{Begun, completed, clauses_after, IsCnfTold, IsNumberUpTo, is_up_to, Goes, places_behind}
 use Rattle.lj_text.specs.declared.cnf.fault.CnfFaultKind.{CnfFaultKind}
 
 not_zero : (n : ℕ) → 0 < n → (n == 0) ≡ false
@@ -142,14 +142,14 @@ completed-percent_end b last line rest h e =
     ap (with_read (λ cs. formula_of b.variables (b.clauses ++ cs))) (percent_end b.variables last line b.left b.literals rest h e)
     ∙ ap (λ l. Ok (formula_of b.variables l)) (append-nil b.clauses)
 
-pub completed-refused : (b : Begun) (last line : ℕ) (number : Option ℤ) (kind : CnfFaultKind) (rest : List Place) → IsNumberUpTo b.variables number (Err kind) → IsTold kind line (completed b last (number_at line number ∷ rest))
+pub completed-refused : (b : Begun) (last line : ℕ) (number : Option ℤ) (kind : CnfFaultKind) (rest : List Place) → IsNumberUpTo b.variables number (Err kind) → IsCnfTold kind line (completed b last (number_at line number ∷ rest))
 completed-refused b last line number NoHeader rest h = absurd h
 completed-refused b last line number BadHeader rest h = absurd h
 completed-refused b last line number BadNumber rest h = ap (λ o. completed b last (number_at line o ∷ rest)) h ∙ completed-no_number b last line rest
 completed-refused b last line number VariableRange rest h = ap (λ o. completed b last (number_at line o ∷ rest)) h.1 ∙ completed-beyond b last line h.0 rest h.2
 completed-refused b last line number ClauseCount rest h = absurd h
 completed-refused b last line number Truncated rest h = absurd h
-completed-refused b last line number NoMemory rest h = absurd h
+completed-refused b last line number (NoMemory e) rest h = absurd h
 
 pub empty_from : (ls : List ℤ) → length ls ≡ 0 → ls ≡ []
 empty_from [] h = refl
@@ -164,8 +164,8 @@ pub goes-false : (b : Bool) (last line : ℕ) (tokens : List (List ℕ)) (rest :
 goes-false true last line tokens rest old new h g = cc
 goes-false false last line tokens rest old new h g = g
 
-pub told-at : {Y : Type 0} (kind : CnfFaultKind) (line : ℕ) (read total : Result Y CnfFault) → total ≡ read → IsTold kind line read → IsTold kind line total
-told-at {Y} kind line read total e h = let P : Result Y CnfFault → Type 0 = λ r. IsTold kind line r in subst P (sym e) h
+pub told-at : {Y : Type 0} (kind : CnfFaultKind) (line : ℕ) (read total : Result Y CnfFault) → total ≡ read → IsCnfTold kind line read → IsCnfTold kind line total
+told-at {Y} kind line read total e h = let P : Result Y CnfFault → Type 0 = λ r. IsCnfTold kind line r in subst P (sym e) h
 
 all-any : (p : ℤ → Bool) (ls : List ℤ) → list_all p ls ≡ not (list_any (λ l. not (p l)) ls)
 all-any p [] = refl

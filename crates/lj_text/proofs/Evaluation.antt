@@ -9,7 +9,7 @@ use Rattle.std.specs.FinMap.Entries.{find}
 use Rattle.lj_clause.specs.LiteralSet.{from_literals}
 use Rattle.lj_clause.specs.Lemma.{lemma_of}
 use Rattle.lj_clause.specs.ClauseMap.{FormulaValue}
-use Rattle.lj_clause.specs.Listed.{ListedClause, clauses_of}
+use Rattle.lj_clause.specs.Listed.{ListedClause, listed_clauses}
 use Rattle.lj_clause.specs.Walk.{Closed, is_closed}
 use Rattle.lj_clause.specs.Rat.{HintGroup}
 use Rattle.lj_clause.proofs.Evaluation.{get-listed, entries-from_literals, in_order, walk_listed, walk-evaluated, negations_listed, listed, hints_listed}
@@ -17,7 +17,7 @@ use Rattle.lj_text.specs.declared.line.Addition.{Addition}
 use Rattle.lj_text.specs.declared.step.Step.{Step}
 use Rattle.lj_text.specs.declared.step.Step.TheVariants.{Add, Delete}
 use Rattle.lj_text.specs.Steps.{names, is_in_place, are_distinct, is_accepted, adds_empty, first_walk, is_rat_after}
-use Rattle.lj_text.specs.Needed.{NumberSet, has, with_numbers, up_to_empty, additions, hints_of, pick, with_other, by_pick, closure, number_of, empty_numbers, trimmed_step, if_some, trimmed}
+use Rattle.lj_text.specs.Needed.{NumberSet, has, with_numbers, up_to_empty, additions, all_hints, pick, with_other, by_pick, closure, added_number, empty_numbers, trimmed_step, if_some, trimmed}
 
 is_some-mapped : {A B : Type 0} (f : A → B) (o : Option A) → is_some (option_map f o) ≡ is_some o
 is_some-mapped f None = refl
@@ -26,7 +26,7 @@ is_some-mapped f (Some x) = refl
 abbrev pub names_listed : List ListedClause → ℕ → Bool
 names_listed es n = is_some (find nat_cmp n es)
 
-pub names-listed : (es : List ListedClause) (n : ℕ) → names (clauses_of es) n ≡ names_listed es n
+pub names-listed : (es : List ListedClause) (n : ℕ) → names (listed_clauses es) n ≡ names_listed es n
 names-listed es n = ap is_some (get-listed es n) ∙ is_some-mapped from_literals (find nat_cmp n es)
 
 abbrev pub in_place_listed : List ListedClause → Addition → Bool
@@ -35,15 +35,15 @@ in_place_listed es a =
     && (list_all (λ g. names_listed es g.candidate && list_all (names_listed es) g.hints) a.groups
     && are_distinct (map (λ g. g.candidate) a.groups)))
 
-pub in_place-listed : (es : List ListedClause) (a : Addition) → is_in_place (clauses_of es) a ≡ in_place_listed es a
+pub in_place-listed : (es : List ListedClause) (a : Addition) → is_in_place (listed_clauses es) a ≡ in_place_listed es a
 in_place-listed es a = λ i.
     not (names-listed es a.number i) && (list_all (λ n. names-listed es n i) a.hints
     && (list_all (λ g. names-listed es g.candidate i && list_all (λ n. names-listed es n i) g.hints) a.groups
     && are_distinct (map (λ g. g.candidate) a.groups)))
 
 -- an addition that isn't in place isn't accepted
-pub not_in_place : (es : List ListedClause) (a : Addition) → in_place_listed es a ≡ false → is_accepted (clauses_of es) (Add a) ≡ false
-not_in_place es a e = λ i. (in_place-listed es a ∙ e) i && (is_closed (first_walk (clauses_of es) a) || is_rat_after (clauses_of es) a (first_walk (clauses_of es) a))
+pub not_in_place : (es : List ListedClause) (a : Addition) → in_place_listed es a ≡ false → is_accepted (listed_clauses es) (Add a) ≡ false
+not_in_place es a e = λ i. (in_place-listed es a ∙ e) i && (is_closed (first_walk (listed_clauses es) a) || is_rat_after (listed_clauses es) a (first_walk (listed_clauses es) a))
 
 pub len-listed : (ls : List ℤ) → fin.len (from_literals ls) ≡ length (in_order ls)
 len-listed ls = fin.len-entries (from_literals ls) ∙ ap length (entries-from_literals ls)
@@ -52,12 +52,12 @@ abbrev written : ℕ → List ℤ → List ℕ → List HintGroup → Addition
 written number lemma hints groups = record { number = number; lemma = lemma_of lemma; hints = hints; groups = groups }
 
 -- an addition in place whose first list closes is accepted
-pub closed_accepted : (es : List ListedClause) (n : ℕ) (ls : List ℤ) (hints : List ℕ) (groups : List HintGroup) (used : List ℕ) → in_place_listed es (written n ls hints groups) ≡ true → walk_listed (negations_listed [] (listed ls)) (hints_listed es hints) ≡ Closed used → is_accepted (clauses_of es) (Add (written n ls hints groups)) ≡ true
+pub closed_accepted : (es : List ListedClause) (n : ℕ) (ls : List ℤ) (hints : List ℕ) (groups : List HintGroup) (used : List ℕ) → in_place_listed es (written n ls hints groups) ≡ true → walk_listed (negations_listed [] (listed ls)) (hints_listed es hints) ≡ Closed used → is_accepted (listed_clauses es) (Add (written n ls hints groups)) ≡ true
 closed_accepted es n ls hints groups used here closed = λ i.
     (in_place-listed es (written n ls hints groups) ∙ here) i
-    && (is_closed ((walk-evaluated es ls hints ∙ closed) i) || is_rat_after (clauses_of es) (written n ls hints groups) ((walk-evaluated es ls hints ∙ closed) i))
+    && (is_closed ((walk-evaluated es ls hints ∙ closed) i) || is_rat_after (listed_clauses es) (written n ls hints groups) ((walk-evaluated es ls hints ∙ closed) i))
 
-pub deletion-listed : (es : List ListedClause) (ns : List ℕ) → is_accepted (clauses_of es) (Delete ns) ≡ list_all (names_listed es) ns
+pub deletion-listed : (es : List ListedClause) (ns : List ℕ) → is_accepted (listed_clauses es) (Delete ns) ≡ list_all (names_listed es) ns
 deletion-listed es ns = λ i. list_all (λ n. names-listed es n i) ns
 
 -- Steps whose lemmas are written as lists.
@@ -89,11 +89,11 @@ up_to_empty-listed (s ∷ ss) =
 
 abbrev empty_numbers_listed : List ListedStep → List ℕ
 empty_numbers_listed [] = []
-empty_numbers_listed (s ∷ ss) = cond (adds_empty_listed s) (number_of (step_of s)) [] ++ empty_numbers_listed ss
+empty_numbers_listed (s ∷ ss) = cond (adds_empty_listed s) (added_number (step_of s)) [] ++ empty_numbers_listed ss
 
 empty_numbers-listed : (ss : List ListedStep) → empty_numbers (map step_of ss) ≡ empty_numbers_listed ss
 empty_numbers-listed [] = refl
-empty_numbers-listed (s ∷ ss) = λ i. cond (adds_empty-listed s i) (number_of (step_of s)) [] ++ empty_numbers-listed ss i
+empty_numbers-listed (s ∷ ss) = λ i. cond (adds_empty-listed s i) (added_number (step_of s)) [] ++ empty_numbers-listed ss i
 
 abbrev numbers_of : List ℕ → NumberSet
 numbers_of ns = with_numbers fin.empty ns
@@ -123,7 +123,7 @@ pick-listed xs (a ∷ others) = λ i. cond (has-listed xs a.number i) (Some (a, 
 
 abbrev by_pick_listed : (List ℕ → List Addition → List ℕ) → List ℕ → Option (Addition × List Addition) → List ℕ
 by_pick_listed onward xs None = xs
-by_pick_listed onward xs (Some found) = onward (hints_of found.0 ++ xs) found.1
+by_pick_listed onward xs (Some found) = onward (all_hints found.0 ++ xs) found.1
 
 abbrev closure_listed : ℕ → List ℕ → List Addition → List ℕ
 closure_listed zero xs adds = xs
@@ -135,7 +135,7 @@ closure-listed (suc n) xs adds =
     ap (by_pick (closure n) (numbers_of xs)) (pick-listed xs adds)
     ∙ elim (pick_listed xs adds) as (λ o. by_pick (closure n) (numbers_of xs) o ≡ numbers_of (by_pick_listed (closure_listed n) xs o)) [
       | None ↦ refl
-      | Some found ↦ ap (λ s. closure n s found.1) (with_numbers-listed xs (hints_of found.0)) ∙ closure-listed n (hints_of found.0 ++ xs) found.1
+      | Some found ↦ ap (λ s. closure n s found.1) (with_numbers-listed xs (all_hints found.0)) ∙ closure-listed n (all_hints found.0 ++ xs) found.1
     ]
 
 abbrev needed_listed : List ListedStep → List ℕ

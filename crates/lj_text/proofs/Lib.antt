@@ -12,3 +12,6 @@ pub mod StandLemmas
 mod TakeLemmas
 mod TokenLemmas
 pub mod Fronts
+pub mod WritingLemmas
+mod WordLemmas
+mod WrittenWords

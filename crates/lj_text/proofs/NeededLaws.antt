@@ -8,14 +8,14 @@ use Rattle.std.specs.FinMap.{nat_cmp-IsAntisymmetric}
 use Rattle.std.proofs.lemmas.Bool.{false≢true}
 use Rattle.std.specs.FinMap as fin
 use Rattle.lj_text.specs.declared.line.Addition.{Addition}
-use Rattle.lj_text.specs.Needed.{NumberSet, has, with_numbers, up_to_empty, additions, hints_of, pick, with_other, by_pick, closure, empty_numbers, needed}
+use Rattle.lj_text.specs.Needed.{NumberSet, has, with_numbers, up_to_empty, additions, all_hints, pick, with_other, by_pick, closure, empty_numbers, needed}
 use Rattle.lj_text.specs.Laws.{NeededIsLeast}
 
 marked : (b : Bool) (x : Option (Unit {0})) → is_some (cond b (Some tt) x) ≡ (b || is_some x)
 marked true x = refl
 marked false x = refl
 
-has-insert : (s : NumberSet) (m n : ℕ) → has (fin.insert s m tt) n ≡ (eq_by_cmp nat_cmp n m || has s n)
+pub has-insert : (s : NumberSet) (m n : ℕ) → has (fin.insert s m tt) n ≡ (eq_by_cmp nat_cmp n m || has s n)
 has-insert s m n = ap is_some (fin.get-insert nat_cmp_total s m tt n) ∙ marked (eq_by_cmp nat_cmp n m) (fin.get s n)
 
 or_left : (a b : Bool) → a ≡ true → (a || b) ≡ true
@@ -26,21 +26,21 @@ or_right true b e = refl
 or_right false b e = e
 
 -- one set is part of another
-abbrev IsPart : NumberSet → NumberSet → Type 0
+abbrev pub IsPart : NumberSet → NumberSet → Type 0
 IsPart s t = (n : ℕ) → has s n ≡ true → has t n ≡ true
 
-abbrev HasAll : NumberSet → List ℕ → Type 0
+abbrev pub HasAll : NumberSet → List ℕ → Type 0
 HasAll s ns = AllByRecursion (λ n. has s n ≡ true) ns
 
 part-with_numbers : (s : NumberSet) (ns : List ℕ) → IsPart s (with_numbers s ns)
 part-with_numbers s [] n e = e
 part-with_numbers s (m ∷ ms) n e = has-insert (with_numbers s ms) m n ∙ or_right (eq_by_cmp nat_cmp n m) (has (with_numbers s ms) n) (part-with_numbers s ms n e)
 
-all_in_part : (s t : NumberSet) (ns : List ℕ) → IsPart s t → HasAll s ns → HasAll t ns
+pub all_in_part : (s t : NumberSet) (ns : List ℕ) → IsPart s t → HasAll s ns → HasAll t ns
 all_in_part s t [] part h = tt
 all_in_part s t (n ∷ ns) part h = (part n h.0, all_in_part s t ns part h.1)
 
-has_all-with_numbers : (s : NumberSet) (ns : List ℕ) → HasAll (with_numbers s ns) ns
+pub has_all-with_numbers : (s : NumberSet) (ns : List ℕ) → HasAll (with_numbers s ns) ns
 has_all-with_numbers s [] = tt
 has_all-with_numbers s (n ∷ ns) = (
   has-insert (with_numbers s ns) n n ∙ or_left (eq_by_cmp nat_cmp n n) (has (with_numbers s ns) n) (ap is_eq (tied_itself nat_cmp_total n)),
@@ -57,10 +57,10 @@ with_numbers_part s t (m ∷ ms) part h n e =
     ] refl (sym (has-insert (with_numbers s ms) m n) ∙ e)
 
 -- the set covers an addition: with its number it has all its hints
-abbrev Covers : NumberSet → Addition → Type 0
-Covers t a = has t a.number ≡ true → HasAll t (hints_of a)
+abbrev pub Covers : NumberSet → Addition → Type 0
+Covers t a = has t a.number ≡ true → HasAll t (all_hints a)
 
-abbrev Found : Type 0
+abbrev pub Found : Type 0
 Found = Addition × List Addition
 
 -- what a pick says of the list that it was made from
@@ -68,7 +68,7 @@ record Picked (t : NumberSet) (adds : List Addition) (found : Found) : Type 0 wh
   shorter : length adds ≡ suc (length found.1)
   covers : Covers t found.0 → AllByRecursion (Covers t) found.1 → AllByRecursion (Covers t) adds
 
-same_found : (x y : Found) → Some x ≡ Some y → x ≡ y
+pub same_found : (x y : Found) → Some x ≡ Some y → x ≡ y
 same_found x y e = cc
 
 other_picked : (t : NumberSet) (x : Addition) (xs : List Addition) (o : Option Found) (found : Found) → ((f : Found) → o ≡ Some f → Picked t xs f) → with_other x o ≡ Some found → Picked t (x ∷ xs) found
@@ -98,31 +98,31 @@ none_picked s (x ∷ xs) e =
     ] refl e
 
 -- what a closure holds, with enough turns
-record Closes (s t : NumberSet) (adds : List Addition) : Type 0 where
-  part : IsPart s t
-  covers : AllByRecursion (Covers t) adds
+pub record Closes (s t : NumberSet) (adds : List Addition) : Type 0 where
+  pub part : IsPart s t
+  pub covers : AllByRecursion (Covers t) adds
 
-closes : (n : ℕ) (s : NumberSet) (adds : List Addition) → length adds ≤ n → Closes s (closure n s adds) adds
+pub closes : (n : ℕ) (s : NumberSet) (adds : List Addition) → length adds ≤ n → Closes s (closure n s adds) adds
 closes zero s [] le = record { part = λ n e. e; covers = tt }
 closes zero s (a ∷ adds) le = absurd (omega arith)
 closes (suc n) s adds le =
     elim (pick s adds) as (λ o. pick s adds ≡ o → Closes s (by_pick (closure n) s o) adds) [
       | None ↦ λ is. record { part = λ n e. e; covers = none_picked s adds is }
       | Some found ↦ λ is.
-          let more = with_numbers s (hints_of found.0) in
+          let more = with_numbers s (all_hints found.0) in
           let t = closure n more found.1 in
           let was = picked s t adds found is in
           let fewer : length found.1 ≤ n = omega (arith, was.shorter) in
           let later = closes n more found.1 fewer in
           record {
-            part = λ m e. later.part m (part-with_numbers s (hints_of found.0) m e);
-            covers = was.covers (λ _. all_in_part more t (hints_of found.0) later.part (has_all-with_numbers s (hints_of found.0))) later.covers;
+            part = λ m e. later.part m (part-with_numbers s (all_hints found.0) m e);
+            covers = was.covers (λ _. all_in_part more t (all_hints found.0) later.part (has_all-with_numbers s (all_hints found.0))) later.covers;
           }
     ] refl
 
 -- what a pick took, in a set that covers each addition
 record Taken (s t : NumberSet) (found : Found) : Type 0 where
-  hints : IsPart s t → HasAll t (hints_of found.0)
+  hints : IsPart s t → HasAll t (all_hints found.0)
   rest : AllByRecursion (Covers t) found.1
 
 other_taken : (s t : NumberSet) (x : Addition) (o : Option Found) (found : Found) → Covers t x → ((f : Found) → o ≡ Some f → Taken s t f) → with_other x o ≡ Some found → Taken s t found
@@ -147,7 +147,7 @@ closure_part (suc n) s t adds part cover =
       | None ↦ λ is. part
       | Some found ↦ λ is.
           let was = taken s t adds found cover is in
-          closure_part n (with_numbers s (hints_of found.0)) t found.1 (with_numbers_part s t (hints_of found.0) part (was.hints part)) was.rest
+          closure_part n (with_numbers s (all_hints found.0)) t found.1 (with_numbers_part s t (all_hints found.0) part (was.hints part)) was.rest
     ] refl
 
 no_numbers : (t : NumberSet) → IsPart fin.empty t

@@ -8,8 +8,8 @@ use Rattle.lj_text.specs.declared.lines.fault.LineFaultKind.{LineFaultKind}
 use Rattle.lj_text.specs.declared.lines.fault.LineFaultKind.TheVariants.{BadNumber, NumberRange, Syntax, Truncated, NoMemory}
 use Rattle.lj_text.specs.Bytes.{line_number, tokens_of, lines_of}
 use Rattle.lj_text.specs.Lines.{Said, said_by, said_from, whole_said_from, all_said_from, all_but_last}
-use Rattle.lj_text.specs.LineReading.{spoken, IsTold}
-use Rattle.lj_text.specs.LinesRead.{HasNoLineEnd, joined, is_no_memory}
+use Rattle.lj_text.specs.LineReading.{spoken, IsLineTold}
+use Rattle.lj_text.specs.LinesRead.{HasNoLineEnd, joined, is_line_no_memory}
 use Rattle.lj_text.specs.declared.lines.look.Found.{Found}
 use Rattle.std.specs.Prelude.{MatchOption, is_some}
 use Rattle.std.proofs.Math.Seq.{drop-append_seam}
@@ -81,6 +81,7 @@ looked-some max first k ahead rest l after number left line p first_is e h says 
       ∙ ap (λ n. record { line = n; says = Ok line } ∷ []) (sym (p.number_is k first_is));
   searched_is = omega arith;
   none_before = λ i d h. absurd (omega arith);
+  all_searched = λ e. cc;
   none_is = tt;
 }
 
@@ -97,6 +98,7 @@ looked-none max first k ahead rest number left p first_is h left_is = record {
   said_is = p.silent k;
   searched_is = omega arith;
   none_before = let P : List ℕ → Type 0 = HasNoLineEnd in subst P (sym (take_all left rest (omega arith))) h;
+  all_searched = λ e. refl;
   none_is = (h, refl);
 }
 
@@ -110,8 +112,8 @@ first_said max k ls l after w h silent =
     ∙ ap (λ ss. ss ++ whole_said_from max (k + length (ls ++ l ∷ [])) after) (said_more max k ls l silent)
     ∙ ap (λ n. said_by max (k + length ls) true l ++ whole_said_from max n after) (omega (arith, length-append ls (l ∷ [])))
 
-fails_at : (max : ℕ) (kind : LineFaultKind) (l : List ℕ) → is_no_memory kind ≡ false → IsTold kind (spoken max true (tokens_of l)) → spoken max true (tokens_of l) ≡ Err kind
-fails_at max NoMemory l n t = cc
+fails_at : (max : ℕ) (kind : LineFaultKind) (l : List ℕ) → is_line_no_memory kind ≡ false → IsLineTold kind (spoken max true (tokens_of l)) → spoken max true (tokens_of l) ≡ Err kind
+fails_at max (NoMemory e) l n t = cc
 fails_at max BadNumber l n t = t
 fails_at max NumberRange l n t = t
 fails_at max Syntax l n t = t
@@ -119,7 +121,7 @@ fails_at max Truncated l n t = t
 
 -- the line behind them has a fault
 pub fails-here : (max first k : ℕ) (ahead rest l after : List ℕ) (number : ℕ) (fault : LineFault) → Passed max first ahead rest number → first ≡ line_number k → rest ≡ l ++ 10 ∷ after → HasNoLineEnd l
-    → (fault.line ≡ number) × IsTold fault.kind (spoken max true (tokens_of l)) → Fails max k ahead fault
+    → (fault.line ≡ number) × IsLineTold fault.kind (spoken max true (tokens_of l)) → Fails max k ahead fault
 fails-here max first k ahead rest l after number fault p first_is e h told memory =
     let wrong : spoken max true (tokens_of l) ≡ Err fault.kind = fails_at max fault.kind l memory told.1 in
     let says : said_by max (k + length p.lines) true l ≡ record { line = line_number (k + length p.lines); says = Err fault.kind } ∷ [] =
@@ -130,8 +132,8 @@ fails-here max first k ahead rest l after number fault p first_is e h told memor
     ∙ ap (λ (ss : List Said). slice_get (ss ++ whole_said_from max (k + length p.lines + 1) after) 0) says
     ∙ ap (λ n. Some (record { line = n; says = Err fault.kind })) number_is
 
-fails_at_end : (max : ℕ) (kind : LineFaultKind) (l : List ℕ) → is_no_memory kind ≡ false → IsTold kind (spoken max false (tokens_of l)) → spoken max false (tokens_of l) ≡ Err kind
-fails_at_end max NoMemory l n t = cc
+fails_at_end : (max : ℕ) (kind : LineFaultKind) (l : List ℕ) → is_line_no_memory kind ≡ false → IsLineTold kind (spoken max false (tokens_of l)) → spoken max false (tokens_of l) ≡ Err kind
+fails_at_end max (NoMemory e) l n t = cc
 fails_at_end max BadNumber l n t = t
 fails_at_end max NumberRange l n t = t
 fails_at_end max Syntax l n t = t
@@ -179,7 +181,7 @@ looked-behind max k ahead last found line p none last_is says = record {
 
 -- the last line has a fault
 pub fails-behind : (max k : ℕ) (ahead last : List ℕ) (found : Found) (fault : LineFault) → Looked max k ahead found → found.line ≡ None → last ≡ drop (length ahead - found.left) ahead
-    → (fault.line ≡ found.number) × IsTold fault.kind (spoken max false (tokens_of last)) → FailsToEnd max k ahead fault
+    → (fault.line ≡ found.number) × IsLineTold fault.kind (spoken max false (tokens_of last)) → FailsToEnd max k ahead fault
 fails-behind max k ahead last found fault p none last_is told memory =
     let wrong : spoken max false (tokens_of last) ≡ Err fault.kind = fails_at_end max fault.kind last memory told.1 in
     ap (λ (ss : List Said). slice_get ss 0) (last_said max k ahead found p none ∙ ap (said_by max (k + length p.lines) false) (sym (last_is ∙ after_is max k ahead found p))

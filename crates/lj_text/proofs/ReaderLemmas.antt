@@ -8,7 +8,7 @@ use Rattle.lj_text.specs.declared.lines.fault.LineFault.{LineFault}
 use Rattle.lj_text.specs.declared.lines.look.Found.{Found}
 use Rattle.lj_text.specs.Bytes.{line_number, lines_of}
 use Rattle.lj_text.specs.Lines.{Said, said_from, whole_said, all_said, whole_said_from, all_said_from, all_but_last}
-use Rattle.lj_text.specs.LinesRead.{LinesRead, HasNoLineEnd, joined, StandsWithin, StandsBehind, StandsAt, answer_of, handed_out, place_of, last_number, is_no_memory}
+use Rattle.lj_text.specs.LinesRead.{LinesRead, HasNoLineEnd, joined, StandsWithin, StandsBehind, LineReaderStandsAt, line_answer, handed_out, number_at, last_number, is_line_no_memory}
 use Rattle.lj_text.specs.LinesHeld.{IsAhead, passed, kept}
 use Rattle.lj_text.specs.Looking.{Looked, LookedBehind, said_of}
 use Rattle.lj_text.proofs.StandLemmas.{whole-joined, all-joined, whole-none, get-behind, said_from-append, cut-joined, cut-none}
@@ -64,7 +64,7 @@ said_alone at (Some line) = refl
 pub behind-found : (max k : ℕ) (ahead : List ℕ) (found : Found) (p : LookedBehind max k ahead found) → slice_get (all_said_from max k ahead) 0 ≡ found_said found.at found.line
 behind-found max k ahead found p = ap (λ (ss : List Said). slice_get ss 0) p.said_is ∙ said_alone found.at found.line
 
-pub answers : (at : ℕ) (o : Option Line) → answer_of (found_said at o) ≡ Ok o
+pub answers : (at : ℕ) (o : Option Line) → line_answer (found_said at o) ≡ Ok o
 answers at None = refl
 answers at (Some line) = refl
 
@@ -105,15 +105,15 @@ place-none r text given found s p none =
     ∙ ap (λ ls. s.lines ++ ls) (cut-joined p.lines p.after p.whole ∙ ap (λ ls. p.lines ++ all_but_last ls) (cut-none p.after (none-open r.max (length s.lines) r.ahead found p none)) ∙ append-nil p.lines) in
     (subst P none p.none_is).1 ∙ p.number_is ∙ ap line_number (sym (ap length last ∙ length-append s.lines p.lines))
 
-places : (at last : ℕ) (o : Option Line) → (o ≡ None → at ≡ last) → at ≡ place_of (found_said at o) last
+places : (at last : ℕ) (o : Option Line) → (o ≡ None → at ≡ last) → at ≡ number_at (found_said at o) last
 places at last None h = h refl
 places at last (Some line) h = refl
 
 pub place-whole : (r : LinesRead) (text : List ℕ) (given : ℕ) (found : Found) (s : StandsWithin r text given) (p : Looked r.max (length s.lines) r.ahead found)
-    → found.at ≡ place_of (slice_get (whole_said r.max text) given) (last_number text)
+    → found.at ≡ number_at (slice_get (whole_said r.max text) given) (last_number text)
 place-whole r text given found s p =
     places found.at (last_number text) found.line (λ none. place-none r text given found s p none)
-    ∙ ap (λ o. place_of o (last_number text)) (sym (whole-at r text given s ∙ whole-found r.max (length s.lines) r.ahead found p))
+    ∙ ap (λ o. number_at o (last_number text)) (sym (whole-at r text given s ∙ whole-found r.max (length s.lines) r.ahead found p))
 
 -- what was found may be passed
 pub ahead-found : (max k : ℕ) (ahead : List ℕ) (found : Found) → Looked max k ahead found → IsAhead ahead found
@@ -129,13 +129,13 @@ ahead-found max k ahead found p =
     }
 
 -- before the input has ended
-pub within-of : (r : LinesRead) (text : List ℕ) (given : ℕ) → r.finished ≡ false → StandsAt r text given → StandsWithin r text given
+pub within-of : (r : LinesRead) (text : List ℕ) (given : ℕ) → r.finished ≡ false → LineReaderStandsAt r text given → StandsWithin r text given
 within-of r text given h s = let P : Bool → Type 0 = λ b. MatchBool b (StandsBehind r text given) (StandsWithin r text given) in subst P h s
 
-pub stands-of : (r : LinesRead) (text : List ℕ) (given : ℕ) → r.finished ≡ false → StandsWithin r text given → StandsAt r text given
+pub stands-of : (r : LinesRead) (text : List ℕ) (given : ℕ) → r.finished ≡ false → StandsWithin r text given → LineReaderStandsAt r text given
 stands-of r text given h s = let P : Bool → Type 0 = λ b. MatchBool b (StandsBehind r text given) (StandsWithin r text given) in subst P (sym h) s
 
-pub kept-at : (r : LinesRead) (fault : LineFault) → is_no_memory fault.kind ≡ false → (kept r fault).at ≡ fault.line
+pub kept-at : (r : LinesRead) (fault : LineFault) → is_line_no_memory fault.kind ≡ false → (kept r fault).at ≡ fault.line
 kept-at r fault h = ap (λ b. (cond b r (record r { at = fault.line; fault = Some fault })).at) h
 
 -- the number of the last line
@@ -160,20 +160,20 @@ stands-behind r new text given found s p max_is line_is =
     }
 
 pub place-behind : (r : LinesRead) (text : List ℕ) (given : ℕ) (found : Found) (s : StandsWithin r text given) (p : LookedBehind r.max (length s.lines) r.ahead found)
-    → found.at ≡ place_of (slice_get (all_said r.max text) given) (last_number text)
+    → found.at ≡ number_at (slice_get (all_said r.max text) given) (last_number text)
 place-behind r text given found s p =
     places found.at (last_number text) found.line (λ none. p.at_is ∙ number-behind r text given found s p)
-    ∙ ap (λ o. place_of o (last_number text)) (sym (all-at r text given s ∙ behind-found r.max (length s.lines) r.ahead found p))
+    ∙ ap (λ o. number_at o (last_number text)) (sym (all-at r text given s ∙ behind-found r.max (length s.lines) r.ahead found p))
 
 not_both : (o : Option Line) → is_some o ≡ true → o ≡ None → ⊥
 not_both None h e = cc
 not_both (Some line) h e = cc
 
 pub place-some : (r : LinesRead) (text : List ℕ) (given : ℕ) (found : Found) (s : StandsWithin r text given) (p : Looked r.max (length s.lines) r.ahead found) → is_some found.line ≡ true
-    → found.at ≡ place_of (slice_get (all_said r.max text) given) (last_number text)
+    → found.at ≡ number_at (slice_get (all_said r.max text) given) (last_number text)
 place-some r text given found s p some =
     places found.at (last_number text) found.line (λ none. absurd (not_both found.line some none))
-    ∙ ap (λ o. place_of o (last_number text)) (sym (all-at r text given s ∙ all-found r.max (length s.lines) r.ahead found p some))
+    ∙ ap (λ o. number_at o (last_number text)) (sym (all-at r text given s ∙ all-found r.max (length s.lines) r.ahead found p some))
 
 pub ahead-behind : (max k : ℕ) (ahead : List ℕ) (found : Found) → LookedBehind max k ahead found → IsAhead ahead found
 ahead-behind max k ahead found p = record {
@@ -189,18 +189,18 @@ by_memory true r fault = refl
 by_memory false r fault = refl
 
 pub kept-max : (r : LinesRead) (fault : LineFault) → (kept r fault).max ≡ r.max
-kept-max r fault = by_memory (is_no_memory fault.kind) r fault
+kept-max r fault = by_memory (is_line_no_memory fault.kind) r fault
 
 stands_by_memory : (b : Bool) (r : LinesRead) (fault : LineFault) (text : List ℕ) (given : ℕ) → r.finished ≡ false → StandsWithin r text given
-    → StandsAt (cond b r (record r { at = fault.line; fault = Some fault })) text given
+    → LineReaderStandsAt (cond b r (record r { at = fault.line; fault = Some fault })) text given
 stands_by_memory true r fault text given h s = stands-of r text given h s
 stands_by_memory false r fault text given h s = stands-of (record r { at = fault.line; fault = Some fault }) text given h (record { lines = s.lines; whole = s.whole; text_is = s.text_is; line_is = s.line_is; given_is = s.given_is })
 
-pub stands-kept : (r : LinesRead) (fault : LineFault) (text : List ℕ) (given : ℕ) → r.finished ≡ false → StandsWithin r text given → StandsAt (kept r fault) text (given + 0)
+pub stands-kept : (r : LinesRead) (fault : LineFault) (text : List ℕ) (given : ℕ) → r.finished ≡ false → StandsWithin r text given → LineReaderStandsAt (kept r fault) text (given + 0)
 stands-kept r fault text given h s =
-    let P : ℕ → Type 0 = λ n. StandsAt (kept r fault) text n in
+    let P : ℕ → Type 0 = λ n. LineReaderStandsAt (kept r fault) text n in
     let same : given ≡ given + 0 = omega arith in
-    subst P same (stands_by_memory (is_no_memory fault.kind) r fault text given h s)
+    subst P same (stands_by_memory (is_line_no_memory fault.kind) r fault text given h s)
 
 pub at_true : (b : Bool) (P Q : Type 0) → b ≡ true → MatchBool b P Q → P
 at_true true P Q h p = p

@@ -24,7 +24,7 @@ use Rattle.lj_clause.proofs.RatLaws as ratlaws
 use Rattle.lj_text.specs.declared.line.Addition.{Addition}
 use Rattle.lj_text.specs.declared.step.Step.{Step}
 use Rattle.lj_text.specs.declared.step.Step.TheVariants.{Add, Delete}
-use Rattle.lj_text.specs.Steps.{names, names_all, are_distinct, is_in_place, is_rat_on, is_rat_after, first_walk, is_accepted, without, after, replay, adds_empty, refutes, IsRecordedAfter, IsRecorded, with_covered, recorded_on, recorded_after, recorded}
+use Rattle.lj_text.specs.Steps.{names, names_all, are_distinct, is_in_place, is_rat_on, is_rat_after, first_walk, is_accepted, without, after_step, replay, adds_empty, refutes, IsRecordedAfter, IsRecorded, with_covered, recorded_on, recorded_after, recorded}
 
 pub both_true : (a b : Bool) → (a && b) ≡ true → (a ≡ true) × (b ≡ true)
 both_true true b e = (refl, e)
@@ -78,17 +78,17 @@ without_kept : (a : Assignment) (p : ClauseMap) (ns : List ℕ) → SatisfiesAll
 without_kept a p [] sat = sat
 without_kept a p (n ∷ ns) sat = SatisfiesAll-remove a (without p ns) n (without_kept a p ns sat)
 
-pub IsSatisfiable-after : (p : ClauseMap) (step : Step) → is_accepted p step ≡ true → IsSatisfiable p → IsSatisfiable (after p step)
+pub IsSatisfiable-after : (p : ClauseMap) (step : Step) → is_accepted p step ≡ true → IsSatisfiable p → IsSatisfiable (after_step p step)
 IsSatisfiable-after p (Add a) e sat = keeps_after p a (first_walk p a) refl (both_true (is_in_place p a) (is_closed (first_walk p a) || is_rat_after p a (first_walk p a)) e).1 sat
 IsSatisfiable-after p (Delete ns) e sat = (sat.0, without_kept sat.0 p ns sat.1)
 
 -- ---- replays
 
 -- a defined replay begins with an accepted step, and goes on from what it leaves
-pub replay_first : (p q : ClauseMap) (s : Step) (ss : List Step) → replay p (s ∷ ss) ≡ Some q → (is_accepted p s ≡ true) × (replay (after p s) ss ≡ Some q)
+pub replay_first : (p q : ClauseMap) (s : Step) (ss : List Step) → replay p (s ∷ ss) ≡ Some q → (is_accepted p s ≡ true) × (replay (after_step p s) ss ≡ Some q)
 replay_first p q s ss = by_test (is_accepted p s)
   where
-    by_test : (b : Bool) → cond b (replay (after p s) ss) None ≡ Some q → (b ≡ true) × (replay (after p s) ss ≡ Some q)
+    by_test : (b : Bool) → cond b (replay (after_step p s) ss) None ≡ Some q → (b ≡ true) × (replay (after_step p s) ss ≡ Some q)
     by_test true e = (refl, e)
     by_test false e = cc
 
@@ -96,7 +96,7 @@ pub IsSatisfiable-replay : (p q : ClauseMap) (steps : List Step) → replay p st
 IsSatisfiable-replay p q [] e sat = let same : p ≡ q = cc in subst IsSatisfiable same sat
 IsSatisfiable-replay p q (s ∷ ss) e sat =
     let first = replay_first p q s ss e in
-    IsSatisfiable-replay (after p s) q ss first.1 (IsSatisfiable-after p s first.0 sat)
+    IsSatisfiable-replay (after_step p s) q ss first.1 (IsSatisfiable-after p s first.0 sat)
 
 -- ---- refutations
 
@@ -117,7 +117,7 @@ refuted_replay p q (s ∷ ss) e some sat =
     let first = replay_first p q s ss e in
     elim (adds_empty s) as (λ b. adds_empty s ≡ b → (b || list_any adds_empty ss) ≡ true → ⊥) [
       | true ↦ λ empty _. adds_nothing p s first.0 empty sat
-      | false ↦ λ _ later. refuted_replay (after p s) q ss first.1 later (IsSatisfiable-after p s first.0 sat)
+      | false ↦ λ _ later. refuted_replay (after_step p s) q ss first.1 later (IsSatisfiable-after p s first.0 sat)
     ] refl some
 
 is_defined : (o : Option ClauseMap) → is_some o ≡ true → (q : ClauseMap) × (o ≡ Some q)
@@ -231,7 +231,7 @@ recorded_by p a (Open s) here is e = recorded_open p a s a.lemma.pivot refl here
 recorded_by p a (Stuck place) here is e = absurd (false≢true e)
 
 -- the recorded form of an accepted addition is accepted, in recorded form, and leaves the same map
-pub recorded_keeps : (p : ClauseMap) (a : Addition) → is_accepted p (Add a) ≡ true → IsRecorded p (recorded p a) × (is_accepted p (Add (recorded p a)) ≡ true) × (after p (Add (recorded p a)) ≡ after p (Add a))
+pub recorded_keeps : (p : ClauseMap) (a : Addition) → is_accepted p (Add a) ≡ true → IsRecorded p (recorded p a) × (is_accepted p (Add (recorded p a)) ≡ true) × (after_step p (Add (recorded p a)) ≡ after_step p (Add a))
 recorded_keeps p a e =
     let parts = both_true (is_in_place p a) (is_closed (first_walk p a) || is_rat_after p a (first_walk p a)) e in
     let keeps = recorded_by p a (first_walk p a) (in_place_parts p a parts.0) refl parts.1 in

@@ -10,10 +10,10 @@ use Rattle.lj_text.specs.Bytes.{is_blank, is_filled, tokens_of, begins_blank}
 pub tokens-blank : (b : ℕ) (bs : List ℕ) → is_blank b ≡ true → tokens_of (b ∷ bs) ≡ tokens_of bs
 tokens-blank b bs h = ap (filter is_filled) (slice_split-cons_yes is_blank b bs h)
 
-tokens-last : (t : List ℕ) → is_filled t ≡ true → All (λ b. is_blank b ≡ false) t → tokens_of t ≡ t ∷ []
+pub tokens-last : (t : List ℕ) → is_filled t ≡ true → All (λ b. is_blank b ≡ false) t → tokens_of t ≡ t ∷ []
 tokens-last t f h = ap (filter is_filled) (slice_split_none is_blank t h) ∙ ap (λ b. cond b (t ∷ []) []) f
 
-tokens-first : (t : List ℕ) (y : ℕ) (ys : List ℕ) → is_filled t ≡ true → All (λ b. is_blank b ≡ false) t → is_blank y ≡ true → tokens_of (t ++ y ∷ ys) ≡ t ∷ tokens_of (y ∷ ys)
+pub tokens-first : (t : List ℕ) (y : ℕ) (ys : List ℕ) → is_filled t ≡ true → All (λ b. is_blank b ≡ false) t → is_blank y ≡ true → tokens_of (t ++ y ∷ ys) ≡ t ∷ tokens_of (y ∷ ys)
 tokens-first t y ys f h e =
     ap (filter is_filled) (slice_split_at is_blank t y ys h e)
     ∙ ap (λ b. cond b (t ∷ tokens_of ys) (tokens_of ys)) f

@@ -30,24 +30,24 @@ pub record IsCnfHeld (max line : ℕ) (held : List ℕ) : Type 0 where
   pub line_is : line ≡ line_number before
 
 -- The reader stands at a text: whatever follows, the grammar reads from what it holds what it reads of the whole.
-pub record StandsAt (reader : CnfRead) (text : List ℕ) : Type 0 where
+pub record CnfReaderStandsAt (reader : CnfRead) (text : List ℕ) : Type 0 where
   pub before : ℕ
   pub line_is : reader.line ≡ line_number before
   pub reads : (more : List ℕ) → read_cnf reader.max (text ++ more) ≡ resumed reader.max before reader.state (lines_of (reader.ahead ++ more))
 
-abbrev pub is_no_memory : CnfFaultKind → Bool
-is_no_memory NoMemory = true
-is_no_memory kind = false
+abbrev pub is_cnf_no_memory : CnfFaultKind → Bool
+is_cnf_no_memory (NoMemory _) = true
+is_cnf_no_memory kind = false
 
 -- a formula is what the text spells, and a fault is the text's, unless memory ran out
 abbrev pub IsAnswer : ℕ → List ℕ → Result FormulaValue CnfFault → Type 0
 IsAnswer max text (Ok formula) = Spells max text formula
-IsAnswer max text (Err fault) = is_no_memory fault.kind ≡ false → HasFault max text fault
+IsAnswer max text (Err fault) = is_cnf_no_memory fault.kind ≡ false → HasFault max text fault
 
 -- the fault is kept
-abbrev pub Keeps : State → CnfFault → Type 0
-Keeps (Faulty kept) fault = kept ≡ fault
-Keeps state fault = ⊥
+abbrev pub KeepsCnfFault : State → CnfFault → Type 0
+KeepsCnfFault (Faulty kept) fault = kept ≡ fault
+KeepsCnfFault state fault = ⊥
 
 -- what holds where a fault is kept
 abbrev pub IfFaulty : State → (CnfFault → Type 0) → Type 0

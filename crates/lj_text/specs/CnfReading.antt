@@ -32,9 +32,9 @@ abbrev pub completed : Begun → ℕ → List Place → Result FormulaValue CnfF
 completed begun last places = with_read (λ cs. formula_of begun.variables (begun.clauses ++ cs)) (clauses_after begun.variables last begun.left begun.literals places)
 
 -- the fault is what the grammar tells, unless memory ran out
-abbrev pub IsTold : {Y : Type 0} → CnfFaultKind → ℕ → Result Y CnfFault → Type 0
-IsTold NoMemory line read = Unit {0}
-IsTold kind line read = read ≡ Err (record { kind = kind; line = line })
+abbrev pub IsCnfTold : {Y : Type 0} → CnfFaultKind → ℕ → Result Y CnfFault → Type 0
+IsCnfTold (NoMemory _) line read = Unit {0}
+IsCnfTold kind line read = read ≡ Err (record { kind = kind; line = line })
 
 -- whether a literal's variable is within a number
 abbrev pub is_up_to : ℕ → ℤ → Bool
@@ -63,4 +63,4 @@ places_behind line tokens rest = map (place_at line) tokens ++ rest
 abbrev pub Goes : ℕ → ℕ → List (List ℕ) → List Place → Begun → Begun → Result Bool CnfFaultKind → Type 0
 Goes last line tokens rest old new (Ok true) = completed old last (places_behind line tokens rest) ≡ Ok (formula_of new.variables new.clauses)
 Goes last line tokens rest old new (Ok false) = completed old last (places_behind line tokens rest) ≡ completed new last rest
-Goes last line tokens rest old new (Err kind) = IsTold kind line (completed old last (places_behind line tokens rest))
+Goes last line tokens rest old new (Err kind) = IsCnfTold kind line (completed old last (places_behind line tokens rest))

@@ -5,7 +5,7 @@ use Rattle.lj_text.specs.declared.cnf.fault.CnfFault.{CnfFault}
 use Rattle.lj_text.specs.declared.cnf.state.State.{State}
 use Rattle.lj_text.specs.declared.cnf.state.State.TheVariants.{Header, Clauses, Ended, Faulty}
 use Rattle.lj_text.specs.Cnf.{Place, places_from, last_line, formula_from}
-use Rattle.lj_text.specs.CnfReading.{completed, IsTold}
+use Rattle.lj_text.specs.CnfReading.{completed, IsCnfTold}
 
 -- what the grammar reads of the lines that follow, where n lines stand before them
 abbrev pub resumed : ℕ → ℕ → State → List (List ℕ) → Result FormulaValue CnfFault
@@ -16,14 +16,14 @@ resumed max n (Faulty fault) lines = Err fault
 
 -- from that state on this is read, unless memory ran out
 abbrev pub Reads : ℕ → ℕ → List (List ℕ) → State → Result FormulaValue CnfFault → Type 0
-Reads max n lines (Faulty fault) read = IsTold fault.kind fault.line read
+Reads max n lines (Faulty fault) read = IsCnfTold fault.kind fault.line read
 Reads max n lines Header read = read ≡ resumed max n Header lines
 Reads max n lines (Clauses begun) read = read ≡ resumed max n (Clauses begun) lines
 Reads max n lines (Ended begun) read = read ≡ resumed max n (Ended begun) lines
 
 -- the same among the tokens of the clauses
 abbrev pub ReadsOn : ℕ → List Place → State → Result FormulaValue CnfFault → Type 0
-ReadsOn last rest (Faulty fault) read = IsTold fault.kind fault.line read
+ReadsOn last rest (Faulty fault) read = IsCnfTold fault.kind fault.line read
 ReadsOn last rest Header read = ⊥
 ReadsOn last rest (Clauses begun) read = read ≡ completed begun last rest
 ReadsOn last rest (Ended begun) read = read ≡ Ok (formula_of begun.variables begun.clauses)

@@ -6,12 +6,12 @@ use Rattle.lj_clause.specs.Truth.{Assignment, SatisfiesAll, IsSatisfiable}
 use Rattle.lj_text.specs.declared.line.Addition.{Addition}
 use Rattle.lj_text.specs.declared.step.Step.{Step}
 use Rattle.lj_text.specs.declared.step.Step.TheVariants.{Add}
-use Rattle.lj_text.specs.Needed.{NumberSet, has, up_to_empty, additions, hints_of, empty_numbers, needed}
-use Rattle.lj_text.specs.Steps.{is_accepted, after, replay, refutes, recorded, IsRecorded}
+use Rattle.lj_text.specs.Needed.{NumberSet, has, up_to_empty, additions, all_hints, empty_numbers, needed}
+use Rattle.lj_text.specs.Steps.{is_accepted, after_step, replay, refutes, recorded, IsRecorded}
 
 -- an accepted step leaves a satisfiable map satisfiable
 abbrev pub AcceptedKeepsSatisfiable : Type 0
-AcceptedKeepsSatisfiable = (p : ClauseMap) (step : Step) → is_accepted p step ≡ true → IsSatisfiable p → IsSatisfiable (after p step)
+AcceptedKeepsSatisfiable = (p : ClauseMap) (step : Step) → is_accepted p step ≡ true → IsSatisfiable p → IsSatisfiable (after_step p step)
 
 -- and so does each list of steps that are accepted in turn
 abbrev pub ReplayKeepsSatisfiable : Type 0
@@ -24,13 +24,13 @@ RefutedIsUnsatisfiable = (f : FormulaValue) (steps : List Step) → refutes f st
 -- an accepted addition is accepted in its recorded form too, and leaves the same map
 abbrev pub RecordedLosesNothing : Type 0
 RecordedLosesNothing = (p : ClauseMap) (a : Addition) → is_accepted p (Add a) ≡ true
-    → IsRecorded p (recorded p a) × (is_accepted p (Add (recorded p a)) ≡ true) × (after p (Add (recorded p a)) ≡ after p (Add a))
+    → IsRecorded p (recorded p a) × (is_accepted p (Add (recorded p a)) ≡ true) × (after_step p (Add (recorded p a)) ≡ after_step p (Add a))
 
 -- A set holds the number of the first addition of the empty clause and, with the number of each addition up to it, all
 -- the hints of that addition.
 pub record IsClosedSet (steps : List Step) (s : NumberSet) : Type 0 where
   pub empty_clause : AllByRecursion (λ n. has s n ≡ true) (empty_numbers (up_to_empty steps))
-  pub hints : AllByRecursion (λ (a : Addition). has s a.number ≡ true → AllByRecursion (λ n. has s n ≡ true) (hints_of a)) (additions (up_to_empty steps))
+  pub hints : AllByRecursion (λ (a : Addition). has s a.number ≡ true → AllByRecursion (λ n. has s n ≡ true) (all_hints a)) (additions (up_to_empty steps))
 
 -- the needed set is such a set, and part of each other one
 abbrev pub NeededIsLeast : Type 0

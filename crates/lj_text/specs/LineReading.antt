@@ -1,7 +1,6 @@
 -- What the parts of the line reader give.
-use Rattle.std.specs.Prelude.{◌≡◌, ℕ, Bool, List, [], ◌∷◌, map, Option, Some, None, Result, Ok, Err, Vec, ℤ, MatchOption, MatchResult, if◌then◌else◌}
+use Rattle.std.specs.Prelude.{◌≡◌, ℕ, Bool, List, [], ◌∷◌, map, Option, Some, None, Result, Ok, Err, ℤ, MatchOption, MatchResult, if◌then◌else◌}
 use Rattle.std.specs.Borrow.{Bor}
-use Rattle.std.specs.declared.alloc.Global.{Global}
 use Rattle.lj_text.specs.declared.lines.fault.LineFaultKind.{LineFaultKind}
 use Rattle.lj_text.specs.declared.lines.fault.LineFaultKind.TheVariants.{BadNumber, NumberRange, Syntax, Truncated, NoMemory}
 use Rattle.lj_clause.specs.Rat.{HintGroup}
@@ -14,27 +13,27 @@ abbrev pub words_of : List ℕ → List (Option ℤ)
 words_of bytes = map number_of (tokens_of bytes)
 
 -- the fault is what the grammar tells, unless memory ran out
-abbrev pub IsTold : {Y : Type 0} → LineFaultKind → Result Y LineFaultKind → Type 0
-IsTold NoMemory read = Unit {0}
-IsTold BadNumber read = read ≡ Err BadNumber
-IsTold NumberRange read = read ≡ Err NumberRange
-IsTold Syntax read = read ≡ Err Syntax
-IsTold Truncated read = read ≡ Err Truncated
+abbrev pub IsLineTold : {Y : Type 0} → LineFaultKind → Result Y LineFaultKind → Type 0
+IsLineTold (NoMemory _) read = Unit {0}
+IsLineTold BadNumber read = read ≡ Err BadNumber
+IsLineTold NumberRange read = read ≡ Err NumberRange
+IsLineTold Syntax read = read ≡ Err Syntax
+IsLineTold Truncated read = read ≡ Err Truncated
 
 -- what a function returned, seen by view, is what the grammar reads
 abbrev pub Gives : {X Y : Type 0} → (X → Y) → Result X LineFaultKind → Result Y LineFaultKind → Type 0
 Gives view (Ok x) read = read ≡ Ok (view x)
-Gives view (Err kind) read = IsTold kind read
+Gives view (Err kind) read = IsLineTold kind read
 
 -- hints and groups behind a candidate are its group and the others
 abbrev pub group_before : ℕ → List ℕ × List HintGroup → List HintGroup
 group_before candidate read = record { candidate = candidate; hints = read.0 } ∷ read.1
 
 -- the hints up to the closing 0, or up to a candidate, which is followed by its own hints and the other groups
-abbrev pub HintsGive : Bool → Result (Vec ℕ Global × Option (ℕ × Bor (List ℕ))) LineFaultKind → Result (List ℕ × List HintGroup) LineFaultKind → Type 0
-HintsGive ended result read = MatchResult result
-    (λ found. MatchOption found.1 (read ≡ Ok (found.0.items, [])) (λ next. read ≡ with_read (λ r. (found.0.items, group_before next.0 r)) (hints_of ended (words_of next.1.now))))
-    (λ kind. IsTold kind read)
+abbrev pub HintsGive : Bool → List ℕ → Result (Option (ℕ × Bor (List ℕ))) LineFaultKind → Result (List ℕ × List HintGroup) LineFaultKind → Type 0
+HintsGive ended hints result read = MatchResult result
+    (λ found. MatchOption found (read ≡ Ok (hints, [])) (λ next. read ≡ with_read (λ r. (hints, group_before next.0 r)) (hints_of ended (words_of next.1.now))))
+    (λ kind. IsLineTold kind read)
 
 -- what a line says: nothing, a line or its fault
 abbrev pub spoken : ℕ → Bool → List (List ℕ) → Result (Option Line) LineFaultKind

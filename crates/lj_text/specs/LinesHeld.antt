@@ -1,9 +1,9 @@
 -- What is true of the fields of a reader of lines, and its steps.
-use Rattle.std.specs.Prelude.{◌≡◌, ℕ, ◌-◌, ◌<◌, ◌≤◌, List, length, take, drop, get_or, Some, if◌then◌else◌}
+use Rattle.std.specs.Prelude.{◌≡◌, ℕ, ◌-◌, ◌<◌, ◌≤◌, List, length, take, drop, max, get_or, Some, if◌then◌else◌}
 use Rattle.lj_text.specs.declared.lines.fault.LineFault.{LineFault}
 use Rattle.lj_text.specs.declared.lines.look.Found.{Found}
 use Rattle.lj_text.specs.Bytes.{line_number}
-use Rattle.lj_text.specs.LinesRead.{LinesRead, HasNoLineEnd, is_no_memory}
+use Rattle.lj_text.specs.LinesRead.{LinesRead, HasNoLineEnd, is_line_no_memory}
 
 -- the last byte is a line feed
 abbrev pub EndsLine : List ℕ → Type 0
@@ -14,6 +14,8 @@ pub record IsParted (start : ℕ) (front back : List ℕ) : Type 0 where
   pub begun : start ≤ length front
   pub unread : 0 < length front → start < length front
   pub parted : 0 < length back → EndsLine front
+  -- what is done stays no longer than as much follows it, but for a piece of the usual size
+  pub few : start ≤ max 65536 (length front - start)
 
 -- Bytes are held, and no line ends among the first that were searched; their first line has a number.
 pub record IsHeld (max searched line : ℕ) (ahead : List ℕ) : Type 0 where
@@ -37,4 +39,4 @@ pub record IsAhead (ahead : List ℕ) (found : Found) : Type 0 where
 
 -- a fault is kept, but for the want of memory
 abbrev pub kept : LinesRead → LineFault → LinesRead
-kept r fault = if is_no_memory fault.kind then r else record r { at = fault.line; fault = Some fault }
+kept r fault = if is_line_no_memory fault.kind then r else record r { at = fault.line; fault = Some fault }

@@ -49,31 +49,31 @@ pub record StandsBehind (reader : LinesRead) (text : List ℕ) (given : ℕ) : T
   pub line_is : reader.line ≡ last_number text
 
 -- the reader stands at a text of which it has handed out `given` lines
-abbrev pub StandsAt : LinesRead → List ℕ → ℕ → Type 0
-StandsAt reader text given = MatchBool reader.finished (StandsBehind reader text given) (StandsWithin reader text given)
+abbrev pub LineReaderStandsAt : LinesRead → List ℕ → ℕ → Type 0
+LineReaderStandsAt reader text given = MatchBool reader.finished (StandsBehind reader text given) (StandsWithin reader text given)
 
 abbrev pub told : ℕ → Result Line LineFaultKind → Result (Option Line) LineFault
 told n (Ok line) = Ok (Some line)
 told n (Err kind) = Err (record { kind = kind; line = n })
 
 -- the answer where a line says something, or none does
-abbrev pub answer_of : Option Said → Result (Option Line) LineFault
-answer_of None = Ok None
-answer_of (Some said) = told said.line said.says
+abbrev pub line_answer : Option Said → Result (Option Line) LineFault
+line_answer None = Ok None
+line_answer (Some said) = told said.line said.says
 
 -- the number of the line that says something, or else of the one being read
-abbrev pub place_of : Option Said → ℕ → ℕ
-place_of None last = last
-place_of (Some said) last = said.line
+abbrev pub number_at : Option Said → ℕ → ℕ
+number_at None last = last
+number_at (Some said) last = said.line
 
-abbrev pub is_no_memory : LineFaultKind → Bool
-is_no_memory NoMemory = true
-is_no_memory kind = false
+abbrev pub is_line_no_memory : LineFaultKind → Bool
+is_line_no_memory (NoMemory _) = true
+is_line_no_memory kind = false
 
 -- whether memory ran out
 abbrev pub wants_memory : {X : Type 0} → Result X LineFault → Bool
 wants_memory (Ok x) = false
-wants_memory (Err fault) = is_no_memory fault.kind
+wants_memory (Err fault) = is_line_no_memory fault.kind
 
 -- how many lines an answer hands out
 abbrev pub handed_out : Result (Option Line) LineFault → ℕ

@@ -32,8 +32,8 @@ additions (Add a ∷ ss) = a ∷ additions ss
 additions (Delete numbers ∷ ss) = additions ss
 
 -- all the hints of an addition: those of its first list and of its groups
-abbrev pub hints_of : Addition → List ℕ
-hints_of a = a.hints ++ flat_map (λ g. g.hints) a.groups
+abbrev pub all_hints : Addition → List ℕ
+all_hints a = a.hints ++ flat_map (λ g. g.hints) a.groups
 
 abbrev pub with_other : Addition → Option (Addition × List Addition) → Option (Addition × List Addition)
 with_other a None = None
@@ -46,20 +46,20 @@ pick s (a ∷ others) = if has s a.number then Some (a, others) else with_other 
 
 abbrev pub by_pick : (NumberSet → List Addition → NumberSet) → NumberSet → Option (Addition × List Addition) → NumberSet
 by_pick onward s None = s
-by_pick onward s (Some found) = onward (with_numbers s (hints_of found.0)) found.1
+by_pick onward s (Some found) = onward (with_numbers s (all_hints found.0)) found.1
 
 -- the set and, as long as it has the number of an addition that wasn't taken yet, all the hints of that addition
 abbrev pub closure : ℕ → NumberSet → List Addition → NumberSet
 closure zero s adds = s
 closure (suc n) s adds = by_pick (closure n) s (pick s adds)
 
-abbrev pub number_of : Step → List ℕ
-number_of (Add a) = a.number ∷ []
-number_of (Delete numbers) = []
+abbrev pub added_number : Step → List ℕ
+added_number (Add a) = a.number ∷ []
+added_number (Delete numbers) = []
 
 -- the numbers of the additions of the empty clause
 abbrev pub empty_numbers : List Step → List ℕ
-empty_numbers steps = flat_map (λ s. if adds_empty s then number_of s else []) steps
+empty_numbers steps = flat_map (λ s. if adds_empty s then added_number s else []) steps
 
 -- The needed set: the least set that holds the number of the first addition of the empty clause and, with each
 -- lemma's number in it, all the hints of that lemma.

@@ -56,14 +56,14 @@ without p [] = p
 without p (n ∷ ns) = fin.remove (without p ns) n
 
 -- what a step leaves
-abbrev pub after : ClauseMap → Step → ClauseMap
-after p (Add a) = fin.insert p a.number a.lemma.clause
-after p (Delete numbers) = without p numbers
+abbrev pub after_step : ClauseMap → Step → ClauseMap
+after_step p (Add a) = fin.insert p a.number a.lemma.clause
+after_step p (Delete numbers) = without p numbers
 
 -- each step in turn, where each is accepted
 abbrev pub replay : ClauseMap → List Step → Option ClauseMap
 replay p [] = Some p
-replay p (s ∷ ss) = if is_accepted p s then replay (after p s) ss else None
+replay p (s ∷ ss) = if is_accepted p s then replay (after_step p s) ss else None
 
 -- whether the step adds the empty clause
 abbrev pub adds_empty : Step → Bool

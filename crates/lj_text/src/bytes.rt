@@ -2,6 +2,8 @@
 
 mod numbers;
 mod tokens;
+mod words;
 
 pub(crate) use numbers::{Word, digits_value, word_of};
-pub(crate) use tokens::next_token;
+pub(crate) use tokens::{after_blanks, next_token};
+pub(crate) use words::{first_word, next_word};

@@ -1,7 +1,7 @@
 //! Streams that fail at a given place.
-ghost use Rattle.std.specs.Prelude.{◌≡◌, false, ℕ, ◌+◌, ◌<◌, ◌↔◌, ◌⊎◌, [], length, take, OnOk, OnErr, IfOk, IfSome, IsErr};
+ghost use Rattle.std.specs.Prelude.{◌≡◌, true, false, ℕ, ◌+◌, ◌<◌, ◌++◌, ◌↔◌, ◌⊎◌, [], length, take, OnOk, OnErr, IfOk, IsErr};
 ghost use Rattle.std.specs.Io.{ReadsAtMost, WritesAtMost};
-ghost use Rattle.std.specs.Io.KnownBytes.{Appends, Consumes, Keeps};
+ghost use Rattle.std.specs.Io.KnownBytes.{Appends, Consumes, IsAtEnd, Keeps};
 ghost use Rattle.lj_text.specs.Streams.{failures_of};
 
 use crate::sink::{Sink, SinkFault};
@@ -30,6 +30,10 @@ impl<S> FailingSource<S> {
 }
 
 impl<S: Source> Source for FailingSource<S> {
+    ghost given = { λ failing. S.given failing.source };
+
+    ghost ended = { λ failing. S.ended failing.source };
+
     ghost rest = { λ failing. S.rest failing.source };
 
     ghost failures = { λ failing. failures_of S.failures failing.source failing.failed };
@@ -39,13 +43,18 @@ impl<S: Source> Source for FailingSource<S> {
         requires unfailed { failures_of S.failures self.old.source self.old.failed ≡ 0 }
 
         ensures bound { ReadsAtMost result buffer.new }
-        ensures bytes { IfOk result (λ n. Consumes (S.rest self.old.source) (S.rest self.new.source) (take n buffer.new)) }
-        ensures end { IfOk result (λ n. IfSome (S.rest self.old.source) (λ bytes. (n ≡ 0) ↔ (bytes ≡ []))) }
+        ensures given { IfOk result (λ n. S.given self.new.source ≡ S.given self.old.source ++ take n buffer.new) }
+        ensures end { IfOk result (λ n. (n ≡ 0) ↔ (S.ended self.new.source ≡ true)) }
+        ensures stays_ended { S.ended self.old.source ≡ true → IfOk result (λ n. n ≡ 0) }
+        ensures rest { IfOk result (λ n. Consumes (S.rest self.old.source) (S.rest self.new.source) (take n buffer.new)) }
+        ensures rest_end { IfOk result (λ n. n ≡ 0 → IsAtEnd (S.rest self.new.source)) }
         ensures ok { OnOk result (failures_of S.failures self.new.source self.new.failed
             ≡ failures_of S.failures self.old.source self.old.failed) }
 
         ensures err { OnErr result (failures_of S.failures self.new.source self.new.failed
             ≡ failures_of S.failures self.old.source self.old.failed + 1) }
+        ensures none_given { OnErr result (S.given self.new.source ≡ S.given self.old.source) }
+        ensures none_ended { OnErr result (S.ended self.new.source ≡ S.ended self.old.source) }
         ensures kept { OnErr result (Keeps (S.rest self.old.source) (S.rest self.new.source)) }
 
         ensures fails { self.old.pulls ≡ 0 → IsErr result }
@@ -86,6 +95,8 @@ impl<S> FailingSink<S> {
 impl<S: Sink> Sink for FailingSink<S> {
     ghost taken = { λ failing. S.taken failing.sink };
 
+    ghost contents = { λ failing. S.contents failing.sink };
+
     ghost failures = { λ failing. failures_of S.failures failing.sink failing.failed };
 
     fn put(&mut self, piece: &[u8]) -> Result<usize, SinkFault>
@@ -93,16 +104,18 @@ impl<S: Sink> Sink for FailingSink<S> {
 
         ensures bound { WritesAtMost result piece.now }
         ensures some { IfOk result (λ n. 0 < length piece.now → 0 < n) }
-        ensures bytes { IfOk result (λ n. Appends (S.taken self.old.sink) (S.taken self.new.sink) (take n piece.now)) }
+        ensures taken { IfOk result (λ n. S.taken self.new.sink ≡ S.taken self.old.sink ++ take n piece.now) }
+        ensures contents { IfOk result (λ n. Appends (S.contents self.old.sink) (S.contents self.new.sink) (take n piece.now)) }
         ensures ok { OnOk result (failures_of S.failures self.new.sink self.new.failed
             ≡ failures_of S.failures self.old.sink self.old.failed) }
 
         ensures err { OnErr result (failures_of S.failures self.new.sink self.new.failed
             ≡ failures_of S.failures self.old.sink self.old.failed + 1) }
-        ensures kept { OnErr result (Keeps (S.taken self.old.sink) (S.taken self.new.sink)) }
+        ensures none_taken { OnErr result (S.taken self.new.sink ≡ S.taken self.old.sink) }
+        ensures kept { OnErr result (Keeps (S.contents self.old.sink) (S.contents self.new.sink)) }
 
         ensures fails { self.old.room ≡ 0 → 0 < length piece.now → IsErr result }
-        ensures fails_only_then { OnErr result ((self.old.room ≡ 0) ⊎ (0 < S.failures self.new.sink)) }
+        ensures fails_only_then { OnErr result (((self.old.room ≡ 0) × (0 < length piece.now)) ⊎ (0 < S.failures self.new.sink)) }
         ensures counted { IfOk result (λ n. self.new.room + n ≡ self.old.room) }
     {
         if self.room == 0 && !piece.is_empty() {

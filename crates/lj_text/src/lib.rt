@@ -1,11 +1,12 @@
 //! The texts: lines of LRAT proofs, DIMACS CNF, steps and their text, and the streams that bytes come from and go to.
 #![tactic(auto)]
 
+mod as_step;
 mod bytes;
+mod bytes_so_far;
 mod cnf;
 pub mod examples;
 mod failing;
-mod in_pieces;
 pub mod laws;
 mod line;
 mod lines;
@@ -13,16 +14,18 @@ mod numbers;
 mod sink;
 mod source;
 mod step;
+mod writer;
 
+pub use as_step::AsStep;
 pub use cnf::{CnfFault, CnfFaultKind, CnfReader, spells_or_has_a_fault};
 pub use failing::{FailingSink, FailingSource};
-pub use in_pieces::InPieces;
 pub use line::{Addition, Line};
 pub use lines::{LineFault, LineFaultKind, LineReader};
-pub use numbers::{Group, Groups, Numbers};
+pub use numbers::{Group, Groups, NumberRoom, Numbers, NumbersIter};
 pub use sink::{MemorySink, Sink, SinkFault, WriterSink, write_all};
 pub use source::{MemorySource, ReaderSource, Source, SourceFault};
 pub use step::Step;
+pub use writer::{ProofWriter, WriteFault, write_proof};
 
 #[cfg(test)]
 mod tests;

@@ -9,6 +9,7 @@ mod look;
 mod numbers;
 mod parse;
 mod reader;
+mod room;
 mod words;
 
 pub(crate) use cut::first_line;

@@ -1,12 +1,27 @@
 //! Lists of clause numbers, and hint groups.
-ghost use Rattle.std.specs.Prelude.{◌≡◌};
+ghost use Rattle.std.specs.Prelude.{◌≡◌, ◌==◌, ◌∷◌, ◌++◌, [], length, slice_get, IfOk, IfSome, OnOk, OnErr};
+ghost use Rattle.lj_text.specs.Numbers.{numbers_in, numbers_left};
 
+use std::alloc::{AllocError, Global};
 use std::marker::Model;
+use std::mem::replace;
+
+/// The greatest number that takes four bytes.
+const MAX_SHORT: u64 = 4_294_967_295;
 
 /// A list of clause numbers. Two are equal where their contents are.
+///
+/// Each number takes four bytes where all of them are below 2^32, and eight otherwise.
 #[derive(Debug, Drop)]
 pub struct Numbers {
-    numbers: Vec<u64>,
+    form: Form,
+}
+
+/// Numbers of one width.
+#[derive(Debug, Drop)]
+enum Form {
+    Short(Vec<u32>),
+    Long(Vec<u64>),
 }
 
 impl Model for Numbers {
@@ -14,29 +29,274 @@ impl Model for Numbers {
 
     ghost Value = { List ℕ };
 
-    ghost view = { λ n. n.numbers.items };
+    ghost use Rattle.lj_text.specs.Numbers.{numbers_in};
+
+    ghost view = { λ n. numbers_in n.form };
 }
 
 impl Numbers {
-    /// The list of these numbers. Takes no memory.
+    /// The list of these numbers. Takes no memory, and eight bytes for each of them stay taken.
     pub fn new(numbers: Vec<u64>) -> Numbers
         ensures { result ≡ numbers.items }
     {
-        Numbers { numbers }
+        Numbers {
+            form: Form::Long(numbers),
+        }
+    }
+
+    /// A list of these numbers, in exactly the room that it needs. Takes time linear in how many there are.
+    ///
+    /// # Errors
+    /// [`AllocError`] where a growth was refused.
+    pub fn from_slice(alloc: Global, numbers: &[u64]) -> Result<Numbers, AllocError>
+        ensures { IfOk result (λ list. list ≡ numbers.now) }
+    {
+        let form = match shortened(alloc, numbers)? {
+            Some(short) => Form::Short(short),
+            None => Form::Long(Vec::from_slice(alloc, numbers)?),
+        };
+        Ok(Numbers { form })
+    }
+
+    /// How many numbers there are.
+    pub fn len(&self) -> usize
+        ensures { result ≡ length self.now }
+    {
+        match &self.form {
+            Form::Short(numbers) => numbers.len(),
+            Form::Long(numbers) => numbers.len(),
+        }
+    }
+
+    /// Whether there is none.
+    pub fn is_empty(&self) -> bool
+        ensures { result ≡ (length self.now == 0) }
+    {
+        self.len() == 0
+    }
+
+    /// The number at a place, counted from 0. Takes constant time.
+    pub fn get(&self, index: usize) -> Option<u64>
+        ensures { result ≡ slice_get self.now index }
+    {
+        match &self.form {
+            Form::Short(numbers) => match numbers.get(index) {
+                Some(number) => Some(u64::from(*number)),
+                None => None,
+            },
+            Form::Long(numbers) => numbers.get(index).copied(),
+        }
     }
 
     /// The numbers, in order.
-    pub fn as_slice(&self) -> &[u64]
-        ensures { result.now ≡ self.now }
+    #[inline]
+    pub fn iter(&self) -> NumbersIter<'_>
+        ensures { result ≡ self.now }
     {
-        &self.numbers
+        match &self.form {
+            Form::Short(numbers) => NumbersIter {
+                rest: Rest::Short(numbers),
+            },
+            Form::Long(numbers) => NumbersIter {
+                rest: Rest::Long(numbers),
+            },
+        }
     }
 
-    /// Gives the numbers back. Takes no memory.
-    pub fn into_vec(self) -> Vec<u64>
-        ensures { result.items ≡ self }
+    /// A list of its own with the same numbers. Takes time linear in how many there are.
+    ///
+    /// # Errors
+    /// [`AllocError`] where a growth was refused.
+    pub fn copy(&self) -> Result<Numbers, AllocError>
+        ensures { IfOk result (λ list. list ≡ self.now) }
     {
-        self.numbers
+        let form = match &self.form {
+            Form::Short(numbers) => Form::Short(Vec::from_slice(*numbers.allocator(), numbers)?),
+            Form::Long(numbers) => Form::Long(Vec::from_slice(*numbers.allocator(), numbers)?),
+        };
+        Ok(Numbers { form })
+    }
+
+    /// The numbers, in order, in a list of their own. Takes time linear in how many there are.
+    ///
+    /// # Errors
+    /// [`AllocError`] where a growth was refused.
+    pub fn to_vec(&self) -> Result<Vec<u64>, AllocError>
+        ensures { IfOk result (λ numbers. numbers.items ≡ self.now) }
+    {
+        match &self.form {
+            Form::Short(numbers) => lengthened(*numbers.allocator(), numbers),
+            Form::Long(numbers) => Vec::from_slice(*numbers.allocator(), numbers),
+        }
+    }
+}
+
+/// The same numbers in four bytes each: none where one of them doesn't fit.
+fn shortened(alloc: Global, numbers: &[u64]) -> Result<Option<Vec<u32>>, AllocError>
+    ensures { IfOk result (λ short. IfSome short (λ short. short.items ≡ numbers.now)) }
+{
+    let mut short = Vec::with_capacity(alloc, numbers.len())?;
+    for number in numbers {
+        if *number > MAX_SHORT {
+            return Ok(None);
+        }
+        short.push(*number as u32)?;
+    }
+    Ok(Some(short))
+}
+
+/// The same numbers in eight bytes each.
+fn lengthened(alloc: Global, numbers: &[u32]) -> Result<Vec<u64>, AllocError>
+    ensures { IfOk result (λ long. long.items ≡ numbers.now) }
+{
+    let mut long = Vec::with_capacity(alloc, numbers.len())?;
+    for number in numbers {
+        long.push(u64::from(*number))?;
+    }
+    Ok(long)
+}
+
+/// The numbers of a list that are still to come, in order.
+#[derive(Debug, Drop)]
+pub struct NumbersIter<'a> {
+    rest: Rest<'a>,
+}
+
+/// Numbers of one width that are still to come.
+#[derive(Clone, Copy, Debug)]
+enum Rest<'a> {
+    Short(&'a [u32]),
+    Long(&'a [u64]),
+}
+
+impl<'a> Model for NumbersIter<'a> {
+    ghost use Rattle.std.specs.Prelude.{List, ℕ};
+
+    ghost Value = { List ℕ };
+
+    ghost use Rattle.lj_text.specs.Numbers.{numbers_left};
+
+    ghost view = { λ n. numbers_left n.rest };
+}
+
+impl<'a> Iterator for NumbersIter<'a> {
+    type Item = u64;
+
+    ghost use Rattle.std.specs.Iterator.{YieldsFirst, item_count};
+
+    ghost next_gives = { YieldsFirst (λ numbers. numbers) };
+
+    ghost remaining = { item_count (λ numbers. numbers) };
+
+    #[inline]
+    fn next(&mut self) -> Option<u64> {
+        match self.rest {
+            Rest::Short(rest) => {
+                let (first, others) = rest.split_first()?;
+                self.rest = Rest::Short(others);
+                Some(u64::from(*first))
+            }
+            Rest::Long(rest) => {
+                let (first, others) = rest.split_first()?;
+                self.rest = Rest::Long(others);
+                Some(*first)
+            }
+        }
+    }
+}
+
+/// Room for the numbers of a list, which is used again for the next list.
+#[derive(Debug, Drop)]
+pub struct NumberRoom {
+    short: Vec<u32>,
+    /// All the numbers, from the first on that takes eight bytes.
+    long: Vec<u64>,
+}
+
+impl Model for NumberRoom {
+    ghost use Rattle.std.specs.Prelude.{List, ℕ, ◌≡◌, ◌<◌, ◌++◌, [], length};
+
+    ghost Value = { List ℕ };
+
+    ghost view = { λ r. r.short.items ++ r.long.items };
+
+    ghost invariant = { λ r. 0 < length r.long.items → r.short.items ≡ [] };
+}
+
+impl NumberRoom {
+    /// Room that holds no numbers. Takes no memory.
+    pub fn new(alloc: Global) -> NumberRoom
+        ensures { result ≡ [] }
+    {
+        NumberRoom {
+            short: Vec::new(alloc),
+            long: Vec::new(alloc),
+        }
+    }
+
+    /// Lets go of the numbers, and keeps the room.
+    pub fn clear(&mut self)
+        ensures { self.new ≡ [] }
+    {
+        self.short.clear();
+        self.long.clear();
+    }
+
+    /// Takes a number behind the others, in constant time, but for the growth of the room.
+    ///
+    /// # Errors
+    /// [`AllocError`] where a growth was refused, and then nothing has changed.
+    #[inline]
+    pub fn push(&mut self, number: u64) -> Result<(), AllocError>
+        ensures ok { OnOk result (self.new ≡ self.old ++ number ∷ []) }
+        ensures err { OnErr result (self.new ≡ self.old) }
+    {
+        if number <= MAX_SHORT && self.long.is_empty() {
+            self.short.push(number as u32)?;
+            return Ok(());
+        }
+        self.push_long(number)
+    }
+
+    /// The same, where a number takes eight bytes.
+    #[cold]
+    fn push_long(&mut self, number: u64) -> Result<(), AllocError>
+        ensures ok { OnOk result (self.new ≡ self.old ++ number ∷ []) }
+        ensures err { OnErr result (self.new ≡ self.old) }
+    {
+        if self.short.is_empty() {
+            self.long.push(number)?;
+            return Ok(());
+        }
+        let mut long = lengthened(*self.short.allocator(), &self.short)?;
+        long.push(number)?;
+        self.long = long;
+        self.short.clear();
+        Ok(())
+    }
+
+    /// The numbers, in a list in exactly the room that it needs. Takes time linear in how many there are.
+    ///
+    /// # Errors
+    /// [`AllocError`] where a growth was refused, and then nothing has changed.
+    pub fn take(&mut self) -> Result<Numbers, AllocError>
+        ensures ok { IfOk result (λ numbers. numbers ≡ self.old) }
+        ensures emptied { OnOk result (self.new ≡ []) }
+        ensures err { OnErr result (self.new ≡ self.old) }
+    {
+        let alloc = *self.short.allocator();
+        if self.long.is_empty() {
+            let numbers = Vec::from_slice(alloc, &self.short)?;
+            self.short.clear();
+            return Ok(Numbers {
+                form: Form::Short(numbers),
+            });
+        }
+        let mut numbers = replace(&mut self.long, Vec::new(alloc));
+        numbers.shrink_to_fit();
+        Ok(Numbers {
+            form: Form::Long(numbers),
+        })
     }
 }
 

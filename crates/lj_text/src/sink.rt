@@ -1,8 +1,9 @@
 //! Where bytes go.
-ghost use Rattle.std.specs.Prelude.{◌≡◌, ℕ, ◌+◌, ◌<◌, Option, List, [], length, take, Some, OnOk, OnErr, IfOk};
+ghost use Rattle.std.specs.Prelude.{◌≡◌, ℕ, ◌+◌, ◌<◌, ◌++◌, Option, List, [], length, take, Some, OnOk, OnErr, IfOk};
 ghost use Rattle.std.specs.Io.{WritesAtMost};
 ghost use Rattle.std.specs.Io.KnownBytes.{Appends, Keeps};
 
+use crate::bytes_so_far::BytesSoFar;
 use std::alloc::Global;
 use std::io::Write;
 use std::marker::Model;
@@ -15,8 +16,11 @@ pub struct SinkFault;
 
 /// What takes bytes in pieces.
 pub trait Sink {
-    /// The bytes taken so far, where the sink tells them.
-    ghost taken: { Self → Option (List ℕ) };
+    /// The bytes taken so far.
+    ghost taken: { Self → List ℕ };
+
+    /// The bytes that stand where it puts them, where the sink tells them.
+    ghost contents: { Self → Option (List ℕ) };
 
     /// How often it has failed.
     ghost failures: { Self → ℕ };
@@ -28,15 +32,19 @@ pub trait Sink {
 
         ensures bound { WritesAtMost result piece.now }
         ensures some { IfOk result (λ n. 0 < length piece.now → 0 < n) }
-        ensures bytes { IfOk result (λ n. Appends (taken self.old) (taken self.new) (take n piece.now)) }
+        ensures taken { IfOk result (λ n. taken self.new ≡ taken self.old ++ take n piece.now) }
+        ensures contents { IfOk result (λ n. Appends (contents self.old) (contents self.new) (take n piece.now)) }
         ensures ok { OnOk result (failures self.new ≡ failures self.old) }
 
         ensures err { OnErr result (failures self.new ≡ failures self.old + 1) }
-        ensures kept { OnErr result (Keeps (taken self.old) (taken self.new)) };
+        ensures none_taken { OnErr result (taken self.new ≡ taken self.old) }
+        ensures kept { OnErr result (Keeps (contents self.old) (contents self.new)) };
 }
 
 impl<S: Sink> Sink for &mut S {
     ghost taken = { λ sink. S.taken sink.now };
+
+    ghost contents = { λ sink. S.contents sink.now };
 
     ghost failures = { λ sink. S.failures sink.now };
 
@@ -49,11 +57,13 @@ impl<S: Sink> Sink for &mut S {
 pub fn write_all<S: Sink>(sink: &mut S, bytes: &[u8]) -> Result<(), SinkFault>
     requires { S.failures sink.old ≡ 0 }
 
-    ensures bytes { OnOk result (Appends (S.taken sink.old) (S.taken sink.new) bytes.now) }
+    ensures taken { OnOk result (S.taken sink.new ≡ S.taken sink.old ++ bytes.now) }
+    ensures contents { OnOk result (Appends (S.contents sink.old) (S.contents sink.new) bytes.now) }
     ensures ok { OnOk result (S.failures sink.new ≡ S.failures sink.old) }
 
     ensures beginning { OnErr result ((n : ℕ) × (n < length bytes.now)
-        × Appends (S.taken sink.old) (S.taken sink.new) (take n bytes.now)) }
+        × (S.taken sink.new ≡ S.taken sink.old ++ take n bytes.now)
+        × Appends (S.contents sink.old) (S.contents sink.new) (take n bytes.now)) }
     ensures err { OnErr result (S.failures sink.new ≡ S.failures sink.old + 1) }
 {
     let mut done = 0;
@@ -106,7 +116,9 @@ impl MemorySink {
 }
 
 impl Sink for MemorySink {
-    ghost taken = { λ sink. Some sink.0 };
+    ghost taken = { λ sink. sink.0 };
+
+    ghost contents = { λ sink. Some sink.0 };
 
     ghost failures = { λ sink. sink.1 };
 
@@ -121,50 +133,58 @@ impl Sink for MemorySink {
     }
 }
 
-/// A writer of std, seen as the writer and the count of failures. Each error of the writer is a
-/// failure, an interrupted write too, and so is a write that takes nothing of a piece that has bytes.
-/// A writer that keeps bytes back has to be flushed through `into_writer`.
+/// A writer of std, seen as the writer, the bytes taken so far and the count of failures. Each error of the writer is a
+/// failure, an interrupted write too, and so is a write that takes nothing of a piece that has bytes. A writer that
+/// keeps bytes back has to be flushed through `into_writer`.
 #[derive(Debug, Drop)]
 pub struct WriterSink<W> {
     writer: W,
+    taken: BytesSoFar,
     failed: bool,
 }
 
 impl<W> Model for WriterSink<W> {
-    ghost use Rattle.std.specs.Prelude.{ℕ, if◌then◌else◌};
+    ghost use Rattle.std.specs.Prelude.{if◌then◌else◌};
+    ghost use Rattle.lj_text.specs.Streams.{WriterSoFar};
 
-    ghost Value = { W × ℕ };
+    ghost Value = { WriterSoFar W };
 
-    ghost view = { λ sink. (sink.writer, if sink.failed then 1 else 0) };
+    ghost view = { λ sink. record { writer = sink.writer; taken = sink.taken.bytes; failures = if sink.failed then 1 else 0 } };
 }
 
 impl<W> WriterSink<W> {
-    /// The writer takes the bytes. It has not failed.
+    /// The writer takes the bytes. It has taken none yet, and has not failed.
     pub fn new(writer: W) -> Self
-        ensures { result ≡ (writer, 0) }
+        ensures { result ≡ record { writer = writer; taken = []; failures = 0 } }
     {
         WriterSink {
             writer,
+            taken: BytesSoFar::new(),
             failed: false,
         }
     }
 
     /// The writer.
     pub fn into_writer(self) -> W
-        ensures { result ≡ self.0 }
+        ensures { result ≡ self.writer }
     {
         self.writer
     }
 }
 
 impl<W: Write> Sink for WriterSink<W> {
-    ghost taken = { λ sink. W.contents sink.0 };
+    ghost taken = { λ sink. sink.taken };
 
-    ghost failures = { λ sink. sink.1 };
+    ghost contents = { λ sink. W.contents sink.writer };
+
+    ghost failures = { λ sink. sink.failures };
 
     fn put(&mut self, piece: &[u8]) -> Result<usize, SinkFault> {
         match self.writer.write(piece) {
-            Ok(count) if count > 0 || piece.is_empty() => Ok(count),
+            Ok(count) if count > 0 || piece.is_empty() => {
+                self.taken = self.taken.and(&piece[..count]);
+                Ok(count)
+            }
             _ => {
                 self.failed = true;
                 Err(SinkFault)

@@ -1,8 +1,9 @@
 //! Where bytes come from.
-ghost use Rattle.std.specs.Prelude.{◌≡◌, ℕ, ◌+◌, ◌<◌, ◌↔◌, Option, List, [], length, min, take, Some, OnOk, OnErr, IfOk, IfSome};
+ghost use Rattle.std.specs.Prelude.{◌≡◌, ℕ, ◌+◌, ◌<◌, ◌++◌, ◌↔◌, Bool, true, false, Option, List, [], length, min, take, Some, OnOk, OnErr, IfOk};
 ghost use Rattle.std.specs.Io.{ReadsAtMost};
-ghost use Rattle.std.specs.Io.KnownBytes.{Consumes, Keeps};
+ghost use Rattle.std.specs.Io.KnownBytes.{Consumes, IsAtEnd, Keeps};
 
+use crate::bytes_so_far::BytesSoFar;
 use std::io::Read;
 use std::marker::Model;
 use thiserror::Error;
@@ -14,28 +15,43 @@ pub struct SourceFault;
 
 /// Bytes that come in pieces, to an end or to a failure.
 pub trait Source {
+    /// The bytes given so far.
+    ghost given: { Self → List ℕ };
+
+    /// Whether it has ended.
+    ghost ended: { Self → Bool };
+
     /// The bytes still to come, where the source tells them.
     ghost rest: { Self → Option (List ℕ) };
 
     /// How often it has failed.
     ghost failures: { Self → ℕ };
 
-    /// Puts the next bytes at the front of the buffer and answers how many, 0 at the end alone.
-    /// What the buffer holds behind them is left open. One that has failed isn't pulled again.
+    /// Puts the next bytes at the front of the buffer and answers how many, 0 exactly where the source has ended.
+    /// It stays ended. What the buffer holds behind them is left open. One that has failed isn't pulled again.
     fn pull(&mut self, buffer: &mut [u8]) -> Result<usize, SourceFault>
         requires room { 0 < length buffer.old }
         requires unfailed { failures self.old ≡ 0 }
 
         ensures bound { ReadsAtMost result buffer.new }
-        ensures bytes { IfOk result (λ n. Consumes (rest self.old) (rest self.new) (take n buffer.new)) }
-        ensures end { IfOk result (λ n. IfSome (rest self.old) (λ bytes. (n ≡ 0) ↔ (bytes ≡ []))) }
+        ensures given { IfOk result (λ n. given self.new ≡ given self.old ++ take n buffer.new) }
+        ensures end { IfOk result (λ n. (n ≡ 0) ↔ (ended self.new ≡ true)) }
+        ensures stays_ended { ended self.old ≡ true → IfOk result (λ n. n ≡ 0) }
+        ensures rest { IfOk result (λ n. Consumes (rest self.old) (rest self.new) (take n buffer.new)) }
+        ensures rest_end { IfOk result (λ n. n ≡ 0 → IsAtEnd (rest self.new)) }
         ensures ok { OnOk result (failures self.new ≡ failures self.old) }
 
         ensures err { OnErr result (failures self.new ≡ failures self.old + 1) }
+        ensures none_given { OnErr result (given self.new ≡ given self.old) }
+        ensures none_ended { OnErr result (ended self.new ≡ ended self.old) }
         ensures kept { OnErr result (Keeps (rest self.old) (rest self.new)) };
 }
 
 impl<S: Source> Source for &mut S {
+    ghost given = { λ source. S.given source.now };
+
+    ghost ended = { λ source. S.ended source.now };
+
     ghost rest = { λ source. S.rest source.now };
 
     ghost failures = { λ source. S.failures source.now };
@@ -55,87 +71,118 @@ fn copy_front(from: &[u8], to: &mut [u8]) -> usize
     count
 }
 
-/// Bytes in memory, seen as the list of those still to come. It never fails.
+/// Bytes in memory, seen as those given so far, those still to come and whether the end was told. It never fails.
 #[derive(Debug, Drop)]
 pub struct MemorySource {
     bytes: Vec<u8>,
     given: usize,
+    ended: bool,
 }
 
 impl Model for MemorySource {
-    ghost use Rattle.std.specs.Prelude.{◌≤◌, List, ℕ, drop, vec_len};
+    ghost use Rattle.std.specs.Prelude.{◌≡◌, ◌≤◌, true, take, drop, vec_len};
+    ghost use Rattle.lj_text.specs.Streams.{BytesInMemory};
 
-    ghost Value = { List ℕ };
+    ghost Value = { BytesInMemory };
 
-    ghost view = { λ source. drop source.given source.bytes.items };
+    ghost view = { λ source. record { given = take source.given source.bytes.items; rest = drop source.given source.bytes.items; ended = source.ended } };
 
-    ghost invariant = { λ source. source.given ≤ vec_len source.bytes };
+    ghost invariant = { λ source. (source.given ≤ vec_len source.bytes) × (source.ended ≡ true → source.given ≡ vec_len source.bytes) };
 }
 
 impl MemorySource {
     /// All of these bytes are still to come.
     pub fn new(bytes: Vec<u8>) -> Self
-        ensures { result ≡ bytes.items }
+        ensures { result ≡ record { given = []; rest = bytes.items; ended = false } }
     {
-        MemorySource { bytes, given: 0 }
+        MemorySource {
+            bytes,
+            given: 0,
+            ended: false,
+        }
     }
 
     /// The bytes still to come.
     pub fn rest(&self) -> &[u8]
-        ensures { result.now ≡ self.now }
+        ensures { result.now ≡ self.now.rest }
     {
         &self.bytes[self.given..]
     }
 }
 
 impl Source for MemorySource {
-    ghost rest = { λ bytes. Some bytes };
+    ghost given = { λ source. source.given };
+
+    ghost ended = { λ source. source.ended };
+
+    ghost rest = { λ source. Some source.rest };
 
     ghost failures = { λ _. 0 };
 
     fn pull(&mut self, buffer: &mut [u8]) -> Result<usize, SourceFault> {
         let count = copy_front(&self.bytes[self.given..], buffer);
         self.given += count;
+        self.ended = count == 0;
         Ok(count)
     }
 }
 
-/// The bytes of a reader of std, seen as the reader and the count of failures. Each error of the
-/// reader is a failure, an interrupted read too.
+/// The bytes of a reader of std, seen as the reader, the bytes given so far, whether it has ended and the count of
+/// failures. Each error of the reader is a failure, an interrupted read too. Once the reader has told its end, it
+/// isn't read again.
 #[derive(Debug, Drop)]
-pub struct ReaderSource<R> {
+pub struct ReaderSource<R: Read> {
     reader: R,
+    given: BytesSoFar,
+    ended: bool,
     failed: bool,
 }
 
-impl<R> Model for ReaderSource<R> {
-    ghost use Rattle.std.specs.Prelude.{ℕ, if◌then◌else◌};
+impl<R: Read> Model for ReaderSource<R> {
+    ghost use Rattle.std.specs.Prelude.{◌≡◌, true, if◌then◌else◌};
+    ghost use Rattle.std.specs.Io.KnownBytes.{IsAtEnd};
+    ghost use Rattle.lj_text.specs.Streams.{ReaderSoFar};
 
-    ghost Value = { R × ℕ };
+    ghost Value = { ReaderSoFar R };
 
-    ghost view = { λ source. (source.reader, if source.failed then 1 else 0) };
+    ghost view = { λ source. record { reader = source.reader; given = source.given.bytes; ended = source.ended; failures = if source.failed then 1 else 0 } };
+
+    ghost invariant = { λ source. source.ended ≡ true → IsAtEnd (R.remaining source.reader) };
 }
 
-impl<R> ReaderSource<R> {
-    /// The reader's bytes. It has not failed.
+impl<R: Read> ReaderSource<R> {
+    /// The reader's bytes. It has given none, and has neither ended nor failed.
     pub fn new(reader: R) -> Self
-        ensures { result ≡ (reader, 0) }
+        ensures { result ≡ record { reader = reader; given = []; ended = false; failures = 0 } }
     {
         ReaderSource {
             reader,
+            given: BytesSoFar::new(),
+            ended: false,
             failed: false,
         }
     }
 }
 
 impl<R: Read> Source for ReaderSource<R> {
-    ghost rest = { λ source. R.remaining source.0 };
+    ghost given = { λ source. source.given };
 
-    ghost failures = { λ source. source.1 };
+    ghost ended = { λ source. source.ended };
+
+    ghost rest = { λ source. R.remaining source.reader };
+
+    ghost failures = { λ source. source.failures };
 
     fn pull(&mut self, buffer: &mut [u8]) -> Result<usize, SourceFault> {
+        if self.ended {
+            return Ok(0);
+        }
         match self.reader.read(buffer) {
-            Ok(count) => Ok(count),
+            Ok(count) => {
+                self.given = self.given.and(&buffer[..count]);
+                self.ended = count == 0;
+                Ok(count)
+            }
             Err(_) => {
                 self.failed = true;
                 Err(SourceFault)

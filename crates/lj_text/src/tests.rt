@@ -1,2 +1,4 @@
 mod cnf;
 mod lines;
+mod numbers;
+mod writer;

@@ -2,7 +2,7 @@
 ghost use Rattle.std.specs.Prelude.{None};
 
 use super::*;
-use crate::files::{MemoryFile, MemoryFiles};
+use crate::files::{FileFault, MemoryFile, MemoryFiles};
 use lj_text::{FailingSink, FailingSource, MemorySink, MemorySource};
 use std::process::Abort;
 use std::test::Fail;
@@ -120,8 +120,8 @@ fn streams_that_refute_nothing(rt: HostRuntime) -> Result<(), Fail> {
             "0 added, 0 deleted, 0 imported, line 1: UnknownNumber(9)",
         ),
         (
-            "5 -2 1 0 0\n",
-            "0 added, 0 deleted, 0 imported, line 1: NotYet",
+            "5 1 0 0\n",
+            "0 added, 0 deleted, 0 imported, line 1: MissingGroup(2)",
         ),
         (
             "5 2 0 1 2 0\n6 0 5 3 4",
@@ -150,33 +150,60 @@ fn faults_are_told(rt: HostRuntime) -> Result<(), Fail> {
     Ok(())
 }
 
+/// How the program is used.
+const USAGE: &str =
+    "\n\nUsage: lratjoin <FORMULA> <PROOF>\n\nFor more information, try '--help'.\n";
+
 #[test]
 fn wrong_words_are_usage(rt: HostRuntime) -> Result<(), Fail> {
     let alloc = rt.alloc();
     let mut files = files_of(alloc, BINARY, "")?;
-    for words in [
-        [].as_slice(),
-        &["cnf"],
-        &["cnf", "lrat", "lrat"],
-        &["--unknown", "--help"],
-        &["--in-turn", "cnf", "lrat"],
-        &["cnf", "--", "-h", "lrat"],
+    for (words, fault) in [
+        (
+            [].as_slice(),
+            "the following required arguments were not provided:\n  <FORMULA>\n  <PROOF>",
+        ),
+        (
+            &["cnf"],
+            "the following required arguments were not provided:\n  <PROOF>",
+        ),
+        (&["cnf", "lrat", "more"], "unexpected argument 'more' found"),
+        (
+            &["cnf", "--", "-h", "lrat"],
+            "unexpected argument 'lrat' found",
+        ),
     ] {
-        let told = told_of(&rt, alloc, words, &mut files);
+        let err = format!(in alloc; "error: {fault}{USAGE}")?;
+        assert_told(&rt, alloc, words, &mut files, "", &err, 3);
+    }
+    for words in [["--unknown", "--help"], ["cnf", "--in-turn"]] {
+        let told = told_of(&rt, alloc, &words, &mut files);
         assert!(rt; told.out.bytes().is_empty() && !told.err.bytes().is_empty());
         assert!(rt; told.status == 3);
     }
     Ok(())
 }
 
+/// What `--help` tells.
+const HELP: &str = "Checks LRAT proofs that a CNF formula can't be satisfied
+
+Usage: lratjoin <FORMULA> <PROOF>
+
+Arguments:
+  <FORMULA>  The formula, a DIMACS CNF file
+  <PROOF>    A stream of LRAT lines, a file
+
+Options:
+  -h, --help     Print help
+  -V, --version  Print version
+";
+
 #[test]
 fn help_and_version_are_told(rt: HostRuntime) -> Result<(), Fail> {
     let alloc = rt.alloc();
     let mut files = MemoryFiles::new(alloc);
     for words in [["--help", "--unknown"], ["cnf", "-h"]] {
-        let told = told_of(&rt, alloc, &words, &mut files);
-        assert!(rt; !told.out.bytes().is_empty() && told.err.bytes().is_empty());
-        assert!(rt; told.status == 0);
+        assert_told(&rt, alloc, &words, &mut files, HELP, "", 0);
     }
     for word in ["--version", "-V"] {
         assert_told(&rt, alloc, &[word], &mut files, "lratjoin 0.1.0\n", "", 0);
@@ -188,19 +215,22 @@ fn help_and_version_are_told(rt: HostRuntime) -> Result<(), Fail> {
 fn standard_streams_fail(rt: HostRuntime) -> Result<(), Fail> {
     let alloc = rt.alloc();
     let mut files = files_of(alloc, BINARY, "")?;
-    for (words, room) in [
-        (["cnf", "lrat"].as_slice(), 0),
-        (&["cnf", "lrat"], 60),
-        (&["--help"], 0),
+    for (words, room, taken) in [
+        (["cnf", "lrat"].as_slice(), 0, ""),
+        (&["cnf", "lrat"], 12, "c stream 0: "),
+        (&["--help"], 11, "Checks LRAT"),
     ] {
         let mut out = FailingSink::new(MemorySink::new(alloc), room);
         let mut err = MemorySink::new(alloc);
         assert!(rt; program(&rt, alloc, words, &mut files, &mut out, &mut err) == 2);
+        assert_eq!(rt; out.sink.bytes(), taken.as_bytes());
         assert_eq!(rt; err.bytes(), b"lratjoin: cannot write\n".as_slice());
     }
     let mut out = MemorySink::new(alloc);
-    let mut err = FailingSink::new(MemorySink::new(alloc), 0);
+    let mut err = FailingSink::new(MemorySink::new(alloc), 7);
     assert!(rt; program(&rt, alloc, &["cnf"], &mut files, &mut out, &mut err) == 3);
+    assert_eq!(rt; err.sink.bytes(), b"error: ".as_slice());
+    assert!(rt; out.bytes().is_empty());
     Ok(())
 }
 
@@ -215,12 +245,12 @@ impl Files for FailingFiles {
 
     ghost content = { λ _ _. None };
 
-    fn open(&mut self, path: &str) -> Option<FailingSource<MemorySource>> {
+    fn open(&mut self, path: &str) -> Result<FailingSource<MemorySource>, FileFault> {
         let pulls = if path == "cnf" { 2 } else { 1 };
-        Some(FailingSource::new(self.0.open(path)?, pulls))
+        Ok(FailingSource::new(self.0.open(path)?, pulls))
     }
 
-    fn create(&mut self, path: &str) -> Option<MemoryFile> {
+    fn create(&mut self, path: &str) -> Result<MemoryFile, FileFault> {
         self.0.create(path)
     }
 }

@@ -3,7 +3,7 @@ use lj_text::write_all;
 use std::test::Fail;
 
 fn opened<F: Files>(alloc: Global, files: &mut F, path: &str) -> Option<Vec<u8>> {
-    let mut source = files.open(path)?;
+    let mut source = files.open(path).ok()?;
     let mut buffer = [0; 8];
     let count = source.pull(&mut buffer).ok()?;
     buffer[..count].to_vec(alloc).ok()
@@ -11,8 +11,8 @@ fn opened<F: Files>(alloc: Global, files: &mut F, path: &str) -> Option<Vec<u8>>
 
 fn written<F: Files>(files: &mut F, path: &str, bytes: &[u8]) -> bool {
     match files.create(path) {
-        Some(mut sink) => write_all(&mut sink, bytes).is_ok(),
-        None => false,
+        Ok(mut sink) => write_all(&mut sink, bytes).is_ok(),
+        Err(_) => false,
     }
 }
 
@@ -21,7 +21,7 @@ fn memory_holds_files(rt: HostRuntime) -> Result<(), Fail> {
     let alloc = rt.alloc();
     let mut files = MemoryFiles::new(alloc);
     files.add("in", b"12")?;
-    assert!(rt; files.open("out").is_none());
+    assert!(rt; files.open("out").is_err());
     assert!(rt; files.written("in").is_none());
     assert_eq!(rt;
         opened(alloc, &mut files, "in").ok_or("in")?.as_slice(),
@@ -59,7 +59,7 @@ fn the_machine_holds_files(rt: HostRuntime) -> Result<(), Fail> {
         );
     }
     fs::remove_file(&rt, path)?;
-    assert!(rt; files.open(path).is_none());
-    assert!(rt; files.create(".").is_none());
+    assert!(rt; files.open(path).is_err());
+    assert!(rt; files.create(".").is_err());
     Ok(())
 }

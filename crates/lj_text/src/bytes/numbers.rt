@@ -5,7 +5,7 @@ ghost use Rattle.lj_text.specs.Bytes.{digits_value, negative, number_of};
 ghost use Rattle.lj_text.specs.Words.{IsWord, Counts};
 
 /// The greatest number of a clause.
-const GREATEST: u64 = 9_223_372_036_854_775_807;
+pub(super) const GREATEST: u64 = 9_223_372_036_854_775_807;
 
 /// What a token says.
 #[derive(Clone, Copy, Debug, PartialEq, Eq)]

@@ -4,14 +4,16 @@ ghost use Rattle.std.specs.Prelude.{◌≡◌, ◌<◌, ◌≤◌, ℕ, Bool, tr
 ghost use Rattle.lj_text.specs.Bytes.{is_blank, tokens_of, begins_blank};
 
 /// Whether a byte is a space, a tab or a carriage return.
-fn is_blank(byte: u8) -> bool
+#[inline(always)]
+pub(super) fn is_blank(byte: u8) -> bool
     ensures { result ≡ is_blank byte }
 {
     byte == b' ' || byte == b'\t' || byte == b'\r'
 }
 
 /// What follows the blanks at the front.
-fn after_blanks(bytes: &[u8]) -> &[u8]
+#[inline(always)]
+pub(crate) fn after_blanks(bytes: &[u8]) -> &[u8]
     ensures tokens { tokens_of result.now ≡ tokens_of bytes.now }
     ensures front { begins_blank result.now ≡ false }
     ensures len { length result.now ≤ length bytes.now }

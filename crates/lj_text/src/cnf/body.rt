@@ -3,7 +3,7 @@ ghost use Rattle.std.specs.Prelude.{◌≡◌, ◌≤◌, ◌∷◌, ◌++◌, �
 ghost use Rattle.lj_clause.specs.ClauseMap.{formula_of};
 ghost use Rattle.lj_text.specs.Bytes.{begins, number_of};
 ghost use Rattle.lj_text.specs.Cnf.{Place, Percent, Number, number_at, place_at};
-ghost use Rattle.lj_text.specs.CnfReading.{Goes, IsTold, IsNumberUpTo, completed};
+ghost use Rattle.lj_text.specs.CnfReading.{Goes, IsCnfTold, IsNumberUpTo, completed};
 
 use super::fault::CnfFaultKind;
 use crate::bytes::{Word, word_of};
@@ -54,7 +54,7 @@ impl Body {
     fn take_literal(&mut self, number: i32) -> Result<(), CnfFaultKind>
         requires some { 0 < unsigned_abs number }
         requires in_range { unsigned_abs number ≤ self.old.variables }
-        ensures { (last line : ℕ) (rest : List Place) → MatchResult result (λ _. completed self.old last (Number line number ∷ rest) ≡ completed self.new last rest) (λ kind. IsTold kind line (completed self.old last (Number line number ∷ rest))) }
+        ensures { (last line : ℕ) (rest : List Place) → MatchResult result (λ _. completed self.old last (Number line number ∷ rest) ≡ completed self.new last rest) (λ kind. IsCnfTold kind line (completed self.old last (Number line number ∷ rest))) }
     {
         if self.left == 0 {
             return Err(CnfFaultKind::ClauseCount);
@@ -70,7 +70,7 @@ impl Body {
 
     /// Takes the 0 that closes a clause.
     fn close_clause(&mut self) -> Result<(), CnfFaultKind>
-        ensures { (last line : ℕ) (rest : List Place) → MatchResult result (λ _. completed self.old last (Number line (pos 0) ∷ rest) ≡ completed self.new last rest) (λ kind. IsTold kind line (completed self.old last (Number line (pos 0) ∷ rest))) }
+        ensures { (last line : ℕ) (rest : List Place) → MatchResult result (λ _. completed self.old last (Number line (pos 0) ∷ rest) ≡ completed self.new last rest) (λ kind. IsCnfTold kind line (completed self.old last (Number line (pos 0) ∷ rest))) }
     {
         if self.left == 0 {
             return Err(CnfFaultKind::ClauseCount);
@@ -84,7 +84,7 @@ impl Body {
 
     /// Takes a token that begins with `%`, which ends the formula where a clause would begin.
     fn take_percent(&self) -> Result<(), CnfFaultKind>
-        ensures { (last line : ℕ) (rest : List Place) → MatchResult result (λ _. completed self.now last (Percent line ∷ rest) ≡ Ok (formula_of self.now.variables self.now.clauses)) (λ kind. IsTold kind line (completed self.now last (Percent line ∷ rest))) }
+        ensures { (last line : ℕ) (rest : List Place) → MatchResult result (λ _. completed self.now last (Percent line ∷ rest) ≡ Ok (formula_of self.now.variables self.now.clauses)) (λ kind. IsCnfTold kind line (completed self.now last (Percent line ∷ rest))) }
     {
         if !self.literals.is_empty() {
             Err(CnfFaultKind::BadNumber)
@@ -97,7 +97,7 @@ impl Body {
 
     /// Takes a token that isn't to end the formula.
     fn take_number(&mut self, token: &[u8]) -> Result<(), CnfFaultKind>
-        ensures { (last line : ℕ) (rest : List Place) → MatchResult result (λ _. completed self.old last (number_at line (number_of token.now) ∷ rest) ≡ completed self.new last rest) (λ kind. IsTold kind line (completed self.old last (number_at line (number_of token.now) ∷ rest))) }
+        ensures { (last line : ℕ) (rest : List Place) → MatchResult result (λ _. completed self.old last (number_at line (number_of token.now) ∷ rest) ≡ completed self.new last rest) (λ kind. IsCnfTold kind line (completed self.old last (number_at line (number_of token.now) ∷ rest))) }
     {
         let number = number_up_to(token, self.variables)?;
         if number == 0 {
@@ -121,7 +121,7 @@ impl Body {
 
     /// The formula at the end of the input.
     pub(super) fn close(self) -> Result<Formula, CnfFaultKind>
-        ensures { (last : ℕ) → MatchResult result (λ formula. completed self last [] ≡ Ok formula) (λ kind. IsTold kind last (completed self last [])) }
+        ensures { (last : ℕ) → MatchResult result (λ formula. completed self last [] ≡ Ok formula) (λ kind. IsCnfTold kind last (completed self last [])) }
     {
         if !self.literals.is_empty() {
             Err(CnfFaultKind::Truncated)

@@ -4,7 +4,7 @@ ghost use Rattle.lj_text.specs.Bytes.{tokens_of};
 ghost use Rattle.lj_text.specs.Lines.{is_letter};
 ghost use Rattle.lj_text.specs.Cnf.{fault_in, header_after, header_of};
 ghost use Rattle.lj_text.specs.declared.cnf.fault.CnfFaultKind.TheVariants as kinds;
-ghost use Rattle.lj_text.specs.CnfReading.{IsTold};
+ghost use Rattle.lj_text.specs.CnfReading.{IsCnfTold};
 
 use super::fault::CnfFaultKind;
 use crate::bytes::{digits_value, next_token};
@@ -30,7 +30,7 @@ fn three_tokens(bytes: &[u8]) -> Option<(&[u8], &[u8], &[u8])>
 fn read_sizes(max: u32, bytes: &[u8]) -> Result<(u32, u32), CnfFaultKind>
     requires { max ≤ 134217727 }
     ensures in_range { IfOk result (λ sizes. sizes.0 ≤ max) }
-    ensures sizes { (line : ℕ) → MatchResult result (λ sizes. header_after max line (tokens_of bytes.now) ≡ Ok sizes) (λ kind. IsTold kind line (header_after max line (tokens_of bytes.now))) }
+    ensures sizes { (line : ℕ) → MatchResult result (λ sizes. header_after max line (tokens_of bytes.now) ≡ Ok sizes) (λ kind. IsCnfTold kind line (header_after max line (tokens_of bytes.now))) }
 {
     match three_tokens(bytes) {
         Some(([b'c', b'n', b'f'], variables, clauses)) => match (
@@ -66,7 +66,7 @@ fn is_header(token: &[u8]) -> bool
 pub(super) fn read_header(max: u32, token: &[u8], after: &[u8]) -> Result<(u32, u32), CnfFaultKind>
     requires { max ≤ 134217727 }
     ensures in_range { IfOk result (λ sizes. sizes.0 ≤ max) }
-    ensures sizes { (line : ℕ) → MatchResult result (λ sizes. header_of max line (token.now ∷ tokens_of after.now) ≡ Ok sizes) (λ kind. IsTold kind line (header_of max line (token.now ∷ tokens_of after.now))) }
+    ensures sizes { (line : ℕ) → MatchResult result (λ sizes. header_of max line (token.now ∷ tokens_of after.now) ≡ Ok sizes) (λ kind. IsCnfTold kind line (header_of max line (token.now ∷ tokens_of after.now))) }
 {
     if is_header(token) {
         read_sizes(max, after)

@@ -1,15 +1,16 @@
 //! The reader of formulas.
 ghost use Rattle.std.specs.Prelude.{◌≡◌, ◌≤◌, ◌++◌, ℕ, List, [], false, Ok, Err, IfErr, OnOk};
+ghost use Rattle.lj_clause.specs.Memory.{no_memory};
 ghost use Rattle.lj_text.specs.Bytes.{line_number};
 ghost use Rattle.lj_text.specs.Cnf.{HasFault};
 ghost use Rattle.lj_text.specs.LinesRead.{HasNoLineEnd};
-ghost use Rattle.lj_text.specs.CnfRead.{IfFaulty, IsAnswer, IsFaultOf, Keeps, StandsAt, Taken, is_no_memory};
+ghost use Rattle.lj_text.specs.CnfRead.{IfFaulty, IsAnswer, IsFaultOf, KeepsCnfFault, CnfReaderStandsAt, Taken, is_cnf_no_memory};
 
 use super::fault::{CnfFault, CnfFaultKind};
 use super::state::{State, after_line, close};
 use crate::lines::first_line;
 use lj_clause::Formula;
-use std::alloc::Global;
+use std::alloc::{AllocError, Global};
 use std::marker::Model;
 use std::mem::replace;
 
@@ -46,7 +47,7 @@ impl CnfReader {
     pub fn new(alloc: Global, max: u32) -> CnfReader
         requires { max ≤ 134217727 }
         ensures max { result.max ≡ max }
-        ensures stands { StandsAt result [] }
+        ensures stands { CnfReaderStandsAt result [] }
     {
         CnfReader {
             alloc,
@@ -63,9 +64,9 @@ impl CnfReader {
     /// The fault of every text that begins with what was fed, or `NoMemory`; and from then on that fault again.
     pub fn feed(&mut self, piece: &[u8]) -> Result<(), CnfFault>
         ensures told_again { IfFaulty self.old.state (λ fault. (result ≡ Err fault) × (self.new ≡ self.old)) }
-        ensures stands { OnOk result ((text : List ℕ) → StandsAt self.old text → StandsAt self.new (text ++ piece.now)) }
-        ensures fault { IfErr result (λ fault. is_no_memory fault.kind ≡ false → (text : List ℕ) → StandsAt self.old text → (more : List ℕ) → HasFault self.old.max (text ++ (piece.now ++ more)) fault) }
-        ensures kept { IfErr result (λ fault. Keeps self.new.state fault) }
+        ensures stands { OnOk result ((text : List ℕ) → CnfReaderStandsAt self.old text → CnfReaderStandsAt self.new (text ++ piece.now)) }
+        ensures fault { IfErr result (λ fault. is_cnf_no_memory fault.kind ≡ false → (text : List ℕ) → CnfReaderStandsAt self.old text → (more : List ℕ) → HasFault self.old.max (text ++ (piece.now ++ more)) fault) }
+        ensures kept { IfErr result (λ fault. KeepsCnfFault self.new.state fault) }
         ensures max { self.new.max ≡ self.old.max }
     {
         if let Some(fault) = fault_of(&self.state) {
@@ -96,7 +97,7 @@ impl CnfReader {
     /// The text's fault, or `NoMemory`; a fault that was told before is told again.
     pub fn finish(self) -> Result<Formula, CnfFault>
         ensures told_again { IfFaulty self.state (λ fault. result ≡ Err fault) }
-        ensures answer { (text : List ℕ) → StandsAt self text → IsAnswer self.max text result }
+        ensures answer { (text : List ℕ) → CnfReaderStandsAt self text → IsAnswer self.max text result }
     {
         if let Some(fault) = fault_of(&self.state) {
             return Err(fault);
@@ -117,11 +118,11 @@ fn fault_of(state: &State) -> Option<CnfFault>
 }
 
 /// The state where memory ran out.
-fn no_memory(line: u64) -> State
-    ensures { Keeps result (record { kind = CnfFaultKind.NoMemory; line = line }) }
+fn refused_at(line: u64, e: AllocError) -> State
+    ensures { KeepsCnfFault result (record { kind = CnfFaultKind.NoMemory no_memory; line = line }) }
 {
     State::Faulty(CnfFault {
-        kind: CnfFaultKind::NoMemory,
+        kind: e.into(),
         line,
     })
 }
@@ -145,7 +146,7 @@ fn take_piece(
     while let Some((front, after)) = first_line(rest, 0) {
         match held.extend_from_slice(front) {
             Ok(()) => {}
-            Err(_) => return (no_memory(number), number),
+            Err(e) => return (refused_at(number, e), number),
         }
         match after_line(state, alloc, max, number, held) {
             State::Faulty(fault) => return (State::Faulty(fault), number),
@@ -157,6 +158,6 @@ fn take_piece(
     }
     match held.extend_from_slice(rest) {
         Ok(()) => (state, number),
-        Err(_) => (no_memory(number), number),
+        Err(e) => (refused_at(number, e), number),
     }
 }

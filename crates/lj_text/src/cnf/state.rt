@@ -3,7 +3,7 @@ ghost use Rattle.std.specs.Prelude.{◌≡◌, ◌≤◌, ◌+◌, ◌∷◌, �
 ghost use Rattle.lj_text.specs.Bytes.{tokens_of, line_number};
 ghost use Rattle.lj_text.specs.Cnf.{Place, header_of, body_of};
 ghost use Rattle.lj_text.specs.Lines.{then_read};
-ghost use Rattle.lj_text.specs.CnfReading.{IsTold, Goes, completed, places_behind};
+ghost use Rattle.lj_text.specs.CnfReading.{IsCnfTold, Goes, completed, places_behind};
 ghost use Rattle.lj_text.specs.CnfResuming.{Reads, ReadsOn, resumed};
 
 use super::body::Body;
@@ -80,7 +80,7 @@ pub(super) fn after_line(state: State, alloc: Global, max: u32, number: u64, byt
 
 /// The formula at the end of the input, whose last line has this number.
 pub(super) fn close(state: State, number: u64) -> Result<Formula, CnfFault>
-    ensures { (max n : ℕ) → number ≡ line_number n → MatchResult result (λ formula. resumed max (n + 1) state [] ≡ Ok formula) (λ fault. IsTold fault.kind fault.line (resumed max (n + 1) state [])) }
+    ensures { (max n : ℕ) → number ≡ line_number n → MatchResult result (λ formula. resumed max (n + 1) state [] ≡ Ok formula) (λ fault. IsCnfTold fault.kind fault.line (resumed max (n + 1) state [])) }
 {
     match state {
         State::Header => Err(CnfFault {

@@ -1,5 +1,5 @@
 //! What a reader of lines holds of what was fed.
-ghost use Rattle.std.specs.Prelude.{◌≡◌, ◌-◌, ◌<◌, ◌≤◌, ◌∷◌, ◌++◌, ℕ, List, [], length, take, drop, IfNone, IfSome, OnOk, OnErr};
+ghost use Rattle.std.specs.Prelude.{◌≡◌, ◌-◌, ◌<◌, ◌≤◌, ◌∷◌, ◌++◌, ℕ, List, [], length, take, drop, max, IfNone, IfSome, OnOk, OnErr};
 ghost use Rattle.lj_text.specs.LinesRead.{HasNoLineEnd};
 ghost use Rattle.lj_text.specs.LinesHeld.{EndsLine, IsParted};
 
@@ -9,9 +9,13 @@ use std::alloc::{AllocError, Global};
 use std::marker::Model;
 use std::mem::swap;
 
+/// How many bytes that are done may stay, where no more than they follow.
+const MOST_BEHIND: usize = 65536;
+
 /// The bytes that were fed and aren't done, in the order in which they were fed.
 ///
-/// Each was copied once, into one of two buffers, and no line stands in both.
+/// Each was copied into one of two buffers, and no line stands in both. What is done stays in the room no longer than
+/// there is as much behind it, but for a piece of the usual size.
 #[derive(Debug, Drop)]
 pub(super) struct Held {
     /// The lines being read.
@@ -88,12 +92,14 @@ impl Held {
         ensures { self.new ≡ drop (length self.old - count) self.old }
     {
         if count > self.back.len() {
-            self.start = self.front.len() - (count - self.back.len());
+            let start = self.front.len() - (count - self.back.len());
+            self.start = let_go(&mut self.front, start);
             return;
         }
         swap(&mut self.front, &mut self.back);
         self.back.clear();
-        self.start = self.front.len() - count;
+        let start = self.front.len() - count;
+        self.start = let_go(&mut self.front, start);
         if count == 0 {
             self.front.clear();
             self.start = 0;
@@ -101,11 +107,30 @@ impl Held {
     }
 }
 
+/// Lets go of the bytes before `start`, where they are many and more than those behind them; where they begin then.
+///
+/// Takes constant time for each byte that it lets go of.
+fn let_go(bytes: &mut Vec<u8>, start: usize) -> usize
+    requires { start ≤ length bytes.old.items }
+    ensures rest { drop result bytes.new.items ≡ drop start bytes.old.items }
+    ensures within { result ≤ length bytes.new.items }
+    ensures few { result ≤ max MOST_BEHIND (length bytes.new.items - result) }
+{
+    let left = bytes.len() - start;
+    if start <= MOST_BEHIND || start <= left {
+        return start;
+    }
+    bytes.copy_within(start.., 0);
+    bytes.truncate(left);
+    0
+}
+
 /// How many bytes of a piece belong to the front: those up to the first line feed, where its last line is cut.
 fn front_share(front: &[u8], piece: &[u8]) -> usize
     ensures within { result ≤ length piece.now }
     ensures ended { EndsLine front.now → result ≡ 0 }
     ensures ends { result < length piece.now → EndsLine (front.now ++ take result piece.now) }
+    ensures nearest { HasNoLineEnd (take (result - 1) piece.now) }
 {
     if front.last() == Some(&b'\n') {
         return 0;

@@ -4,29 +4,29 @@ ghost use Rattle.lj_text.specs.Lines.{hints_of, with_read};
 ghost use Rattle.lj_text.specs.LineReading.{Gives, HintsGive, words_of, group_before};
 
 use super::fault::LineFaultKind;
-use super::words::{check_closed, cut_short, next_word};
-use crate::bytes::Word;
-use crate::numbers::{Group, Numbers};
+use super::words::{check_closed, cut_short};
+use crate::bytes::{Word, next_word};
+use crate::numbers::{Group, NumberRoom, Numbers};
 use std::alloc::Global;
 
 /// The hints up to the closing 0 or a candidate, and that candidate with what follows it.
-fn read_hints(
-    alloc: Global,
+fn read_hints<'a>(
+    hints: &mut NumberRoom,
     ended: bool,
-    bytes: &[u8],
-) -> Result<(Vec<u64>, Option<(u64, &[u8])>), LineFaultKind>
-    ensures hints { HintsGive ended result (hints_of ended (words_of bytes.now)) }
-    ensures shorter { IfOk result (λ read. IfSome read.1 (λ next. length next.1.now < length bytes.now)) }
+    bytes: &'a [u8],
+) -> Result<Option<(u64, &'a [u8])>, LineFaultKind>
+    ensures hints { HintsGive ended hints.new result (hints_of ended (words_of bytes.now)) }
+    ensures shorter { IfOk result (λ next. IfSome next (λ next. length next.1.now < length bytes.now)) }
 {
-    let mut hints = Vec::new(alloc);
+    hints.clear();
     let mut rest = bytes;
     while let Some((word, after)) = next_word(rest) {
         match word {
             Word::Positive(number) => hints.push(number)?,
-            Word::Negative(candidate) => return Ok((hints, Some((candidate, after)))),
+            Word::Negative(candidate) => return Ok(Some((candidate, after))),
             Word::Zero => {
                 check_closed(after)?;
-                return Ok((hints, None));
+                return Ok(None);
             }
             Word::NoNumber => return Err(LineFaultKind::BadNumber),
             Word::Beyond => return Err(LineFaultKind::NumberRange),
@@ -39,6 +39,7 @@ fn read_hints(
 /// The groups up to the closing 0, where the first one's candidate was read.
 fn read_groups(
     alloc: Global,
+    room: &mut NumberRoom,
     ended: bool,
     first: u64,
     bytes: &[u8],
@@ -49,10 +50,10 @@ fn read_groups(
     let mut candidate = first;
     let mut rest = bytes;
     loop {
-        let (hints, next) = read_hints(alloc, ended, rest)?;
+        let next = read_hints(room, ended, rest)?;
         groups.push(Group {
             candidate,
-            hints: Numbers::new(hints),
+            hints: room.take()?,
         })?;
         match next {
             None => return Ok(groups),
@@ -67,15 +68,17 @@ fn read_groups(
 /// The hints and the groups up to the closing 0.
 pub(super) fn read_proof(
     alloc: Global,
+    room: &mut NumberRoom,
     ended: bool,
     bytes: &[u8],
-) -> Result<(Vec<u64>, Vec<Group>), LineFaultKind>
-    ensures { Gives (λ read. (read.0.items, read.1.items)) result (hints_of ended (words_of bytes.now)) }
+) -> Result<(Numbers, Vec<Group>), LineFaultKind>
+    ensures { Gives (λ read. (read.0, read.1.items)) result (hints_of ended (words_of bytes.now)) }
 {
-    let (hints, next) = read_hints(alloc, ended, bytes)?;
+    let next = read_hints(room, ended, bytes)?;
+    let hints = room.take()?;
     let groups = match next {
         None => Vec::new(alloc),
-        Some((candidate, after)) => read_groups(alloc, ended, candidate, after)?,
+        Some((candidate, after)) => read_groups(alloc, room, ended, candidate, after)?,
     };
     Ok((hints, groups))
 }

@@ -4,28 +4,27 @@ ghost use Rattle.lj_text.specs.Lines.{literals_then};
 ghost use Rattle.lj_text.specs.LineReading.{Gives, words_of};
 
 use super::fault::LineFaultKind;
-use super::words::{cut_short, next_word};
-use crate::bytes::Word;
+use super::words::cut_short;
+use crate::bytes::{Word, next_word};
 use lj_clause::Lit;
-use std::alloc::Global;
 
 /// The literals up to a 0, and what follows it.
-pub(super) fn read_literals(
-    alloc: Global,
+pub(super) fn read_literals<'a>(
+    literals: &mut Vec<Lit>,
     max: u32,
     ended: bool,
-    bytes: &[u8],
-) -> Result<(Vec<Lit>, &[u8]), LineFaultKind>
+    bytes: &'a [u8],
+) -> Result<&'a [u8], LineFaultKind>
     requires { max ≤ 134217727 }
-    ensures { Gives (λ read. (read.0.items, words_of read.1.now)) result (literals_then max ended (words_of bytes.now)) }
+    ensures { Gives (λ rest. (literals.new.items, words_of rest.now)) result (literals_then max ended (words_of bytes.now)) }
 {
-    let mut literals = Vec::new(alloc);
+    literals.clear();
     let mut rest = bytes;
     while let Some((word, after)) = next_word(rest) {
         let number = match word {
             Word::Positive(variable) if variable <= u64::from(max) => variable as i32,
             Word::Negative(variable) if variable <= u64::from(max) => -(variable as i32),
-            Word::Zero => return Ok((literals, after)),
+            Word::Zero => return Ok(after),
             Word::NoNumber => return Err(LineFaultKind::BadNumber),
             _ => return Err(LineFaultKind::NumberRange),
         };

@@ -1,15 +1,15 @@
 //! The next line that says something.
 ghost use Rattle.std.specs.Prelude.{◌≡◌, ◌-◌, ◌≤◌, ℕ, length, take, drop, IfOk, MatchResult, MatchBool, IsSome, Ok};
 ghost use Rattle.lj_text.specs.Bytes.{tokens_of, line_number};
-ghost use Rattle.lj_text.specs.LineReading.{IsTold, spoken};
+ghost use Rattle.lj_text.specs.LineReading.{IsLineTold, spoken};
 ghost use Rattle.lj_text.specs.Looking.{Looked, LookedBehind, Fails, FailsToEnd};
 ghost use Rattle.lj_text.specs.LinesRead.{HasNoLineEnd};
 
 use super::fault::LineFault;
 use super::held::Held;
 use super::parse::parse;
+use super::room::Room;
 use crate::line::Line;
-use std::alloc::Global;
 
 /// What a look at the whole lines ahead found.
 #[derive(Drop)]
@@ -28,16 +28,16 @@ pub(super) struct Found {
 
 /// What the bytes of the line with this number say.
 pub(super) fn parse_at(
-    alloc: Global,
+    room: &mut Room,
     max: u32,
     ended: bool,
     bytes: &[u8],
     number: u64,
 ) -> Result<Option<Line>, LineFault>
     requires { max ≤ 134217727 }
-    ensures { MatchResult result (λ line. spoken max ended (tokens_of bytes.now) ≡ Ok line) (λ fault. (fault.line ≡ number) × IsTold fault.kind (spoken max ended (tokens_of bytes.now))) }
+    ensures { MatchResult result (λ line. spoken max ended (tokens_of bytes.now) ≡ Ok line) (λ fault. (fault.line ≡ number) × IsLineTold fault.kind (spoken max ended (tokens_of bytes.now))) }
 {
-    match parse(alloc, max, ended, bytes) {
+    match parse(room, max, ended, bytes) {
         Ok(line) => Ok(line),
         Err(kind) => Err(LineFault { kind, line: number }),
     }
@@ -45,7 +45,7 @@ pub(super) fn parse_at(
 
 /// Looks for the first whole line that says something. There is no line feed among the first `searched` bytes.
 pub(super) fn look(
-    alloc: Global,
+    room: &mut Room,
     max: u32,
     first: u64,
     ahead: &Held,
@@ -63,7 +63,7 @@ pub(super) fn look(
     let mut number = first;
     while let Some((bytes, after)) = rest.first_line(none_before) {
         let next = number.saturating_add(1);
-        match parse_at(alloc, max, true, bytes, number)? {
+        match parse_at(room, max, true, bytes, number)? {
             None => {}
             Some(line) => {
                 return Ok(Found {
@@ -91,7 +91,7 @@ pub(super) fn look(
 /// The same, and where no whole line says anything, what the last one says, which the input ends; and whether it
 /// came to that.
 pub(super) fn look_to_end(
-    alloc: Global,
+    room: &mut Room,
     max: u32,
     first: u64,
     ahead: &Held,
@@ -102,12 +102,12 @@ pub(super) fn look_to_end(
     requires none_before { HasNoLineEnd (take searched ahead.now) }
     ensures { (k : ℕ) → first ≡ line_number k → MatchResult result (λ found. MatchBool found.1 (LookedBehind max k ahead.now found.0) (Looked max k ahead.now found.0 × IsSome found.0.line)) (λ fault. FailsToEnd max k ahead.now fault) }
 {
-    let found = look(alloc, max, first, ahead, searched)?;
+    let found = look(room, max, first, ahead, searched)?;
     if found.line.is_some() {
         return Ok((found, false));
     }
     let last = ahead.last(found.left);
-    let line = parse_at(alloc, max, false, last, found.number)?;
+    let line = parse_at(room, max, false, last, found.number)?;
     let behind = Found {
         line,
         at: found.number,

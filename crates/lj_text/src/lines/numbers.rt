@@ -3,26 +3,26 @@ ghost use Rattle.lj_text.specs.Lines.{numbers_of};
 ghost use Rattle.lj_text.specs.LineReading.{Gives, words_of};
 
 use super::fault::LineFaultKind;
-use super::words::{check_closed, cut_short, next_word};
-use crate::bytes::Word;
-use std::alloc::Global;
+use super::words::{check_closed, cut_short};
+use crate::bytes::{Word, next_word};
+use crate::numbers::NumberRoom;
 
 /// The numbers up to the closing 0.
 pub(super) fn read_numbers(
-    alloc: Global,
+    numbers: &mut NumberRoom,
     ended: bool,
     bytes: &[u8],
-) -> Result<Vec<u64>, LineFaultKind>
-    ensures { Gives (λ v. v.items) result (numbers_of ended (words_of bytes.now)) }
+) -> Result<(), LineFaultKind>
+    ensures { Gives (λ _. numbers.new) result (numbers_of ended (words_of bytes.now)) }
 {
-    let mut numbers = Vec::new(alloc);
+    numbers.clear();
     let mut rest = bytes;
     while let Some((word, after)) = next_word(rest) {
         match word {
             Word::Positive(number) => numbers.push(number)?,
             Word::Zero => {
                 check_closed(after)?;
-                return Ok(numbers);
+                return Ok(());
             }
             Word::NoNumber => return Err(LineFaultKind::BadNumber),
             Word::Negative(_) => return Err(LineFaultKind::Syntax),

@@ -8,16 +8,16 @@ use super::fault::LineFaultKind;
 use super::hints::read_proof;
 use super::literals::read_literals;
 use super::numbers::read_numbers;
+use super::room::Room;
 use super::words::{check_closed, cut_short};
-use crate::bytes::{Word, next_token, word_of};
+use crate::bytes::{Word, after_blanks, first_word, next_token, word_of};
 use crate::line::{Addition, Line};
-use crate::numbers::{Groups, Numbers};
+use crate::numbers::Groups;
 use lj_clause::{Clause, Lemma};
-use std::alloc::Global;
 
 /// The literals, hints and groups of an addition.
 fn addition(
-    alloc: Global,
+    room: &mut Room,
     max: u32,
     ended: bool,
     number: u64,
@@ -26,27 +26,27 @@ fn addition(
     requires { max ≤ 134217727 }
     ensures { Gives (λ line. line) result (addition_of max ended number (words_of bytes.now)) }
 {
-    let (literals, rest) = read_literals(alloc, max, ended, bytes)?;
-    let (hints, groups) = read_proof(alloc, ended, rest)?;
+    let rest = read_literals(&mut room.literals, max, ended, bytes)?;
+    let (hints, groups) = read_proof(room.alloc, &mut room.numbers, ended, rest)?;
     Ok(Line::Add(Addition {
         number,
-        lemma: Lemma::from_lits(alloc, &literals)?,
-        hints: Numbers::new(hints),
+        lemma: Lemma::from_lits(room.alloc, &room.literals)?,
+        hints,
         groups: Groups::new(groups),
     }))
 }
 
 /// The numbers of a deletion.
-fn deletion(alloc: Global, ended: bool, bytes: &[u8]) -> Result<Line, LineFaultKind>
+fn deletion(room: &mut Room, ended: bool, bytes: &[u8]) -> Result<Line, LineFaultKind>
     ensures { Gives (λ line. line) result (deletion_of ended (words_of bytes.now)) }
 {
-    let numbers = read_numbers(alloc, ended, bytes)?;
-    Ok(Line::Delete(Numbers::new(numbers)))
+    read_numbers(&mut room.numbers, ended, bytes)?;
+    Ok(Line::Delete(room.numbers.take()?))
 }
 
 /// The literals of an import.
 fn import(
-    alloc: Global,
+    room: &mut Room,
     max: u32,
     ended: bool,
     number: u64,
@@ -55,11 +55,11 @@ fn import(
     requires { max ≤ 134217727 }
     ensures { Gives (λ line. line) result (import_of max ended number (words_of bytes.now)) }
 {
-    let (literals, rest) = read_literals(alloc, max, ended, bytes)?;
+    let rest = read_literals(&mut room.literals, max, ended, bytes)?;
     check_closed(rest)?;
     Ok(Line::Import {
         number,
-        clause: Clause::from_lits(alloc, &literals)?,
+        clause: Clause::from_lits(room.alloc, &room.literals)?,
     })
 }
 
@@ -81,7 +81,29 @@ fn after_zero(max: u32, token: &[u8]) -> LineFaultKind
 
 /// What follows a line's first number.
 fn after_number(
-    alloc: Global,
+    room: &mut Room,
+    max: u32,
+    ended: bool,
+    number: u64,
+    bytes: &[u8],
+) -> Result<Line, LineFaultKind>
+    requires { max ≤ 134217727 }
+    ensures { Gives (λ line. line) result (after_number max ended number (tokens_of bytes.now)) }
+{
+    let rest = after_blanks(bytes);
+    match rest {
+        [b'd', ..] | [b'i', ..] | [] => after_any_number(room, max, ended, number, rest),
+        _ => if number == 0 {
+            after_any_number(room, max, ended, number, rest)
+        } else {
+            addition(room, max, ended, number, rest)
+        },
+    }
+}
+
+/// The same, whatever it is.
+fn after_any_number(
+    room: &mut Room,
     max: u32,
     ended: bool,
     number: u64,
@@ -92,36 +114,31 @@ fn after_number(
 {
     match next_token(bytes) {
         None => Err(cut_short(ended)),
-        Some(([b'd'], after)) => deletion(alloc, ended, after),
+        Some(([b'd'], after)) => deletion(room, ended, after),
         Some((token, _)) if number == 0 => Err(after_zero(max, token)),
-        Some(([b'i'], after)) => import(alloc, max, ended, number, after),
-        Some(_) => addition(alloc, max, ended, number, bytes),
+        Some(([b'i'], after)) => import(room, max, ended, number, after),
+        Some(_) => addition(room, max, ended, number, bytes),
     }
 }
 
-/// The line that begins with this token.
-fn after_first(
-    alloc: Global,
-    max: u32,
-    ended: bool,
-    token: &[u8],
-    after: &[u8],
-) -> Result<Line, LineFaultKind>
+/// The line that isn't silent.
+fn line(room: &mut Room, max: u32, ended: bool, bytes: &[u8]) -> Result<Line, LineFaultKind>
     requires { max ≤ 134217727 }
-    ensures { Gives (λ line. line) result (line_of max ended (token.now ∷ tokens_of after.now)) }
+    ensures { Gives (λ line. line) result (line_of max ended (tokens_of bytes.now)) }
 {
-    match word_of(token) {
-        Word::NoNumber => Err(LineFaultKind::BadNumber),
-        Word::Zero => after_number(alloc, max, ended, 0, after),
-        Word::Positive(number) => after_number(alloc, max, ended, number, after),
-        Word::Negative(_) => Err(LineFaultKind::Syntax),
-        Word::Beyond => Err(LineFaultKind::NumberRange),
+    match first_word(bytes) {
+        None => Err(cut_short(ended)),
+        Some((Word::NoNumber, _)) => Err(LineFaultKind::BadNumber),
+        Some((Word::Zero, after)) => after_number(room, max, ended, 0, after),
+        Some((Word::Positive(number), after)) => after_number(room, max, ended, number, after),
+        Some((Word::Negative(_), _)) => Err(LineFaultKind::Syntax),
+        Some((Word::Beyond, _)) => Err(LineFaultKind::NumberRange),
     }
 }
 
-/// What the bytes of a line say: nothing where it is silent.
+/// What the bytes of a line say: nothing where it is silent. Takes time linear in the bytes, but for a lemma's sorting.
 pub(super) fn parse(
-    alloc: Global,
+    room: &mut Room,
     max: u32,
     ended: bool,
     bytes: &[u8],
@@ -129,8 +146,10 @@ pub(super) fn parse(
     requires { max ≤ 134217727 }
     ensures { Gives (λ line. line) result (spoken max ended (tokens_of bytes.now)) }
 {
-    match next_token(bytes) {
-        None | Some(([b'c', ..], _)) => Ok(None),
-        Some((token, after)) => Ok(Some(after_first(alloc, max, ended, token, after)?)),
+    let rest = after_blanks(bytes);
+    match rest {
+        [] => Ok(None),
+        [b'c', ..] => Ok(None),
+        _ => Ok(Some(line(room, max, ended, rest)?)),
     }
 }

@@ -2,13 +2,14 @@
 ghost use Rattle.std.specs.Prelude.{◌≡◌, ◌+◌, ◌≤◌, ◌++◌, ◌⊎◌, ℕ, Bool, true, false, List, [], length, Option, Some, None, Ok, Err, IfSome, IsSome, OnOk, OnErr, MatchBool, MatchResult, slice_get};
 ghost use Rattle.lj_text.specs.Bytes.{line_number};
 ghost use Rattle.lj_text.specs.Lines.{whole_said, all_said};
-ghost use Rattle.lj_text.specs.LinesRead.{StandsAt, wants_memory, answer_of, handed_out, fault_of, place_of, last_number};
+ghost use Rattle.lj_text.specs.LinesRead.{LineReaderStandsAt, wants_memory, line_answer, handed_out, fault_of, number_at, last_number};
 ghost use Rattle.lj_text.specs.LinesHeld.{IsAhead, passed, kept};
 ghost use Rattle.lj_text.specs.Looking.{Looked, LookedBehind, Fails, FailsToEnd};
 
 use super::fault::{LineFault, LineFaultKind};
 use super::held::Held;
 use super::look::{Found, look, look_to_end};
+use super::room::Room;
 use crate::line::Line;
 use std::alloc::Global;
 use std::marker::Model;
@@ -18,7 +19,7 @@ use std::marker::Model;
 /// It holds what was fed behind the last line that it handed out.
 #[derive(Debug, Drop)]
 pub struct LineReader {
-    alloc: Global,
+    room: Room,
     max: u32,
     held: Held,
     /// No line ends among the first `searched` bytes that are held.
@@ -46,11 +47,11 @@ impl LineReader {
     pub fn new(alloc: Global, max: u32) -> LineReader
         requires { max ≤ 134217727 }
         ensures max { result.max ≡ max }
-        ensures stands { StandsAt result [] 0 }
+        ensures stands { LineReaderStandsAt result [] 0 }
         ensures fresh { (result.finished ≡ false) × (result.fault ≡ None) × (result.at ≡ 1) }
     {
         LineReader {
-            alloc,
+            room: Room::new(alloc),
             max,
             held: Held::new(alloc),
             searched: 0,
@@ -69,7 +70,7 @@ impl LineReader {
         requires { self.old.finished ≡ false }
         ensures told_again { IfSome self.old.fault (λ fault. result ≡ Err fault) }
         ensures no_other { self.old.fault ≡ None → OnErr result (wants_memory result ≡ true) }
-        ensures stands { OnOk result ((text : List ℕ) (given : ℕ) → StandsAt self.old text given → StandsAt self.new (text ++ piece.now) given) }
+        ensures stands { OnOk result ((text : List ℕ) (given : ℕ) → LineReaderStandsAt self.old text given → LineReaderStandsAt self.new (text ++ piece.now) given) }
         ensures same { (self.new.max ≡ self.old.max) × (self.new.at ≡ self.old.at) × (self.new.finished ≡ false) × (self.new.fault ≡ self.old.fault) }
         ensures unchanged { OnErr result (self.new ≡ self.old) }
     {
@@ -78,8 +79,8 @@ impl LineReader {
         }
         match self.held.push(piece) {
             Ok(()) => Ok(()),
-            Err(_) => Err(LineFault {
-                kind: LineFaultKind::NoMemory,
+            Err(e) => Err(LineFault {
+                kind: e.into(),
                 line: self.line,
             }),
         }
@@ -93,11 +94,11 @@ impl LineReader {
         ensures told_again { IfSome self.old.fault (λ fault. (result ≡ Err fault) × (self.new ≡ self.old)) }
 
         // The first whole line that says something and wasn't handed out, or its fault; none exactly where there is none.
-        ensures answer { (text : List ℕ) (given : ℕ) → StandsAt self.old text given → self.old.fault ≡ None → wants_memory result ≡ false → result ≡ answer_of (slice_get (whole_said self.old.max text) given) }
-        ensures stands { (text : List ℕ) (given : ℕ) → StandsAt self.old text given → StandsAt self.new text (given + handed_out result) }
+        ensures answer { (text : List ℕ) (given : ℕ) → LineReaderStandsAt self.old text given → self.old.fault ≡ None → wants_memory result ≡ false → result ≡ line_answer (slice_get (whole_said self.old.max text) given) }
+        ensures stands { (text : List ℕ) (given : ℕ) → LineReaderStandsAt self.old text given → LineReaderStandsAt self.new text (given + handed_out result) }
 
         // Its number, or that of the line being read.
-        ensures at { (text : List ℕ) (given : ℕ) → StandsAt self.old text given → self.old.fault ≡ None → wants_memory result ≡ false → self.new.at ≡ place_of (slice_get (whole_said self.old.max text) given) (last_number text) }
+        ensures at { (text : List ℕ) (given : ℕ) → LineReaderStandsAt self.old text given → self.old.fault ≡ None → wants_memory result ≡ false → self.new.at ≡ number_at (slice_get (whole_said self.old.max text) given) (last_number text) }
 
         ensures fault { self.old.fault ≡ None → wants_memory result ≡ false → self.new.fault ≡ fault_of result }
         ensures unchanged { wants_memory result ≡ true → self.new ≡ self.old }
@@ -128,11 +129,11 @@ impl LineReader {
         ensures told_again { IfSome self.old.fault (λ fault. (result ≡ Err fault) × (self.new ≡ self.old)) }
 
         // The first line that says something and wasn't handed out, or its fault; none exactly where there is none.
-        ensures answer { (text : List ℕ) (given : ℕ) → StandsAt self.old text given → self.old.fault ≡ None → wants_memory result ≡ false → result ≡ answer_of (slice_get (all_said self.old.max text) given) }
-        ensures stands { (text : List ℕ) (given : ℕ) → StandsAt self.old text given → StandsAt self.new text (given + handed_out result) }
+        ensures answer { (text : List ℕ) (given : ℕ) → LineReaderStandsAt self.old text given → self.old.fault ≡ None → wants_memory result ≡ false → result ≡ line_answer (slice_get (all_said self.old.max text) given) }
+        ensures stands { (text : List ℕ) (given : ℕ) → LineReaderStandsAt self.old text given → LineReaderStandsAt self.new text (given + handed_out result) }
 
         // Its number, or that of the last line.
-        ensures at { (text : List ℕ) (given : ℕ) → StandsAt self.old text given → self.old.fault ≡ None → wants_memory result ≡ false → self.new.at ≡ place_of (slice_get (all_said self.old.max text) given) (last_number text) }
+        ensures at { (text : List ℕ) (given : ℕ) → LineReaderStandsAt self.old text given → self.old.fault ≡ None → wants_memory result ≡ false → self.new.at ≡ number_at (slice_get (all_said self.old.max text) given) (last_number text) }
 
         ensures fault { self.old.fault ≡ None → wants_memory result ≡ false → self.new.fault ≡ fault_of result }
         ensures unchanged { wants_memory result ≡ true → self.new ≡ self.old }
@@ -167,19 +168,33 @@ impl LineReader {
     }
 
     /// The next whole line that says something.
-    fn look_ahead(&self) -> Result<Found, LineFault>
-        ensures found { (k : ℕ) → self.now.line ≡ line_number k → MatchResult result (λ found. Looked self.now.max k self.now.ahead found) (λ fault. Fails self.now.max k self.now.ahead fault) }
-        ensures counted { (k : ℕ) × (self.now.line ≡ line_number k) }
+    fn look_ahead(&mut self) -> Result<Found, LineFault>
+        ensures found { (k : ℕ) → self.old.line ≡ line_number k → MatchResult result (λ found. Looked self.old.max k self.old.ahead found) (λ fault. Fails self.old.max k self.old.ahead fault) }
+        ensures counted { (k : ℕ) × (self.old.line ≡ line_number k) }
+        ensures same { self.new ≡ self.old }
     {
-        look(self.alloc, self.max, self.line, &self.held, self.searched)
+        look(
+            &mut self.room,
+            self.max,
+            self.line,
+            &self.held,
+            self.searched,
+        )
     }
 
     /// The same, up to the end of the input.
-    fn look_to_end(&self) -> Result<(Found, bool), LineFault>
-        ensures found { (k : ℕ) → self.now.line ≡ line_number k → MatchResult result (λ found. MatchBool found.1 (LookedBehind self.now.max k self.now.ahead found.0) (Looked self.now.max k self.now.ahead found.0 × IsSome found.0.line)) (λ fault. FailsToEnd self.now.max k self.now.ahead fault) }
-        ensures counted { (k : ℕ) × (self.now.line ≡ line_number k) }
+    fn look_to_end(&mut self) -> Result<(Found, bool), LineFault>
+        ensures found { (k : ℕ) → self.old.line ≡ line_number k → MatchResult result (λ found. MatchBool found.1 (LookedBehind self.old.max k self.old.ahead found.0) (Looked self.old.max k self.old.ahead found.0 × IsSome found.0.line)) (λ fault. FailsToEnd self.old.max k self.old.ahead fault) }
+        ensures counted { (k : ℕ) × (self.old.line ≡ line_number k) }
+        ensures same { self.new ≡ self.old }
     {
-        look_to_end(self.alloc, self.max, self.line, &self.held, self.searched)
+        look_to_end(
+            &mut self.room,
+            self.max,
+            self.line,
+            &self.held,
+            self.searched,
+        )
     }
 
     /// Goes on behind what was found.
@@ -199,7 +214,7 @@ impl LineReader {
     fn keep(&mut self, fault: LineFault)
         ensures { self.new ≡ kept self.old fault }
     {
-        if fault.kind != LineFaultKind::NoMemory {
+        if !matches!(fault.kind, LineFaultKind::NoMemory(_)) {
             self.at = fault.line;
             self.fault = Some(fault);
         }

@@ -57,21 +57,21 @@ fn describe(alloc: Global, line: &Line, at: u64) -> Result<String, Fail> {
         Line::Add(addition) => {
             let literals = addition.lemma.clause().lits();
             let pivot = addition.lemma.pivot();
-            let hints = addition.hints.as_slice();
+            let hints = addition.hints.to_vec()?;
             let number = addition.number;
             let mut told = format!(in alloc;
                 "{at}: Add {number} {literals:?} {pivot:?} {hints:?}"
             )?;
             for group in addition.groups.as_slice() {
                 let candidate = group.candidate;
-                let hints = group.hints.as_slice();
+                let hints = group.hints.to_vec()?;
                 told.push_str(&format!(in alloc; " -{candidate} {hints:?}")?)?;
             }
             told.push_str(";")?;
             told
         }
         Line::Delete(numbers) => {
-            let numbers = numbers.as_slice();
+            let numbers = numbers.to_vec()?;
             format!(in alloc; "{at}: Delete {numbers:?};")?
         }
         Line::Import { number, clause } => {

@@ -1,6 +1,6 @@
 use Rattle.std.proofs.Common.{ap, sym, ◌∙◌}
 use Rattle.std.specs.Prelude.{option_copied}
-use Rattle.lj_book.specs.Calls.{is_clause}
+use Rattle.lj_book.specs.Lookup.{is_clause}
 use Rattle.lj_book.proofs.CommitLaws.{same_test}
 use Rattle.lj_book.proofs.committing.is_live_as.Goals as goal
 

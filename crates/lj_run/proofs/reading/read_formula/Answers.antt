@@ -1,20 +1,36 @@
-use Rattle.std.proofs.Common.{◌≡◌, List, ℕ, [], Some, ◌∙◌, subst}
-use Rattle.lj_run.specs.FormulaReading.{IsReadingFormula}
-use Rattle.lj_run.proofs.FormulaLemmas.{formula_told, fault_told}
+use Rattle.std.proofs.Common.{◌∙◌, rules}
+use Rattle.lj_text.specs.Streams.{source_state}
+use Rattle.lj_run.proofs.FormulaLemmas.{formula_begins, read_further, all_given, formula_told, fault_told}
 use Rattle.lj_run.proofs.reading.read_formula.Goals as goal
 
 pub returns-in-Ok-true-clause-formula : goal.returns-in-Ok-true-clause-formula
 returns-in-Ok-true-clause-formula g c =
+    let seen = source_state g.F.Source.given g.F.Source.ended g.F.Source.rest g.F.Source.failures in
+    let start = seen c.args.source.now in
+    let after = seen c.pull_formula.new.source in
     let reader = c.pull_formula.new.reader in
-    let at_end : (text : List ℕ) → g.F.Source.rest c.args.source.now ≡ Some text → IsReadingFormula text reader (Some []) = λ text is.
-    let both = c.in-Ok-true.ensures.onward text (c.loop.invariant.onward text is) in
-    subst (λ o. IsReadingFormula text reader o) (both.1 c.in-Ok-true.field-0-test) both.0 in
-    formula_told c.finish_formula.result reader (g.F.Source.rest c.args.source.now) (c.in-Ok-true.ensures.max ∙ c.loop.invariant.max) at_end c.finish_formula.ensures.formula
+    let read = read_further c.loop.reader reader start (seen c.loop.source) after c.loop.invariant.onward c.in-Ok-true.ensures.onward in
+    let all = all_given reader start after read (c.in-Ok-true.ensures.ended c.in-Ok-true.field-0-test) c.in-Ok-true.ensures.unfailed in
+    formula_told c.finish_formula.result reader start after (c.in-Ok-true.ensures.max ∙ c.loop.invariant.max) read all c.finish_formula.ensures.formula
 
 pub returns-in-Ok-true-clause-fault : goal.returns-in-Ok-true-clause-fault
 returns-in-Ok-true-clause-fault g c =
+    let seen = source_state g.F.Source.given g.F.Source.ended g.F.Source.rest g.F.Source.failures in
+    let start = seen c.args.source.now in
+    let after = seen c.pull_formula.new.source in
     let reader = c.pull_formula.new.reader in
-    let at_end : (text : List ℕ) → g.F.Source.rest c.args.source.now ≡ Some text → IsReadingFormula text reader (Some []) = λ text is.
-    let both = c.in-Ok-true.ensures.onward text (c.loop.invariant.onward text is) in
-    subst (λ o. IsReadingFormula text reader o) (both.1 c.in-Ok-true.field-0-test) both.0 in
-    fault_told c.finish_formula.result reader (g.F.Source.rest c.args.source.now) (g.F.Source.failures c.pull_formula.new.source) (c.in-Ok-true.ensures.max ∙ c.loop.invariant.max) at_end c.finish_formula.ensures.fault
+    let read = read_further c.loop.reader reader start (seen c.loop.source) after c.loop.invariant.onward c.in-Ok-true.ensures.onward in
+    let all = all_given reader start after read (c.in-Ok-true.ensures.ended c.in-Ok-true.field-0-test) c.in-Ok-true.ensures.unfailed in
+    fault_told c.finish_formula.result reader start after (c.in-Ok-true.ensures.max ∙ c.loop.invariant.max) read all c.finish_formula.ensures.fault
+
+pub loop-preserved : goal.loop-preserved
+loop-preserved g c =
+    let seen = source_state g.F.Source.given g.F.Source.ended g.F.Source.rest g.F.Source.failures in
+    record {
+      goes = tt;
+      finite = tt;
+      unfailed = search rules;
+      max = search rules;
+      room = search rules;
+      onward = read_further c.loop.reader c.pull_formula.new.reader (seen c.args.source.now) (seen c.loop.source) (seen c.pull_formula.new.source) c.loop.invariant.onward c.in-Ok-false.ensures.onward;
+    }

@@ -1,4 +1,4 @@
-use Rattle.std.proofs.Common.{◌≡◌, ◌-◌, ◌≤◌, length, take}
+use Rattle.std.proofs.Common.{◌≡◌, ◌-◌, ◌≤◌, ◌++◌, length, take}
 use Rattle.std.specs.Io.KnownBytes.{Appends}
 use Rattle.lj_text.proofs.sink.write_all.Given as goal
 
@@ -6,10 +6,12 @@ use Rattle.lj_text.proofs.sink.write_all.Given as goal
 abbrev pub invariant-loop-done : goal.invariant-loop-done
 invariant-loop-done g l =
     let taken = g.S.Sink.taken in
+    let contents = g.S.Sink.contents in
     let failures = g.S.Sink.failures in
     record {
       within : l.done ≤ length l.bytes;
-      appended : Appends (taken l.fn.sink) (taken l.sink) (take l.done l.bytes);
+      taken_is : taken l.sink ≡ taken l.fn.sink ++ take l.done l.bytes;
+      appended : Appends (contents l.fn.sink) (contents l.sink) (take l.done l.bytes);
       unfailed : failures l.sink ≡ failures l.fn.sink;
     }
 

@@ -4,10 +4,11 @@ use Rattle.std.specs.FinMap as fin
 use Rattle.lj_clause.specs.ClauseMap.{ClauseMap}
 use Rattle.lj_book.specs.declared.entry.Entry.{Entry}
 use Rattle.lj_book.specs.State.{State, next, live}
+use Rattle.lj_book.specs.Tables.{is_held}
 use Rattle.lj_book.specs.Kept.{IsKept, refuted_after}
 use Rattle.lj_book.specs.Calls.{commit_refusal}
 use Rattle.lj_book.proofs.HistoryLaws.{IsSound-reached}
-use Rattle.lj_book.proofs.CommitLaws.{IsKept-commit, committed_state, no_clause_at_next, can_commit}
+use Rattle.lj_book.proofs.CommitLaws.{IsKept-commit, committed_state, no_clause_at_next, not_held_at_next, can_commit}
 use Rattle.lj_book.proofs.book.Book.enter.Goals as goal
 
 pub enter_clause-requires-clause-new : goal.enter_clause-requires-clause-new
@@ -17,6 +18,12 @@ enter_clause-requires-clause-new c =
     ap (λ (m : ClauseMap). fin.get m (c.len.result + 1 + c.from.result)) c.self.invariant.lives
     ∙ ap (fin.get (live s)) is
     ∙ no_clause_at_next s (IsSound-reached s c.self.invariant.reached)
+
+pub enter_clause-requires-clause-unheld : goal.enter_clause-requires-clause-unheld
+enter_clause-requires-clause-unheld c =
+    let s : State = record { formula = c.self.inside.formula; max_steps = c.self.inside.max_steps; tables = c.self.inside.tables; history = c.self.inside.history.items } in
+    let is : c.len.result + 1 + c.from.result ≡ next s = λ i. c.len.ensures.len i + 1 + (c.from.ensures ∙ c.self.invariant.additions) i in
+    ap (is_held s.tables) is ∙ not_held_at_next s (IsSound-reached s c.self.invariant.reached)
 
 pub invariant_of-self-2 : goal.invariant_of-self-2
 invariant_of-self-2 c =

@@ -7,8 +7,8 @@ use Rattle.lj_book.specs.Calls.{IsReply, take_reply}
 use Rattle.lj_book.proofs.TakeLaws.{take_is}
 use Rattle.lj_book.proofs.book.Book.take.Goals as goal
 
-pub returns : goal.returns
-returns c =
+pub returns-clause-reply : goal.returns-clause-reply
+returns-clause-reply c =
     let s : State = record { formula = c.self.inside.formula; max_steps = c.self.inside.max_steps; tables = c.self.inside.tables; history = c.self.inside.history.items } in
     let a = c.args.addition.now in
     subst (λ (r : Result CaseValue Refusal). IsReply c.case_of.result r)

@@ -1,18 +1,14 @@
 use Rattle.std.proofs.Common.{ap, sym, ◌∙◌}
 use Rattle.std.specs.FinMap as fin
-use Rattle.std.specs.Prelude.{Result, Err, Ok, OnErr}
-use Rattle.lj_book.proofs.NumberMaps.{get_key, one_put}
+use Rattle.lj_book.proofs.Slots.{get_slot, slot_past, set_slot, on_err}
 use Rattle.lj_book.proofs.number_map.NumberMap.insert.Goals as goal
 
-on_err : {T E : Type 0} (r : Result T E) (P : Type 0) → P → OnErr r P
-on_err (Ok x) P h = tt
-on_err (Err e) P h = h
-
-pub returns-in_err-insert-clause-absent : goal.returns-in_err-insert-clause-absent
-returns-in_err-insert-clause-absent g c =
-    on_err c.from_residual.result _ (ap (λ m. fin.get m c.args.key) (sym c.self.view_is) ∙ get_key c.self.inside.entries.entries c.args.key ∙ c.in_err-insert.ensures.absent)
+pub returns-in_err-cover-clause-absent : goal.returns-in_err-cover-clause-absent
+returns-in_err-cover-clause-absent g c =
+    let xs = c.self.inside.slots.items in
+    on_err c.from_residual.result _ (ap (λ m. fin.get m c.args.key) (sym c.self.view_is) ∙ get_slot xs c.args.key ∙ slot_past xs c.args.key c.in_err-cover.ensures.past)
 
 pub returns-clause-ok : goal.returns-clause-ok
 returns-clause-ok g c =
-    one_put c.self.inside.entries.entries c.insert.new.self.entries c.args.key c.args.value c.in_ok-insert.ensures.updates.0
-    ∙ ap (λ m. fin.insert m c.args.key c.args.value) c.self.view_is
+    set_slot c.cover.new.slots.items c.args.key c.args.value c.in_ok-cover.ensures.there
+    ∙ ap (λ m. fin.insert m c.args.key c.args.value) (c.in_ok-cover.ensures.same ∙ c.self.view_is)

@@ -1,12 +1,32 @@
-use Rattle.std.proofs.Common.{ap, sym, ◌∙◌}
+use Rattle.std.proofs.Common.{ap, sym, ◌∙◌, arith, ◌<◌, ◌≤◌, length}
+use Rattle.std.specs.Prelude.{slice_set}
 use Rattle.std.specs.FinMap as fin
-use Rattle.lj_book.proofs.NumberMaps.{get_key, one_removed}
+use Rattle.lj_book.specs.Slots.{slot_map}
+use Rattle.lj_book.proofs.Slots.{get_slot, slot_within, slot_past, empty_slot, remove_absent}
 use Rattle.lj_book.proofs.number_map.NumberMap.remove.Goals as goal
 
-pub returns-clause-before : goal.returns-clause-before
-returns-clause-before g c = c.remove.ensures.value ∙ sym (get_key c.self.inside.entries.entries c.args.key) ∙ ap (λ m. fin.get m c.args.key) c.self.view_is
+pub returns-then-at-len-clause-before : goal.returns-then-at-len-clause-before
+returns-then-at-len-clause-before g c =
+    let xs = c.self.inside.slots.items in
+    let there : c.args.key < length xs = omega (arith, c.if-at-len.true, c.len.ensures, c.self.inside.slots.ok.0) in
+    c.take.ensures.value ∙ c.index_mut.ensures.value
+    ∙ sym (get_slot xs c.args.key ∙ slot_within xs c.args.key _ there) ∙ ap (λ m. fin.get m c.args.key) c.self.view_is
 
-pub returns-clause-removed : goal.returns-clause-removed
-returns-clause-removed g c =
-    one_removed c.self.inside.entries.entries c.remove.new.self.entries c.args.key c.remove.ensures.updates.0
-    ∙ ap (λ m. fin.remove m c.args.key) c.self.view_is
+pub returns-then-at-len-clause-removed : goal.returns-then-at-len-clause-removed
+returns-then-at-len-clause-removed g c =
+    let xs = c.self.inside.slots.items in
+    let there : c.args.key < length xs = omega (arith, c.if-at-len.true, c.len.ensures, c.self.inside.slots.ok.0) in
+    ap (λ x. slot_map (slice_set xs c.args.key x)) c.take.ensures.after
+    ∙ empty_slot xs c.args.key there ∙ ap (λ m. fin.remove m c.args.key) c.self.view_is
+
+pub returns-else-at-len-clause-before : goal.returns-else-at-len-clause-before
+returns-else-at-len-clause-before g c =
+    let xs = c.self.inside.slots.items in
+    let past : length xs ≤ c.args.key = omega (arith, c.if-at-len.false, c.len.ensures, c.self.inside.slots.ok.0) in
+    sym (get_slot xs c.args.key ∙ slot_past xs c.args.key past) ∙ ap (λ m. fin.get m c.args.key) c.self.view_is
+
+pub returns-else-at-len-clause-removed : goal.returns-else-at-len-clause-removed
+returns-else-at-len-clause-removed g c =
+    let xs = c.self.inside.slots.items in
+    let past : length xs ≤ c.args.key = omega (arith, c.if-at-len.false, c.len.ensures, c.self.inside.slots.ok.0) in
+    sym (remove_absent c.args.self.now c.args.key (ap (λ m. fin.get m c.args.key) (sym c.self.view_is) ∙ get_slot xs c.args.key ∙ slot_past xs c.args.key past))

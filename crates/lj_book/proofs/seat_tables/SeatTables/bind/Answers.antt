@@ -16,25 +16,25 @@ pub bind_in-requires : goal.bind_in-requires
 bind_in-requires c =
     let ts = c.self.inside.seats.items in
     let lt = here_in_range ts c.args.seat (ap (λ (us : Tables). is_here us c.args.seat) c.self.view_is ∙ c.requires.here) in
-    let at = table_of-at ts c.args.seat c.index_mut.result.now lt ∙ sym c.index_mut.ensures.value ∙ c.in-Some-index_mut.is in
-    free_in_table ts c.args.seat c.args.own c.in-Some-index_mut.table at (ap (λ (us : Tables). is_bound us c.args.seat c.args.own) c.self.view_is ∙ c.requires.unbound)
+    let at = table_of-at ts c.args.seat c.index_mut.result.now lt ∙ sym c.index_mut.ensures.value ∙ c.in-Some.is in
+    free_in_table ts c.args.seat c.args.own c.in-Some.table at (ap (λ (us : Tables). is_bound us c.args.seat c.args.own) c.self.view_is ∙ c.requires.unbound)
 
 pub invariant_of-self : goal.invariant_of-self
 invariant_of-self c =
     let ts = c.self.inside.seats.items in
     let lt = here_in_range ts c.args.seat (ap (λ (us : Tables). is_here us c.args.seat) c.self.view_is ∙ c.requires.here) in
-    let at = table_of-at ts c.args.seat c.index_mut.result.now lt ∙ sym c.index_mut.ensures.value ∙ c.in-Some-index_mut.is in
-    let free = free_in_table ts c.args.seat c.args.own c.in-Some-index_mut.table at (ap (λ (us : Tables). is_bound us c.args.seat c.args.own) c.self.view_is ∙ c.requires.unbound) in
-    invariant-bind ts c.args.seat c.args.own c.args.joint c.in-Some.held c.in-Some-index_mut.table c.bind_in.new.table c.self.inside.holders c.bind_in.new.holders c.bind_in.result at c.self.invariant free (c.in-Some.ensures.1 ∙ ap (λ (k : ℕ). k + 1) c.count-held.ensures) c.bind_in.ensures.table c.bind_in.ensures.holders c.bind_in.ensures.err
+    let at = table_of-at ts c.args.seat c.index_mut.result.now lt ∙ sym c.index_mut.ensures.value ∙ c.in-Some.is in
+    let free = free_in_table ts c.args.seat c.args.own c.in-Some.table at (ap (λ (us : Tables). is_bound us c.args.seat c.args.own) c.self.view_is ∙ c.requires.unbound) in
+    invariant-bind ts c.args.seat c.args.own c.args.joint (c.count-held.result + 1) c.in-Some.table c.bind_in.new.table c.self.inside.holders c.bind_in.new.holders c.bind_in.result at c.self.invariant free (ap (λ (k : ℕ). k + 1) c.count-held.ensures) c.bind_in.ensures.table c.bind_in.ensures.holders c.bind_in.ensures.err
 
-pub returns-in-Some-index_mut-clause-ok : goal.returns-in-Some-index_mut-clause-ok
-returns-in-Some-index_mut-clause-ok c =
+pub returns-in-Some-clause-ok : goal.returns-in-Some-clause-ok
+returns-in-Some-clause-ok c =
     let ts = c.self.inside.seats.items in
     let lt = here_in_range ts c.args.seat (ap (λ (us : Tables). is_here us c.args.seat) c.self.view_is ∙ c.requires.here) in
-    let at = table_of-at ts c.args.seat c.index_mut.result.now lt ∙ sym c.index_mut.ensures.value ∙ c.in-Some-index_mut.is in
+    let at = table_of-at ts c.args.seat c.index_mut.result.now lt ∙ sym c.index_mut.ensures.value ∙ c.in-Some.is in
     ok_then c.bind_in.result c.bind_in.ensures.table (λ e.
     ap (λ t. set ts c.args.seat (Some t)) e
-    ∙ with_table-set (λ t. fin.insert t c.args.own c.args.joint) ts c.args.seat c.in-Some-index_mut.table at
+    ∙ with_table-set (λ t. fin.insert t c.args.own c.args.joint) ts c.args.seat c.in-Some.table at
     ∙ ap (λ (us : Tables). with_table (λ t. fin.insert t c.args.own c.args.joint) us c.args.seat) c.self.view_is)
 
 pub returns-in-None-clause-ok : goal.returns-in-None-clause-ok

@@ -11,6 +11,6 @@ pub into_receipt-requires : goal.into_receipt-requires
 into_receipt-requires c =
     closed_by_read (negations c.args.self.lemma.clause) c.args.self.hints c.in-Ok-ClosedAfter.read
     (sym c.in-Ok-ClosedAfter.field-0-is
-    ∙ c.in-Ok-ClosedAfter.ensures
+    ∙ c.in-Ok-ClosedAfter.ensures.ending
     ∙ (λ i. ending_of (walk_over (negations (c.clause.ensures.clause i)) (named (c.deref.ensures.value i))))
     ∙ ap (λ v. ending_of (walk_of v)) c.self.view_is)

@@ -1,12 +1,19 @@
-use Rattle.std.proofs.Common.{ap, ◌∙◌}
+use Rattle.std.proofs.Common.{ap, sym, ◌∙◌, subst}
 use Rattle.std.specs.Prelude.{neg_ℤ}
-use Rattle.lj_clause.specs.LiteralSet.{with_literal}
+use Rattle.lj_clause.specs.LiteralSet.{LiteralSet, from_literals, with_literal}
+use Rattle.lj_hint.specs.Trail.{Extends}
 use Rattle.lj_hint.proofs.Inserts.{with_negations-more}
+use Rattle.lj_hint.proofs.TrailLaws.{from_literals-with_mark, Extends-trans, Extends-with_mark}
 use Rattle.lj_hint.proofs.true_lits.TrueLits.insert_negations.Goals as goal
 
 pub loop-lit-preserved : goal.loop-lit-preserved
 loop-lit-preserved c =
-    c.in_ok-insert.ensures.ok
-    ∙ ap (with_literal c.loop-lit.self) c.negated.ensures
-    ∙ ap (λ s. with_literal s (neg_ℤ c.lit-item.result)) c.loop-lit.invariant
-    ∙ with_negations-more c.args.self.now c.args.lits.now c.loop-lit.lit-index c.lit-item.result c.lit-item.is c.loop-lit-test.true
+    let before = c.loop-lit.self in
+    let ok = c.in_ok-insert.ensures.ok in (
+      ap from_literals ok
+          ∙ from_literals-with_mark before c.negated.result
+          ∙ ap (with_literal (from_literals before)) c.negated.ensures
+          ∙ ap (λ (s : LiteralSet). with_literal s (neg_ℤ c.lit-item.result)) c.loop-lit.invariant.0
+          ∙ with_negations-more (from_literals c.args.self.now) c.args.lits.now c.loop-lit.lit-index c.lit-item.result c.lit-item.is c.loop-lit-test.true,
+      Extends-trans c.args.self.now before c.insert.new.self c.loop-lit.invariant.1 (subst (Extends before) (sym ok) (Extends-with_mark before c.negated.result)),
+    )

@@ -1,7 +1,7 @@
 use Rattle.std.proofs.Common.{◌≡◌, ℕ, ◌++◌, [], ◌∷◌, List, sym, ◌∙◌, subst, ◌+◌, arith, rules}
 use Rattle.lj_text.specs.LinesRead.{HasNoLineEnd}
 use Rattle.lj_text.specs.declared.cnf.state.State.TheVariants.{Faulty}
-use Rattle.lj_text.specs.CnfReading.{IsTold}
+use Rattle.lj_text.specs.CnfReading.{IsCnfTold}
 use Rattle.lj_text.specs.CnfResuming.{resumed, Reads}
 use Rattle.lj_text.specs.CnfRead.{Taken}
 use Rattle.lj_text.proofs.TakeLemmas.{going-more, taken-fault, taken-rest, no_line_end-both}
@@ -16,7 +16,7 @@ returns-in-Faulty c n first =
     let P : List ℕ → Type 0 = λ l. Taken c.args.max n c.args.before c.args.held.now.items c.args.piece.now (Faulty fault) c.loop-front.number l in
     subst P (sym e) (taken-fault c.args.max n c.loop-front.number c.args.before c.loop-front.state fault c.args.held.now.items c.args.piece.now left c.loop-front.rest.now front c.in-Some.after.now
     (c.loop-front.invariant.going n first) c.in-Some.ensures.some (no_line_end-both left front c.loop-front.invariant.none c.in-Some.ensures.line)
-    (λ k h lines. let Q : List ℕ → Type 0 = λ b. IsTold fault.kind fault.line (resumed c.args.max k c.loop-front.state (b ∷ lines)) in subst Q (c.deref.ensures.value ∙ e) (c.in-Faulty.ensures k h lines)))
+    (λ k h lines. let Q : List ℕ → Type 0 = λ b. IsCnfTold fault.kind fault.line (resumed c.args.max k c.loop-front.state (b ∷ lines)) in subst Q (c.deref.ensures.value ∙ e) (c.in-Faulty.ensures k h lines)))
 
 pub loop-front-preserved : goal.loop-front-preserved
 loop-front-preserved c =

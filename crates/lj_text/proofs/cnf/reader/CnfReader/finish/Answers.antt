@@ -1,6 +1,6 @@
 use Rattle.std.proofs.Common.{◌≡◌, ℕ, ◌+◌, [], ◌∷◌, List, sym, subst}
 use Rattle.lj_text.specs.CnfResuming.{resumed, Reads}
-use Rattle.lj_text.specs.CnfRead.{CnfRead, StandsAt, IsAnswer}
+use Rattle.lj_text.specs.CnfRead.{CnfRead, CnfReaderStandsAt, IsAnswer}
 use Rattle.lj_text.specs.Cnf.{HasFault}
 use Rattle.lj_text.proofs.TakeLemmas.{answered, fault-again_end}
 use Rattle.lj_text.proofs.cnf.reader.CnfReader.finish.Goals as goal
@@ -10,7 +10,7 @@ returns-in-Some-clause-answer c text stands memory =
     let v = c.self.inside in
     let r : CnfRead = record { max = v.max; ahead = v.held.items; line = v.line; state = v.state } in
     let same : r ≡ c.args.self = c.self.view_is in
-    let P : CnfRead → Type 0 = λ x. StandsAt x text in
+    let P : CnfRead → Type 0 = λ x. CnfReaderStandsAt x text in
     let Q : CnfRead → Type 0 = λ x. HasFault x.max text c.in-Some.fault in
     subst Q same (fault-again_end r text (subst P (sym same) stands) c.in-Some.fault c.in-Some.ensures)
 
@@ -19,8 +19,8 @@ returns-clause-answer c text stands =
     let v = c.self.inside in
     let r : CnfRead = record { max = v.max; ahead = v.held.items; line = v.line; state = v.state } in
     let same : r ≡ c.args.self = c.self.view_is in
-    let P : CnfRead → Type 0 = λ x. StandsAt x text in
-    let s : StandsAt r text = subst P (sym same) stands in
+    let P : CnfRead → Type 0 = λ x. CnfReaderStandsAt x text in
+    let s : CnfReaderStandsAt r text = subst P (sym same) stands in
     let Q : CnfRead → Type 0 = λ x. IsAnswer x.max text c.close.result in
     let R : List ℕ → Type 0 = λ b. Reads v.max (s.before + 1) [] c.after_line-state.result (resumed v.max s.before v.state (b ∷ [])) in
     subst Q same (answered r text s c.after_line-state.result c.close.result c.self.invariant.none

@@ -1,5 +1,5 @@
 use Rattle.std.proofs.Common.{length, Ok, sym, ap, ◌∙◌}
-use Rattle.lj_text.specs.LinesRead.{LinesRead, answer_of, place_of, last_number}
+use Rattle.lj_text.specs.LinesRead.{LinesRead, line_answer, number_at, last_number}
 use Rattle.lj_text.specs.LinesHeld.{passed}
 use Rattle.lj_text.proofs.ReaderLemmas.{whole-at, whole-found, answers, stands-passed, place-whole, ahead-found, within-of, stands-of, kept-at}
 use Rattle.lj_text.proofs.lines.reader.LineReader.next.Goals as goal
@@ -7,14 +7,14 @@ use Rattle.lj_text.proofs.lines.reader.LineReader.next.Goals as goal
 pub pass-requires : goal.pass-requires
 pass-requires c =
     let counted = c.look_ahead.ensures.counted in
-    ahead-found c.args.self.now.max counted.0 c.args.self.now.ahead c.in-Ok.found (c.in-Ok.ensures.found counted.0 counted.1)
+    rw c.look_ahead.ensures.same (ahead-found c.args.self.now.max counted.0 c.args.self.now.ahead c.in-Ok.found (c.in-Ok.ensures.found counted.0 counted.1))
 
 pub returns-in-Ok-clause-answer : goal.returns-in-Ok-clause-answer
 returns-in-Ok-clause-answer c text given stands none memory =
     let r = c.args.self.now in
     let s = within-of r text given (sym (ap (λ (v : LinesRead). v.finished) c.self.view_is) ∙ c.if-self.false) stands in
     let p = c.in-Ok.ensures.found (length s.lines) s.line_is in
-    ap Ok c.pass.ensures.line ∙ sym (ap answer_of (whole-at r text given s ∙ whole-found r.max (length s.lines) r.ahead c.in-Ok.found p) ∙ answers c.in-Ok.found.at c.in-Ok.found.line)
+    ap Ok c.pass.ensures.line ∙ sym (ap line_answer (whole-at r text given s ∙ whole-found r.max (length s.lines) r.ahead c.in-Ok.found p) ∙ answers c.in-Ok.found.at c.in-Ok.found.line)
 
 pub returns-in-Ok-clause-stands : goal.returns-in-Ok-clause-stands
 returns-in-Ok-clause-stands c text given stands =
@@ -22,7 +22,7 @@ returns-in-Ok-clause-stands c text given stands =
     let going = sym (ap (λ (v : LinesRead). v.finished) c.self.view_is) ∙ c.if-self.false in
     let s = within-of r text given going stands in
     let p = c.in-Ok.ensures.found (length s.lines) s.line_is in
-    rw (c.pass.ensures.passed, c.pass.ensures.line) (stands-of (passed r c.in-Ok.found) text _ going (stands-passed r text given c.in-Ok.found s p))
+    rw (c.pass.ensures.passed, c.look_ahead.ensures.same, c.pass.ensures.line) (stands-of (passed r c.in-Ok.found) text _ going (stands-passed r text given c.in-Ok.found s p))
 
 pub returns-in-Ok-clause-at : goal.returns-in-Ok-clause-at
 returns-in-Ok-clause-at c text given stands none memory =
@@ -35,11 +35,11 @@ pub returns-in-Err-clause-answer : goal.returns-in-Err-clause-answer
 returns-in-Err-clause-answer c text given stands none memory =
     let r = c.args.self.now in
     let s = within-of r text given (sym (ap (λ (v : LinesRead). v.finished) c.self.view_is) ∙ c.if-self.false) stands in
-    sym (ap answer_of (whole-at r text given s ∙ c.in-Err.ensures.found (length s.lines) s.line_is memory))
+    sym (ap line_answer (whole-at r text given s ∙ c.in-Err.ensures.found (length s.lines) s.line_is memory))
 
 pub returns-in-Err-clause-at : goal.returns-in-Err-clause-at
 returns-in-Err-clause-at c text given stands none memory =
     let r = c.args.self.now in
     let s = within-of r text given (sym (ap (λ (v : LinesRead). v.finished) c.self.view_is) ∙ c.if-self.false) stands in
-    ap (λ (v : LinesRead). v.at) c.keep.ensures ∙ kept-at r c.in-Err.fault memory
-    ∙ ap (λ o. place_of o (last_number text)) (sym (whole-at r text given s ∙ c.in-Err.ensures.found (length s.lines) s.line_is memory))
+    ap (λ (v : LinesRead). v.at) c.keep.ensures ∙ kept-at c.look_ahead.new.self c.in-Err.fault memory
+    ∙ ap (λ o. number_at o (last_number text)) (sym (whole-at r text given s ∙ c.in-Err.ensures.found (length s.lines) s.line_is memory))

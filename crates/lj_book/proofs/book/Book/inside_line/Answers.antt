@@ -1,0 +1,52 @@
+use Rattle.std.proofs.Common.{◌≡◌, ◌≤◌, ◌<◌, ◌+◌, ap, sym, ◌∙◌, subst, ℕ, arith}
+use Rattle.std.specs.Prelude.{Ok, Err}
+use Rattle.lj_book.specs.State.{State, added, next, live}
+use Rattle.lj_book.specs.History.{IsReached}
+use Rattle.lj_book.specs.Calls.{free_refusal}
+use Rattle.lj_book.specs.JointLines.{LineParts, addition_of, tested_line, inside_line}
+use Rattle.lj_book.proofs.InsideLaws.{IsTaken, refusal_passes, line_refused, line_full, line_passed}
+use Rattle.lj_book.proofs.book.Book.inside_line.Goals as goal
+
+pub returns-in-Err-tested_line-clause-reply : goal.returns-in-Err-tested_line-clause-reply
+returns-in-Err-tested_line-clause-reply c =
+    let s : State = record { formula = c.self.inside.formula; max_steps = c.self.inside.max_steps; tables = c.self.inside.tables; history = c.self.inside.history.items } in
+    let a = c.args.addition.now in
+    let parts : LineParts = (c.in-Ok.line.hints.items, c.in-Ok.line.groups.items) in
+    let taken : IsTaken s c.args.seat a parts = record {
+      free = ap (λ (t : State). free_refusal t c.args.seat a.number) c.self.view_is ∙ sym c.free_refusal.ensures ∙ c.in_default.is;
+      are = c.in-Ok.ensures;
+    } in
+    let number : c.len.result + 1 + c.from.result ≡ next s = λ i. c.len.ensures.len i + 1 + (c.from.ensures ∙ c.self.invariant.additions) i in
+    refusal_passes c.in-Err-tested_line.refusal _ _
+    (λ x one.
+    ap (λ (t : State). inside_line t c.args.seat a) (sym c.self.view_is)
+    ∙ line_refused s c.args.seat a parts x taken ((λ i. tested_line (sym c.self.invariant.lives i) (addition_of (sym number i) a.lemma parts)) ∙ one))
+    c.in-Err-tested_line.ensures
+
+pub returns-then-added-max_steps-clause-reply : goal.returns-then-added-max_steps-clause-reply
+returns-then-added-max_steps-clause-reply c =
+    let s : State = record { formula = c.self.inside.formula; max_steps = c.self.inside.max_steps; tables = c.self.inside.tables; history = c.self.inside.history.items } in
+    let a = c.args.addition.now in
+    let parts : LineParts = (c.in-Ok.line.hints.items, c.in-Ok.line.groups.items) in
+    let taken : IsTaken s c.args.seat a parts = record {
+      free = ap (λ (t : State). free_refusal t c.args.seat a.number) c.self.view_is ∙ sym c.free_refusal.ensures ∙ c.in_default.is;
+      are = c.in-Ok.ensures;
+    } in
+    let number : c.len.result + 1 + c.from.result ≡ next s = λ i. c.len.ensures.len i + 1 + (c.from.ensures ∙ c.self.invariant.additions) i in
+    let full : s.max_steps ≤ added s.history = let counted = c.self.invariant.additions in omega arith in
+    ap (λ (t : State). inside_line t c.args.seat a) (sym c.self.view_is)
+    ∙ line_full s c.args.seat a parts c.in-Ok-tested_line.step taken ((λ i. tested_line (sym c.self.invariant.lives i) (addition_of (sym number i) a.lemma parts)) ∙ c.in-Ok-tested_line.ensures) full
+
+pub returns-clause-reply : goal.returns-clause-reply
+returns-clause-reply c =
+    let s : State = record { formula = c.self.inside.formula; max_steps = c.self.inside.max_steps; tables = c.self.inside.tables; history = c.self.inside.history.items } in
+    let a = c.args.addition.now in
+    let parts : LineParts = (c.in-Ok.line.hints.items, c.in-Ok.line.groups.items) in
+    let taken : IsTaken s c.args.seat a parts = record {
+      free = ap (λ (t : State). free_refusal t c.args.seat a.number) c.self.view_is ∙ sym c.free_refusal.ensures ∙ c.in_default.is;
+      are = c.in-Ok.ensures;
+    } in
+    let number : c.len.result + 1 + c.from.result ≡ next s = λ i. c.len.ensures.len i + 1 + (c.from.ensures ∙ c.self.invariant.additions) i in
+    let room : added s.history < s.max_steps = let counted = c.self.invariant.additions in omega arith in
+    ap (λ (t : State). inside_line t c.args.seat a) (sym c.self.view_is)
+    ∙ line_passed s c.args.seat a parts c.in-Ok-tested_line.step taken ((λ i. tested_line (sym c.self.invariant.lives i) (addition_of (sym number i) a.lemma parts)) ∙ c.in-Ok-tested_line.ensures) room

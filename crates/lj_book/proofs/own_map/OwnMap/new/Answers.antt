@@ -1,0 +1,12 @@
+use Rattle.std.proofs.Common.{ap, sym, ◌∙◌, subst, option_copied}
+use Rattle.std.specs.Prelude.{is_some}
+use Rattle.std.specs.FinMap as fin
+use Rattle.lj_book.specs.Slots.{joined_map, AreApart}
+use Rattle.lj_book.proofs.Slots.{joined_empty, apart-empty}
+use Rattle.lj_book.proofs.own_map.OwnMap.new.Goals as goal
+
+pub invariant_of-result : goal.invariant_of-result
+invariant_of-result g c = subst (λ m. AreApart c.new.result m) (sym c.new-2.ensures) (subst (λ m. AreApart m fin.empty) (sym c.new.ensures) apart-empty)
+
+pub returns : goal.returns
+returns g c = ap (λ m. joined_map m c.new-2.result) c.new.ensures ∙ ap (joined_map fin.empty) c.new-2.ensures ∙ joined_empty

@@ -1,0 +1,139 @@
+//! Additions that are tested and entered in one call.
+ghost use Rattle.std.specs.Prelude.{◌≡◌, ◌==◌, OnOk, OnErr, IfOk, IfSome, Ok, Err, true, false};
+ghost use Rattle.lj_clause.specs.Literal.{variable_of};
+ghost use Rattle.lj_clause.specs.LiteralSet.{holds};
+ghost use Rattle.lj_book.specs.History.{after_entry, IsReached};
+ghost use Rattle.lj_book.specs.Calls.{IsReply, free_refusal, commit_told};
+ghost use Rattle.lj_book.specs.Inside.{inside_reply, inside_entry};
+ghost use Rattle.lj_book.specs.JointLines.{inside_line, line_entry};
+
+use crate::book::Book;
+use crate::committing::{bind_clause, refuted_at};
+use crate::entry::{Added, Call, Entry};
+use crate::joint_line::joint_line;
+use crate::line_tests::tested_line;
+use crate::refusal::Refusal;
+use lj_clause::{Lemma, NoMemory};
+use lj_hint::Marks;
+use lj_text::{Addition, Step};
+
+impl Book {
+    /// Tests a seat's addition over the live clauses, those of all seats, and enters it in recorded form: by hinted
+    /// unit propagation over its first list, or else by resolution asymmetric tautology on its pivot (Cruz-Filipe et
+    /// al., CADE 2017). The room may have served any walk before.
+    ///
+    /// Takes O(log n) time for each number of the line and each hint that is read, and constant time for each literal
+    /// of these hints; where the first list stays open, time linear in the live clauses too.
+    ///
+    /// # Errors
+    /// The first that holds of [`Refusal::SeatGone`], [`Refusal::NumberTaken`], [`Refusal::UnknownNumber`],
+    /// [`Refusal::GroupRepeated`], [`Refusal::HintNotUnit`], [`Refusal::EmptyOpen`], [`Refusal::MissingGroup`],
+    /// [`Refusal::GroupStuck`], [`Refusal::GroupOpen`] and [`Refusal::Full`]; and [`Refusal::NoMemory`] where a growth
+    /// was refused.
+    pub fn add_inside(
+        &mut self,
+        seat: u32,
+        addition: &Addition,
+        marks: &mut Marks,
+    ) -> Result<Added, Refusal>
+        ensures reply { IsReply result (inside_reply self.old seat addition.now) }
+        ensures refused { IfSome (free_refusal self.old seat addition.now.number) (λ e. result ≡ Err e) }
+        ensures ok { OnOk result (self.new ≡ after_entry self.old (inside_entry self.old seat addition.now)) }
+        ensures err { OnErr result (self.new ≡ self.old) }
+    {
+        let step = match self.inside_line(seat, addition, marks) {
+            Ok(step) => step,
+            Err(refusal) => return Err(refusal),
+        };
+        match self.enter_line(seat, addition, step) {
+            Ok(added) => Ok(added),
+            Err(refused) => Err(Refusal::NoMemory(refused)),
+        }
+    }
+
+    /// The step of a seat's addition, in recorded form.
+    ///
+    /// # Errors
+    /// As [`Book::add_inside`].
+    fn inside_line(
+        &self,
+        seat: u32,
+        addition: &Addition,
+        marks: &mut Marks,
+    ) -> Result<Addition, Refusal>
+        ensures reply { IsReply result (inside_line self.now seat addition.now) }
+        ensures reached { IsReached self.now }
+        ensures refused { IfSome (free_refusal self.now seat addition.now.number) (λ e. result ≡ Err e) }
+    {
+        let alloc = *self.history.allocator();
+        let added = self.added;
+        let max_steps = self.max_steps;
+        if let Some(refusal) = self.free_refusal(seat, addition.number) {
+            return Err(refusal);
+        }
+        let line = match joint_line(alloc, &self.tables, seat, addition) {
+            Ok(line) => line,
+            Err(refusal) => return Err(refusal),
+        };
+        let number = self.formula.len() as u64 + 1 + u64::from(added);
+        let lemma = &addition.lemma;
+        let step = match tested_line(alloc, &self.clauses, number, lemma, &line, marks) {
+            Ok(step) => step,
+            Err(refusal) => return Err(refusal),
+        };
+        if added >= max_steps {
+            return Err(Refusal::Full);
+        }
+        Ok(step)
+    }
+
+    /// Enters an addition with the step that was found for it.
+    ///
+    /// # Errors
+    /// [`NoMemory`] where a growth was refused.
+    fn enter_line(
+        &mut self,
+        seat: u32,
+        addition: &Addition,
+        step: Addition,
+    ) -> Result<Added, NoMemory>
+        requires { inside_line self.old seat addition.now ≡ Ok step }
+        ensures told { IfOk result (λ added. added ≡ commit_told self.old) }
+        ensures ok { OnOk result (self.new ≡ after_entry self.old (line_entry seat addition.now.number step)) }
+        ensures err { OnErr result (self.new ≡ self.old) }
+    {
+        let _ = has_pivot(&addition.lemma);
+        let own = addition.number;
+        let joint = step.number;
+        let lemma = step.lemma.copy()?;
+        let clause = step.lemma.clause().copy()?;
+        let place = self.history.len() as u64;
+        let refuted = refuted_at(self.refuted, place, &clause);
+        self.history.reserve(1)?;
+        bind_clause(
+            &mut self.clauses,
+            &mut self.tables,
+            joint,
+            seat,
+            own,
+            clause,
+        )?;
+        self.refuted = refuted;
+        self.added += 1;
+        let call = Call::Add { own, lemma };
+        let step = Some(Step::Add(step));
+        self.history.push(Entry { seat, call, step }).unwrap();
+        Ok(Added { place, joint })
+    }
+}
+
+/// Whether the lemma has a pivot, which then is a literal of its clause.
+fn has_pivot(lemma: &Lemma) -> bool
+    ensures literal { IfSome lemma.now.pivot (λ q. (variable_of q == 0) ≡ false) }
+    ensures there { IfSome lemma.now.pivot (λ q. holds lemma.now.clause q ≡ true) }
+{
+    match lemma.pivot() {
+        Some(pivot) => pivot.variable() > 0,
+        None => false,
+    }
+}

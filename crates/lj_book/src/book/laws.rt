@@ -1,0 +1,30 @@
+//! What is true of every book, whatever was called on it.
+ghost use Rattle.std.specs.Prelude.{◌≡◌, Some};
+ghost use Rattle.lj_clause.specs.ClauseMap.{formula_map};
+ghost use Rattle.lj_clause.specs.Truth.{IsSatisfiable};
+ghost use Rattle.lj_text.specs.Steps.{replay};
+ghost use Rattle.lj_book.specs.State.{live, steps_of};
+ghost use Rattle.lj_book.specs.History.{IsReached};
+
+use super::Book;
+
+/// The history is legal: its entries, each of them legal where it stands, lead from a new book to this one.
+pub fn history_is_legal(book: &Book)
+    ensures { IsReached book.now }
+{
+    let _ = &book.formula;
+}
+
+/// The live clauses are what the steps of the history make of the formula.
+pub fn live_is_the_replay(book: &Book)
+    ensures { replay (formula_map book.now.formula) (steps_of book.now.history) ≡ Some (live book.now) }
+{
+    let _ = &book.formula;
+}
+
+/// Some assignment satisfies the live clauses, if one satisfies the formula.
+pub fn live_is_satisfiable(book: &Book)
+    ensures { IsSatisfiable (formula_map book.now.formula) → IsSatisfiable (live book.now) }
+{
+    let _ = &book.formula;
+}

@@ -1,0 +1,39 @@
+//! Seats that leave.
+ghost use Rattle.std.specs.Prelude.{◌≡◌, OnOk, OnErr, IfErr, Err};
+ghost use Rattle.lj_book.specs.History.{after_entry};
+ghost use Rattle.lj_book.specs.Calls.{IsReply, leave_reply, leave_entry};
+
+use crate::book::{Book, deletion_of};
+use crate::dying::{bury, no_longer_held, rising};
+use crate::entry::{Call, Entry};
+use crate::refusal::Refusal;
+
+impl Book {
+    /// Ends the bindings of a seat, which is then gone. The clauses that no seat holds any more die in the same entry,
+    /// whose place in the history is the answer. Takes O(log n) time for each binding.
+    ///
+    /// # Errors
+    /// [`Refusal::SeatGone`], and [`Refusal::NoMemory`] where a growth was refused.
+    pub fn leave(&mut self, seat: u32) -> Result<u64, Refusal>
+        ensures reply { IsReply result (leave_reply self.old seat) }
+        ensures refused { IfErr (leave_reply self.old seat) (λ e. result ≡ Err e) }
+        ensures ok { OnOk result (self.new ≡ after_entry self.old (leave_entry self.old seat)) }
+        ensures err { OnErr result (self.new ≡ self.old) }
+    {
+        if !self.tables.is_here(seat) {
+            return Err(Refusal::SeatGone);
+        }
+        let alloc = *self.history.allocator();
+        let numbers = self.tables.own_numbers(alloc, seat)?;
+        let joints = rising(self.tables.joints(alloc, seat, &numbers)?);
+        self.history.reserve(1)?;
+        let place = self.history.len() as u64;
+        self.tables.leave(seat, &numbers);
+        let died = no_longer_held(&self.tables, joints);
+        bury(&mut self.clauses, &died);
+        let call = Call::Leave;
+        let step = deletion_of(died);
+        self.history.push(Entry { seat, call, step }).unwrap();
+        Ok(place)
+    }
+}

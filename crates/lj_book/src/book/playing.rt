@@ -1,0 +1,234 @@
+//! Lists of events, one after another.
+ghost use Rattle.std.specs.Prelude.{◌≡◌, ℕ, List, true, IfOk, OnOk, OnErr, IfErr, Err, replicate, slice_index_or, slice_set};
+ghost use Rattle.lj_book.specs.declared.event.Event.TheVariants as events;
+ghost use Rattle.lj_book.specs.declared.event.Pending.{Pending};
+ghost use Rattle.lj_book.specs.declared.event.Pending.TheVariants as pendings;
+ghost use Rattle.lj_book.specs.History.{after_entry};
+ghost use Rattle.lj_book.specs.Calls.{IsReply, drop_reply, drop_entry};
+ghost use Rattle.lj_book.specs.Events.{is_tidy};
+ghost use Rattle.lj_book.specs.Worlds.{IsAnswered, IsTestOf, IsTested, IsPlayed};
+ghost use Rattle.lj_book.specs.Solo.{IsAlone};
+
+use crate::book::Book;
+use crate::entry::Dropped;
+use crate::event::{Event, Pending, Reply};
+use crate::refusal::Refusal;
+use lj_clause::{Clause, NoMemory};
+use lj_hint::{Case, Marks, Tested};
+use lj_text::{Addition, Numbers};
+use std::alloc::Global;
+use std::mem;
+
+impl Book {
+    /// Plays the events one after another, from nothing pending, and answers one reply for each.
+    ///
+    /// A take gives up what is pending for its seat, and where it is accepted its case is pending then. A test of a
+    /// pending case leaves its receipt pending where the walk closes, nothing where it doesn't, and the case where
+    /// memory is short. A commit of a pending receipt leaves nothing pending. A test where no case is pending, and a
+    /// commit where no receipt is, answer [`Reply::Nothing`]. The other events are calls, and leave what is pending.
+    ///
+    /// A seat each of whose commits comes after a take of its own, with only its tests between, is answered as if it
+    /// were alone, whatever the other seats do.
+    ///
+    /// # Errors
+    /// [`NoMemory`] where room for the replies or for what is pending was refused: then no event was played. A growth
+    /// that is refused later is that event's reply.
+    pub fn play(&mut self, events: &[Event]) -> Result<Vec<Reply>, NoMemory>
+        ensures run { IfOk result (λ replies. IsPlayed self.old events.now replies.items self.new) }
+        ensures alone { IfOk result (λ replies. (seat : ℕ) → is_tidy seat events.now ≡ true
+            → IsAlone self.old events.now replies.items self.new seat) }
+        ensures err { OnErr result (self.new ≡ self.old) }
+    {
+        let alloc = *self.history.allocator();
+        let mut replies = Vec::with_capacity(alloc, events.len())?;
+        let mut pending = nothing_pending(alloc, self.tables.len())?;
+        let mut marks = Marks::new(alloc);
+        for event in events {
+            let reply = self.answer(event, &mut pending, &mut marks);
+            replies.push(reply).unwrap();
+        }
+        Ok(replies)
+    }
+
+    /// The reply to one event.
+    fn answer(&mut self, event: &Event, pending: &mut [Pending], marks: &mut Marks) -> Reply
+        ensures { IsAnswered (record { state = self.old; pending = pending.old }) event.now result
+            (record { state = self.new; pending = pending.new }) }
+    {
+        match event {
+            Event::Take(seat, addition) => self.answer_take(*seat, addition, pending),
+            Event::Test(seat) => answer_test(*seat, pending, marks),
+            Event::Commit(seat) => self.answer_commit(*seat, pending),
+            Event::Inside(seat, addition) => self.answer_inside(*seat, addition, marks),
+            Event::Drop(seat, numbers) => self.answer_drop(*seat, numbers),
+            Event::Adopt(seat, own, joint) => self.answer_adopt(*seat, *own, *joint),
+            Event::Import(seat, own, clause) => self.answer_import(*seat, *own, clause),
+            Event::Leave(seat) => self.answer_leave(*seat),
+        }
+    }
+
+    fn answer_take(&self, seat: u32, addition: &Addition, pending: &mut [Pending]) -> Reply
+        ensures { IsAnswered (record { state = self.now; pending = pending.old }) (events.Take seat addition.now)
+            result (record { state = self.now; pending = pending.new }) }
+    {
+        match self.take(seat, addition) {
+            Ok(case) => {
+                set_pending(pending, seat, Pending::Case(case));
+                Reply::Taken
+            }
+            Err(refusal) => {
+                set_pending(pending, seat, Pending::Nothing);
+                Reply::Refused(refusal)
+            }
+        }
+    }
+
+    fn answer_commit(&mut self, seat: u32, pending: &mut [Pending]) -> Reply
+        ensures { IsAnswered (record { state = self.old; pending = pending.old }) (events.Commit seat) result
+            (record { state = self.new; pending = pending.new }) }
+    {
+        match take_pending(pending, seat) {
+            Pending::Receipt(receipt) => match self.commit(receipt) {
+                Ok(added) => Reply::Added(added),
+                Err((refusal, _receipt)) => Reply::Refused(refusal),
+            },
+            uncommitted => {
+                set_pending(pending, seat, uncommitted);
+                Reply::Nothing
+            }
+        }
+    }
+
+    fn answer_inside(&mut self, seat: u32, addition: &Addition, marks: &mut Marks) -> Reply
+        ensures { (pending : List Pending)
+            → IsAnswered (record { state = self.old; pending = pending }) (events.Inside seat addition.now) result
+            (record { state = self.new; pending = pending }) }
+    {
+        match self.add_inside(seat, addition, marks) {
+            Ok(added) => Reply::Added(added),
+            Err(refusal) => Reply::Refused(refusal),
+        }
+    }
+
+    fn answer_drop(&mut self, seat: u32, numbers: &Numbers) -> Reply
+        ensures { (pending : List Pending)
+            → IsAnswered (record { state = self.old; pending = pending }) (events.Drop seat numbers.now) result
+            (record { state = self.new; pending = pending }) }
+    {
+        match self.drop_listed(seat, numbers) {
+            Ok(dropped) => Reply::Dropped(dropped),
+            Err(refusal) => Reply::Refused(refusal),
+        }
+    }
+
+    /// A drop of these numbers, whose seat is looked at before their list grows.
+    fn drop_listed(&mut self, seat: u32, numbers: &Numbers) -> Result<Dropped, Refusal>
+        ensures reply { IsReply result (drop_reply self.old seat numbers.now) }
+        ensures refused { IfErr (drop_reply self.old seat numbers.now) (λ e. result ≡ Err e) }
+        ensures ok { OnOk result (self.new ≡ after_entry self.old (drop_entry self.old seat numbers.now)) }
+        ensures err { OnErr result (self.new ≡ self.old) }
+    {
+        if !self.tables.is_here(seat) {
+            return Err(Refusal::SeatGone);
+        }
+        let list = numbers.to_vec()?;
+        self.drop_numbers(seat, &list)
+    }
+
+    fn answer_adopt(&mut self, seat: u32, own: u64, joint: u64) -> Reply
+        ensures { (pending : List Pending)
+            → IsAnswered (record { state = self.old; pending = pending }) (events.Adopt seat own joint) result
+            (record { state = self.new; pending = pending }) }
+    {
+        match self.adopt(seat, own, joint) {
+            Ok(place) => Reply::Adopted(place),
+            Err(refusal) => Reply::Refused(refusal),
+        }
+    }
+
+    fn answer_import(&mut self, seat: u32, own: u64, clause: &Clause) -> Reply
+        ensures { (pending : List Pending)
+            → IsAnswered (record { state = self.old; pending = pending }) (events.Import seat own clause.now) result
+            (record { state = self.new; pending = pending }) }
+    {
+        match self.import(seat, own, clause) {
+            Ok(imported) => Reply::Imported(imported),
+            Err(refusal) => Reply::Refused(refusal),
+        }
+    }
+
+    fn answer_leave(&mut self, seat: u32) -> Reply
+        ensures { (pending : List Pending)
+            → IsAnswered (record { state = self.old; pending = pending }) (events.Leave seat) result
+            (record { state = self.new; pending = pending }) }
+    {
+        match self.leave(seat) {
+            Ok(place) => Reply::Left(place),
+            Err(refusal) => Reply::Refused(refusal),
+        }
+    }
+}
+
+/// Nothing pending for any of so many seats.
+fn nothing_pending(alloc: Global, seats: usize) -> Result<Vec<Pending>, NoMemory>
+    ensures { IfOk result (λ pending. pending.items ≡ replicate seats pendings.Nothing) }
+{
+    let mut pending = Vec::new(alloc);
+    for _seat in 0..seats {
+        pending.push(Pending::Nothing)?;
+    }
+    Ok(pending)
+}
+
+/// Sets what is pending for a seat, if there is such a seat.
+fn set_pending(pending: &mut [Pending], seat: u32, value: Pending)
+    ensures { pending.new ≡ slice_set pending.old seat value }
+{
+    let at = seat as usize;
+    if at < pending.len() {
+        pending[at] = value;
+    }
+}
+
+/// Takes out what is pending for a seat.
+fn take_pending(pending: &mut [Pending], seat: u32) -> Pending
+    ensures taken { result ≡ slice_index_or pending.old seat pendings.Nothing }
+    ensures left { pending.new ≡ slice_set pending.old seat pendings.Nothing }
+{
+    let at = seat as usize;
+    if at < pending.len() {
+        mem::replace(&mut pending[at], Pending::Nothing)
+    } else {
+        Pending::Nothing
+    }
+}
+
+/// The reply to the test of what is pending for a seat.
+fn answer_test(seat: u32, pending: &mut [Pending], marks: &mut Marks) -> Reply
+    ensures { IsTestOf (slice_index_or pending.old seat pendings.Nothing) pending.old (slice_set pending.old seat)
+        result pending.new }
+{
+    match take_pending(pending, seat) {
+        Pending::Case(case) => {
+            let (reply, after) = tested(case, marks);
+            set_pending(pending, seat, after);
+            reply
+        }
+        untested => {
+            set_pending(pending, seat, untested);
+            Reply::Nothing
+        }
+    }
+}
+
+/// The reply to the test of a case, and what is pending after it.
+fn tested(case: Case, marks: &mut Marks) -> (Reply, Pending)
+    ensures { IsTested case (λ after. after) result.0 result.1 }
+{
+    match case.test(marks) {
+        Tested::Closed(receipt) => (Reply::Closed, Pending::Receipt(receipt)),
+        Tested::Open(_) => (Reply::Open, Pending::Nothing),
+        Tested::Stuck(place) => (Reply::Stuck(place), Pending::Nothing),
+        Tested::NoMemory(case, e) => (Reply::Refused(e.into()), Pending::Case(case)),
+    }
+}

@@ -1,0 +1,93 @@
+//! An addition's hints and groups in joint numbers.
+ghost use Rattle.lj_book.specs.Tables.{joint_of};
+ghost use Rattle.lj_book.specs.Calls.{IsReplyBy};
+ghost use Rattle.lj_book.specs.JointLines.{joints_in, joint_groups_in, joint_parts};
+
+use crate::refusal::Refusal;
+use crate::seat_tables::SeatTables;
+use crate::taking::repeated_group;
+use lj_hint::JointGroup;
+use lj_text::{Addition, Group, Numbers};
+use std::alloc::Global;
+
+/// The hints and the groups of an addition in joint numbers.
+#[derive(Drop)]
+pub struct JointLine {
+    pub hints: Vec<u64>,
+    pub groups: Vec<JointGroup>,
+}
+
+/// The hints and the groups of a seat's addition in joint numbers. Each own number is looked up once.
+///
+/// # Errors
+/// [`Refusal::UnknownNumber`], [`Refusal::GroupRepeated`], and [`Refusal::NoMemory`] where a growth was refused.
+pub fn joint_line(
+    alloc: Global,
+    tables: &SeatTables,
+    seat: u32,
+    addition: &Addition,
+) -> Result<JointLine, Refusal>
+    ensures { IsReplyBy (λ line. (line.hints.items, line.groups.items)) result
+        (joint_parts (joint_of tables.now seat) addition.now) }
+{
+    let hints = match joints_of(alloc, tables, seat, &addition.hints) {
+        Ok(hints) => hints,
+        Err(refusal) => return Err(refusal),
+    };
+    let groups = match joint_groups_of(alloc, tables, seat, addition.groups.as_slice()) {
+        Ok(groups) => groups,
+        Err(refusal) => return Err(refusal),
+    };
+    if let Some(own) = repeated_group(alloc, tables, seat, addition.groups.as_slice())? {
+        return Err(Refusal::GroupRepeated(own));
+    }
+    Ok(JointLine { hints, groups })
+}
+
+/// The joint numbers of these own numbers.
+///
+/// # Errors
+/// [`Refusal::UnknownNumber`] of the first that the seat doesn't hold, and [`Refusal::NoMemory`] where a growth was
+/// refused.
+fn joints_of(
+    alloc: Global,
+    tables: &SeatTables,
+    seat: u32,
+    numbers: &Numbers,
+) -> Result<Vec<u64>, Refusal>
+    ensures { IsReplyBy (λ v. v.items) result (joints_in (joint_of tables.now seat) numbers.now) }
+{
+    let mut joints = Vec::new(alloc);
+    for own in numbers.iter() {
+        let Some(joint) = tables.joint(seat, own) else {
+            return Err(Refusal::UnknownNumber(own));
+        };
+        joints.push(joint)?;
+    }
+    Ok(joints)
+}
+
+/// The groups in joint numbers.
+///
+/// # Errors
+/// As [`joints_of`], each candidate before its hints.
+fn joint_groups_of(
+    alloc: Global,
+    tables: &SeatTables,
+    seat: u32,
+    groups: &[Group],
+) -> Result<Vec<JointGroup>, Refusal>
+    ensures { IsReplyBy (λ v. v.items) result (joint_groups_in (joint_of tables.now seat) groups.now) }
+{
+    let mut joints = Vec::new(alloc);
+    for group in groups {
+        let Some(candidate) = tables.joint(seat, group.candidate) else {
+            return Err(Refusal::UnknownNumber(group.candidate));
+        };
+        match joints_of(alloc, tables, seat, &group.hints) {
+            Ok(hints) => joints.push(JointGroup::new(candidate, hints))?,
+            Err(refusal) => return Err(refusal),
+        }
+    }
+    Ok(joints)
+}

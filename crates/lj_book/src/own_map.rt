@@ -1,0 +1,123 @@
+//! Maps from a seat's own numbers.
+ghost use Rattle.std.specs.Prelude.{◌≡◌, OnOk, OnErr, IfOk, option_copied, None, true, false};
+ghost use Rattle.std.specs.FinMap as fin;
+ghost use Rattle.lj_book.specs.Slots.{AreApart};
+
+use crate::dying::rising;
+use crate::number_map::NumberMap;
+use crate::tree_map::TreeMap;
+use lj_clause::NoMemory;
+use std::alloc::Global;
+use std::marker::Model;
+
+/// How many slots there may be before anything is set.
+const FIRST_SLOTS: u64 = 1024;
+
+/// A map from own numbers, seen as a finite map. Numbers up to a bound that follows how many were set have slots, the
+/// others a tree; so memory is linear in how many were set, whatever numbers they are.
+///
+/// A call takes constant time for a number that has a slot, amortized, and O(log n) time for others.
+#[derive(Drop)]
+pub struct OwnMap<V> {
+    near: NumberMap<V>,
+    far: TreeMap<V>,
+    /// How many times a value was set.
+    set: u64,
+}
+
+impl<V> Model for OwnMap<V> {
+    ghost use Rattle.std.specs.Ordering.{nat_cmp};
+    ghost use Rattle.std.specs.Coded.{coded_ℕ};
+    ghost use Rattle.std.specs.FinMap as fin;
+    ghost use Rattle.lj_book.specs.Slots.{joined_map, AreApart};
+
+    ghost Value = { fin.FinMap nat_cmp V };
+
+    ghost coded = { fin.code coded_ℕ V.code };
+
+    ghost view = { λ m. joined_map m.near m.far };
+
+    ghost invariant = { λ m. AreApart m.near m.far };
+}
+
+impl<V: Drop> OwnMap<V> {
+    /// The map without an entry.
+    pub fn new(alloc: Global) -> Self
+        ensures { result ≡ fin.empty }
+    {
+        OwnMap {
+            near: NumberMap::new(alloc),
+            far: TreeMap::new(alloc),
+            set: 0,
+        }
+    }
+
+    /// The value at the key.
+    pub fn get(&self, key: u64) -> Option<&V>
+        ensures { option_copied result ≡ fin.get self.now key }
+    {
+        match self.near.get(key) {
+            Some(value) => Some(value),
+            None => self.far.get(key),
+        }
+    }
+
+    /// Whether there is a value at the key.
+    pub fn contains_key(&self, key: u64) -> bool
+        ensures { result ≡ fin.contains_key self.now key }
+    {
+        self.get(key).is_some()
+    }
+
+    /// Sets the value at the key. Takes no memory where the key is there already.
+    ///
+    /// # Errors
+    /// [`NoMemory`] where a growth was refused.
+    pub fn insert(&mut self, key: u64, value: V) -> Result<(), NoMemory>
+        ensures ok { OnOk result (self.new ≡ fin.insert self.old key value) }
+        ensures err { OnErr result (self.new ≡ self.old) }
+        ensures absent { OnErr result (fin.get self.old key ≡ None) }
+    {
+        self.set = self.set.saturating_add(1);
+        if is_far(&self.near, &self.far, self.set, key) {
+            return self.far.insert(key, value);
+        }
+        self.near.insert(key, value)
+    }
+
+    /// The keys, rising. Takes O(n log n) time.
+    ///
+    /// # Errors
+    /// [`NoMemory`] where a growth was refused.
+    pub fn keys(&self, alloc: Global) -> Result<Vec<u64>, NoMemory>
+        ensures { IfOk result (λ keys. keys.items ≡ fin.keys self.now) }
+    {
+        let mut keys = self.near.keys(alloc)?;
+        let far = self.far.keys(alloc)?;
+        keys.extend_from_slice(&far)?;
+        Ok(rising(keys))
+    }
+
+    /// Takes the key out, and gives back the value that was there.
+    pub fn remove(&mut self, key: u64) -> Option<V>
+        ensures before { result ≡ fin.get self.old key }
+        ensures removed { self.new ≡ fin.remove self.old key }
+    {
+        match self.near.remove(key) {
+            Some(value) => Some(value),
+            None => self.far.remove(key),
+        }
+    }
+}
+
+/// Whether a key that is set now belongs to the tree: it is there already, or it has no slot and is beyond the bound.
+fn is_far<V: Drop>(near: &NumberMap<V>, far: &TreeMap<V>, set: u64, key: u64) -> bool
+    requires { AreApart near.now far.now }
+    ensures far { result ≡ true → fin.get near.now key ≡ None }
+    ensures near { result ≡ false → fin.get far.now key ≡ None }
+{
+    if near.get(key).is_some() {
+        return false;
+    }
+    far.contains_key(key) || key / 2 > set.saturating_add(FIRST_SLOTS)
+}

@@ -1,0 +1,125 @@
+-- The test of candidates, one after the other.
+use Rattle.std.proofs.Common.{◌≡◌, ap, refl, sym, ◌∙◌, ℕ, zero, suc, ◌+◌, ◌<◌, ◌≤◌, Bool, true, false, cond, arith, add-one, append_assoc, get_or, drop, drop-cons, length, subst}
+use Rattle.std.proofs.lemmas.List.{drop_all, append-nil}
+use Rattle.std.specs.Prelude.{ℤ, List, [], ◌∷◌, ◌++◌, map, Option, Some, None, option_map, option_copied, is_some, slice_get, ◌==◌, if◌then◌else◌, Result, Ok, Err}
+use Rattle.std.specs.Borrow.{Bor}
+use Rattle.std.specs.List.{AllByRecursion}
+use Rattle.std.proofs.lemmas.Bool.{false≢true}
+use Rattle.std.specs.FinMap as fin
+use Rattle.lj_clause.specs.LiteralSet.{LiteralSet}
+use Rattle.lj_clause.specs.Walk.{Walk, Closed, Open, Stuck, Hint, walk_over, is_contradictory}
+use Rattle.lj_clause.specs.Rat.{HintGroup, NamedGroup, RatAnswer, Covered, MissingGroup, GroupStuck, GroupOpen, group_of, by_candidate, candidate_walk, rat_over}
+use Rattle.lj_hint.specs.declared.rat_refusal.RatRefusal.{RatRefusal}
+use Rattle.lj_hint.specs.declared.rat.LentGroup.{LentGroup}
+use Rattle.lj_hint.specs.declared.rat_refusal.RatRefusal.TheVariants as refusals
+use Rattle.lj_hint.specs.declared.rat_refusal.RatRefusal.TheVariants.{EmptyOpen}
+use Rattle.lj_hint.specs.RatTest.{rat_told, IsRatRefusal}
+use Rattle.lj_hint.specs.Lent.{lent_groups, group_at, candidate_told, IsCandidateRefusal}
+
+-- ---- groups by their candidates
+
+next_group : {H : Type 0} (gs : List (LentGroup H)) (k : ℕ) (g : LentGroup H) → k < length gs → g ≡ get_or gs k g → drop k gs ≡ g ∷ drop (k + 1) gs
+next_group {H} gs k g lt is = drop-cons gs k g lt ∙ ap (λ (h : LentGroup H). h ∷ drop (suc k) gs) (sym is) ∙ ap (λ (n : ℕ). g ∷ drop n gs) (sym (add-one k))
+
+there : {H : Type 0} (gs : List (LentGroup H)) (k : ℕ) (g : LentGroup H) → k < length gs → g ≡ get_or gs k g → slice_get gs k ≡ Some g
+there [] k g lt is = absurd (omega arith)
+there (h ∷ gs) zero g lt is = ap Some (sym is)
+there (h ∷ gs) (suc k) g lt is = there gs k g (omega arith) is
+
+-- the place of a group's candidate, where those after it are known
+pub group_placed : {H : Type 0} (f : H → List Hint) (gs : List (LentGroup H)) (k : ℕ) (g : LentGroup H) (n : ℕ) (later : Option ℕ) (b : Bool) → k < length gs → g ≡ get_or gs k g → b ≡ (g.candidate == n) → group_at f gs later ≡ group_of n (lent_groups f (drop (k + 1) gs)) → group_at f gs (cond b (Some k) later) ≡ group_of n (lent_groups f (drop k gs))
+group_placed {H} f gs k g n later b lt is tied before =
+    placed b tied
+    ∙ sym (ap (λ hs. group_of n (lent_groups f hs)) (next_group gs k g lt is))
+  where
+    placed : (b : Bool) → b ≡ (g.candidate == n) → group_at f gs (cond b (Some k) later) ≡ group_of n (lent_groups f (g ∷ drop (k + 1) gs))
+    placed true e = ap (option_map (λ (h : LentGroup H). f h.hints)) (there gs k g lt is) ∙ ap (λ c. if c then Some (f g.hints) else group_of n (lent_groups f (drop (k + 1) gs))) e
+    placed false e = before ∙ ap (λ c. if c then Some (f g.hints) else group_of n (lent_groups f (drop (k + 1) gs))) e
+
+-- ---- the candidates, each in turn
+
+-- the reply with these groups in front
+abbrev pub behind_groups : List HintGroup → Result (List HintGroup) RatRefusal → Result (List HintGroup) RatRefusal
+behind_groups front (Ok later) = Ok (front ++ later)
+behind_groups front (Err e) = Err e
+
+-- the reply for a candidate before that for those after it
+abbrev with_first : Result HintGroup RatRefusal → Result (List HintGroup) RatRefusal → Result (List HintGroup) RatRefusal
+with_first (Ok g) (Ok gs) = Ok (g ∷ gs)
+with_first (Ok g) (Err e) = Err e
+with_first (Err e) later = Err e
+
+told_first : (n : ℕ) (has : Bool) (w : Walk) (later : RatAnswer) → rat_told (by_candidate n has w later) ≡ with_first (candidate_told n has w) (rat_told later)
+told_first n has (Closed used) (Covered gs) = refl
+told_first n has (Closed used) (MissingGroup m) = refl
+told_first n has (Closed used) (GroupStuck m place) = refl
+told_first n has (Closed used) (GroupOpen m) = refl
+told_first n true (Open a) later = refl
+told_first n false (Open a) later = refl
+told_first n true (Stuck place) later = refl
+told_first n false (Stuck place) later = refl
+
+behind-with_first : (front : List HintGroup) (g : HintGroup) (later : Result (List HintGroup) RatRefusal) → behind_groups front (with_first (Ok g) later) ≡ behind_groups (front ++ g ∷ []) later
+behind-with_first front g (Ok gs) = ap Ok (sym (append_assoc front (g ∷ []) gs))
+behind-with_first front g (Err e) = refl
+
+-- A candidate at its place.
+pub record IsCandidate (es : List (ℕ × LiteralSet)) (i n : ℕ) (d : LiteralSet) : Type 0 where
+  pub next : drop i es ≡ (n, d) ∷ drop (i + 1) es
+
+-- the reply for one candidate
+abbrev pub at_one : LiteralSet → ℤ → List NamedGroup → ℕ → LiteralSet → Result HintGroup RatRefusal
+at_one a q named n d = candidate_told n (is_some (group_of n named)) (candidate_walk a q d (group_of n named))
+
+over_next : (a : LiteralSet) (q : ℤ) (named : List NamedGroup) (n : ℕ) (d : LiteralSet) (es : List (ℕ × LiteralSet)) → rat_told (rat_over a q named ((n, d) ∷ es)) ≡ with_first (at_one a q named n d) (rat_told (rat_over a q named es))
+unfolding rat_over
+over_next a q named n d es = told_first n (is_some (group_of n named)) (candidate_walk a q d (group_of n named)) (rat_over a q named es)
+
+over_none : (a : LiteralSet) (q : ℤ) (named : List NamedGroup) → rat_over a q named [] ≡ Covered []
+unfolding rat_over
+over_none a q named = refl
+
+-- a candidate that is covered
+pub candidate_covered : (a : LiteralSet) (q : ℤ) (named : List NamedGroup) (es : List (ℕ × LiteralSet)) (i n : ℕ) (d : LiteralSet) (front : List HintGroup) (g : HintGroup) → IsCandidate es i n d → at_one a q named n d ≡ Ok g → behind_groups (front ++ g ∷ []) (rat_told (rat_over a q named (drop (i + 1) es))) ≡ behind_groups front (rat_told (rat_over a q named (drop i es)))
+candidate_covered a q named es i n d front g is told =
+    sym
+    (ap (λ fs. behind_groups front (rat_told (rat_over a q named fs))) is.next
+    ∙ ap (behind_groups front) (over_next a q named n d (drop (i + 1) es) ∙ ap (λ r. with_first r (rat_told (rat_over a q named (drop (i + 1) es)))) told)
+    ∙ behind-with_first front g (rat_told (rat_over a q named (drop (i + 1) es))))
+
+-- and one that isn't
+pub candidate_refused : (a : LiteralSet) (q : ℤ) (named : List NamedGroup) (es : List (ℕ × LiteralSet)) (i n : ℕ) (d : LiteralSet) (front : List HintGroup) (e : RatRefusal) → IsCandidate es i n d → at_one a q named n d ≡ Err e → behind_groups front (rat_told (rat_over a q named (drop i es))) ≡ Err e
+candidate_refused a q named es i n d front e is told =
+    ap (λ fs. behind_groups front (rat_told (rat_over a q named fs))) is.next
+    ∙ ap (behind_groups front) (over_next a q named n d (drop (i + 1) es) ∙ ap (λ r. with_first r (rat_told (rat_over a q named (drop (i + 1) es)))) told)
+
+-- after the last
+pub all_covered : (a : LiteralSet) (q : ℤ) (named : List NamedGroup) (es : List (ℕ × LiteralSet)) (i : ℕ) (front : List HintGroup) → length es ≤ i → behind_groups front (rat_told (rat_over a q named (drop i es))) ≡ Ok front
+all_covered a q named es i front le =
+    ap (λ fs. behind_groups front (rat_told (rat_over a q named fs))) (drop_all i es le)
+    ∙ ap (λ r. behind_groups front (rat_told r)) (over_none a q named)
+    ∙ ap Ok (append-nil front)
+
+-- the candidate whose number stands at a place, and its clause
+pub candidate_at : (P : ℕ × LiteralSet → Type 0) (es : List (ℕ × LiteralSet)) (i n : ℕ) → i < length es → n ≡ get_or (map (λ (e : ℕ × LiteralSet). e.0) es) i 0 → AllByRecursion P es → (d : LiteralSet) × IsCandidate es i n d × P (n, d)
+candidate_at P [] i n lt is all = absurd (omega arith)
+candidate_at P (e ∷ es) zero n lt is all =
+    let same : e ≡ (n, e.1) = λ i. (sym is i, e.1) in
+    (e.1, record { next = ap (λ (f : ℕ × LiteralSet). f ∷ es) same }, subst P same all.0)
+candidate_at P (e ∷ es) (suc i) n lt is all =
+    let found = candidate_at P es i n (omega arith) is all.1 in
+    let step : suc (i + 1) ≡ suc i + 1 = omega arith in
+    (found.0, record { next = found.1.next ∙ ap (λ (m : ℕ). (n, found.0) ∷ drop m (e ∷ es)) step }, found.2)
+
+-- a refusal of one candidate is that of all
+pub refusal_told : (e : RatRefusal) (one : Result HintGroup RatRefusal) (whole : Result (List HintGroup) RatRefusal) → ((x : RatRefusal) → one ≡ Err x → whole ≡ Err x) → IsCandidateRefusal e one → IsRatRefusal e whole
+refusal_told EmptyOpen one whole f h = f EmptyOpen h
+refusal_told (refusals.MissingGroup n) one whole f h = f (refusals.MissingGroup n) h
+refusal_told (refusals.GroupStuck n place) one whole f h = f (refusals.GroupStuck n place) h
+refusal_told (refusals.GroupOpen n) one whole f h = f (refusals.GroupOpen n) h
+refusal_told (refusals.NoMemory e) one whole f h = tt
+
+-- whether there is a group, and its hints
+pub has_hints : {H : Type 0} (f : H → List Hint) (o : Option (Bor H)) → is_some (option_map f (option_copied o)) ≡ is_some o
+has_hints f None = refl
+has_hints f (Some h) = refl

@@ -1,0 +1,5 @@
+use Rattle.lj_hint.proofs.StampLaws.{no_stamps}
+use Rattle.lj_hint.proofs.pages.Pages.new.Goals as goal
+
+pub returns : goal.returns
+returns c = no_stamps c.new.result.items c.new.ensures.items

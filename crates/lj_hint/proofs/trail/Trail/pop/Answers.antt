@@ -1,0 +1,13 @@
+use Rattle.std.proofs.Common.{◌≡◌, ℕ, subst}
+use Rattle.std.specs.Prelude.{◌==◌, if◌then◌else◌}
+use Rattle.lj_hint.specs.Stamps.{stamp_at, AreMarks}
+use Rattle.lj_hint.proofs.TrailLaws.{popped_marks}
+use Rattle.lj_hint.proofs.trail.Trail.pop.Goals as goal
+
+pub invariant_of-self : goal.invariant_of-self
+invariant_of-self c =
+    let pages = c.self.inside.pages in
+    let had = c.in-Some.ensures in
+    popped_marks pages c.erase.new.self c.self.inside.stamp c.pop.new.self.items c.in-Some.lit
+    (subst (λ (n : ℕ). (q : ℕ) → stamp_at c.erase.new.self q ≡ (if q == n then 0 else stamp_at pages q)) c.place.ensures.place c.erase.ensures)
+    (subst (AreMarks pages c.self.inside.stamp) had.items c.self.invariant)

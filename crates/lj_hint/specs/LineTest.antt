@@ -1,0 +1,41 @@
+-- The test of a line in joint numbers.
+use Rattle.std.specs.Prelude.{◌≡◌, ℕ, ℤ, List, length, Option, Result, Ok, Err, MatchResult}
+use Rattle.lj_clause.specs.LiteralSet.{LiteralSet}
+use Rattle.lj_clause.specs.ClauseMap.{ClauseMap}
+use Rattle.lj_clause.specs.Walk as walks
+use Rattle.lj_clause.specs.Rat.{HintGroup, groups_in}
+use Rattle.lj_hint.specs.declared.rat_refusal.RatRefusal.{RatRefusal}
+use Rattle.lj_hint.specs.declared.rat_refusal.RatRefusal.TheVariants as refusals
+use Rattle.lj_hint.specs.declared.live_line.Passed.{Passed}
+use Rattle.lj_hint.specs.declared.live_line.Passed.TheVariants.{Closed, Covered}
+use Rattle.lj_hint.specs.declared.live_line.LineRefusal.{LineRefusal}
+use Rattle.lj_hint.specs.declared.live_line.LineRefusal.TheVariants.{Stuck, Rat}
+use Rattle.lj_hint.specs.RatTest.{rat_reply}
+
+abbrev pub group_of_joints : ℕ → List ℕ → HintGroup
+group_of_joints candidate hints = record { candidate = candidate; hints = hints }
+
+abbrev pub covered_reply : Result (List HintGroup) RatRefusal → Result Passed LineRefusal
+covered_reply (Ok groups) = Ok (Covered groups)
+covered_reply (Err e) = Err (Rat e)
+
+-- The reply to a lemma with this pivot and these groups, by the end of the walk over its first list of hints.
+abbrev pub line_reply : ClauseMap → Option ℤ → List HintGroup → walks.Walk → Result Passed LineRefusal
+line_reply live pivot groups (walks.Closed used) = Ok (Closed (length used))
+line_reply live pivot groups (walks.Open a) = covered_reply (rat_reply live a pivot (groups_in live groups))
+line_reply live pivot groups (walks.Stuck place) = Err (Stuck place)
+
+-- an answer is the reply, and NoMemory may stand in place of it
+abbrev pub IsRatLine : RatRefusal → Result Passed LineRefusal → Type 0
+IsRatLine (refusals.NoMemory e) reply = Unit {0}
+IsRatLine refusals.EmptyOpen reply = reply ≡ Err (Rat refusals.EmptyOpen)
+IsRatLine (refusals.MissingGroup n) reply = reply ≡ Err (Rat (refusals.MissingGroup n))
+IsRatLine (refusals.GroupStuck n place) reply = reply ≡ Err (Rat (refusals.GroupStuck n place))
+IsRatLine (refusals.GroupOpen n) reply = reply ≡ Err (Rat (refusals.GroupOpen n))
+
+abbrev pub IsLineRefusal : LineRefusal → Result Passed LineRefusal → Type 0
+IsLineRefusal (Stuck place) reply = reply ≡ Err (Stuck place)
+IsLineRefusal (Rat e) reply = IsRatLine e reply
+
+abbrev pub IsLineReply : Result Passed LineRefusal → Result Passed LineRefusal → Type 0
+IsLineReply answer reply = MatchResult answer (λ passed. reply ≡ Ok passed) (λ e. IsLineRefusal e reply)

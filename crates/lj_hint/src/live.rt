@@ -1,0 +1,55 @@
+//! Live clauses, wherever they are kept.
+ghost use Rattle.std.specs.Prelude.{◌≡◌, option_copied, IfOk, map, filter, List, length};
+ghost use Rattle.std.specs.FinMap as fin;
+ghost use Rattle.lj_clause.specs.LiteralSet.{holds};
+ghost use Rattle.lj_clause.specs.ClauseMap.{ClauseMap};
+ghost use Rattle.lj_clause.specs.Walk.{Hint, hints_in};
+
+use crate::hint_list::HintList;
+use lj_clause::{Clause, Lit, NoMemory};
+
+/// The clauses that live, under their joint numbers.
+pub trait Live {
+    ghost live: { Self → ClauseMap };
+
+    /// The live clause of a joint number.
+    fn clause(&self, joint: u64) -> Option<&Clause>
+        ensures { option_copied result ≡ fin.get (live self.now) joint };
+
+    /// The joint numbers of the live clauses that hold the literal, rising.
+    ///
+    /// # Errors
+    /// [`NoMemory`] where a growth was refused.
+    fn candidates(&self, lit: Lit) -> Result<Vec<u64>, NoMemory>
+        ensures { IfOk result (λ numbers. numbers.items
+            ≡ map (λ e. e.0) (filter (λ e. holds e.1 lit) (fin.entries (live self.now)))) };
+}
+
+/// Hints that name live clauses by their numbers.
+#[derive(Drop)]
+pub(crate) struct LiveHints<'a, L> {
+    pub live: &'a L,
+    pub numbers: &'a [u64],
+}
+
+impl<L: Live> HintList for LiveHints<'_, L> {
+    ghost hints = { λ h. hints_in (L.live h.live.now) h.numbers.now };
+
+    #[inline]
+    fn count(&self) -> usize {
+        self.numbers.len()
+    }
+
+    #[inline]
+    fn number(&self, index: usize) -> u64 {
+        self.numbers.get(index).copied().unwrap_or(0)
+    }
+
+    #[inline]
+    fn clause(&self, index: usize) -> Option<&Clause> {
+        match self.numbers.get(index) {
+            Some(number) => self.live.clause(*number),
+            None => None,
+        }
+    }
+}

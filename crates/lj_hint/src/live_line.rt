@@ -1,0 +1,122 @@
+//! The test of a line in joint numbers, over the live clauses.
+ghost use Rattle.std.specs.Prelude.{◌≡◌, IfOk, false};
+ghost use Rattle.lj_clause.specs.LiteralSet.{from_literals, negations};
+ghost use Rattle.lj_clause.specs.Walk.{hints_in, walk, is_contradictory};
+ghost use Rattle.lj_clause.specs.Rat.{groups_in};
+ghost use Rattle.lj_hint.specs.Lent.{lent_groups};
+ghost use Rattle.lj_hint.specs.RatTest.{rat_reply, IsRatReply};
+ghost use Rattle.lj_hint.specs.LineTest.{line_reply, IsLineReply};
+
+use crate::joint_group::JointGroup;
+use crate::live::{Live, LiveHints};
+use crate::marks::Marks;
+use crate::rat::{LentGroup, cover};
+use crate::rat_refusal::RatRefusal;
+use crate::true_lits::TrueLits;
+use crate::walk::{Ending, walk_negation};
+use lj_clause::{Lemma, Lit, NoMemory};
+use lj_text::{Group, Groups};
+use std::alloc::Global;
+
+/// How the test of a line passed.
+#[derive(Debug, Drop)]
+pub enum Passed {
+    /// Its first list closed the walk of the lemma's negation, after so many hints.
+    Closed(usize),
+    /// The walk stayed open, and these groups cover the candidates of the pivot, by rising candidate, each cut after
+    /// its closing hint.
+    Covered(Groups),
+}
+
+/// Why a line isn't accepted.
+#[derive(Clone, Copy, Debug, PartialEq, Eq)]
+pub enum LineRefusal {
+    /// The walk over the first list is stuck at the hint of this place, counted from 1.
+    Stuck(u64),
+    /// The walk stays open, and the lemma isn't accepted by its pivot; or a growth was refused.
+    Rat(RatRefusal),
+}
+
+/// The test of a lemma over live clauses, whose hints and groups are joint numbers: hinted unit propagation over the
+/// first list and, where that stays open, the test of the pivot's candidates. The room may have served any walk before.
+///
+/// Each hint is looked up once. Takes constant time for each literal that a walk reads; where the first walk stays
+/// open, the candidates' look-up and O(log g) for each of them, with g groups.
+///
+/// # Errors
+/// The first of [`LineRefusal::Stuck`], [`RatRefusal::EmptyOpen`] for a lemma without a pivot and the refusal of the
+/// first candidate that isn't covered; and [`RatRefusal::NoMemory`] where a growth was refused.
+pub fn test_line<L: Live>(
+    alloc: Global,
+    live: &L,
+    lemma: &Lemma,
+    hints: &[u64],
+    groups: &[JointGroup],
+    marks: &mut Marks,
+) -> Result<Passed, LineRefusal>
+    ensures { IsLineReply result (line_reply (L.live live.now) lemma.now.pivot groups.now
+        (walk (L.live live.now) (negations lemma.now.clause) hints.now)) }
+{
+    let hints = LiveHints {
+        live,
+        numbers: hints,
+    };
+    match walk_negation(&mut marks.lits, lemma.clause(), &hints) {
+        Ok(Ending::ClosedAfter(read)) => Ok(Passed::Closed(read)),
+        Ok(Ending::StuckAt(place)) => Err(LineRefusal::Stuck(place)),
+        Ok(Ending::StaysOpen) => {
+            match test_open(alloc, live, lemma.pivot(), groups, &mut marks.lits) {
+                Ok(groups) => Ok(Passed::Covered(Groups::new(groups))),
+                Err(refusal) => Err(LineRefusal::Rat(refusal)),
+            }
+        }
+        Err(refused) => Err(LineRefusal::Rat(RatRefusal::NoMemory(refused))),
+    }
+}
+
+/// The test of the candidates of a pivot, if there is one, for a walk that ended open with what is held.
+///
+/// # Errors
+/// As [`cover`], and [`RatRefusal::EmptyOpen`] without a pivot.
+fn test_open<L: Live>(
+    alloc: Global,
+    live: &L,
+    pivot: Option<Lit>,
+    groups: &[JointGroup],
+    held: &mut TrueLits,
+) -> Result<Vec<Group>, RatRefusal>
+    requires { is_contradictory (from_literals held.old) ≡ false }
+    ensures { IsRatReply result (rat_reply (L.live live.now) (from_literals held.old) pivot
+        (groups_in (L.live live.now) groups.now)) }
+{
+    let Some(pivot) = pivot else {
+        return Err(RatRefusal::EmptyOpen);
+    };
+    let groups = lent_numbers(alloc, live, groups)?;
+    cover(alloc, live, held, pivot, &groups)
+}
+
+/// The groups of joint numbers, lent.
+///
+/// # Errors
+/// [`NoMemory`] where a growth was refused.
+fn lent_numbers<'a, L: Live>(
+    alloc: Global,
+    live: &'a L,
+    groups: &'a [JointGroup],
+) -> Result<Vec<LentGroup<LiveHints<'a, L>>>, NoMemory>
+    ensures { IfOk result (λ lent. lent_groups (λ h. hints_in (L.live h.live.now) h.numbers.now) lent.items
+        ≡ groups_in (L.live live.now) groups.now) }
+{
+    let mut lent = Vec::new(alloc);
+    for group in groups {
+        lent.push(LentGroup {
+            candidate: group.candidate(),
+            hints: LiveHints {
+                live,
+                numbers: group.hints(),
+            },
+        })?;
+    }
+    Ok(lent)
+}

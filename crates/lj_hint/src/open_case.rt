@@ -1,0 +1,87 @@
+//! The test of a case whose walk stayed open.
+ghost use Rattle.std.specs.Prelude.{◌≡◌, IfOk, OnOk, Err, None, false};
+ghost use Rattle.lj_clause.specs.LiteralSet.{LiteralSet, from_literals};
+ghost use Rattle.lj_clause.specs.Walk.{Open, is_contradictory};
+ghost use Rattle.lj_hint.specs.Hints.{named};
+ghost use Rattle.lj_hint.specs.Case.{walk_of, groups_of};
+ghost use Rattle.lj_hint.specs.Lent.{lent_groups};
+ghost use Rattle.lj_hint.specs.RatTest.{named_groups, rat_reply, IsRatReply};
+ghost use Rattle.lj_hint.specs.declared.rat_refusal.RatRefusal.TheVariants.{EmptyOpen};
+
+use crate::case::Case;
+use crate::hint_list::PairHints;
+use crate::live::Live;
+use crate::marks::Marks;
+use crate::pair::Pair;
+use crate::rat::{LentGroup, cover};
+use crate::rat_refusal::RatRefusal;
+use crate::true_lits::TrueLits;
+use crate::walk::{Ending, walk_negation};
+use lj_clause::NoMemory;
+use lj_text::Group;
+use std::alloc::Global;
+
+/// The test of a case whose walk stays open, by resolution asymmetric tautology (Cruz-Filipe et al., CADE 2017): the
+/// candidates are the live clauses that hold the negation of the lemma's pivot, their hints those of the case. The
+/// groups come back by rising candidate, one for each, cut after its closing hint. The room may have served any walk
+/// before.
+///
+/// Takes the time of the first walk again, and for each candidate O(log g) for g groups and constant time for each
+/// literal that its walk reads.
+///
+/// # Errors
+/// [`RatRefusal::EmptyOpen`] for a lemma without a pivot, else that of the first candidate that isn't covered, and
+/// [`RatRefusal::NoMemory`] where a growth was refused.
+pub fn rat_test<L: Live>(live: &L, case: &Case, marks: &mut Marks) -> Result<Vec<Group>, RatRefusal>
+    requires { (a : LiteralSet) × (walk_of case.now ≡ Open a) }
+    ensures reply { (a : LiteralSet) → walk_of case.now ≡ Open a
+        → IsRatReply result (rat_reply (L.live live.now) a case.now.lemma.pivot (named_groups case.now.groups)) }
+    ensures no_pivot { case.now.lemma.pivot ≡ None → result ≡ Err EmptyOpen }
+{
+    let Some(pivot) = case.lemma().pivot() else {
+        return Err(RatRefusal::EmptyOpen);
+    };
+    let alloc = case.allocator();
+    walk_again(&mut marks.lits, case)?;
+    let groups = lent_pairs(alloc, case.groups())?;
+    cover(alloc, live, &mut marks.lits, pivot, &groups)
+}
+
+/// The walk of a case that stays open, once more.
+///
+/// # Errors
+/// [`NoMemory`] where a growth was refused.
+fn walk_again(held: &mut TrueLits, case: &Case) -> Result<(), NoMemory>
+    requires { (a : LiteralSet) × (walk_of case.now ≡ Open a) }
+    ensures walked { OnOk result (walk_of case.now ≡ Open (from_literals held.new)) }
+    ensures consistent { OnOk result (is_contradictory (from_literals held.new) ≡ false) }
+{
+    let hints = PairHints {
+        pairs: case.hints(),
+    };
+    match walk_negation(held, case.lemma().clause(), &hints)? {
+        Ending::StaysOpen => Ok(()),
+        _ => unreachable!(),
+    }
+}
+
+/// The groups of a case, lent.
+///
+/// # Errors
+/// [`NoMemory`] where a growth was refused.
+fn lent_pairs<'a>(
+    alloc: Global,
+    groups: &'a [(Pair, Vec<Pair>)],
+) -> Result<Vec<LentGroup<PairHints<'a>>>, NoMemory>
+    ensures { IfOk result (λ lent. lent_groups (λ h. named h.pairs.now) lent.items
+        ≡ named_groups (groups_of groups.now)) }
+{
+    let mut lent = Vec::new(alloc);
+    for (candidate, hints) in groups {
+        lent.push(LentGroup {
+            candidate: candidate.joint,
+            hints: PairHints { pairs: hints },
+        })?;
+    }
+    Ok(lent)
+}

@@ -1,0 +1,209 @@
+//! The test of a pivot's candidates: resolution asymmetric tautologies.
+ghost use Rattle.std.specs.Prelude.{◌≡◌, ◌≤◌, ℕ, neg_ℤ, take, length, IfOk, OnOk, is_some, option_copied, option_map, false, [], ◌∷◌, ◌++◌};
+ghost use Rattle.std.specs.BTreeMap.{get};
+ghost use Rattle.std.specs.Ordering.{nat_cmp};
+ghost use Rattle.lj_clause.specs.LiteralSet.{from_literals};
+ghost use Rattle.lj_clause.specs.Walk.{is_contradictory};
+ghost use Rattle.lj_clause.specs.Rat.{candidates, candidate_walk, rat_over, group_of};
+ghost use Rattle.lj_hint.specs.Hints.{hint_numbers};
+ghost use Rattle.lj_hint.specs.Trail.{Extends};
+ghost use Rattle.lj_hint.specs.Ending.{ending_of};
+ghost use Rattle.lj_hint.specs.RatTest.{rat_told, IsRatReply};
+ghost use Rattle.lj_hint.specs.Lent.{lent_groups, group_at, hints_of, candidate_told, IsCandidateReply};
+
+use crate::hint_list::HintList;
+use crate::live::Live;
+use crate::rat_refusal::RatRefusal;
+use crate::true_lits::TrueLits;
+use crate::walk::{Ending, walk};
+use lj_clause::{Clause, Lit, NoMemory};
+use lj_text::{Group, Numbers};
+use std::alloc::Global;
+use std::collections::BTreeMap;
+
+/// A candidate's hints, with the clauses that they name.
+#[derive(Drop)]
+pub struct LentGroup<H> {
+    pub candidate: u64,
+    pub hints: H,
+}
+
+/// The test of all candidates of a pivot among the live clauses, for a walk that ended open with what is held: the
+/// groups with the hints that were read, by rising candidate.
+///
+/// # Errors
+/// The first candidate that isn't covered, and [`RatRefusal::NoMemory`] where a growth was refused.
+pub fn cover<L: Live, H: HintList>(
+    alloc: Global,
+    live: &L,
+    held: &mut TrueLits,
+    pivot: Lit,
+    groups: &[LentGroup<H>],
+) -> Result<Vec<Group>, RatRefusal>
+    requires { is_contradictory (from_literals held.old) ≡ false }
+    ensures { IsRatReply result (rat_told (rat_over (from_literals held.old) pivot
+        (lent_groups H.hints groups.now) (candidates (L.live live.now) pivot))) }
+{
+    let places = places_of(alloc, groups)?;
+    let numbers = live.candidates(pivot.negated())?;
+    let mut covered = Vec::new(alloc);
+    for &number in &numbers {
+        let Some(clause) = live.clause(number) else {
+            continue;
+        };
+        let hints = hints_for(groups, &places, number);
+        match test_candidate(alloc, held, pivot, number, clause, hints) {
+            Ok(group) => add(&mut covered, group)?,
+            Err(refusal) => return Err(refusal),
+        }
+    }
+    Ok(covered)
+}
+
+/// Puts a group at the end.
+///
+/// # Errors
+/// [`NoMemory`] where a growth was refused.
+fn add(groups: &mut Vec<Group>, group: Group) -> Result<(), NoMemory>
+    ensures { OnOk result (groups.new.items ≡ groups.old.items ++ group ∷ []) }
+{
+    groups.push(group)?;
+    Ok(())
+}
+
+/// The test of one candidate. What is held comes back as it was.
+///
+/// # Errors
+/// Why the candidate isn't covered, and [`RatRefusal::NoMemory`] where a growth was refused.
+fn test_candidate<H: HintList>(
+    alloc: Global,
+    held: &mut TrueLits,
+    pivot: Lit,
+    number: u64,
+    clause: &Clause,
+    hints: Option<&H>,
+) -> Result<Group, RatRefusal>
+    requires { is_contradictory (from_literals held.old) ≡ false }
+    ensures reply { IsCandidateReply result (candidate_told number (is_some hints.entry)
+        (candidate_walk (from_literals held.old) pivot clause.now (option_map H.hints (option_copied hints.entry)))) }
+    ensures back { OnOk result (held.new ≡ held.old) }
+{
+    let len = held.len();
+    let ending = walk_candidate(held, pivot, clause, hints)?;
+    held.take_back(len);
+    match ending {
+        Ending::ClosedAfter(read) => {
+            let read = first_numbers(alloc, hints, read)?;
+            Ok(Group {
+                candidate: number,
+                hints: Numbers::new(read),
+            })
+        }
+        Ending::StaysOpen => match hints {
+            Some(_) => Err(RatRefusal::GroupOpen(number)),
+            None => Err(RatRefusal::MissingGroup(number)),
+        },
+        Ending::StuckAt(place) => match hints {
+            Some(_) => Err(RatRefusal::GroupStuck(number, place)),
+            None => Err(RatRefusal::MissingGroup(number)),
+        },
+    }
+}
+
+/// The walk of what is held and the negations of a candidate's literals other than the pivot's negation, over its
+/// hints, if it has any.
+///
+/// # Errors
+/// [`NoMemory`] where a growth was refused.
+fn walk_candidate<H: HintList>(
+    held: &mut TrueLits,
+    pivot: Lit,
+    clause: &Clause,
+    hints: Option<&H>,
+) -> Result<Ending, NoMemory>
+    ensures ending { IfOk result (λ ending. ending ≡ ending_of
+        (candidate_walk (from_literals held.old) pivot clause.now (option_map H.hints (option_copied hints.entry)))) }
+    ensures extends { Extends held.old held.new }
+{
+    held.insert_negations_but(clause.lits(), pivot.negated())?;
+    match hints {
+        Some(hints) => walk(held, hints),
+        None => Ok(if held.is_contradictory() {
+            Ending::ClosedAfter(0)
+        } else {
+            Ending::StaysOpen
+        }),
+    }
+}
+
+/// The numbers of the first hints, so many.
+///
+/// # Errors
+/// [`NoMemory`] where a growth was refused.
+fn first_numbers<H: HintList>(
+    alloc: Global,
+    hints: Option<&H>,
+    count: usize,
+) -> Result<Vec<u64>, NoMemory>
+    requires { count ≤ length (hints_of (option_map H.hints (option_copied hints))) }
+    ensures { IfOk result (λ numbers. numbers.items
+        ≡ hint_numbers (take count (hints_of (option_map H.hints (option_copied hints.entry))))) }
+{
+    match hints {
+        Some(hints) => numbers_of(alloc, hints, count),
+        None => Ok(Vec::new(alloc)),
+    }
+}
+
+/// The numbers of the first hints, so many.
+///
+/// # Errors
+/// [`NoMemory`] where a growth was refused.
+fn numbers_of<H: HintList>(alloc: Global, hints: &H, count: usize) -> Result<Vec<u64>, NoMemory>
+    requires { count ≤ length (H.hints hints.now) }
+    ensures { IfOk result (λ numbers. numbers.items ≡ hint_numbers (take count (H.hints hints.now))) }
+{
+    let mut numbers = Vec::with_capacity(alloc, count)?;
+    for index in 0..count {
+        numbers.push(hints.number(index))?;
+    }
+    Ok(numbers)
+}
+
+/// Where the first group of each candidate stands.
+///
+/// # Errors
+/// [`NoMemory`] where a growth was refused.
+fn places_of<H: HintList>(
+    alloc: Global,
+    groups: &[LentGroup<H>],
+) -> Result<BTreeMap<u64, usize>, NoMemory>
+    ensures { IfOk result (λ places. (n : ℕ) → group_at H.hints groups.now (get nat_cmp places n)
+        ≡ group_of n (lent_groups H.hints groups.now)) }
+{
+    let mut places = BTreeMap::new(alloc);
+    let mut at = groups.len();
+    while at > 0 {
+        at -= 1;
+        places.insert(groups[at].candidate, at)?;
+    }
+    Ok(places)
+}
+
+/// The hints of a candidate's group, if it has one.
+fn hints_for<'a, H: HintList>(
+    groups: &'a [LentGroup<H>],
+    places: &BTreeMap<u64, usize>,
+    number: u64,
+) -> Option<&'a H>
+    ensures { option_map H.hints (option_copied result)
+        ≡ group_at H.hints groups.now (get nat_cmp places.now number) }
+{
+    match places.get(&number) {
+        Some(at) => match groups.get(*at) {
+            Some(group) => Some(&group.hints),
+            None => None,
+        },
+        None => None,
+    }
+}

@@ -1,0 +1,98 @@
+//! Sets of literals that can be taken back.
+ghost use Rattle.std.specs.Prelude.{◌≡◌, ◌<◌, ◌-◌, [], ◌∷◌, ◌++◌, OnOk, OnErr, take, length, false};
+ghost use Rattle.lj_clause.specs.LiteralSet.{holds, from_literals};
+
+use crate::pages::Pages;
+use lj_clause::{Lit, NoMemory};
+use std::alloc::Global;
+use std::marker::Model;
+
+/// Literals in the order in which they came in, each once, with constant time for the question whether one is there.
+#[derive(Drop)]
+pub struct Trail {
+    pages: Pages,
+    /// The stamp of the literals on the trail: an older one means nothing any more.
+    stamp: u32,
+    lits: Vec<Lit>,
+}
+
+impl Model for Trail {
+    ghost use Rattle.std.specs.Prelude.{List, ℤ};
+    ghost use Rattle.lj_hint.specs.Stamps.{AreMarks};
+
+    ghost Value = { List ℤ };
+
+    ghost view = { λ t. t.lits.items };
+
+    ghost invariant = { λ t. AreMarks t.pages t.stamp t.lits.items };
+}
+
+impl Trail {
+    /// No literal, and this stamp for the first that comes in. Takes no memory.
+    pub fn starting_at(alloc: Global, stamp: u32) -> Trail
+        requires { 0 < stamp }
+        ensures { result ≡ [] }
+    {
+        Trail {
+            pages: Pages::new(alloc),
+            stamp,
+            lits: Vec::new(alloc),
+        }
+    }
+
+    /// Takes every literal out, by a new stamp. Takes constant time, but for one call in 4,294,967,295, which clears
+    /// the pages.
+    pub fn clear(&mut self)
+        ensures { self.new ≡ [] }
+    {
+        if self.stamp == u32::MAX {
+            self.pages.clear();
+            self.stamp = 1;
+        } else {
+            self.stamp += 1;
+        }
+        self.lits.clear();
+    }
+
+    /// The number of literals.
+    #[inline]
+    pub fn len(&self) -> usize
+        ensures { result ≡ length self.now }
+    {
+        self.lits.len()
+    }
+
+    /// Whether the literal is there. Takes constant time.
+    #[inline]
+    pub fn holds(&self, lit: Lit) -> bool
+        ensures { result ≡ holds (from_literals self.now) lit }
+    {
+        self.pages.get(lit.place()) == self.stamp
+    }
+
+    /// Puts a literal at the end that isn't there yet. Takes constant time, but for the first of its page.
+    ///
+    /// # Errors
+    /// [`NoMemory`] where a growth was refused.
+    #[inline]
+    pub fn push(&mut self, lit: Lit) -> Result<(), NoMemory>
+        requires { holds (from_literals self.old) lit ≡ false }
+        ensures ok { OnOk result (self.new ≡ self.old ++ lit ∷ []) }
+        ensures err { OnErr result (self.new ≡ self.old) }
+    {
+        self.lits.reserve(1)?;
+        self.pages.set(lit.place(), self.stamp)?;
+        self.lits.push(lit).unwrap();
+        Ok(())
+    }
+
+    /// Takes the last literal out. Takes constant time.
+    #[inline]
+    pub fn pop(&mut self)
+        ensures { self.new ≡ take (length self.old - 1) self.old }
+    {
+        if let Some(lit) = self.lits.pop() {
+            self.pages.erase(lit.place());
+        }
+    }
+}

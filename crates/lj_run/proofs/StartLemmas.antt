@@ -1,0 +1,40 @@
+-- How the program ends on the arguments that the system gave.
+use Rattle.std.proofs.Common.{◌≡◌, ◌<◌, ◌≤◌, ℕ, suc, List, [], ◌∷◌, ◌-◌, length, min, take, drop, Option, refl, sym, ap, ◌∙◌, subst, arith}
+use Rattle.std.specs.Prelude.{IfSome}
+use Rattle.std.proofs.lemmas.List.{take_all}
+use Rattle.lj_text.specs.Streams.{SourceState}
+use Rattle.lj_run.specs.Program.{IfRun, IsFaultTold, IsRunAnswered, MayEnd, SpellsUnsatisfiable}
+use Rattle.lj_run.specs.Starting.{ProgramEnds}
+use Rattle.lj_run.specs.Words.{asked_by}
+
+-- a list without its first, which it may lack
+pub without_first : {X : Type 0} (xs : List X) (n : ℕ) → n ≡ min (length xs) 1 → take (length xs - n) (drop n xs) ≡ drop 1 xs
+without_first {X} [] n e = let none : List X = [] in let P : ℕ → Type 0 = λ k. take (0 - k) (drop k none) ≡ drop 1 none in subst P (sym e) refl
+without_first {X} (x ∷ xs) n e =
+    let one : min (suc (length xs)) 1 ≡ 1 = omega arith in
+    let less : suc (length xs) - 1 ≡ length xs = omega arith in
+    let P : ℕ → Type 0 = λ k. take (suc (length xs) - k) (drop k (x ∷ xs)) ≡ drop 1 (x ∷ xs) in
+    subst P (sym (e ∙ one)) (ap (λ k. take k xs) less ∙ take_all (length xs) xs (omega arith))
+
+-- what the program's clauses say of these words and this status, said of those behind the first argument and of how the process ends
+pub program_ends : {I : Type 0} (seen : I → SourceState) (before after : List ℕ → Option (List ℕ)) (given words : List (List ℕ)) (out_old out_new : List ℕ) (failures : ℕ)
+    (err_old err_new : List ℕ) (errors status code : ℕ) → given ≡ words → code ≡ status
+    → MayEnd (asked_by given) status
+    → (status < 2 → IfRun (asked_by given) (λ formula proofs. IsRunAnswered seen before formula proofs out_old out_new status))
+    → (status ≡ 0 → IfRun (asked_by given) (λ formula _. IfSome (before formula) SpellsUnsatisfiable))
+    → (status < 2 → failures ≡ 0) → (status < 2 → err_new ≡ err_old) → (2 ≤ status → failures ≡ 0 → out_new ≡ out_old)
+    → (2 ≤ status → errors ≡ 0 → IsFaultTold (asked_by given) before failures err_old err_new status)
+    → ((path : List ℕ) → after path ≡ before path)
+    → ProgramEnds seen before after (asked_by words) out_old out_new failures err_old err_new errors code
+program_ends seen before after given words out_old out_new failures err_old err_new errors status code same code_is may_end printed refuted told quiet untouched fault files =
+    subst (λ ws. ProgramEnds seen before after (asked_by ws) out_old out_new failures err_old err_new errors code) same
+    (subst (λ n. ProgramEnds seen before after (asked_by given) out_old out_new failures err_old err_new errors n) (sym code_is) (record {
+      may_end = may_end;
+      printed = printed;
+      refuted = refuted;
+      told = told;
+      quiet = quiet;
+      untouched = untouched;
+      fault = fault;
+      same_files = files;
+    }))

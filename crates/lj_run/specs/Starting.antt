@@ -1,0 +1,30 @@
+-- How the program ends on the arguments that the system gave.
+use Rattle.std.specs.Prelude.{◌≡◌, ◌<◌, ◌≤◌, ℕ, List, Option, IfSome, codes}
+use Rattle.std.specs.declared.io.ErrorKind.{ErrorKind}
+use Rattle.std.specs.declared.io.ErrorKind.TheVariants.{OutOfMemory}
+use Rattle.lj_text.specs.Streams.{SourceState}
+use Rattle.lj_run.specs.Program.{IfRun, IsFaultTold, IsRunAnswered, MayEnd, SpellsUnsatisfiable}
+use Rattle.lj_run.specs.Words.{Asked}
+
+-- The program ended with this status where this was asked for: what standard output and standard error took is right of what is told
+-- of the files, which stay.
+pub record ProgramEnds {I : Type 0} (seen : I → SourceState) (before after : List ℕ → Option (List ℕ)) (asked : Asked) (out_old out_new : List ℕ) (failures : ℕ)
+    (err_old err_new : List ℕ) (errors status : ℕ) : Type 0 where
+  pub may_end : MayEnd asked status
+  pub printed : status < 2 → IfRun asked (λ formula proofs. IsRunAnswered seen before formula proofs out_old out_new status)
+  pub refuted : status ≡ 0 → IfRun asked (λ formula proofs. IfSome (before formula) SpellsUnsatisfiable)
+  pub told : status < 2 → failures ≡ 0
+  pub quiet : status < 2 → err_new ≡ err_old
+  pub untouched : 2 ≤ status → failures ≡ 0 → out_new ≡ out_old
+  pub fault : 2 ≤ status → errors ≡ 0 → IsFaultTold asked before failures err_old err_new status
+  pub same_files : (path : List ℕ) → after path ≡ before path
+
+-- the status where the arguments can't be read
+abbrev pub unread_status : ErrorKind → ℕ
+unread_status OutOfMemory = 2
+unread_status kind = 3
+
+-- what is told of arguments that can't be read
+abbrev pub unread_text : ErrorKind → List ℕ
+unread_text OutOfMemory = codes "lratjoin: NoMemory\n"
+unread_text kind = codes "error: an argument isn't text\n\nFor more information, try '--help'.\n"

@@ -1,0 +1,41 @@
+//! The files that a run reads.
+ghost use Rattle.std.specs.Prelude.{◌≡◌, ℕ, List, IfOk, IfErr, map};
+ghost use Rattle.lj_text.specs.Streams.{source_state};
+ghost use Rattle.lj_run.specs.Program.{HasInputs, IsOpened, IsOpenFault, IsAnOpenFault};
+
+use crate::fault::Fault;
+use crate::files::{FileFault, Files};
+use lj_text::Source;
+use std::alloc::Global;
+
+/// The file at a path.
+pub(crate) fn open<'a, F: Files>(files: &mut F, path: &'a str) -> Result<F::Input, Fault<'a>>
+    ensures opened { IfOk result (λ input. IsOpened (F.content files.old path.entry.now)
+        (source_state F.Input.given F.Input.ended F.Input.rest F.Input.failures input)) }
+    ensures fault { IfErr result (IsOpenFault path.entry.now (F.content files.old path.entry.now)) }
+    ensures same { (other : List ℕ) → F.content files.new other ≡ F.content files.old other }
+{
+    match files.open(path) {
+        Ok(input) => Ok(input),
+        Err(FileFault::CannotOpen) => Err(Fault::CannotRead { path }),
+        Err(FileFault::NoMemory(e)) => Err(Fault::NoMemory(e)),
+    }
+}
+
+/// The files at these paths, in their order.
+pub(crate) fn open_all<'a, F: Files>(
+    alloc: Global,
+    files: &mut F,
+    paths: &[&'a str],
+) -> Result<Vec<F::Input>, Fault<'a>>
+    ensures opened { IfOk result (λ inputs. HasInputs (source_state F.Input.given F.Input.ended F.Input.rest F.Input.failures)
+        (map (λ path. F.content files.old path.now) paths.now) inputs.items) }
+    ensures fault { IfErr result (IsAnOpenFault (λ path. F.content files.old path) (map (λ path. path.now) paths.now)) }
+    ensures same { (other : List ℕ) → F.content files.new other ≡ F.content files.old other }
+{
+    let mut inputs = Vec::with_capacity(alloc, paths.len())?;
+    for path in paths {
+        inputs.push(open(files, path)?)?;
+    }
+    Ok(inputs)
+}

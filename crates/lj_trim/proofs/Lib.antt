@@ -1,0 +1,4 @@
+mod MarkLemmas
+mod ClosureLemmas
+mod FrontLemmas
+mod TrimmedLemmas

@@ -1,0 +1,9 @@
+use Rattle.std.proofs.Common.{take, ◌++◌}
+use Rattle.std.specs.Prelude.{flat_map}
+use Rattle.lj_clause.specs.Rat.{HintGroup}
+use Rattle.lj_trim.specs.Marks.{Marked}
+use Rattle.lj_trim.proofs.marks.Marks.mark_hints.Given as goal
+
+-- the hints of the first list and of the first groups are marked
+abbrev pub invariant-loop-group : goal.invariant-loop-group
+invariant-loop-group l = Marked l.fn.self l.self (l.addition.hints ++ flat_map (λ (g : HintGroup). g.hints) (take l.group-index l.group-items))

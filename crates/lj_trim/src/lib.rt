@@ -1,0 +1,13 @@
+//! The trimmer of joint proofs: it keeps the steps that a refutation needs.
+#![tactic(auto)]
+
+mod kept;
+mod marks;
+mod needed;
+mod trimming;
+
+pub use kept::Kept;
+pub use trimming::{TrimRefusal, trim};
+
+#[cfg(test)]
+mod tests;

@@ -1,0 +1,75 @@
+//! Marks of clause numbers.
+ghost use Rattle.std.specs.Prelude.{◌≡◌, false, ℕ, [], ◌∷◌, IfOk, OnOk};
+ghost use Rattle.lj_text.specs.Needed.{all_hints};
+
+use lj_clause::NoMemory;
+use lj_text::{Addition, Numbers};
+use std::alloc::Global;
+use std::collections::BTreeSet;
+
+/// Numbers that are marked.
+#[derive(Drop)]
+pub(crate) struct Marks {
+    /// A mark for each number from 0 on, as many as are given out where numbers rise by one.
+    pub(crate) near: Vec<bool>,
+    /// The marked numbers beyond.
+    pub(crate) far: BTreeSet<u64>,
+}
+
+impl Marks {
+    ghost use Rattle.lj_trim.specs.Marks.{is_marked, Marked};
+
+    /// No number is marked. Numbers below `near` take a byte each, and the others an entry of an ordered set.
+    pub(crate) fn new(alloc: Global, near: usize) -> Result<Marks, NoMemory>
+        ensures { IfOk result (λ m. (n : ℕ) → is_marked m n ≡ false) }
+    {
+        Ok(Marks {
+            near: vec![in alloc; false; near]?,
+            far: BTreeSet::new(alloc),
+        })
+    }
+
+    /// Whether the number is marked.
+    pub(crate) fn has(&self, number: u64) -> bool
+        ensures { result ≡ is_marked self.now number }
+    {
+        match self.near.get(number as usize) {
+            Some(mark) => *mark,
+            None => self.far.contains(&number),
+        }
+    }
+
+    /// Marks a number.
+    pub(crate) fn mark(&mut self, number: u64) -> Result<(), NoMemory>
+        ensures { OnOk result (Marked self.old self.new (number ∷ [])) }
+    {
+        let place = number as usize;
+        if place < self.near.len() {
+            self.near[place] = true;
+        } else {
+            self.far.insert(number)?;
+        }
+        Ok(())
+    }
+
+    /// Marks numbers.
+    pub(crate) fn mark_numbers(&mut self, numbers: &Numbers) -> Result<(), NoMemory>
+        ensures { OnOk result (Marked self.old self.new numbers.now) }
+    {
+        for number in numbers.iter() {
+            self.mark(number)?;
+        }
+        Ok(())
+    }
+
+    /// Marks all the hints of an addition.
+    pub(crate) fn mark_hints(&mut self, addition: &Addition) -> Result<(), NoMemory>
+        ensures { OnOk result (Marked self.old self.new (all_hints addition.now)) }
+    {
+        self.mark_numbers(&addition.hints)?;
+        for group in addition.groups.as_slice() {
+            self.mark_numbers(&group.hints)?;
+        }
+        Ok(())
+    }
+}

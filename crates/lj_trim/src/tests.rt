@@ -1,0 +1,74 @@
+//! Worked examples of trimming. Each outcome is computed by hand.
+use crate::{TrimRefusal, trim};
+use lj_clause::Formula;
+use lj_text::{CnfReader, Line, LineReader, MemorySink, Step, write_proof};
+use std::alloc::Global;
+use std::test::Fail;
+
+const MAX: u32 = 134_217_727;
+
+/// The four binary clauses over variables 1 and 2, with a third variable.
+const FOUR: &str = "p cnf 3 4\n1 2 0\n-1 2 0\n1 -2 0\n-1 -2 0\n";
+
+fn formula_of(alloc: Global, text: &str) -> Result<Formula, Fail> {
+    let mut reader = CnfReader::new(alloc, MAX);
+    reader.feed(text.as_bytes())?;
+    Ok(reader.finish()?)
+}
+
+/// The additions and deletions that lines spell, as steps.
+fn steps_of(alloc: Global, lines: &str) -> Result<Vec<Step>, Fail> {
+    let mut reader = LineReader::new(alloc, MAX);
+    reader.feed(lines.as_bytes())?;
+    let mut steps = Vec::new(alloc);
+    for _ in 0..lines.len() {
+        match reader.next()? {
+            Some(Line::Add(addition)) => steps.push(Step::Add(addition))?,
+            Some(Line::Delete(numbers)) => steps.push(Step::Delete { numbers })?,
+            _ => break,
+        }
+    }
+    Ok(steps)
+}
+
+#[test]
+fn only_what_is_needed_stays(rt: HostRuntime) -> Result<(), Fail> {
+    let cases = [
+        (
+            "5 2 0 1 2 0\n6 1 0 1 3 0\n7 0 5 3 4 0\n8 3 0 7 0\n",
+            "5 2 0 1 2 0\n7 0 5 3 4 0\n",
+        ),
+        (
+            "5 -3 1 2 0 1 0\n6 3 1 0 -5 1 0\n7 1 0 6 1 3 0\n7 d 3 5 0\n8 0 7 2 4 0\n",
+            "6 3 1 0 0\n7 1 0 6 1 3 0\n7 d 3 0\n8 0 7 2 4 0\n",
+        ),
+        (
+            "6 3 0 0\n5 1 0 0\n7 2 0 1 -4 6 -6 0\n7 d 5 0\n7 d 2 0\n900000000000 0 7 3 0\n",
+            "6 3 0 0\n7 2 0 1 -4 6 -6 0\n7 d 2 0\n900000000000 0 7 3 0\n",
+        ),
+        (
+            "900000000000 2 0 1 2 0\n5 0 900000000000 3 4 0\n",
+            "900000000000 2 0 1 2 0\n5 0 900000000000 3 4 0\n",
+        ),
+    ];
+    let formula = formula_of(rt.alloc(), FOUR)?;
+    for (lines, text) in cases {
+        let steps = steps_of(rt.alloc(), lines)?;
+        let kept = trim(rt.alloc(), &formula, &steps)?;
+        let mut sink = MemorySink::new(rt.alloc());
+        write_proof(&mut sink, 4, &kept)?;
+        assert_eq!(rt; sink.bytes(), text.as_bytes(), "{lines}");
+    }
+    Ok(())
+}
+
+#[test]
+fn steps_without_the_empty_clause_refute_nothing(rt: HostRuntime) -> Result<(), Fail> {
+    let formula = formula_of(rt.alloc(), FOUR)?;
+    for lines in ["", "5 2 0 1 2 0\n"] {
+        let steps = steps_of(rt.alloc(), lines)?;
+        let kept = trim(rt.alloc(), &formula, &steps);
+        assert!(rt; matches!(kept, Err(TrimRefusal::NoRefutation)), "{lines}");
+    }
+    Ok(())
+}
