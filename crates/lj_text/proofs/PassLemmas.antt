@@ -1,15 +1,15 @@
 -- Silent lines that were passed, and the line behind them.
-use Rattle.std.proofs.Common.{◌≡◌, ℕ, ◌+◌, ◌-◌, ◌^◌, ◌≤◌, min, true, false, List, [], ◌∷◌, ◌++◌, length, drop, Option, None, Some, Ok, Err, refl, sym, ap, ◌∙◌, subst, append_assoc, arith, length-append}
+use Rattle.std.proofs.Common.{◌≡◌, ℕ, ◌+◌, ◌-◌, ◌^◌, ◌≤◌, min, Bool, true, false, cond, List, [], ◌∷◌, ◌++◌, length, drop, Option, None, Some, Result, Ok, Err, refl, sym, ap, ◌∙◌, subst, append_assoc, arith, length-append}
 use Rattle.std.proofs.lemmas.List.{append-nil, take_all}
 use Rattle.std.specs.List.{AllByRecursion, slice_get}
 use Rattle.lj_text.specs.declared.line.Line.{Line}
 use Rattle.lj_text.specs.declared.lines.fault.LineFault.{LineFault}
 use Rattle.lj_text.specs.declared.lines.fault.LineFaultKind.{LineFaultKind}
 use Rattle.lj_text.specs.declared.lines.fault.LineFaultKind.TheVariants.{BadNumber, NumberRange, Syntax, Truncated, NoMemory}
-use Rattle.lj_text.specs.Bytes.{line_number, tokens_of, lines_of}
-use Rattle.lj_text.specs.Lines.{Said, said_by, said_from, whole_said_from, all_said_from, all_but_last}
+use Rattle.lj_text.specs.Bytes.{line_number, tokens_of, lines_of, is_silent}
+use Rattle.lj_text.specs.Lines.{Said, said_by, said_from, whole_said_from, all_said_from, all_but_last, line_of, with_read}
 use Rattle.lj_text.specs.LineReading.{spoken, IsLineTold}
-use Rattle.lj_text.specs.LinesRead.{HasNoLineEnd, joined, is_line_no_memory}
+use Rattle.lj_text.specs.LinesRead.{HasNoLineEnd, IsSaidAt, joined, is_line_no_memory}
 use Rattle.lj_text.specs.declared.lines.look.Found.{Found}
 use Rattle.std.specs.Prelude.{MatchOption, is_some}
 use Rattle.std.proofs.Math.Seq.{drop-append_seam}
@@ -19,6 +19,10 @@ use Rattle.lj_text.proofs.StandLemmas.{said_for, said-spoken, said_from-append, 
 get-early : (xs ys : List Said) (x : Said) → slice_get xs 0 ≡ Some x → slice_get (xs ++ ys) 0 ≡ Some x
 get-early [] ys x h = cc
 get-early (y ∷ xs) ys x h = h
+
+said-early : (xs ys : List Said) (line : ℕ) → IsSaidAt (slice_get xs 0) line → IsSaidAt (slice_get (xs ++ ys) 0) line
+said-early [] ys line h = absurd h
+said-early (x ∷ xs) ys line h = h
 
 for_line : (number : ℕ) (line : Option Line) → said_for number (Ok line) ≡ said_of number line
 for_line number None = refl
@@ -119,18 +123,32 @@ fails_at max NumberRange l n t = t
 fails_at max Syntax l n t = t
 fails_at max Truncated l n t = t
 
+-- what a line says that isn't silent
+said_loud : (max n : ℕ) (ended : Bool) (l : List ℕ) → is_silent (tokens_of l) ≡ false → said_by max n ended l ≡ record { line = line_number n; says = line_of max ended (tokens_of l) } ∷ []
+said_loud max n ended l loud = ap (λ b. cond b [] (record { line = line_number n; says = line_of max ended (tokens_of l) } ∷ [])) loud
+
+fault_alone : (read : Result Line LineFaultKind) (kind : LineFaultKind) → with_read Some read ≡ Err kind → read ≡ Err kind
+fault_alone (Ok line) kind h = cc
+fault_alone (Err other) kind h = cc
+
+loud_fault : (max : ℕ) (ended : Bool) (l : List ℕ) (kind : LineFaultKind) → is_silent (tokens_of l) ≡ false → spoken max ended (tokens_of l) ≡ Err kind → line_of max ended (tokens_of l) ≡ Err kind
+loud_fault max ended l kind loud h =
+    fault_alone (line_of max ended (tokens_of l)) kind (sym (ap (λ b. cond b (Ok None) (with_read Some (line_of max ended (tokens_of l)))) loud) ∙ h)
+
 -- the line behind them has a fault
 pub fails-here : (max first k : ℕ) (ahead rest l after : List ℕ) (number : ℕ) (fault : LineFault) → Passed max first ahead rest number → first ≡ line_number k → rest ≡ l ++ 10 ∷ after → HasNoLineEnd l
-    → (fault.line ≡ number) × IsLineTold fault.kind (spoken max true (tokens_of l)) → Fails max k ahead fault
-fails-here max first k ahead rest l after number fault p first_is e h told memory =
-    let wrong : spoken max true (tokens_of l) ≡ Err fault.kind = fails_at max fault.kind l memory told.1 in
-    let says : said_by max (k + length p.lines) true l ≡ record { line = line_number (k + length p.lines); says = Err fault.kind } ∷ [] =
-    said-spoken max (k + length p.lines) true l ∙ ap (said_for (line_number (k + length p.lines))) wrong in
+    → (fault.line ≡ number) × IsLineTold fault.kind (spoken max true (tokens_of l)) → is_silent (tokens_of l) ≡ false → Fails max k ahead fault
+fails-here max first k ahead rest l after number fault p first_is e h told loud =
     let number_is : line_number (k + length p.lines) ≡ fault.line = sym (told.0 ∙ p.number_is k first_is) in
+    let first : slice_get (whole_said_from max k ahead) 0 ≡ Some (record { line = fault.line; says = line_of max true (tokens_of l) }) =
     ap (λ bytes. slice_get (whole_said_from max k bytes) 0) (p.ahead_is ∙ ap (λ r. joined p.lines ++ r) e)
     ∙ ap (λ (ss : List Said). slice_get ss 0) (first_said max k p.lines l after p.whole h (p.silent k))
-    ∙ ap (λ (ss : List Said). slice_get (ss ++ whole_said_from max (k + length p.lines + 1) after) 0) says
-    ∙ ap (λ n. Some (record { line = n; says = Err fault.kind })) number_is
+    ∙ ap (λ (ss : List Said). slice_get (ss ++ whole_said_from max (k + length p.lines + 1) after) 0) (said_loud max (k + length p.lines) true l loud)
+    ∙ ap (λ n. Some (record { line = n; says = line_of max true (tokens_of l) })) number_is in
+    record {
+      told = λ memory. first ∙ ap (λ (r : Result Line LineFaultKind). Some (record { line = fault.line; says = r })) (loud_fault max true l fault.kind loud (fails_at max fault.kind l memory told.1));
+      line_is = subst (λ (o : Option Said). IsSaidAt o fault.line) (sym first) refl;
+    }
 
 fails_at_end : (max : ℕ) (kind : LineFaultKind) (l : List ℕ) → is_line_no_memory kind ≡ false → IsLineTold kind (spoken max false (tokens_of l)) → spoken max false (tokens_of l) ≡ Err kind
 fails_at_end max (NoMemory e) l n t = cc
@@ -181,16 +199,23 @@ looked-behind max k ahead last found line p none last_is says = record {
 
 -- the last line has a fault
 pub fails-behind : (max k : ℕ) (ahead last : List ℕ) (found : Found) (fault : LineFault) → Looked max k ahead found → found.line ≡ None → last ≡ drop (length ahead - found.left) ahead
-    → (fault.line ≡ found.number) × IsLineTold fault.kind (spoken max false (tokens_of last)) → FailsToEnd max k ahead fault
-fails-behind max k ahead last found fault p none last_is told memory =
-    let wrong : spoken max false (tokens_of last) ≡ Err fault.kind = fails_at_end max fault.kind last memory told.1 in
+    → (fault.line ≡ found.number) × IsLineTold fault.kind (spoken max false (tokens_of last)) → is_silent (tokens_of last) ≡ false → FailsToEnd max k ahead fault
+fails-behind max k ahead last found fault p none last_is told loud =
+    let first : slice_get (all_said_from max k ahead) 0 ≡ Some (record { line = fault.line; says = line_of max false (tokens_of last) }) =
     ap (λ (ss : List Said). slice_get ss 0) (last_said max k ahead found p none ∙ ap (said_by max (k + length p.lines) false) (sym (last_is ∙ after_is max k ahead found p))
-    ∙ said-spoken max (k + length p.lines) false last ∙ ap (said_for (line_number (k + length p.lines))) wrong)
-    ∙ ap (λ n. Some (record { line = n; says = Err fault.kind })) (sym (told.0 ∙ p.number_is))
+    ∙ said_loud max (k + length p.lines) false last loud)
+    ∙ ap (λ n. Some (record { line = n; says = line_of max false (tokens_of last) })) (sym (told.0 ∙ p.number_is)) in
+    record {
+      told = λ memory. first ∙ ap (λ (r : Result Line LineFaultKind). Some (record { line = fault.line; says = r })) (loud_fault max false last fault.kind loud (fails_at_end max fault.kind last memory told.1));
+      line_is = subst (λ (o : Option Said). IsSaidAt o fault.line) (sym first) refl;
+    }
 
 -- a fault of a whole line is one of the input
 pub fails-whole : (max k : ℕ) (ahead : List ℕ) (fault : LineFault) → Fails max k ahead fault → FailsToEnd max k ahead fault
-fails-whole max k ahead fault fails memory = get-early _ _ _ (fails memory)
+fails-whole max k ahead fault fails = record {
+  told = λ memory. get-early _ _ _ (fails.told memory);
+  line_is = said-early (whole_said_from max k ahead) _ fault.line fails.line_is;
+}
 
 pub none-from_test : (o : Option Line) → is_some o ≡ false → o ≡ None
 none-from_test None h = refl

@@ -70,6 +70,11 @@ abbrev pub is_line_no_memory : LineFaultKind → Bool
 is_line_no_memory (NoMemory _) = true
 is_line_no_memory kind = false
 
+-- there is such a line, and this is its number
+abbrev pub IsSaidAt : Option Said → ℕ → Type 0
+IsSaidAt None line = ⊥
+IsSaidAt (Some said) line = said.line ≡ line
+
 -- whether memory ran out
 abbrev pub wants_memory : {X : Type 0} → Result X LineFault → Bool
 wants_memory (Ok x) = false

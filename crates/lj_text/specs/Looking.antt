@@ -6,7 +6,7 @@ use Rattle.lj_text.specs.declared.lines.look.Found.{Found}
 use Rattle.lj_text.specs.declared.line.Line.{Line}
 use Rattle.lj_text.specs.Bytes.{line_number, lines_of}
 use Rattle.lj_text.specs.Lines.{Said, said_from, whole_said_from, all_said_from, all_but_last}
-use Rattle.lj_text.specs.LinesRead.{HasNoLineEnd, joined, is_line_no_memory}
+use Rattle.lj_text.specs.LinesRead.{HasNoLineEnd, IsSaidAt, joined, is_line_no_memory}
 use Rattle.std.specs.Prelude.{false}
 
 -- what was found
@@ -29,9 +29,10 @@ pub record Looked (max k : ℕ) (ahead : List ℕ) (found : Found) : Type 0 wher
   pub all_searched : found.line ≡ None → found.searched ≡ found.left
   pub none_is : MatchOption found.line (HasNoLineEnd after × (found.at ≡ found.number)) (λ line. Unit {0})
 
--- unless memory ran out, it is the fault of the first whole line that says something
-abbrev pub Fails : ℕ → ℕ → List ℕ → LineFault → Type 0
-Fails max k ahead fault = is_line_no_memory fault.kind ≡ false → slice_get (whole_said_from max k ahead) 0 ≡ Some (record { line = fault.line; says = Err fault.kind })
+-- It is told at the first whole line that says something and, unless memory ran out, that line's fault.
+pub record Fails (max k : ℕ) (ahead : List ℕ) (fault : LineFault) : Type 0 where
+  pub told : is_line_no_memory fault.kind ≡ false → slice_get (whole_said_from max k ahead) 0 ≡ Some (record { line = fault.line; says = Err fault.kind })
+  pub line_is : IsSaidAt (slice_get (whole_said_from max k ahead) 0) fault.line
 
 -- No whole line says anything, and this is what the last line says; nothing is left.
 pub record LookedBehind (max k : ℕ) (ahead : List ℕ) (found : Found) : Type 0 where
@@ -41,6 +42,7 @@ pub record LookedBehind (max k : ℕ) (ahead : List ℕ) (found : Found) : Type 
   pub left_is : found.left ≡ 0
   pub searched_is : found.searched ≡ 0
 
--- unless memory ran out, it is the fault of the first line that says something
-abbrev pub FailsToEnd : ℕ → ℕ → List ℕ → LineFault → Type 0
-FailsToEnd max k ahead fault = is_line_no_memory fault.kind ≡ false → slice_get (all_said_from max k ahead) 0 ≡ Some (record { line = fault.line; says = Err fault.kind })
+-- It is told at the first line that says something and, unless memory ran out, that line's fault.
+pub record FailsToEnd (max k : ℕ) (ahead : List ℕ) (fault : LineFault) : Type 0 where
+  pub told : is_line_no_memory fault.kind ≡ false → slice_get (all_said_from max k ahead) 0 ≡ Some (record { line = fault.line; says = Err fault.kind })
+  pub line_is : IsSaidAt (slice_get (all_said_from max k ahead) 0) fault.line

@@ -1,6 +1,6 @@
 //! The next line that says something.
-ghost use Rattle.std.specs.Prelude.{◌≡◌, ◌-◌, ◌≤◌, ℕ, length, take, drop, IfOk, MatchResult, MatchBool, IsSome, Ok};
-ghost use Rattle.lj_text.specs.Bytes.{tokens_of, line_number};
+ghost use Rattle.std.specs.Prelude.{◌≡◌, ◌-◌, ◌≤◌, ℕ, length, take, drop, IfOk, OnErr, MatchResult, MatchBool, IsSome, Ok, false};
+ghost use Rattle.lj_text.specs.Bytes.{tokens_of, line_number, is_silent};
 ghost use Rattle.lj_text.specs.LineReading.{IsLineTold, spoken};
 ghost use Rattle.lj_text.specs.Looking.{Looked, LookedBehind, Fails, FailsToEnd};
 ghost use Rattle.lj_text.specs.LinesRead.{HasNoLineEnd};
@@ -35,7 +35,8 @@ pub(super) fn parse_at(
     number: u64,
 ) -> Result<Option<Line>, LineFault>
     requires { max ≤ 134217727 }
-    ensures { MatchResult result (λ line. spoken max ended (tokens_of bytes.now) ≡ Ok line) (λ fault. (fault.line ≡ number) × IsLineTold fault.kind (spoken max ended (tokens_of bytes.now))) }
+    ensures says { MatchResult result (λ line. spoken max ended (tokens_of bytes.now) ≡ Ok line) (λ fault. (fault.line ≡ number) × IsLineTold fault.kind (spoken max ended (tokens_of bytes.now))) }
+    ensures speaks { OnErr result (is_silent (tokens_of bytes.now) ≡ false) }
 {
     match parse(room, max, ended, bytes) {
         Ok(line) => Ok(line),

@@ -1,6 +1,6 @@
 //! One whole line.
-ghost use Rattle.std.specs.Prelude.{◌≡◌, ◌≤◌, ◌∷◌};
-ghost use Rattle.lj_text.specs.Bytes.{tokens_of};
+ghost use Rattle.std.specs.Prelude.{◌≡◌, ◌≤◌, ◌∷◌, OnErr, false};
+ghost use Rattle.lj_text.specs.Bytes.{tokens_of, is_silent};
 ghost use Rattle.lj_text.specs.Lines.{addition_of, deletion_of, import_of, after_zero, after_number, line_of};
 ghost use Rattle.lj_text.specs.LineReading.{Gives, words_of, spoken};
 
@@ -144,7 +144,8 @@ pub(super) fn parse(
     bytes: &[u8],
 ) -> Result<Option<Line>, LineFaultKind>
     requires { max ≤ 134217727 }
-    ensures { Gives (λ line. line) result (spoken max ended (tokens_of bytes.now)) }
+    ensures says { Gives (λ line. line) result (spoken max ended (tokens_of bytes.now)) }
+    ensures speaks { OnErr result (is_silent (tokens_of bytes.now) ≡ false) }
 {
     let rest = after_blanks(bytes);
     match rest {

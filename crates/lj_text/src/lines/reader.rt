@@ -1,8 +1,8 @@
 //! The reader of lines.
-ghost use Rattle.std.specs.Prelude.{◌≡◌, ◌+◌, ◌≤◌, ◌++◌, ◌⊎◌, ℕ, Bool, true, false, List, [], length, Option, Some, None, Ok, Err, IfSome, IsSome, OnOk, OnErr, MatchBool, MatchResult, slice_get};
+ghost use Rattle.std.specs.Prelude.{◌≡◌, ◌+◌, ◌≤◌, ◌++◌, ◌⊎◌, ℕ, Bool, true, false, List, [], length, Option, Some, None, Ok, Err, IfSome, IfErr, IsSome, OnOk, OnErr, MatchBool, MatchResult, slice_get};
 ghost use Rattle.lj_text.specs.Bytes.{line_number};
 ghost use Rattle.lj_text.specs.Lines.{whole_said, all_said};
-ghost use Rattle.lj_text.specs.LinesRead.{LineReaderStandsAt, wants_memory, line_answer, handed_out, fault_of, number_at, last_number};
+ghost use Rattle.lj_text.specs.LinesRead.{LineReaderStandsAt, IsSaidAt, wants_memory, line_answer, handed_out, fault_of, number_at, last_number};
 ghost use Rattle.lj_text.specs.LinesHeld.{IsAhead, passed, kept};
 ghost use Rattle.lj_text.specs.Looking.{Looked, LookedBehind, Fails, FailsToEnd};
 
@@ -70,6 +70,7 @@ impl LineReader {
         requires { self.old.finished ≡ false }
         ensures told_again { IfSome self.old.fault (λ fault. result ≡ Err fault) }
         ensures no_other { self.old.fault ≡ None → OnErr result (wants_memory result ≡ true) }
+        ensures line { self.old.fault ≡ None → IfErr result (λ fault. fault.line ≡ self.old.line) }
         ensures stands { OnOk result ((text : List ℕ) (given : ℕ) → LineReaderStandsAt self.old text given → LineReaderStandsAt self.new (text ++ piece.now) given) }
         ensures same { (self.new.max ≡ self.old.max) × (self.new.at ≡ self.old.at) × (self.new.finished ≡ false) × (self.new.fault ≡ self.old.fault) }
         ensures unchanged { OnErr result (self.new ≡ self.old) }
@@ -96,6 +97,9 @@ impl LineReader {
         // The first whole line that says something and wasn't handed out, or its fault; none exactly where there is none.
         ensures answer { (text : List ℕ) (given : ℕ) → LineReaderStandsAt self.old text given → self.old.fault ≡ None → wants_memory result ≡ false → result ≡ line_answer (slice_get (whole_said self.old.max text) given) }
         ensures stands { (text : List ℕ) (given : ℕ) → LineReaderStandsAt self.old text given → LineReaderStandsAt self.new text (given + handed_out result) }
+
+        // Each fault, want of memory too, is told at that line.
+        ensures line { (text : List ℕ) (given : ℕ) → LineReaderStandsAt self.old text given → self.old.fault ≡ None → IfErr result (λ fault. IsSaidAt (slice_get (whole_said self.old.max text) given) fault.line) }
 
         // Its number, or that of the line being read.
         ensures at { (text : List ℕ) (given : ℕ) → LineReaderStandsAt self.old text given → self.old.fault ≡ None → wants_memory result ≡ false → self.new.at ≡ number_at (slice_get (whole_said self.old.max text) given) (last_number text) }
@@ -131,6 +135,9 @@ impl LineReader {
         // The first line that says something and wasn't handed out, or its fault; none exactly where there is none.
         ensures answer { (text : List ℕ) (given : ℕ) → LineReaderStandsAt self.old text given → self.old.fault ≡ None → wants_memory result ≡ false → result ≡ line_answer (slice_get (all_said self.old.max text) given) }
         ensures stands { (text : List ℕ) (given : ℕ) → LineReaderStandsAt self.old text given → LineReaderStandsAt self.new text (given + handed_out result) }
+
+        // Each fault, want of memory too, is told at that line.
+        ensures line { (text : List ℕ) (given : ℕ) → LineReaderStandsAt self.old text given → self.old.fault ≡ None → IfErr result (λ fault. IsSaidAt (slice_get (all_said self.old.max text) given) fault.line) }
 
         // Its number, or that of the last line.
         ensures at { (text : List ℕ) (given : ℕ) → LineReaderStandsAt self.old text given → self.old.fault ≡ None → wants_memory result ≡ false → self.new.at ≡ number_at (slice_get (all_said self.old.max text) given) (last_number text) }

@@ -1,5 +1,6 @@
-use Rattle.std.proofs.Common.{length, Ok, sym, ap, ◌∙◌}
-use Rattle.lj_text.specs.LinesRead.{LinesRead, line_answer, number_at, last_number}
+use Rattle.std.proofs.Common.{length, Option, Ok, sym, ap, ◌∙◌, subst}
+use Rattle.lj_text.specs.Lines.{Said}
+use Rattle.lj_text.specs.LinesRead.{LinesRead, IsSaidAt, line_answer, number_at, last_number}
 use Rattle.lj_text.specs.LinesHeld.{passed}
 use Rattle.lj_text.proofs.ReaderLemmas.{at_true, at_false, all-at, all-found, behind-found, answers, stands-passed, stands-behind, place-some, place-behind, ahead-found, ahead-behind, within-of, stands-of, stands-kept, kept-at, kept-max}
 use Rattle.lj_text.proofs.lines.reader.LineReader.finish.Goals as goal
@@ -67,7 +68,7 @@ pub returns-in-Err-clause-answer : goal.returns-in-Err-clause-answer
 returns-in-Err-clause-answer c text given stands none memory =
     let r = c.args.self.now in
     let s = within-of r text given (sym (ap (λ (v : LinesRead). v.finished) c.self.view_is) ∙ c.if-self.false) stands in
-    sym (ap line_answer (all-at r text given s ∙ c.in-Err.ensures.found (length s.lines) s.line_is memory))
+    sym (ap line_answer (all-at r text given s ∙ (c.in-Err.ensures.found (length s.lines) s.line_is).told memory))
 
 pub returns-in-Err-clause-stands : goal.returns-in-Err-clause-stands
 returns-in-Err-clause-stands c text given stands =
@@ -80,7 +81,13 @@ returns-in-Err-clause-at c text given stands none memory =
     let r = c.args.self.now in
     let s = within-of r text given (sym (ap (λ (v : LinesRead). v.finished) c.self.view_is) ∙ c.if-self.false) stands in
     ap (λ (v : LinesRead). v.at) c.keep.ensures ∙ kept-at c.look_to_end.new.self c.in-Err.fault memory
-    ∙ ap (λ o. number_at o (last_number text)) (sym (all-at r text given s ∙ c.in-Err.ensures.found (length s.lines) s.line_is memory))
+    ∙ ap (λ o. number_at o (last_number text)) (sym (all-at r text given s ∙ (c.in-Err.ensures.found (length s.lines) s.line_is).told memory))
 
 pub returns-in-Err-clause-max : goal.returns-in-Err-clause-max
 returns-in-Err-clause-max c = ap (λ (v : LinesRead). v.max) c.keep.ensures ∙ kept-max c.look_to_end.new.self c.in-Err.fault ∙ ap (λ (v : LinesRead). v.max) c.look_to_end.ensures.same
+
+pub returns-in-Err-clause-line : goal.returns-in-Err-clause-line
+returns-in-Err-clause-line c text given stands none =
+    let r = c.args.self.now in
+    let s = within-of r text given (sym (ap (λ (v : LinesRead). v.finished) c.self.view_is) ∙ c.if-self.false) stands in
+    subst (λ (o : Option Said). IsSaidAt o c.in-Err.fault.line) (sym (all-at r text given s)) (c.in-Err.ensures.found (length s.lines) s.line_is).line_is
