@@ -1,5 +1,5 @@
 -- What the grammar reads on behind a token of the clauses.
-use Rattle.std.proofs.Common.{◌≡◌, ℕ, zero, suc, ◌-◌, ◌<◌, ◌≤◌, Bool, true, false, not, ◌&&◌, ◌||◌, cond, List, [], ◌∷◌, ◌++◌, length, Option, Result, Ok, Err, ℤ, pos, negsuc, unsigned_abs, ◌==◌, refl, sym, ap, ◌∙◌, subst, append_assoc, arith}
+use Rattle.std.proofs.Common.{◌≡◌, ℕ, zero, suc, ◌-◌, ◌<◌, ◌≤◌, Bool, true, false, not, ◌&&◌, ◌||◌, cond, List, [], ◌∷◌, ◌++◌, length, Option, Result, Ok, Err, ℤ, pos, negsuc, unsigned_abs, ◌==◌, refl, sym, ap, ◌∙◌, subst, inl, inr, append_assoc, arith}
 use Rattle.std.proofs.lemmas.Bool.{le-leb, lt-leb, false_from_ne_true}
 use Rattle.std.proofs.lemmas.Bool.Decides.{nat_tests}
 use Rattle.std.proofs.lemmas.List.{append-nil}
@@ -8,14 +8,15 @@ use Rattle.lj_clause.specs.Literal.{variable_of}
 use Rattle.lj_clause.proofs.LiteralSets.{holds-from_literals, holds-literals}
 use Rattle.lj_clause.proofs.Among.{among, any_found, any_at}
 use Rattle.std.specs.List.{list_all, list_any}
-use Rattle.std.specs.Prelude.{nat_le}
+use Rattle.std.specs.Prelude.{nat_le, ◌⊎◌}
+use Rattle.lj_text.specs.Bytes.{number_of}
 use Rattle.std.proofs.lemmas.List.Folds.{list_all-append}
 use Rattle.lj_clause.specs.ClauseMap.{formula_of, names_up_to}
 use Rattle.lj_text.specs.declared.cnf.fault.CnfFault.{CnfFault}
 use Rattle.lj_text.specs.declared.cnf.fault.CnfFaultKind.TheVariants.{NoHeader, BadHeader, BadNumber, VariableRange, ClauseCount, Truncated, NoMemory}
 use Rattle.lj_text.specs.Lines.{with_read, then_read}
 use Rattle.lj_text.specs.Cnf.{Place, Percent, NoNumber, Number, number_at, fault_in, literals_up_to, clauses_of}
-use Rattle.lj_text.specs.CnfReading.{Begun, completed, clauses_after, IsCnfTold, IsNumberUpTo, is_up_to, Goes, places_behind}
+use Rattle.lj_text.specs.CnfReading.{Begun, completed, clauses_after, IsCnfTold, IsNumberUpTo, is_up_to, is_kept, keeps_first, Goes, places_behind}
 use Rattle.lj_text.specs.declared.cnf.fault.CnfFaultKind.{CnfFaultKind}
 
 not_zero : (n : ℕ) → 0 < n → (n == 0) ≡ false
@@ -222,3 +223,11 @@ pub completed-end : (b : Begun) (last : ℕ) → b.left ≡ 0 → b.literals ≡
 completed-end b last h e =
     ap (with_read (λ cs. formula_of b.variables (b.clauses ++ cs))) (ends_well b.variables last b.left b.literals h e)
     ∙ ap (λ l. Ok (formula_of b.variables l)) (append-nil b.clauses)
+
+-- where a token's number is kept, so is that of the first token of the line
+pub first-kept : (old now : Begun) (all left : List (List ℕ)) (token : List ℕ) (after : List (List ℕ)) → ((now ≡ old) × (left ≡ all)) ⊎ (keeps_first old all ≡ true)
+    → left ≡ token ∷ after → is_kept now (number_of token) ≡ true → keeps_first old all ≡ true
+first-kept old now all left token after first cut kept = elim first [
+  | inl same ↦ ap (λ ts. keeps_first old ts) (sym same.1 ∙ cut) ∙ ap (λ (b : Begun). is_kept b (number_of token)) (sym same.0) ∙ kept
+  | inr h ↦ h
+]

@@ -14,7 +14,7 @@ use Rattle.lj_text.specs.declared.lines.look.Found.{Found}
 use Rattle.std.specs.Prelude.{MatchOption, is_some}
 use Rattle.std.proofs.Math.Seq.{drop-append_seam}
 use Rattle.lj_text.specs.Looking.{Looked, LookedBehind, Fails, FailsToEnd, said_of}
-use Rattle.lj_text.proofs.StandLemmas.{said_for, said-spoken, said_from-append, whole-joined, all-joined, all-none, cut-joined, cut-none}
+use Rattle.lj_text.proofs.StandLemmas.{all_more, joined_more, next_number, said_for, said-spoken, said_from-append, whole-joined, all-joined, all-none, cut-joined, cut-none}
 
 get-early : (xs ys : List Said) (x : Said) → slice_get xs 0 ≡ Some x → slice_get (xs ++ ys) 0 ≡ Some x
 get-early [] ys x h = cc
@@ -44,17 +44,6 @@ passed-none max first ahead = record {
   number_is = λ k h. h ∙ ap line_number (omega arith);
   silent = λ k. refl;
 }
-
-all_more : (ls : List (List ℕ)) (l : List ℕ) → AllByRecursion HasNoLineEnd ls → HasNoLineEnd l → AllByRecursion HasNoLineEnd (ls ++ l ∷ [])
-all_more [] l h k = (k, tt)
-all_more (m ∷ ls) l h k = (h.0, all_more ls l h.1 k)
-
-joined_more : (ls : List (List ℕ)) (l rest : List ℕ) → joined (ls ++ l ∷ []) ++ rest ≡ joined ls ++ (l ++ 10 ∷ rest)
-joined_more [] l rest = append_assoc l (10 ∷ []) rest
-joined_more (m ∷ ls) l rest = append_assoc m _ rest ∙ ap (λ r. m ++ 10 ∷ r) (joined_more ls l rest) ∙ sym (append_assoc m _ _)
-
-next_number : (k : ℕ) (number : ℕ) → number ≡ line_number k → min (number + 1) (2 ^ 64 - 1) ≡ line_number (k + 1)
-next_number k number h = omega (arith, h)
 
 said_more : (max k : ℕ) (ls : List (List ℕ)) (l : List ℕ) → said_from max k ls ≡ [] → said_from max k (ls ++ l ∷ []) ≡ said_by max (k + length ls) true l
 said_more max k ls l h = said_from-append max k ls (l ∷ []) ∙ ap (λ ss. ss ++ said_from max (k + length ls) (l ∷ [])) h ∙ append-nil (said_by max (k + length ls) true l)

@@ -11,7 +11,7 @@ use Rattle.lj_text.specs.Lines.{Said, said_from, whole_said, all_said, whole_sai
 use Rattle.lj_text.specs.LinesRead.{LinesRead, HasNoLineEnd, joined, StandsWithin, StandsBehind, LineReaderStandsAt, line_answer, handed_out, number_at, last_number, is_line_no_memory}
 use Rattle.lj_text.specs.LinesHeld.{IsAhead, passed, kept}
 use Rattle.lj_text.specs.Looking.{Looked, LookedBehind, said_of}
-use Rattle.lj_text.proofs.StandLemmas.{whole-joined, all-joined, whole-none, get-behind, said_from-append, cut-joined, cut-none}
+use Rattle.lj_text.proofs.StandLemmas.{both, joined_both, whole-joined, all-joined, whole-none, get-behind, said_from-append, cut-joined, cut-none}
 use Rattle.lj_text.proofs.PassLemmas.{none-open, after_is}
 
 -- the whole lines that were not handed out are those ahead
@@ -72,14 +72,6 @@ answers at (Some line) = refl
 count_said : (at : ℕ) (o : Option Line) → length (said_of at o) ≡ handed_out (Ok o)
 count_said at None = refl
 count_said at (Some line) = refl
-
-both : (xs ys : List (List ℕ)) → AllByRecursion HasNoLineEnd xs → AllByRecursion HasNoLineEnd ys → AllByRecursion HasNoLineEnd (xs ++ ys)
-both [] ys h k = k
-both (x ∷ xs) ys h k = (h.0, both xs ys h.1 k)
-
-joined_both : (xs ys : List (List ℕ)) (rest : List ℕ) → joined (xs ++ ys) ++ rest ≡ joined xs ++ (joined ys ++ rest)
-joined_both [] ys rest = refl
-joined_both (x ∷ xs) ys rest = append_assoc x _ rest ∙ ap (λ r. x ++ 10 ∷ r) (joined_both xs ys rest) ∙ sym (append_assoc x _ _)
 
 pub stands-passed : (r : LinesRead) (text : List ℕ) (given : ℕ) (found : Found) (s : StandsWithin r text given) → Looked r.max (length s.lines) r.ahead found
     → StandsWithin (passed r found) text (given + handed_out (Ok found.line))

@@ -1,5 +1,5 @@
 -- A text that begins with whole lines.
-use Rattle.std.proofs.Common.{◌≡◌, ℕ, ◌+◌, ◌<◌, Bool, true, false, cond, List, [], ◌∷◌, ◌++◌, length, Option, None, Some, Result, Ok, Err, refl, sym, ap, ◌∙◌, append_assoc, arith, length-append}
+use Rattle.std.proofs.Common.{◌≡◌, ℕ, ◌+◌, ◌-◌, ◌^◌, ◌<◌, min, Bool, true, false, cond, List, [], ◌∷◌, ◌++◌, length, Option, None, Some, Result, Ok, Err, refl, sym, ap, ◌∙◌, append_assoc, arith, length-append}
 use Rattle.std.specs.List.{AllByRecursion, slice_get}
 use Rattle.std.proofs.lemmas.List.Splits.{slice_split_none, slice_split_at, length-slice_split}
 use Rattle.lj_text.specs.declared.line.Line.{Line}
@@ -8,6 +8,26 @@ use Rattle.lj_text.specs.Bytes.{is_line_end, lines_of, line_number, tokens_of, i
 use Rattle.lj_text.specs.Lines.{Said, said_by, said_from, all_but_last, last_of, whole_said_from, all_said_from, line_of, with_read}
 use Rattle.lj_text.specs.LineReading.{spoken}
 use Rattle.lj_text.specs.LinesRead.{HasNoLineEnd, joined}
+
+-- whole lines, and more of them
+pub all_more : (ls : List (List ℕ)) (l : List ℕ) → AllByRecursion HasNoLineEnd ls → HasNoLineEnd l → AllByRecursion HasNoLineEnd (ls ++ l ∷ [])
+all_more [] l h k = (k, tt)
+all_more (m ∷ ls) l h k = (h.0, all_more ls l h.1 k)
+
+pub joined_more : (ls : List (List ℕ)) (l rest : List ℕ) → joined (ls ++ l ∷ []) ++ rest ≡ joined ls ++ (l ++ 10 ∷ rest)
+joined_more [] l rest = append_assoc l (10 ∷ []) rest
+joined_more (m ∷ ls) l rest = append_assoc m _ rest ∙ ap (λ r. m ++ 10 ∷ r) (joined_more ls l rest) ∙ sym (append_assoc m _ _)
+
+pub next_number : (k : ℕ) (number : ℕ) → number ≡ line_number k → min (number + 1) (2 ^ 64 - 1) ≡ line_number (k + 1)
+next_number k number h = omega (arith, h)
+
+pub both : (xs ys : List (List ℕ)) → AllByRecursion HasNoLineEnd xs → AllByRecursion HasNoLineEnd ys → AllByRecursion HasNoLineEnd (xs ++ ys)
+both [] ys h k = k
+both (x ∷ xs) ys h k = (h.0, both xs ys h.1 k)
+
+pub joined_both : (xs ys : List (List ℕ)) (rest : List ℕ) → joined (xs ++ ys) ++ rest ≡ joined xs ++ (joined ys ++ rest)
+joined_both [] ys rest = refl
+joined_both (x ∷ xs) ys rest = append_assoc x _ rest ∙ ap (λ r. x ++ 10 ∷ r) (joined_both xs ys rest) ∙ sym (append_assoc x _ _)
 
 pub lines_of-joined : (ls : List (List ℕ)) (rest : List ℕ) → AllByRecursion HasNoLineEnd ls → lines_of (joined ls ++ rest) ≡ ls ++ lines_of rest
 lines_of-joined [] rest h = refl

@@ -1,5 +1,5 @@
 -- What a reader of a formula holds of what was fed, and what the grammar reads from there on.
-use Rattle.std.specs.Prelude.{◌≡◌, ℕ, ◌+◌, ◌-◌, ◌<◌, ◌≤◌, Bool, true, false, nat_le, List, [], ◌∷◌, ◌++◌, length, map, Option, Some, None, Result, Ok, Err, ℤ, unsigned_abs, refl}
+use Rattle.std.specs.Prelude.{◌≡◌, ℕ, ◌+◌, ◌-◌, ◌<◌, ◌≤◌, Bool, true, false, ◌&&◌, nat_le, nat_lt, List, [], ◌∷◌, ◌++◌, length, map, Option, Some, None, Result, Ok, Err, ℤ, unsigned_abs, refl}
 use Rattle.std.specs.Coded.{Coded, code_by, coded×, coded_list, coded_ℕ, coded_ℤ}
 use Rattle.lj_clause.specs.LiteralSet.{LiteralSet, from_literals, literal_set_code}
 use Rattle.lj_clause.specs.ClauseMap.{FormulaValue, formula_of, names_up_to}
@@ -8,6 +8,7 @@ use Rattle.std.specs.List.{list_all}
 use Rattle.lj_text.specs.declared.cnf.fault.CnfFault.{CnfFault}
 use Rattle.lj_text.specs.declared.cnf.fault.CnfFaultKind.{CnfFaultKind}
 use Rattle.lj_text.specs.declared.cnf.fault.CnfFaultKind.TheVariants.{BadNumber, VariableRange, NoMemory}
+use Rattle.lj_text.specs.Bytes.{number_of}
 use Rattle.lj_text.specs.Lines.{with_read, then_read}
 use Rattle.lj_text.specs.Cnf.{Place, place_at, literals_up_to, clauses_of}
 
@@ -30,6 +31,20 @@ clauses_after variables last left (l ∷ ls) places = then_read (literals_up_to 
 -- the formula that is read from there on
 abbrev pub completed : Begun → ℕ → List Place → Result FormulaValue CnfFault
 completed begun last places = with_read (λ cs. formula_of begun.variables (begun.clauses ++ cs)) (clauses_after begun.variables last begun.left begun.literals places)
+
+abbrev pub is_cnf_no_memory : CnfFaultKind → Bool
+is_cnf_no_memory (NoMemory _) = true
+is_cnf_no_memory kind = false
+
+-- a number up to the number of variables where a clause is to come: what it says has to be kept
+abbrev pub is_kept : Begun → Option ℤ → Bool
+is_kept begun None = false
+is_kept begun (Some n) = nat_lt 0 begun.left && nat_le (unsigned_abs n) begun.variables
+
+-- the first of a line's tokens is such a number
+abbrev pub keeps_first : Begun → List (List ℕ) → Bool
+keeps_first begun [] = false
+keeps_first begun (token ∷ tokens) = is_kept begun (number_of token)
 
 -- the fault is what the grammar tells, unless memory ran out
 abbrev pub IsCnfTold : {Y : Type 0} → CnfFaultKind → ℕ → Result Y CnfFault → Type 0

@@ -1,11 +1,25 @@
 -- What the grammar reads on from a state.
-use Rattle.std.specs.Prelude.{◌≡◌, ℕ, ◌+◌, List, length, Result, Ok, Err}
+use Rattle.std.specs.Prelude.{◌≡◌, ℕ, ◌+◌, Bool, false, List, length, Option, None, Some, Result, Ok, Err}
 use Rattle.lj_clause.specs.ClauseMap.{FormulaValue, formula_of}
 use Rattle.lj_text.specs.declared.cnf.fault.CnfFault.{CnfFault}
 use Rattle.lj_text.specs.declared.cnf.state.State.{State}
 use Rattle.lj_text.specs.declared.cnf.state.State.TheVariants.{Header, Clauses, Ended, Faulty}
 use Rattle.lj_text.specs.Cnf.{Place, places_from, last_line, formula_from}
-use Rattle.lj_text.specs.CnfReading.{completed, IsCnfTold}
+use Rattle.lj_text.specs.CnfReading.{completed, keeps_first, IsCnfTold}
+
+-- the fault that is kept
+abbrev pub kept_fault : State → Option CnfFault
+kept_fault Header = None
+kept_fault (Clauses begun) = None
+kept_fault (Ended begun) = None
+kept_fault (Faulty fault) = Some fault
+
+-- a line with these tokens begins with a number where a clause is to come, so that what it says has to be kept
+abbrev pub asks_room : State → List (List ℕ) → Bool
+asks_room Header tokens = false
+asks_room (Clauses begun) tokens = keeps_first begun tokens
+asks_room (Ended begun) tokens = false
+asks_room (Faulty fault) tokens = false
 
 -- what the grammar reads of the lines that follow, where n lines stand before them
 abbrev pub resumed : ℕ → ℕ → State → List (List ℕ) → Result FormulaValue CnfFault

@@ -1,9 +1,9 @@
 //! The clauses of a formula.
-ghost use Rattle.std.specs.Prelude.{◌≡◌, ◌≤◌, ◌∷◌, ◌++◌, ◌<◌, ℕ, List, [], Bool, pos, unsigned_abs, MatchResult, Ok};
+ghost use Rattle.std.specs.Prelude.{◌≡◌, ◌≤◌, ◌∷◌, ◌++◌, ◌<◌, ℕ, List, [], Bool, true, false, pos, unsigned_abs, IfErr, MatchResult, Ok};
 ghost use Rattle.lj_clause.specs.ClauseMap.{formula_of};
 ghost use Rattle.lj_text.specs.Bytes.{begins, number_of};
 ghost use Rattle.lj_text.specs.Cnf.{Place, Percent, Number, number_at, place_at};
-ghost use Rattle.lj_text.specs.CnfReading.{Goes, IsCnfTold, IsNumberUpTo, completed};
+ghost use Rattle.lj_text.specs.CnfReading.{Goes, IsCnfTold, IsNumberUpTo, completed, is_cnf_no_memory, is_kept};
 
 use super::fault::CnfFaultKind;
 use crate::bytes::{Word, word_of};
@@ -54,7 +54,8 @@ impl Body {
     fn take_literal(&mut self, number: i32) -> Result<(), CnfFaultKind>
         requires some { 0 < unsigned_abs number }
         requires in_range { unsigned_abs number ≤ self.old.variables }
-        ensures { (last line : ℕ) (rest : List Place) → MatchResult result (λ _. completed self.old last (Number line number ∷ rest) ≡ completed self.new last rest) (λ kind. IsCnfTold kind line (completed self.old last (Number line number ∷ rest))) }
+        ensures left { MatchResult result (λ _. 0 < self.old.left) (λ kind. is_cnf_no_memory kind ≡ true → 0 < self.old.left) }
+        ensures reads { (last line : ℕ) (rest : List Place) → MatchResult result (λ _. completed self.old last (Number line number ∷ rest) ≡ completed self.new last rest) (λ kind. IsCnfTold kind line (completed self.old last (Number line number ∷ rest))) }
     {
         if self.left == 0 {
             return Err(CnfFaultKind::ClauseCount);
@@ -70,7 +71,8 @@ impl Body {
 
     /// Takes the 0 that closes a clause.
     fn close_clause(&mut self) -> Result<(), CnfFaultKind>
-        ensures { (last line : ℕ) (rest : List Place) → MatchResult result (λ _. completed self.old last (Number line (pos 0) ∷ rest) ≡ completed self.new last rest) (λ kind. IsCnfTold kind line (completed self.old last (Number line (pos 0) ∷ rest))) }
+        ensures left { MatchResult result (λ _. 0 < self.old.left) (λ kind. is_cnf_no_memory kind ≡ true → 0 < self.old.left) }
+        ensures reads { (last line : ℕ) (rest : List Place) → MatchResult result (λ _. completed self.old last (Number line (pos 0) ∷ rest) ≡ completed self.new last rest) (λ kind. IsCnfTold kind line (completed self.old last (Number line (pos 0) ∷ rest))) }
     {
         if self.left == 0 {
             return Err(CnfFaultKind::ClauseCount);
@@ -84,7 +86,8 @@ impl Body {
 
     /// Takes a token that begins with `%`, which ends the formula where a clause would begin.
     fn take_percent(&self) -> Result<(), CnfFaultKind>
-        ensures { (last line : ℕ) (rest : List Place) → MatchResult result (λ _. completed self.now last (Percent line ∷ rest) ≡ Ok (formula_of self.now.variables self.now.clauses)) (λ kind. IsCnfTold kind line (completed self.now last (Percent line ∷ rest))) }
+        ensures no_room { IfErr result (λ kind. is_cnf_no_memory kind ≡ false) }
+        ensures reads { (last line : ℕ) (rest : List Place) → MatchResult result (λ _. completed self.now last (Percent line ∷ rest) ≡ Ok (formula_of self.now.variables self.now.clauses)) (λ kind. IsCnfTold kind line (completed self.now last (Percent line ∷ rest))) }
     {
         if !self.literals.is_empty() {
             Err(CnfFaultKind::BadNumber)
@@ -97,7 +100,8 @@ impl Body {
 
     /// Takes a token that isn't to end the formula.
     fn take_number(&mut self, token: &[u8]) -> Result<(), CnfFaultKind>
-        ensures { (last line : ℕ) (rest : List Place) → MatchResult result (λ _. completed self.old last (number_at line (number_of token.now) ∷ rest) ≡ completed self.new last rest) (λ kind. IsCnfTold kind line (completed self.old last (number_at line (number_of token.now) ∷ rest))) }
+        ensures room { MatchResult result (λ _. is_kept self.old (number_of token.now) ≡ true) (λ kind. is_cnf_no_memory kind ≡ true → is_kept self.old (number_of token.now) ≡ true) }
+        ensures reads { (last line : ℕ) (rest : List Place) → MatchResult result (λ _. completed self.old last (number_at line (number_of token.now) ∷ rest) ≡ completed self.new last rest) (λ kind. IsCnfTold kind line (completed self.old last (number_at line (number_of token.now) ∷ rest))) }
     {
         let number = number_up_to(token, self.variables)?;
         if number == 0 {
@@ -109,7 +113,8 @@ impl Body {
 
     /// Takes a token, and answers whether it ends the formula.
     pub(super) fn take(&mut self, token: &[u8]) -> Result<bool, CnfFaultKind>
-        ensures { (last line : ℕ) (rest : List Place) → Goes last line (token.now ∷ []) rest self.old self.new result }
+        ensures room { MatchResult result (λ ended. ended ≡ false → is_kept self.old (number_of token.now) ≡ true) (λ kind. is_cnf_no_memory kind ≡ true → is_kept self.old (number_of token.now) ≡ true) }
+        ensures reads { (last line : ℕ) (rest : List Place) → Goes last line (token.now ∷ []) rest self.old self.new result }
     {
         if is_percent(token) {
             self.take_percent()?;
@@ -121,7 +126,8 @@ impl Body {
 
     /// The formula at the end of the input.
     pub(super) fn close(self) -> Result<Formula, CnfFaultKind>
-        ensures { (last : ℕ) → MatchResult result (λ formula. completed self last [] ≡ Ok formula) (λ kind. IsCnfTold kind last (completed self last [])) }
+        ensures no_room { IfErr result (λ kind. is_cnf_no_memory kind ≡ false) }
+        ensures reads { (last : ℕ) → MatchResult result (λ formula. completed self last [] ≡ Ok formula) (λ kind. IsCnfTold kind last (completed self last [])) }
     {
         if !self.literals.is_empty() {
             Err(CnfFaultKind::Truncated)

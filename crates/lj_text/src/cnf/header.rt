@@ -1,10 +1,10 @@
 //! The header of a formula.
-ghost use Rattle.std.specs.Prelude.{◌≡◌, ◌≤◌, ◌∷◌, ℕ, [], MatchResult, IfNone, IfSome, IfOk, Ok};
+ghost use Rattle.std.specs.Prelude.{◌≡◌, ◌≤◌, ◌∷◌, ℕ, [], false, MatchResult, IfNone, IfSome, IfOk, IfErr, Ok};
 ghost use Rattle.lj_text.specs.Bytes.{tokens_of};
 ghost use Rattle.lj_text.specs.Lines.{is_letter};
 ghost use Rattle.lj_text.specs.Cnf.{fault_in, header_after, header_of};
 ghost use Rattle.lj_text.specs.declared.cnf.fault.CnfFaultKind.TheVariants as kinds;
-ghost use Rattle.lj_text.specs.CnfReading.{IsCnfTold};
+ghost use Rattle.lj_text.specs.CnfReading.{IsCnfTold, is_cnf_no_memory};
 
 use super::fault::CnfFaultKind;
 use crate::bytes::{digits_value, next_token};
@@ -30,6 +30,7 @@ fn three_tokens(bytes: &[u8]) -> Option<(&[u8], &[u8], &[u8])>
 fn read_sizes(max: u32, bytes: &[u8]) -> Result<(u32, u32), CnfFaultKind>
     requires { max ≤ 134217727 }
     ensures in_range { IfOk result (λ sizes. sizes.0 ≤ max) }
+    ensures no_room { IfErr result (λ kind. is_cnf_no_memory kind ≡ false) }
     ensures sizes { (line : ℕ) → MatchResult result (λ sizes. header_after max line (tokens_of bytes.now) ≡ Ok sizes) (λ kind. IsCnfTold kind line (header_after max line (tokens_of bytes.now))) }
 {
     match three_tokens(bytes) {
@@ -66,6 +67,7 @@ fn is_header(token: &[u8]) -> bool
 pub(super) fn read_header(max: u32, token: &[u8], after: &[u8]) -> Result<(u32, u32), CnfFaultKind>
     requires { max ≤ 134217727 }
     ensures in_range { IfOk result (λ sizes. sizes.0 ≤ max) }
+    ensures no_room { IfErr result (λ kind. is_cnf_no_memory kind ≡ false) }
     ensures sizes { (line : ℕ) → MatchResult result (λ sizes. header_of max line (token.now ∷ tokens_of after.now) ≡ Ok sizes) (λ kind. IsCnfTold kind line (header_of max line (token.now ∷ tokens_of after.now))) }
 {
     if is_header(token) {

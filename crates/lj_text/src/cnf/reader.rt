@@ -1,10 +1,12 @@
 //! The reader of formulas.
-ghost use Rattle.std.specs.Prelude.{◌≡◌, ◌≤◌, ◌++◌, ℕ, List, [], false, Ok, Err, IfErr, OnOk};
+ghost use Rattle.std.specs.Prelude.{◌≡◌, ◌<◌, ◌≤◌, ◌+◌, ◌∷◌, ◌++◌, ◌⊎◌, ℕ, List, [], length, true, false, Ok, Err, None, Some, IfErr, IfSome, OnOk};
 ghost use Rattle.lj_clause.specs.Memory.{no_memory};
-ghost use Rattle.lj_text.specs.Bytes.{line_number};
+ghost use Rattle.lj_text.specs.Bytes.{line_number, tokens_of};
 ghost use Rattle.lj_text.specs.Cnf.{HasFault};
 ghost use Rattle.lj_text.specs.LinesRead.{HasNoLineEnd};
-ghost use Rattle.lj_text.specs.CnfRead.{IfFaulty, IsAnswer, IsFaultOf, KeepsCnfFault, CnfReaderStandsAt, Taken, is_cnf_no_memory};
+ghost use Rattle.lj_text.specs.CnfRead.{IsAnswer, CnfReaderStandsAt, EndsByNumber, NeedsRoom, NeedsRoomFrom, Taken};
+ghost use Rattle.lj_text.specs.CnfReading.{is_cnf_no_memory};
+ghost use Rattle.lj_text.specs.CnfResuming.{Reads, asks_room, kept_fault, resumed};
 
 use super::fault::{CnfFault, CnfFaultKind};
 use super::state::{State, after_line, close};
@@ -32,12 +34,13 @@ impl Model for CnfReader {
     ghost use Rattle.std.specs.Coded.{codes};
     ghost use Rattle.lj_clause.specs.LiteralSet.{literal_set_code};
     ghost use Rattle.lj_text.specs.CnfRead.{CnfRead, IsCnfHeld};
+    ghost use Rattle.lj_text.specs.CnfResuming.{kept_fault};
 
     ghost Value = { CnfRead };
 
     ghost coded = { Prim.hlevel (codes, literal_set_code) };
 
-    ghost view = { λ r. record { max = r.max; ahead = r.held.items; line = r.line; state = r.state } };
+    ghost view = { λ r. record { max = r.max; ahead = r.held.items; line = r.line; fault = kept_fault r.state; progress = r.state } };
 
     ghost invariant = { λ r. IsCnfHeld r.max r.line r.held.items };
 }
@@ -48,6 +51,7 @@ impl CnfReader {
         requires { max ≤ 134217727 }
         ensures max { result.max ≡ max }
         ensures stands { CnfReaderStandsAt result [] }
+        ensures fresh { result.fault ≡ None }
     {
         CnfReader {
             alloc,
@@ -63,10 +67,15 @@ impl CnfReader {
     /// # Errors
     /// The fault of every text that begins with what was fed, or `NoMemory`; and from then on that fault again.
     pub fn feed(&mut self, piece: &[u8]) -> Result<(), CnfFault>
-        ensures told_again { IfFaulty self.old.state (λ fault. (result ≡ Err fault) × (self.new ≡ self.old)) }
+        ensures told_again { IfSome self.old.fault (λ fault. (result ≡ Err fault) × (self.new ≡ self.old)) }
         ensures stands { OnOk result ((text : List ℕ) → CnfReaderStandsAt self.old text → CnfReaderStandsAt self.new (text ++ piece.now)) }
         ensures fault { IfErr result (λ fault. is_cnf_no_memory fault.kind ≡ false → (text : List ℕ) → CnfReaderStandsAt self.old text → (more : List ℕ) → HasFault self.old.max (text ++ (piece.now ++ more)) fault) }
-        ensures kept { IfErr result (λ fault. KeepsCnfFault self.new.state fault) }
+
+        // Want of memory comes only where a line needs room, and is told at that line.
+        ensures room { self.old.fault ≡ None → IfErr result (λ fault. is_cnf_no_memory fault.kind ≡ true → NeedsRoom self.old piece.now fault.line) }
+
+        ensures sound { OnOk result (self.new.fault ≡ None) }
+        ensures kept { IfErr result (λ fault. self.new.fault ≡ Some fault) }
         ensures max { self.new.max ≡ self.old.max }
     {
         if let Some(fault) = fault_of(&self.state) {
@@ -96,8 +105,12 @@ impl CnfReader {
     /// # Errors
     /// The text's fault, or `NoMemory`; a fault that was told before is told again.
     pub fn finish(self) -> Result<Formula, CnfFault>
-        ensures told_again { IfFaulty self.state (λ fault. result ≡ Err fault) }
+        ensures told_again { IfSome self.fault (λ fault. result ≡ Err fault) }
         ensures answer { (text : List ℕ) → CnfReaderStandsAt self text → IsAnswer self.max text result }
+
+        // Each fault is told at the last line, and want of memory only where that one needs room.
+        ensures line { self.fault ≡ None → IfErr result (λ fault. fault.line ≡ self.line) }
+        ensures room { self.fault ≡ None → IfErr result (λ fault. is_cnf_no_memory fault.kind ≡ true → EndsByNumber self) }
     {
         if let Some(fault) = fault_of(&self.state) {
             return Err(fault);
@@ -109,7 +122,7 @@ impl CnfReader {
 
 /// The fault that is kept.
 fn fault_of(state: &State) -> Option<CnfFault>
-    ensures { IsFaultOf state.now result }
+    ensures { result ≡ kept_fault state.now }
 {
     match state {
         State::Faulty(fault) => Some(*fault),
@@ -119,7 +132,7 @@ fn fault_of(state: &State) -> Option<CnfFault>
 
 /// The state where memory ran out.
 fn refused_at(line: u64, e: AllocError) -> State
-    ensures { KeepsCnfFault result (record { kind = CnfFaultKind.NoMemory no_memory; line = line }) }
+    ensures { kept_fault result ≡ Some (record { kind = CnfFaultKind.NoMemory no_memory; line = line }) }
 {
     State::Faulty(CnfFault {
         kind: e.into(),
@@ -127,7 +140,37 @@ fn refused_at(line: u64, e: AllocError) -> State
     })
 }
 
+/// The state behind a line of which a part is held, and nothing is held then unless memory ran out.
+fn after_held_line(
+    state: State,
+    alloc: Global,
+    max: u32,
+    number: u64,
+    held: &mut Vec<u8>,
+    front: &[u8],
+) -> State
+    requires max { max ≤ 134217727 }
+    requires none { HasNoLineEnd held.old.items }
+    ensures none { HasNoLineEnd held.new.items }
+    ensures done { kept_fault result ≡ None → held.new.items ≡ [] }
+    ensures told { kept_fault state ≡ None → IfSome (kept_fault result) (λ fault. (fault.line ≡ number)
+        × (is_cnf_no_memory fault.kind ≡ true → (0 < length held.old.items) ⊎ ((held.old.items ≡ []) × (asks_room state (tokens_of front.now) ≡ true)))) }
+    ensures reads { (n : ℕ) → number ≡ line_number n → (lines : List (List ℕ)) → Reads max (n + 1) lines result (resumed max n state ((held.old.items ++ front.now) ∷ lines)) }
+{
+    if held.is_empty() {
+        return after_line(state, alloc, max, number, front);
+    }
+    if let Err(e) = held.extend_from_slice(front) {
+        return refused_at(number, e);
+    }
+    let next = after_line(state, alloc, max, number, held);
+    held.clear();
+    next
+}
+
 /// The state behind the whole lines of a piece and the number of the line after them, whose beginning is held.
+///
+/// A line is held only where it isn't whole in its piece.
 fn take_piece(
     alloc: Global,
     max: u32,
@@ -138,23 +181,22 @@ fn take_piece(
 ) -> (State, u64)
     requires max { max ≤ 134217727 }
     requires none { HasNoLineEnd held.old.items }
-    ensures { (n : ℕ) → first ≡ line_number n → Taken max n before held.old.items piece.now result.0 result.1 held.new.items }
+    ensures taken { Taken max first before held.old.items piece.now result.0 result.1 held.new.items }
+    ensures room { kept_fault before ≡ None → IfSome (kept_fault result.0) (λ fault. is_cnf_no_memory fault.kind ≡ true → NeedsRoomFrom max first before held.old.items piece.now fault.line) }
 {
     let mut state = before;
     let mut number = first;
     let mut rest = piece;
     while let Some((front, after)) = first_line(rest, 0) {
-        match held.extend_from_slice(front) {
-            Ok(()) => {}
-            Err(e) => return (refused_at(number, e), number),
-        }
-        match after_line(state, alloc, max, number, held) {
+        match after_held_line(state, alloc, max, number, held, front) {
             State::Faulty(fault) => return (State::Faulty(fault), number),
             next => state = next,
         }
-        held.clear();
         number = number.saturating_add(1);
         rest = after;
+    }
+    if rest.is_empty() {
+        return (state, number);
     }
     match held.extend_from_slice(rest) {
         Ok(()) => (state, number),

@@ -1,44 +1,61 @@
-use Rattle.std.proofs.Common.{◌≡◌, ℕ, ◌++◌, [], ◌∷◌, List, sym, ◌∙◌, subst, ◌+◌, arith, rules}
+use Rattle.std.proofs.Common.{◌≡◌, ℕ, ◌<◌, ◌++◌, [], List, ◌∙◌, sym, subst, length, arith, rules}
+use Rattle.std.proofs.lemmas.Bool.Decides.{nat_tests}
+use Rattle.std.proofs.lemmas.Grind.{common_steps}
 use Rattle.lj_text.specs.LinesRead.{HasNoLineEnd}
 use Rattle.lj_text.specs.declared.cnf.state.State.TheVariants.{Faulty}
-use Rattle.lj_text.specs.CnfReading.{IsCnfTold}
-use Rattle.lj_text.specs.CnfResuming.{resumed, Reads}
 use Rattle.lj_text.specs.CnfRead.{Taken}
-use Rattle.lj_text.proofs.TakeLemmas.{going-more, taken-fault, taken-rest, no_line_end-both}
+use Rattle.lj_text.proofs.TakeLemmas.{going-none, going-more, taken-fault, taken-rest, room-line, room-refused, sound_state, no_line_end-both}
 use Rattle.lj_text.proofs.cnf.reader.take_piece.Goals as goal
 
-pub returns-in-Faulty : goal.returns-in-Faulty
-returns-in-Faulty c n first =
+pub loop-front-init : goal.loop-front-init
+loop-front-init c = record {
+  none = c.requires.none;
+  sound = λ h. h;
+  going = going-none c.args.max c.args.first c.args.before c.args.held.now.items c.args.piece.now;
+}
+
+pub returns-in-Faulty-clause-taken : goal.returns-in-Faulty-clause-taken
+returns-in-Faulty-clause-taken c =
     let left = c.loop-front.held.items in
     let front = c.in-Some.front.now in
-    let fault = c.in-Faulty.fault in
-    let e : c.extend_from_slice.new.self.items ≡ left ++ front = c.in-Ok.ensures.items in
-    let P : List ℕ → Type 0 = λ l. Taken c.args.max n c.args.before c.args.held.now.items c.args.piece.now (Faulty fault) c.loop-front.number l in
-    subst P (sym e) (taken-fault c.args.max n c.loop-front.number c.args.before c.loop-front.state fault c.args.held.now.items c.args.piece.now left c.loop-front.rest.now front c.in-Some.after.now
-    (c.loop-front.invariant.going n first) c.in-Some.ensures.some (no_line_end-both left front c.loop-front.invariant.none c.in-Some.ensures.line)
-    (λ k h lines. let Q : List ℕ → Type 0 = λ b. IsCnfTold fault.kind fault.line (resumed c.args.max k c.loop-front.state (b ∷ lines)) in subst Q (c.deref.ensures.value ∙ e) (c.in-Faulty.ensures k h lines)))
+    taken-fault c.args.max c.args.first c.loop-front.number c.args.before c.loop-front.state c.in-Faulty.fault c.args.held.now.items c.args.piece.now left c.loop-front.rest.now front c.in-Some.after.now c.after_held_line.new.held.items
+    c.loop-front.invariant.going c.in-Some.ensures.some (no_line_end-both left front c.loop-front.invariant.none c.in-Some.ensures.line) c.after_held_line.ensures.none
+    c.in-Faulty.ensures.reads
+
+pub returns-in-Faulty-clause-room : goal.returns-in-Faulty-clause-room
+returns-in-Faulty-clause-room c sound memory =
+    let told = c.in-Faulty.ensures.told (c.loop-front.invariant.sound sound) in
+    room-line c.args.max c.args.first c.loop-front.number c.in-Faulty.fault.line c.args.before c.loop-front.state c.args.held.now.items c.args.piece.now c.loop-front.held.items c.loop-front.rest.now c.in-Some.front.now c.in-Some.after.now
+    c.loop-front.invariant.going c.in-Some.ensures.some told.0 (told.1 memory)
 
 pub loop-front-preserved : goal.loop-front-preserved
 loop-front-preserved c =
     let left = c.loop-front.held.items in
     let front = c.in-Some.front.now in
-    let e : c.extend_from_slice.new.self.items ≡ left ++ front = c.in-Ok.ensures.items in
-    let empty : c.clear.new.self.items ≡ [] = c.clear.ensures.items in
+    let sound = sound_state c.after_held_line.result c.in_default-after_held_line.not-Faulty in
+    let empty : c.after_held_line.new.held.items ≡ [] = c.after_held_line.ensures.done sound in
     record {
-      none = let P : List ℕ → Type 0 = HasNoLineEnd in subst P (sym empty) (λ k d h. absurd (omega arith));
-      going = λ n first.
-          rw (empty, c.saturating_add-number.ensures) (going-more c.args.max n c.loop-front.number c.args.before c.loop-front.state c.after_line.result c.args.held.now.items c.args.piece.now left c.loop-front.rest.now front c.in-Some.after.now
-          (c.loop-front.invariant.going n first) c.in-Some.ensures.some (no_line_end-both left front c.loop-front.invariant.none c.in-Some.ensures.line)
-          (λ k h lines. let Q : List ℕ → Type 0 = λ b. Reads c.args.max (k + 1) lines c.after_line.result (resumed c.args.max k c.loop-front.state (b ∷ lines)) in subst Q (c.deref.ensures.value ∙ e) (c.after_line.ensures k h lines))
-          c.in_default-after_line.not-Faulty);
+      none = c.after_held_line.ensures.none;
+      sound = λ before. sound;
+      going = rw (empty, c.saturating_add-number.ensures) (going-more c.args.max c.args.first c.loop-front.number c.args.before c.loop-front.state c.after_held_line.result c.args.held.now.items c.args.piece.now left c.loop-front.rest.now front c.in-Some.after.now
+          c.loop-front.invariant.going c.in-Some.ensures.some (no_line_end-both left front c.loop-front.invariant.none c.in-Some.ensures.line)
+          c.after_held_line.ensures.reads c.in_default-after_held_line.not-Faulty);
     }
 
-pub returns-in-Ok-extend_from_slice : goal.returns-in-Ok-extend_from_slice
-returns-in-Ok-extend_from_slice c n first =
+pub returns-in-Ok-clause-taken : goal.returns-in-Ok-clause-taken
+returns-in-Ok-clause-taken c =
     let left = c.loop-front.held.items in
     let rest = c.loop-front.rest.now in
-    let e : c.extend_from_slice-2.new.self.items ≡ left ++ rest = c.in-Ok-extend_from_slice.ensures.items in
+    let e : c.extend_from_slice.new.self.items ≡ left ++ rest = c.in-Ok.ensures.items in
     let none : HasNoLineEnd rest = search rules in
-    let P : List ℕ → Type 0 = λ l. Taken c.args.max n c.args.before c.args.held.now.items c.args.piece.now c.loop-front.state c.loop-front.number l in
-    subst P (sym e) (taken-rest c.args.max n c.loop-front.number c.args.before c.loop-front.state c.args.held.now.items c.args.piece.now left rest
-    (c.loop-front.invariant.going n first) (no_line_end-both left rest c.loop-front.invariant.none none))
+    let P : List ℕ → Type 0 = λ l. Taken c.args.max c.args.first c.args.before c.args.held.now.items c.args.piece.now c.loop-front.state c.loop-front.number l in
+    subst P (sym e) (taken-rest c.args.max c.args.first c.loop-front.number c.args.before c.loop-front.state c.args.held.now.items c.args.piece.now left rest
+    c.loop-front.invariant.going (no_line_end-both left rest c.loop-front.invariant.none none))
+
+pub returns-in-Err-clause-room : goal.returns-in-Err-clause-room
+returns-in-Err-clause-room c sound =
+    let rest = c.loop-front.rest.now in
+    let none : HasNoLineEnd rest = search rules in
+    let some : 0 < length rest = grind (arith, nat_tests, common_steps, c.is_empty.ensures, c.if-is_empty.false) in
+    room-refused c.args.max c.args.first c.loop-front.number c.args.before c.loop-front.state c.args.held.now.items c.args.piece.now c.loop-front.held.items rest c.refused_at.result
+    c.loop-front.invariant.going c.loop-front.invariant.none none some c.refused_at.ensures

@@ -1,13 +1,14 @@
-use Rattle.std.proofs.Common.{◌≡◌, ℕ, length}
-use Rattle.lj_text.specs.Bytes.{line_number}
+use Rattle.std.proofs.Common.{◌≡◌, length, None}
 use Rattle.lj_text.specs.LinesRead.{HasNoLineEnd}
+use Rattle.lj_text.specs.CnfResuming.{kept_fault}
 use Rattle.lj_text.proofs.TakeLemmas.{Going}
 use Rattle.lj_text.proofs.cnf.reader.take_piece.Given as goal
 
 abbrev pub invariant-loop-front : goal.invariant-loop-front
 invariant-loop-front l = record {
   none : HasNoLineEnd l.held.items;
-  going : (n : ℕ) → l.first ≡ line_number n → Going l.max n l.fn.before l.fn.held.items l.piece l.state l.number l.held.items l.rest;
+  sound : kept_fault l.fn.before ≡ None → kept_fault l.state ≡ None;
+  going : Going l.max l.first l.fn.before l.fn.held.items l.piece l.state l.number l.held.items l.rest;
 }
 
 abbrev pub decreases-loop-front : goal.decreases-loop-front

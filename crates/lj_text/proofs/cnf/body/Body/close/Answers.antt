@@ -5,8 +5,8 @@ use Rattle.lj_text.specs.CnfReading.{Begun, completed}
 use Rattle.lj_text.proofs.CnfLemmas.{completed-early, empty_from}
 use Rattle.lj_text.proofs.cnf.body.Body.close.Goals as goal
 
-pub returns-then-self-gt0 : goal.returns-then-self-gt0
-returns-then-self-gt0 c last =
+pub returns-then-self-gt0-clause-reads : goal.returns-then-self-gt0-clause-reads
+returns-then-self-gt0-clause-reads c last =
     let v = c.self.inside in
     let begun : Begun = record { variables = v.variables; left = v.left; clauses = v.clauses.items; literals = v.literals.items } in
     let same : begun ≡ c.args.self = c.self.view_is in

@@ -7,8 +7,8 @@ use Rattle.lj_text.specs.CnfReading.{Begun, completed, is_up_to}
 use Rattle.lj_text.proofs.CnfLemmas.{completed-zero, clauses-pushed}
 use Rattle.lj_text.proofs.cnf.body.Body.close_clause.Goals as goal
 
-pub returns : goal.returns
-returns c last line rest =
+pub returns-clause-reads : goal.returns-clause-reads
+returns-clause-reads c last line rest =
     let v = c.self.inside in
     let begun : Begun = record { variables = v.variables; left = v.left; clauses = v.clauses.items; literals = v.literals.items } in
     let same : begun ≡ c.args.self.now = c.self.view_is in

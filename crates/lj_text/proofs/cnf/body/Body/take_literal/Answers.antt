@@ -6,8 +6,8 @@ use Rattle.lj_text.specs.CnfReading.{Begun, completed}
 use Rattle.lj_text.proofs.CnfLemmas.{completed-literal}
 use Rattle.lj_text.proofs.cnf.body.Body.take_literal.Goals as goal
 
-pub returns-in_ok-push-in-Some : goal.returns-in_ok-push-in-Some
-returns-in_ok-push-in-Some c last line rest =
+pub returns-in_ok-push-in-Some-clause-reads : goal.returns-in_ok-push-in-Some-clause-reads
+returns-in_ok-push-in-Some-clause-reads c last line rest =
     let v = c.self.inside in
     let begun : Begun = record { variables = v.variables; left = v.left; clauses = v.clauses.items; literals = v.literals.items } in
     let same : begun ≡ c.args.self.now = c.self.view_is in

@@ -6,8 +6,8 @@ use Rattle.lj_text.specs.CnfReading.{Begun, completed}
 use Rattle.lj_text.proofs.CnfLemmas.{completed-percent_early, empty_from}
 use Rattle.lj_text.proofs.cnf.body.Body.take_percent.Goals as goal
 
-pub returns-then-self-gt0 : goal.returns-then-self-gt0
-returns-then-self-gt0 c last line rest =
+pub returns-then-self-gt0-clause-reads : goal.returns-then-self-gt0-clause-reads
+returns-then-self-gt0-clause-reads c last line rest =
     let v = c.self.inside in
     let begun : Begun = record { variables = v.variables; left = v.left; clauses = v.clauses.items; literals = v.literals.items } in
     let same : begun ≡ c.args.self.now = c.self.view_is in
