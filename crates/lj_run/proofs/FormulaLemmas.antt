@@ -1,13 +1,12 @@
 -- The steps of reading a formula.
-use Rattle.std.proofs.Common.{◌≡◌, ℕ, zero, true, false, List, [], ◌++◌, take, Option, Result, Ok, Err, refl, sym, ap, ◌∙◌, subst, inl, inr, append_assoc}
-use Rattle.std.specs.Prelude.{◌⊎◌, IfOk, IfErr, OnOk}
+use Rattle.std.proofs.Common.{◌≡◌, ℕ, zero, true, false, List, [], ◌++◌, take, Option, Some, Result, Ok, Err, refl, sym, ap, ◌∙◌, subst, inl, inr, append_assoc}
+use Rattle.std.specs.Prelude.{◌⊎◌, IfOk, IfErr, IfSome, OnOk}
 use Rattle.std.proofs.lemmas.List.{append-nil}
 use Rattle.lj_clause.specs.ClauseMap.{FormulaValue}
 use Rattle.lj_text.specs.declared.cnf.fault.CnfFault.{CnfFault}
-use Rattle.lj_text.specs.declared.cnf.state.State.{State}
-use Rattle.lj_text.specs.declared.cnf.state.State.TheVariants.{Header, Clauses, Ended, Faulty}
 use Rattle.lj_text.specs.Cnf.{Spells, HasFault}
-use Rattle.lj_text.specs.CnfRead.{CnfRead, CnfReaderStandsAt, KeepsCnfFault, IfFaulty, is_cnf_no_memory}
+use Rattle.lj_text.specs.CnfRead.{CnfRead, CnfReaderStandsAt}
+use Rattle.lj_text.specs.CnfReading.{is_cnf_no_memory}
 use Rattle.lj_text.specs.Streams.{SourceState, HasEnded}
 use Rattle.lj_run.specs.declared.outcome.RunFault.{RunFault}
 use Rattle.lj_run.specs.declared.outcome.RunFault.TheVariants.{Formula, FormulaRead, NoMemory}
@@ -19,11 +18,8 @@ pub formula_begins : (reader : CnfRead) (before : SourceState) → CnfReaderStan
 formula_begins reader before stands = record { piece = []; gave = given_none before; reading = inl stands }
 
 -- a fault that is kept is told
-if_kept : (state : State) (fault : CnfFault) (P : CnfFault → Type 0) → KeepsCnfFault state fault → IfFaulty state P → P fault
-if_kept Header fault P keeps h = absurd keeps
-if_kept (Clauses body) fault P keeps h = absurd keeps
-if_kept (Ended body) fault P keeps h = absurd keeps
-if_kept (Faulty kept) fault P keeps h = subst P keeps h
+if_kept : (o : Option CnfFault) (fault : CnfFault) (P : CnfFault → Type 0) → o ≡ Some fault → IfSome o P → P fault
+if_kept o fault P keeps h = subst (λ (k : Option CnfFault). IfSome k P) keeps h
 
 -- a fault of what was fed stays that with a piece more
 kept_on : (fed piece : List ℕ) (reader : CnfRead) → KeepsFault fed reader → KeepsFault (fed ++ piece) reader
@@ -35,17 +31,17 @@ kept_on fed piece reader k = record {
 
 -- a piece was fed
 pub formula_fed : {A : Type 0} (fed : List ℕ) (old new : CnfRead) (piece : List ℕ) (r : Result A CnfFault) → IsReadingFormula fed old
-    → IfFaulty old.state (λ fault. (r ≡ Err fault) × (new ≡ old)) → OnOk r ((t : List ℕ) → CnfReaderStandsAt old t → CnfReaderStandsAt new (t ++ piece))
-    → IfErr r (λ fault. is_cnf_no_memory fault.kind ≡ false → (t : List ℕ) → CnfReaderStandsAt old t → (more : List ℕ) → HasFault old.max (t ++ (piece ++ more)) fault) → IfErr r (λ fault. KeepsCnfFault new.state fault)
+    → IfSome old.fault (λ fault. (r ≡ Err fault) × (new ≡ old)) → OnOk r ((t : List ℕ) → CnfReaderStandsAt old t → CnfReaderStandsAt new (t ++ piece))
+    → IfErr r (λ fault. is_cnf_no_memory fault.kind ≡ false → (t : List ℕ) → CnfReaderStandsAt old t → (more : List ℕ) → HasFault old.max (t ++ (piece ++ more)) fault) → IfErr r (λ fault. new.fault ≡ Some fault)
     → new.max ≡ old.max → IsReadingFormula (fed ++ piece) new
 formula_fed {A = A} fed old new piece r was told stands fault kept max =
     elim was [
       | inl at ↦ standing r at stands fault kept
-      | inr k ↦ inr (subst (λ (reader : CnfRead). KeepsFault (fed ++ piece) reader) (sym (if_kept old.state k.fault (λ fault. (r ≡ Err fault) × (new ≡ old)) k.keeps told).1) (kept_on fed piece old k))
+      | inr k ↦ inr (subst (λ (reader : CnfRead). KeepsFault (fed ++ piece) reader) (sym (if_kept old.fault k.fault (λ fault. (r ≡ Err fault) × (new ≡ old)) k.keeps told).1) (kept_on fed piece old k))
     ]
   where
     standing : (r : Result A CnfFault) → CnfReaderStandsAt old fed → OnOk r ((t : List ℕ) → CnfReaderStandsAt old t → CnfReaderStandsAt new (t ++ piece))
-        → IfErr r (λ fault. is_cnf_no_memory fault.kind ≡ false → (t : List ℕ) → CnfReaderStandsAt old t → (more : List ℕ) → HasFault old.max (t ++ (piece ++ more)) fault) → IfErr r (λ fault. KeepsCnfFault new.state fault)
+        → IfErr r (λ fault. is_cnf_no_memory fault.kind ≡ false → (t : List ℕ) → CnfReaderStandsAt old t → (more : List ℕ) → HasFault old.max (t ++ (piece ++ more)) fault) → IfErr r (λ fault. new.fault ≡ Some fault)
         → IsReadingFormula (fed ++ piece) new
     standing (Ok done) at stands fault kept = inl (stands fed at)
     standing (Err f) at stands fault kept = inr (record {
@@ -65,22 +61,22 @@ read_further reader new start before after r onward =
       reading = subst (λ t. IsReadingFormula t new) (append_assoc [] r.piece more.piece) more.reading;
     }
 
-pub answered_formula : (fed : List ℕ) (reader : CnfRead) (formula : FormulaValue) → IsReadingFormula fed reader → IfFaulty reader.state (λ fault. ◌≡◌ {A = Result FormulaValue CnfFault} (Ok formula) (Err fault))
+pub answered_formula : (fed : List ℕ) (reader : CnfRead) (formula : FormulaValue) → IsReadingFormula fed reader → IfSome reader.fault (λ fault. ◌≡◌ {A = Result FormulaValue CnfFault} (Ok formula) (Err fault))
     → ((t : List ℕ) → CnfReaderStandsAt reader t → Spells reader.max t formula) → Spells reader.max fed formula
 answered_formula fed reader formula r told answer = elim r [
   | inl at ↦ answer fed at
-  | inr k ↦ absurd (no_formula (if_kept reader.state k.fault (λ fault. ◌≡◌ {A = Result FormulaValue CnfFault} (Ok formula) (Err fault)) k.keeps told))
+  | inr k ↦ absurd (no_formula (if_kept reader.fault k.fault (λ fault. ◌≡◌ {A = Result FormulaValue CnfFault} (Ok formula) (Err fault)) k.keeps told))
 ]
   where
     no_formula : {f : CnfFault} → ◌≡◌ {A = Result FormulaValue CnfFault} (Ok formula) (Err f) → ⊥
     no_formula e = cc
 
-pub answered_fault : (fed : List ℕ) (reader : CnfRead) (fault : CnfFault) → IsReadingFormula fed reader → IfFaulty reader.state (λ other. ◌≡◌ {A = Result FormulaValue CnfFault} (Err fault) (Err other))
+pub answered_fault : (fed : List ℕ) (reader : CnfRead) (fault : CnfFault) → IsReadingFormula fed reader → IfSome reader.fault (λ other. ◌≡◌ {A = Result FormulaValue CnfFault} (Err fault) (Err other))
     → ((t : List ℕ) → CnfReaderStandsAt reader t → is_cnf_no_memory fault.kind ≡ false → HasFault reader.max t fault) → is_cnf_no_memory fault.kind ≡ false → HasFault reader.max fed fault
 answered_fault fed reader fault r told answer memory = elim r [
   | inl at ↦ answer fed at memory
   | inr k ↦
-      let same = same_fault fault k.fault (if_kept reader.state k.fault (λ other. ◌≡◌ {A = Result FormulaValue CnfFault} (Err fault) (Err other)) k.keeps told) in
+      let same = same_fault fault k.fault (if_kept reader.fault k.fault (λ other. ◌≡◌ {A = Result FormulaValue CnfFault} (Err fault) (Err other)) k.keeps told) in
       let kept = subst (λ t. HasFault reader.max t k.fault) (append-nil fed) (k.is (subst (λ (f : CnfFault). is_cnf_no_memory f.kind ≡ false) same memory) []) in
       subst (λ f. HasFault reader.max fed f) (sym same) kept
 ]

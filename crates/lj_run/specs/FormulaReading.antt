@@ -1,9 +1,10 @@
 -- How a formula is read from its source.
-use Rattle.std.specs.Prelude.{◌≡◌, ◌⊎◌, ℕ, true, false, List, ◌++◌}
+use Rattle.std.specs.Prelude.{◌≡◌, ◌⊎◌, ℕ, true, false, List, Some, ◌++◌}
 use Rattle.lj_clause.specs.ClauseMap.{FormulaValue}
 use Rattle.lj_text.specs.declared.cnf.fault.CnfFault.{CnfFault}
 use Rattle.lj_text.specs.Cnf.{Spells, HasFault}
-use Rattle.lj_text.specs.CnfRead.{CnfRead, CnfReaderStandsAt, KeepsCnfFault, is_cnf_no_memory}
+use Rattle.lj_text.specs.CnfRead.{CnfRead, CnfReaderStandsAt}
+use Rattle.lj_text.specs.CnfReading.{is_cnf_no_memory}
 use Rattle.lj_text.specs.Streams.{SourceState, HasGiven, HasEnded}
 use Rattle.lj_run.specs.declared.outcome.RunFault.{RunFault}
 use Rattle.lj_run.specs.declared.outcome.RunFault.TheVariants.{Formula, FormulaRead, NoMemory}
@@ -11,7 +12,7 @@ use Rattle.lj_run.specs.declared.outcome.RunFault.TheVariants.{Formula, FormulaR
 -- The reader keeps a fault: that of what it was fed, whatever follows, unless memory ran out.
 pub record KeepsFault (fed : List ℕ) (reader : CnfRead) : Type 0 where
   pub fault : CnfFault
-  pub keeps : KeepsCnfFault reader.state fault
+  pub keeps : reader.fault ≡ Some fault
   pub is : is_cnf_no_memory fault.kind ≡ false → (more : List ℕ) → HasFault reader.max (fed ++ more) fault
 
 -- a reader that was fed these bytes
