@@ -1,3 +1,4 @@
 pub mod Marks
 pub mod Front
 pub mod Trimmed
+pub mod Laws

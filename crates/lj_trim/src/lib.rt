@@ -2,6 +2,7 @@
 #![tactic(auto)]
 
 mod kept;
+pub mod laws;
 mod marks;
 mod needed;
 mod trimming;
