@@ -6,8 +6,6 @@ mod committing;
 mod dying;
 mod entry;
 mod event;
-#[cfg(test)]
-mod inside_tests;
 mod joint_line;
 mod line_tests;
 mod number_map;
@@ -16,8 +14,6 @@ mod refusal;
 mod seat_tables;
 mod solo_laws;
 mod taking;
-#[cfg(test)]
-mod tests;
 mod tree_map;
 mod verified;
 

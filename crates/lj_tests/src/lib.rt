@@ -1,0 +1,6 @@
+//! Worked examples, computed by hand and run against the public calls. They stand in a crate of their own, so that no
+//! other is proved a second time for its tests.
+#![tactic(auto)]
+
+#[cfg(test)]
+mod book;
