@@ -19,7 +19,7 @@ use Rattle.lj_text.specs.Cnf.{Place, Percent, NoNumber, Number, number_at, fault
 use Rattle.lj_text.specs.CnfReading.{Begun, completed, clauses_after, IsCnfTold, IsNumberUpTo, is_up_to, is_kept, keeps_first, Goes, places_behind}
 use Rattle.lj_text.specs.declared.cnf.fault.CnfFaultKind.{CnfFaultKind}
 
-not_zero : (n : ℕ) → 0 < n → (n == 0) ≡ false
+pub not_zero : (n : ℕ) → 0 < n → (n == 0) ≡ false
 not_zero n h = grind (arith, nat_tests)
 
 -- behind a literal
@@ -184,7 +184,7 @@ named p ls h =
     let wrong : false ≡ true = sym (ap not any) ∙ none in
     cc))
 
-variable-abs : (l : ℤ) → variable_of l ≡ unsigned_abs l
+pub variable-abs : (l : ℤ) → variable_of l ≡ unsigned_abs l
 variable-abs (pos n) = refl
 variable-abs (negsuc n) = refl
 

@@ -15,3 +15,5 @@ pub mod Fronts
 pub mod WritingLemmas
 mod WordLemmas
 mod WrittenWords
+mod WrittenNumbers
+mod ReadAgainLemmas

@@ -1,5 +1,5 @@
 -- The tokens at the front of a line as numbers.
-use Rattle.std.proofs.Common.{◌≡◌, ℕ, zero, suc, ◌+◌, ◌-◌, ◌*◌, ◌^◌, ◌<◌, ◌≤◌, ◌==◌, true, false, ◌&&◌, cond, List, [], ◌∷◌, ◌++◌, length, get_or, take, drop, refl, sym, ap, ◌∙◌, subst, inl, inr, append_assoc, arith, length-append, length-take, length-drop}
+use Rattle.std.proofs.Common.{◌≡◌, Bool, ℕ, zero, suc, ◌+◌, ◌-◌, ◌*◌, ◌^◌, ◌<◌, ◌≤◌, ◌==◌, true, false, ◌&&◌, cond, List, [], ◌∷◌, ◌++◌, length, get_or, take, drop, refl, sym, ap, ◌∙◌, subst, inl, inr, append_assoc, arith, length-append, length-take, length-drop}
 use Rattle.std.proofs.lemmas.Bool.Decides.{nat_tests}
 use Rattle.std.proofs.lemmas.List.{append-nil, take_all, nil_from_length}
 use Rattle.std.proofs.lemmas.List.Elements.{All-cons}
@@ -86,16 +86,19 @@ digits-blank first bytes value (b ∷ rest) p blank so_far =
     }
 
 -- no digit is a blank
-digit_no_blank : (b : ℕ) → is_ascii_digit b ≡ true → is_blank b ≡ false
+pub digit_no_blank : (b : ℕ) → is_ascii_digit b ≡ true → is_blank b ≡ false
 digit_no_blank b d = grind (arith, nat_tests)
 
-digits_no_blanks : (ds : List ℕ) → list_all is_ascii_digit ds ≡ true → All (λ b. is_blank b ≡ false) ds
-digits_no_blanks [] h = λ k d lt. absurd (omega arith)
-digits_no_blanks (b ∷ ds) h =
-    elim (is_ascii_digit b) as (λ t. is_ascii_digit b ≡ t → All (λ b. is_blank b ≡ false) (b ∷ ds)) [
-      | true ↦ λ e. All-cons (λ b. is_blank b ≡ false) b ds (digit_no_blank b e) (digits_no_blanks ds (ap (λ t. t && list_all is_ascii_digit ds) (sym e) ∙ h))
+pub digits-all : (p : ℕ → Bool) → ((b : ℕ) → is_ascii_digit b ≡ true → p b ≡ false) → (ds : List ℕ) → list_all is_ascii_digit ds ≡ true → All (λ b. p b ≡ false) ds
+digits-all p none [] h = λ k d lt. absurd (omega arith)
+digits-all p none (b ∷ ds) h =
+    elim (is_ascii_digit b) as (λ t. is_ascii_digit b ≡ t → All (λ b. p b ≡ false) (b ∷ ds)) [
+      | true ↦ λ e. All-cons (λ b. p b ≡ false) b ds (none b e) (digits-all p none ds (ap (λ t. t && list_all is_ascii_digit ds) (sym e) ∙ h))
       | false ↦ λ e. absurd (let wrong : false ≡ true = ap (λ t. t && list_all is_ascii_digit ds) (sym e) ∙ h in cc)
     ] refl
+
+digits_no_blanks : (ds : List ℕ) → list_all is_ascii_digit ds ≡ true → All (λ b. is_blank b ≡ false) ds
+digits_no_blanks ds h = digits-all is_blank digit_no_blank ds h
 
 filled-front : (b : ℕ) (front ds : List ℕ) → is_filled ((b ∷ front) ++ ds) ≡ true
 filled-front b front ds = refl
@@ -119,12 +122,12 @@ digits_value-of d ds one all =
 digit_no_minus : (d : ℕ) → is_ascii_digit d ≡ true → (d == 45) ≡ false
 digit_no_minus d h = grind (arith, nat_tests)
 
-number-unsigned : (d : ℕ) (ds : List ℕ) → is_ascii_digit d ≡ true → list_all is_ascii_digit ds ≡ true → number_of (d ∷ ds) ≡ Some (pos (decimal_value (d ∷ ds)))
+pub number-unsigned : (d : ℕ) (ds : List ℕ) → is_ascii_digit d ≡ true → list_all is_ascii_digit ds ≡ true → number_of (d ∷ ds) ≡ Some (pos (decimal_value (d ∷ ds)))
 number-unsigned d ds one all =
     ap (λ t. cond t (option_and_then negative (digits_value ds)) (option_map pos (digits_value (d ∷ ds)))) (digit_no_minus d one)
     ∙ ap (option_map pos) (digits_value-of d ds one all)
 
-number-negative : (d : ℕ) (ds : List ℕ) → is_ascii_digit d ≡ true → list_all is_ascii_digit ds ≡ true → number_of (45 ∷ d ∷ ds) ≡ negative (decimal_value (d ∷ ds))
+pub number-negative : (d : ℕ) (ds : List ℕ) → is_ascii_digit d ≡ true → list_all is_ascii_digit ds ≡ true → number_of (45 ∷ d ∷ ds) ≡ negative (decimal_value (d ∷ ds))
 number-negative d ds one all = ap (option_and_then negative) (digits_value-of d ds one all)
 
 -- a number without a sign

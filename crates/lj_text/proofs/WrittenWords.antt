@@ -1,6 +1,6 @@
 -- The words of a step, one after the other.
 use Rattle.std.proofs.Common.{◌≡◌, ℕ, suc, ◌+◌, ◌<◌, List, [], ◌∷◌, ◌++◌, map, length, take, drop, get_or, refl, sym, ap, ◌∙◌, subst, append_assoc, append-nil, add-one, arith}
-use Rattle.std.specs.Prelude.{ℤ, Option, None, Some, Bool, true, false, cond, not, filter, flat_map, codes}
+use Rattle.std.specs.Prelude.{ℤ, Option, None, Some, false, cond, not, filter, flat_map, codes}
 use Rattle.std.specs.FinMap as fin
 use Rattle.std.specs.Fmt.{decimal, signed_decimal}
 use Rattle.std.specs.List.{join_with_byte}
@@ -72,7 +72,7 @@ no_item : {X : Type 0} (xs : List X) → length xs ≡ 0 → xs ≡ []
 no_item [] e = refl
 no_item (x ∷ xs) e = absurd (omega arith)
 
-no_literal : literals no_literals ≡ []
+pub no_literal : literals no_literals ≡ []
 no_literal = ap (λ es. map (λ (e : ℤ × Unit {0}). e.0) es) (no_item (fin.entries no_literals) (sym (fin.len-entries no_literals) ∙ fin.len-empty lit_cmp (Unit {0})))
 
 no_pivot : (o : Option ℤ) (c : LiteralSet) → None ≡ o → IsLemma (record { clause = c; pivot = o }) → c ≡ no_literals
