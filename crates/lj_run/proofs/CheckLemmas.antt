@@ -6,8 +6,8 @@ use Rattle.lj_text.specs.Steps.{refutes}
 use Rattle.lj_text.specs.Streams.{SourceState}
 use Rattle.lj_book.specs.State.{IsUnsatisfiable}
 use Rattle.lj_run.specs.Checking.{verdict_of, IsPrinted}
-use Rattle.lj_run.specs.FormulaReading.{GaveFormula}
-use Rattle.lj_run.specs.InTurn.{IsOutcome}
+use Rattle.lj_run.specs.InTurn.{IsOutcome, IsRunAnswer}
+use Rattle.lj_run.specs.Proof.{SinkState}
 use Rattle.lj_run.specs.OutcomeText.{outcome_text}
 use Rattle.lj_run.specs.declared.checking.Verdict.{Verdict}
 use Rattle.lj_run.specs.declared.checking.Verdict.TheVariants.{Verified, NotVerified}
@@ -25,15 +25,15 @@ outcome_refutes seen f max streams outcome is verified =
     unsatisfiable-refutes f outcome.steps.items (refuted_steps f outcome.verified (refutes f outcome.steps.items) is.verified verified)
 
 -- what is printed of an outcome
-pub printed_of : {S : Type 0} (before after : SourceState) (seen : S → SourceState) (max : ℕ) (streams : List S) (verdict : Verdict) (text : List ℕ) (outcome : Outcome S)
-    → ((f : FormulaValue) × GaveFormula before after f × IsOutcome seen f max streams outcome) → verdict ≡ verdict_of outcome.verified → text ≡ outcome_text outcome
+pub printed_of : {S W : Type 0} (before after : SourceState) (seen : S → SourceState) (sink : W → SinkState) (max : ℕ) (trims : Bool) (streams : List S) (old new : Option W) (verdict : Verdict) (text : List ℕ) (outcome : Outcome S)
+    → IsRunAnswer before after seen sink max trims streams old new outcome → verdict ≡ verdict_of outcome.verified → text ≡ outcome_text outcome
     → IsPrinted before after seen max streams verdict text
-printed_of before after seen max streams verdict text outcome is answers prints = record {
-  formula = is.0;
-  gave = is.1;
+printed_of before after seen sink max trims streams old new verdict text outcome is answers prints = record {
+  formula = is.formula;
+  gave = is.gave;
   outcome = outcome;
-  comes = is.2;
+  comes = is.comes;
   answers = answers;
-  unsatisfiable = λ e. outcome_refutes seen is.0 max streams outcome is.2 (sym answers ∙ e);
+  unsatisfiable = λ e. outcome_refutes seen is.formula max streams outcome is.comes (sym answers ∙ e);
   prints = prints;
 }

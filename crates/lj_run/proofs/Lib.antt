@@ -5,6 +5,7 @@ mod FormulaLemmas
 mod GivenLemmas
 mod InTurnLemmas
 mod ProgramLemmas
+mod ProofLemmas
 mod ReadingLemmas
 mod RunLemmas
 mod StartLemmas

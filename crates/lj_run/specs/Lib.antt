@@ -3,6 +3,7 @@ pub mod Files
 pub mod FormulaReading
 pub mod InTurn
 pub mod OutcomeText
+pub mod Proof
 pub mod Program
 pub mod Reading
 pub mod Run

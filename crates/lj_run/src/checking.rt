@@ -94,8 +94,8 @@ pub fn check<R: Wait, F: Source, S: Source + Drop, O: Sink>(
     ensures untouched { IfErr result (λ fault. fault ≢ check_faults.CannotWrite → out.new ≡ out.old) }
     ensures failed { result ≡ Err check_faults.CannotWrite → O.failures out.new ≡ 1 }
 {
-    let proof = None::<&mut MemorySink>;
-    let outcome = run_in_turn(rt, alloc, formula, streams, closing, options, proof)?;
+    let mut proof = None::<MemorySink>;
+    let outcome = run_in_turn(rt, alloc, formula, streams, closing, options, &mut proof)?;
     let text = text_of(alloc, &outcome)?;
     match write_all(out, text.as_bytes()) {
         Ok(()) => Ok(verdict_on(&outcome)),

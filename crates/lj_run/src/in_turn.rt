@@ -1,11 +1,12 @@
 //! The run of streams one after the other, on one book.
-ghost use Rattle.std.specs.Prelude.{◌≡◌, ◌<◌, ◌≤◌, length, All, None, IfOk, IfErr};
-ghost use Rattle.lj_clause.specs.ClauseMap.{FormulaValue};
+ghost use Rattle.std.specs.Prelude.{◌≡◌, ◌<◌, ◌≤◌, length, All, IfOk, IfErr, IfSome, OnErr};
 ghost use Rattle.lj_text.specs.Streams.{source_state};
-ghost use Rattle.lj_run.specs.FormulaReading.{GaveFormula, IsFormulaFault};
-ghost use Rattle.lj_run.specs.InTurn.{IsOutcome, IsReport, RunInTurn, streams_by_seat};
+ghost use Rattle.lj_run.specs.FormulaReading.{IsFormulaFault};
+ghost use Rattle.lj_run.specs.InTurn.{IsReport, IsRunAnswer, RunInTurn, streams_by_seat};
+ghost use Rattle.lj_run.specs.Proof.{sink_state};
 
-use crate::outcome::{Options, Outcome, ProofEnd, Report, RunFault};
+use crate::outcome::{Options, Outcome, Report, RunFault};
+use crate::proving::prove;
 use crate::reading::read_formula;
 use crate::stream::run_stream;
 use lj_book::Book;
@@ -15,7 +16,8 @@ use std::alloc::{AllocFailed, Global};
 use std::sync::Wait;
 
 /// Reads a formula, and runs the streams one after the other on one book of it, each under a seat of its own: the closing
-/// one has the last seat, and runs last. No proof is asked for so far.
+/// one has the last seat, and runs last. Where a sink is handed in, the proof is written into it: the lines of the steps up to the
+/// first addition of the empty clause, trimmed where the options ask for it, and of all steps where none adds it.
 ///
 /// # Errors
 /// The fault of the formula's text, a read of it that failed, or want of memory outside the streams.
@@ -26,33 +28,35 @@ pub fn run_in_turn<R: Wait, F: Source, S: Source + Drop, W: Sink>(
     streams: Vec<S>,
     closing: Option<S>,
     options: &Options,
-    out: Option<&mut W>,
+    out: &mut Option<W>,
 ) -> Result<Outcome<S>, RunFault>
     requires some { 0 < length (streams_by_seat streams.items closing) }
     requires at_most { length (streams_by_seat streams.items closing) ≤ 1024 }
-    requires none_asked { out ≡ None }
     requires unfailed { F.failures formula.old ≡ 0 }
     requires streams_unfailed { All (λ stream. S.failures stream ≡ 0) (streams_by_seat streams.items closing) }
+    requires out_unfailed { IfSome out.old (λ sink. W.failures sink ≡ 0) }
 
-    ensures outcome { IfOk result (λ outcome. (f : FormulaValue)
-        × GaveFormula (source_state F.given F.ended F.rest F.failures formula.old)
-        (source_state F.given F.ended F.rest F.failures formula.new) f
-        × IsOutcome (source_state S.given S.ended S.rest S.failures) f options.now.max_steps
-        (streams_by_seat streams.items closing) outcome) }
+    ensures outcome { IfOk result (IsRunAnswer (source_state F.given F.ended F.rest F.failures formula.old)
+        (source_state F.given F.ended F.rest F.failures formula.new) (source_state S.given S.ended S.rest S.failures)
+        (sink_state W.taken W.failures) options.now.max_steps options.now.trim
+        (streams_by_seat streams.items closing) out.old out.new) }
     ensures fault { IfErr result (IsFormulaFault (source_state F.given F.ended F.rest F.failures formula.old)
         (source_state F.given F.ended F.rest F.failures formula.new)) }
+    ensures untouched { OnErr result (out.new ≡ out.old) }
 {
     let formula = read_formula(rt, alloc, formula)?;
+    let clauses = formula.len() as u64;
     let streams = by_seat(streams, closing)?;
     let mut book = Book::open(alloc, formula, streams.len() as u32, options.max_steps)?;
     let reports = run_all(rt, alloc, &mut book, streams)?;
     let verified = book.verified()?;
     let steps = book.into_steps()?;
+    let proof = prove(alloc, clauses, &verified, options.trim, &steps, out);
     Ok(Outcome {
         reports,
         verified,
         steps,
-        proof: ProofEnd::NotAsked,
+        proof,
     })
 }
 

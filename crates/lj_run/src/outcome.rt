@@ -141,6 +141,19 @@ impl From<Refusal> for LineEnd {
 pub enum ProofEnd {
     /// None was asked for.
     NotAsked,
+    /// The sink took all of it.
+    Written,
+    /// It couldn't be written.
+    Failed(ProofFault),
+}
+
+/// Why a proof couldn't be written.
+#[derive(Clone, Copy, Debug, PartialEq, Eq)]
+pub enum ProofFault {
+    /// The sink failed. It took a beginning of the proof, and not all.
+    Device,
+    /// A growth of memory was refused to the trimmer. The sink took nothing.
+    NoMemory(NoMemory),
 }
 
 /// Why a run has no outcome.

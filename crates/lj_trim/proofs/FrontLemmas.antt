@@ -34,6 +34,13 @@ up_to-suc (y ∷ ys) (suc i) x none lt e here =
 pub up_to-found : (xs : List Step) (i : ℕ) (x : Step) → list_any adds_empty (take i xs) ≡ false → i < length xs → x ≡ get_or xs i x → adds_empty x ≡ true → take (i + 1) xs ≡ up_to_empty xs
 up_to-found xs i x none lt e here = ap (λ k. take k xs) (add-one i) ∙ up_to-suc xs i x none lt e here
 
+-- where no step adds the empty clause, the steps up to it are all
+pub up_to-none : (xs : List Step) → list_any adds_empty xs ≡ false → up_to_empty xs ≡ xs
+up_to-none [] e = refl
+up_to-none (x ∷ xs) e =
+    ap (λ b. cond b (x ∷ []) (x ∷ up_to_empty xs)) (left_false (adds_empty x) (list_any adds_empty xs) e)
+    ∙ ap (λ t. x ∷ t) (up_to-none xs (right_false (adds_empty x) (list_any adds_empty xs) e))
+
 pub additions-append : (xs ys : List Step) → additions (xs ++ ys) ≡ additions xs ++ additions ys
 additions-append [] ys = refl
 additions-append (Add a ∷ xs) ys = ap (λ t. a ∷ t) (additions-append xs ys)

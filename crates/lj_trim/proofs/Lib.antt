@@ -1,6 +1,6 @@
 mod MarkLemmas
 mod ClosureLemmas
-mod FrontLemmas
+pub mod FrontLemmas
 mod TrimmedLemmas
 mod RestrictLemmas
 pub mod RefutationLemmas

@@ -8,6 +8,7 @@ mod needed;
 mod trimming;
 
 pub use kept::Kept;
+pub use needed::up_to_empty_clause;
 pub use trimming::{TrimRefusal, trim};
 
 #[cfg(test)]

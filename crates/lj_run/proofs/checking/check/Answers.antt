@@ -8,20 +8,20 @@ pub returns-in-Ok-clause-printed : goal.returns-in-Ok-clause-printed
 returns-in-Ok-clause-printed g c = (
   c.as_bytes.result.now,
   c.in-Ok.ensures.taken,
-  printed_of _ _ _ _ _ _ _ c.in_ok-outcome.outcome c.in_ok-outcome.ensures.outcome c.verdict_on.ensures (c.as_bytes.ensures.value ∙ c.in_ok-text.ensures),
+  printed_of _ _ _ _ _ _ _ _ _ _ _ c.in_ok-outcome.outcome c.in_ok-outcome.ensures.outcome c.verdict_on.ensures (c.as_bytes.ensures.value ∙ c.in_ok-text.ensures),
 )
 
 pub returns-in-Ok-clause-refuted : goal.returns-in-Ok-clause-refuted
 returns-in-Ok-clause-refuted g c = λ e.
     let is : c.verdict_on.result ≡ Verified = cc in
-    let printed = printed_of _ _ _ _ _ _ _ c.in_ok-outcome.outcome c.in_ok-outcome.ensures.outcome c.verdict_on.ensures (c.as_bytes.ensures.value ∙ c.in_ok-text.ensures) in
+    let printed = printed_of _ _ _ _ _ _ _ _ _ _ _ c.in_ok-outcome.outcome c.in_ok-outcome.ensures.outcome c.verdict_on.ensures (c.as_bytes.ensures.value ∙ c.in_ok-text.ensures) in
     (printed.formula, printed.unsatisfiable is, printed.gave)
 
 pub returns-clause-fault : goal.returns-clause-fault
 returns-clause-fault g c = record {
   verdict = verdict_of c.in_ok-outcome.outcome.verified;
   text = c.as_bytes.result.now;
-  printed = printed_of _ _ _ _ _ _ _ c.in_ok-outcome.outcome c.in_ok-outcome.ensures.outcome refl (c.as_bytes.ensures.value ∙ c.in_ok-text.ensures);
+  printed = printed_of _ _ _ _ _ _ _ _ _ _ _ c.in_ok-outcome.outcome c.in_ok-outcome.ensures.outcome refl (c.as_bytes.ensures.value ∙ c.in_ok-text.ensures);
   count = c.in-Err.ensures.beginning.0;
   not_all = c.in-Err.ensures.beginning.1;
   took = c.in-Err.ensures.beginning.2;
