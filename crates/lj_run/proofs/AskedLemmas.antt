@@ -1,8 +1,8 @@
 -- What words ask for, by how `clap` reads them.
-use Rattle.std.proofs.Common.{◌≡◌, ℕ, List, [], ◌∷◌, Option, Some, None, refl, sym, ap, ap₂, ◌∙◌, subst, codes, inl, inr, ◌≢◌, Result, Ok, Err, IfOk, is_some}
+use Rattle.std.proofs.Common.{◌≡◌, ℕ, List, [], ◌∷◌, Option, Some, None, refl, sym, ap, ap₂, ◌∙◌, subst, inl, inr, ◌≢◌, Result, Ok, Err, IfOk, is_some}
 use Rattle.clap.specs.Faults.{entered_fault, fault_of, level_fault}
 use Rattle.clap.specs.Kinds.{HasKind, IsAmong, Kinds}
-use Rattle.clap.specs.Matches.{found_of, first_value}
+use Rattle.clap.specs.Matches.{found_of}
 use Rattle.clap.specs.Simple.{argument_words, built, entered, matches_of}
 use Rattle.clap.specs.Values.{kind_of}
 use Rattle.clap.specs.Walk.{Row, Text, nothing_held, rows_of, walk}
@@ -10,8 +10,7 @@ use Rattle.clap.specs.declared.error.Error.{Error}
 use Rattle.clap.specs.declared.error.kind.ErrorKind.{ErrorKind}
 use Rattle.clap.specs.declared.error.kind.ErrorKind.TheVariants.{OutOfMemory}
 use Rattle.clap.specs.declared.parser.matches.ArgMatches.{ArgMatches}
-use Rattle.clap.proofs.WalkLemmas.{first_value-rows}
-use Rattle.lj_run.specs.Words.{Asked, request_asked, asked_by, asked_by_fault, kind_asked, program_app, run_asked}
+use Rattle.lj_run.specs.Words.{Asked, request_asked, asked_by, asked_by_fault, asked_by_rows, kind_asked, program_app}
 use Rattle.lj_run.specs.declared.command_line.Request.{Request}
 use Rattle.lj_run.proofs.FaultKinds.{IsSingle, level_single}
 
@@ -42,19 +41,15 @@ unfolding asked_by
 wrong_words words e other (inl memory) = absurd (other memory)
 wrong_words words e other (inr among) = only_kind (kind_of e) (fault_of program_app words) (matches_of program_app words) (single_fault words) among
 
--- words that are read ask for the run of what is found
+-- words that are read ask for what they give
 right_words : (words : List (List ℕ)) (m : ArgMatches) → rows_of (found_of m) ≡ matches_of program_app words → fault_of program_app words ≡ []
-    → asked_by words ≡ run_asked (first_value (found_of m) (codes "FORMULA")) (first_value (found_of m) (codes "PROOF"))
+    → asked_by words ≡ asked_by_rows (rows_of (found_of m))
 unfolding asked_by
-right_words words m rows none =
-    ap₂ asked_by_fault none (sym rows)
-    ∙ ap₂ run_asked (sym (first_value-rows (found_of m) (codes "FORMULA"))) (sym (first_value-rows (found_of m) (codes "PROOF")))
+right_words words m rows none = ap₂ asked_by_fault none (sym rows)
 
 -- a request that is right of what is found is right of the words
 pub right_request : (words : List (List ℕ)) (m : ArgMatches) (asked : Asked) → rows_of (found_of m) ≡ matches_of program_app words
-    → fault_of program_app words ≡ []
-    → asked ≡ run_asked (first_value (found_of m) (codes "FORMULA")) (first_value (found_of m) (codes "PROOF"))
-    → asked ≡ asked_by words
+    → fault_of program_app words ≡ [] → asked ≡ asked_by_rows (rows_of (found_of m)) → asked ≡ asked_by words
 right_request words m asked rows none h = h ∙ sym (right_words words m rows none)
 
 -- a request that is right of an error is right of the words

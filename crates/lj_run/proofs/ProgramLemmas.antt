@@ -1,23 +1,24 @@
 -- What the program tells, and how it ends.
-use Rattle.std.proofs.Common.{suc, ◌≡◌, ◌<◌, ℕ, List, [], ◌∷◌, ◌++◌, ◌+◌, length, map, take, get_or, Option, Some, None, refl, sym, ap, ◌∙◌, subst, append-nil, arith}
-use Rattle.std.specs.Prelude.{All, IfSome}
+use Rattle.std.proofs.Common.{suc, ◌≡◌, ◌<◌, ◌≤◌, ℕ, List, [], ◌∷◌, ◌++◌, ◌+◌, length, map, take, get_or, Option, Some, None, refl, sym, ap, ◌∙◌, subst, append-nil, length-append, inr, arith}
+use Rattle.std.specs.Prelude.{All, Contains, IfErr, IfSome, IsErrAnd, Result, Ok, Err, option_map}
 use Rattle.std.specs.Io.KnownBytes.{Consumes, IsAtEnd, Keeps}
 use Rattle.std.specs.Borrow.{Bor}
 use Rattle.std.proofs.lemmas.List.{take_more, map-append, length-map}
-use Rattle.std.proofs.lemmas.List.Elements.{All-cons, All-nil}
+use Rattle.std.proofs.lemmas.List.Elements.{All-cons, All-nil, Contains-append_left, Contains-append_right}
 use Rattle.lj_text.specs.Streams.{SourceState}
 use Rattle.lj_run.specs.Checking.{IsCheckFault, IsCutText}
 use Rattle.lj_run.specs.FormulaReading.{GaveAll}
-use Rattle.lj_run.specs.Program.{HasInputs, IfRun, IsAnswered, IsOpened, IsRunAnswered, SpellsUnsatisfiable, fault_at, status_code, verdict_status}
-use Rattle.lj_run.specs.Words.{Asked, a_run, the_help, the_version, the_usage}
+use Rattle.lj_run.specs.Program.{HasInputs, IfRun, IsAnOpenFault, IsAnswered, IsFaultOf, IsOpened, IsRunAnswered, SpellsUnsatisfiable, fault_at, status_code, verdict_status}
+use Rattle.lj_run.specs.InTurn.{streams_by_seat}
+use Rattle.lj_run.specs.Words.{Asked, AskedRun, a_run, paths_by_seat, the_help, the_version, the_usage}
 use Rattle.lj_run.specs.declared.checking.CheckFault.{CheckFault}
 use Rattle.lj_run.specs.declared.checking.CheckFault.TheVariants as check_faults
 use Rattle.lj_run.specs.declared.checking.Verdict.{Verdict}
 use Rattle.lj_run.specs.declared.checking.Verdict.TheVariants.{Verified, NotVerified}
+use Rattle.lj_run.specs.declared.fault.Fault.{Fault}
 use Rattle.lj_run.specs.declared.fault.Fault.TheVariants as faults
 use Rattle.lj_run.specs.declared.outcome.RunFault.TheVariants as run_faults
 use Rattle.lj_run.specs.declared.status.Status.{Status}
-use Rattle.lj_run.specs.declared.status.Status.TheVariants as statuses
 
 -- ---- files
 
@@ -64,18 +65,80 @@ same_contents before content [] same = refl
 same_contents before content (p ∷ paths) same =
     ap (λ c. c ∷ map (λ path. content path.now) paths) (same p.now) ∙ ap (λ cs. before p.now ∷ cs) (same_contents before content paths same)
 
--- there is an input for each path
-pub length-opened : {I : Type 0} (seen : I → SourceState) (content : List ℕ → Option (List ℕ)) (paths items : List (Bor (List ℕ))) (inputs : List I) → paths ≡ items
-    → HasInputs seen (map (λ path. content path.now) paths) inputs → length inputs ≡ length items
-length-opened seen content paths items inputs same h =
-    length-inputs seen (map (λ path. content path.now) paths) inputs h ∙ length-map paths (λ path. content path.now) ∙ ap length same
-
 -- the inputs, by what is told of the files as they were
-pub inputs_before : {I : Type 0} (seen : I → SourceState) (before content : List ℕ → Option (List ℕ)) (paths items : List (Bor (List ℕ))) (inputs : List I) → paths ≡ items
+inputs_before : {I : Type 0} (seen : I → SourceState) (before content : List ℕ → Option (List ℕ)) (paths items : List (Bor (List ℕ))) (inputs : List I) → paths ≡ items
     → ((other : List ℕ) → content other ≡ before other) → HasInputs seen (map (λ path. content path.now) paths) inputs
     → HasInputs seen (map before (map (λ path. path.now) items)) inputs
 inputs_before seen before content paths items inputs is same h =
     subst (λ contents. HasInputs seen contents inputs) (ap (map (λ path. content path.now)) is ∙ same_contents before content items same) h
+
+closing_before : {I : Type 0} (seen : I → SourceState) (before content : List ℕ → Option (List ℕ)) (path : Option (Bor (List ℕ))) (closing : Option I)
+    → ((other : List ℕ) → content other ≡ before other) → HasInputs seen (map (λ p. content p.now) (streams_by_seat [] path)) (streams_by_seat [] closing)
+    → HasInputs seen (map before (streams_by_seat [] (option_map (λ p. p.now) path))) (streams_by_seat [] closing)
+closing_before seen before content None closing same h = h
+closing_before seen before content (Some p) closing same h = subst (λ c. HasInputs seen (c ∷ []) (streams_by_seat [] closing)) (same p.now) h
+
+with_closing : {I : Type 0} (seen : I → SourceState) (content : List ℕ → Option (List ℕ)) (paths : List (List ℕ)) (path : Option (List ℕ)) (inputs : List I) (closing : Option I)
+    → HasInputs seen (map content paths) inputs → HasInputs seen (map content (streams_by_seat [] path)) (streams_by_seat [] closing)
+    → HasInputs seen (map content (streams_by_seat paths path)) (streams_by_seat inputs closing)
+with_closing seen content paths None inputs None h last = h
+with_closing seen content paths None inputs (Some input) h last = absurd last
+with_closing seen content paths (Some p) inputs None h last = absurd last
+with_closing seen content paths (Some p) inputs (Some input) h last =
+    subst (λ contents. HasInputs seen contents (inputs ++ input ∷ [])) (sym (map-append content paths (p ∷ [])))
+    (HasInputs-push seen (map content paths) inputs (content p) input h last.0)
+
+-- the inputs of the streams and of the closing one, by what is told of the files as they were
+pub streams_before : {I : Type 0} (seen : I → SourceState) (before content last : List ℕ → Option (List ℕ)) (paths items : List (Bor (List ℕ))) (path : Option (Bor (List ℕ)))
+    (inputs : List I) (closing : Option I) → paths ≡ items → ((other : List ℕ) → content other ≡ before other) → ((other : List ℕ) → last other ≡ content other)
+    → HasInputs seen (map (λ p. content p.now) paths) inputs → HasInputs seen (map (λ p. last p.now) (streams_by_seat [] path)) (streams_by_seat [] closing)
+    → HasInputs seen (map before (streams_by_seat (map (λ p. p.now) items) (option_map (λ p. p.now) path))) (streams_by_seat inputs closing)
+streams_before seen before content last paths items path inputs closing is same same_last h h_last =
+    with_closing seen before (map (λ p. p.now) items) (option_map (λ p. p.now) path) inputs closing (inputs_before seen before content paths items inputs is same h)
+    (closing_before seen before last path closing (λ other. same_last other ∙ same other) h_last)
+
+length-by_seat : {S : Type 0} (streams : List S) (closing : Option S) → (length streams ≤ length (streams_by_seat streams closing)) × (length (streams_by_seat streams closing) ≤ length streams + 1)
+length-by_seat streams None = (omega arith, omega arith)
+length-by_seat streams (Some last) = let n = length-append streams (last ∷ []) in (omega (arith, n), omega (arith, n))
+
+-- there is a stream, and there are 65 at most
+pub few_streams : {I : Type 0} (seen : I → SourceState) (content : List ℕ → Option (List ℕ)) (items : List (Bor (List ℕ))) (path : Option (List ℕ)) (streams : List I)
+    → 0 < length items → length items ≤ 64 → HasInputs seen (map content (streams_by_seat (map (λ p. p.now) items) path)) streams
+    → (0 < length streams) × (length streams ≤ 65)
+few_streams seen content items path streams some few h =
+    let paths : List (List ℕ) = map (λ (p : Bor (List ℕ)). p.now) items in
+    let n : length paths ≡ length items = length-map items (λ p. p.now) in
+    let one = length-by_seat paths path in
+    let all : length streams ≡ length (streams_by_seat paths path) = length-inputs seen (map content (streams_by_seat paths path)) streams h ∙ length-map (streams_by_seat paths path) content in
+    (omega (arith, n, one.0, one.1, all), omega (arith, n, one.0, one.1, all))
+
+-- the file at one of a run's paths, of which this was told after the others were opened, can't be opened
+pub open_fault : (run : AskedRun) (before content : List ℕ → Option (List ℕ)) (failures : ℕ) (paths : List (List ℕ)) (fault : Fault)
+    → ((path : List ℕ) → Contains paths path → Contains (paths_by_seat run) path) → ((other : List ℕ) → content other ≡ before other)
+    → IsAnOpenFault content paths fault → IsFaultOf (a_run run) before failures fault
+open_fault run before content failures paths (faults.Formula path f) among same h = absurd h
+open_fault run before content failures paths (faults.CannotRead path) among same h = inr (among path.now h.0, sym (same path.now) ∙ h.1)
+open_fault run before content failures paths faults.CannotWrite among same h = absurd h
+open_fault run before content failures paths (faults.NoMemory e) among same h = tt
+open_fault run before content failures paths faults.OutOfMemory among same h = tt
+open_fault run before content failures paths (faults.Usage text) among same h = absurd h
+
+-- the paths of the streams, and that of the closing one, are the run's
+pub among_streams : (given items : List (Bor (List ℕ))) (closing : Option (List ℕ)) (path : List ℕ) → given ≡ items → Contains (map (λ p. p.now) given) path
+    → Contains (streams_by_seat (map (λ p. p.now) items) closing) path
+among_streams given items None path is h = subst (λ all. Contains (map (λ p. p.now) all) path) is h
+among_streams given items (Some last) path is h =
+    Contains-append_left (map (λ p. p.now) items) (last ∷ []) path (subst (λ all. Contains (map (λ p. p.now) all) path) is h)
+
+pub among_closing : (paths : List (List ℕ)) (closing : Option (Bor (List ℕ))) (path : List ℕ) → Contains (map (λ p. p.now) (streams_by_seat [] closing)) path
+    → Contains (streams_by_seat paths (option_map (λ p. p.now) closing)) path
+among_closing paths None path h = absurd (omega (arith, h.1))
+among_closing paths (Some last) path h = Contains-append_right paths (last.now ∷ []) path h
+
+-- what holds of an error holds where it is passed on
+pub passed_on : {T E : Type 0} (P : E → Type 0) (r : Result T E) (e : E) → IsErrAnd r (λ y. y ≡ e) → P e → IfErr r P
+passed_on P (Ok t) e h p = tt
+passed_on P (Err y) e h p = subst P (sym h) p
 
 -- ---- what is known of a file is what its source gave
 
@@ -109,19 +172,19 @@ zero_is_verified : (verdict : Verdict) → 0 ≡ status_code (verdict_status ver
 zero_is_verified Verified e = refl
 zero_is_verified NotVerified e = absurd (omega arith)
 
-answer_refutes : {I : Type 0} (seen : I → SourceState) (content : List ℕ → Option (List ℕ)) (formula : List ℕ) (proofs : List (List ℕ)) (old new : List ℕ) (status : ℕ)
-    → IsRunAnswered seen content formula proofs old new status → status ≡ 0 → IfSome (content formula) SpellsUnsatisfiable
-answer_refutes seen content formula proofs old new status h zero_is =
+answer_refutes : {I : Type 0} (seen : I → SourceState) (content : List ℕ → Option (List ℕ)) (run : AskedRun) (old new : List ℕ) (status : ℕ)
+    → IsRunAnswered seen content run old new status → status ≡ 0 → IfSome (content run.formula) SpellsUnsatisfiable
+answer_refutes seen content run old new status h zero_is =
     let inputs = h.printed.inputs in
     let printed = h.printed.printed in
     let verified = zero_is_verified h.verdict (sym zero_is ∙ h.status_is) in
-    of_content SpellsUnsatisfiable (content formula) (seen inputs.opened) (seen inputs.after) printed.gave.text inputs.formula_is printed.gave.all
+    of_content SpellsUnsatisfiable (content run.formula) (seen inputs.opened) (seen inputs.after) printed.gave.text inputs.formula_is printed.gave.all
     (record { formula = printed.formula; spells = printed.gave.spells; unsatisfiable = printed.unsatisfiable verified })
 
 -- where status 0 answers a run, no assignment satisfies what FORMULA holds, if that is told
 pub run_refutes : {I : Type 0} (seen : I → SourceState) (content : List ℕ → Option (List ℕ)) (asked : Asked) (old new : List ℕ) (status : Status)
-    → IsAnswered seen content asked old new status → status_code status ≡ 0 → IfRun asked (λ formula _. IfSome (content formula) SpellsUnsatisfiable)
-run_refutes seen content (a_run formula proofs) old new status h zero_is = answer_refutes seen content formula proofs old new (status_code status) h zero_is
+    → IsAnswered seen content asked old new status → status_code status ≡ 0 → IfRun asked (λ run. IfSome (content run.formula) SpellsUnsatisfiable)
+run_refutes seen content (a_run run) old new status h zero_is = answer_refutes seen content run old new (status_code status) h zero_is
 run_refutes seen content the_help old new status h zero_is = tt
 run_refutes seen content the_version old new status h zero_is = tt
 run_refutes seen content the_usage old new status h zero_is = tt

@@ -20,8 +20,8 @@ without_first {X} (x ∷ xs) n e =
 pub program_ends : {I : Type 0} (seen : I → SourceState) (before after : List ℕ → Option (List ℕ)) (given words : List (List ℕ)) (out_old out_new : List ℕ) (failures : ℕ)
     (err_old err_new : List ℕ) (errors status code : ℕ) → given ≡ words → code ≡ status
     → MayEnd (asked_by given) status
-    → (status < 2 → IfRun (asked_by given) (λ formula proofs. IsRunAnswered seen before formula proofs out_old out_new status))
-    → (status ≡ 0 → IfRun (asked_by given) (λ formula _. IfSome (before formula) SpellsUnsatisfiable))
+    → (status < 2 → IfRun (asked_by given) (λ run. IsRunAnswered seen before run out_old out_new status))
+    → (status ≡ 0 → IfRun (asked_by given) (λ run. IfSome (before run.formula) SpellsUnsatisfiable))
     → (status < 2 → failures ≡ 0) → (status < 2 → err_new ≡ err_old) → (2 ≤ status → failures ≡ 0 → out_new ≡ out_old)
     → (2 ≤ status → errors ≡ 0 → IsFaultTold (asked_by given) before failures err_old err_new status)
     → ((path : List ℕ) → after path ≡ before path)

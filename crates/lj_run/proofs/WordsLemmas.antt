@@ -1,85 +1,34 @@
--- Words that are parsed give both paths.
-use Rattle.std.proofs.Common.{zero, suc, ◌≡◌, ℕ, List, [], ◌∷◌, true, is_some, refl, sym, ap, ap₂, ◌∙◌, subst, slice_index, codes, arith, inl, inr, Result, Ok, Err, IfOk}
-use Rattle.std.specs.List.{All}
-use Rattle.std.specs.Str.{bytes_eq}
-use Rattle.std.proofs.lemmas.List.Elements.{All-cons, All-nil}
-use Rattle.clap.specs.Built.{AddsArg, FitsChain, HasDistinctIds, IsParsedFrom}
-use Rattle.clap.specs.Matches.{found_of, first_value}
+-- How words are read.
+use Rattle.std.proofs.Common.{◌≡◌, ◌≢◌, ◌<◌, ◌^◌, ℕ, List, [], ◌∷◌, Bool, true, false, Option, Some, None, refl, sym, ap, ap₂, ◌∙◌, subst, rules, arith, length, map, nat_eq, nat_lt, lt-ltb, ltb-true, slice_index, codes, Result, Ok, Err, IfOk}
+use Rattle.std.specs.Prelude.{option_map, unwrap_or}
+use Rattle.std.specs.Borrow.{Bor}
+use Rattle.std.specs.List.{list_all, starts_with}
+use Rattle.std.specs.Char.{is_ascii_digit}
+use Rattle.std.specs.Result.{OkIff, result_ok}
+use Rattle.std.specs.Str.Parse.{ParsesUnsigned}
+use Rattle.std.proofs.Math.Bool.{and-true}
+use Rattle.std.proofs.lemmas.Bool.{eqb-true}
+use Rattle.std.proofs.lemmas.Str.Parse.{IsNumeralModel, numerals_by_weight, parse_plain}
+use Rattle.clap.specs.Built.{AddsArg}
+use Rattle.clap.specs.Matches.{found_of, first_value, matched_of, raw_values}
 use Rattle.clap.specs.declared.builder.arg.Arg.{Arg}
 use Rattle.clap.specs.declared.builder.command.Command.{Command}
 use Rattle.clap.specs.declared.parser.matches.ArgMatches.{ArgMatches}
+use Rattle.clap.specs.declared.parser.matches.Found.{Found}
 use Rattle.clap.specs.declared.error.Error.{Error}
 use Rattle.clap.specs.Faults.{fault_of, is_simple_and_free}
 use Rattle.clap.specs.Kinds.{FailsBy}
 use Rattle.clap.specs.Simple.{App, app_of, HasMatchesOf, is_simple, matches_of, with_rule}
-use Rattle.clap.specs.Walk.{rows_of}
-use Rattle.clap.proofs.CallerLemmas.{required_in_chain}
-use Rattle.lj_run.specs.Words.{IsBare, IsPath, path_rule, program_app}
+use Rattle.clap.specs.Walk.{Rule, all_of, first_of, rows_of}
+use Rattle.clap.proofs.WalkLemmas.{first_value-rows, raw_values-rows}
+use Rattle.lj_text.specs.Bytes.{decimal_value}
+use Rattle.lj_run.specs.Words.{HasRule, a_run, asked_by_rows, is_run_of, limit_of, program_app, run_asked, steps_of_value, the_usage}
 
--- the first byte of a text
-first_byte : (s t : List ℕ) → s ≡ t → slice_index s 0 ≡ slice_index t 0
-first_byte s t e = ap (λ x. slice_index x 0) e
+-- ---- the command line
 
-formula_fits : (a : Arg) → IsPath a → a.id.now ≡ codes "FORMULA" → FitsChain a
-formula_fits a path id = (
-  path.0,
-  path.1,
-  (λ empty. let bad : 70 ≡ 0 = first_byte _ _ (sym id ∙ empty) in absurd (omega arith)),
-  (λ auto. elim auto [
-    | inl h ↦ let bad : 70 ≡ 104 = first_byte _ _ (sym id ∙ h) in absurd (omega arith)
-    | inr h ↦ let bad : 70 ≡ 118 = first_byte _ _ (sym id ∙ h) in absurd (omega arith)
-  ]),
-)
-
-proof_fits : (a : Arg) → IsPath a → a.id.now ≡ codes "PROOF" → FitsChain a
-proof_fits a path id = (
-  path.0,
-  path.1,
-  (λ empty. let bad : 80 ≡ 0 = first_byte _ _ (sym id ∙ empty) in absurd (omega arith)),
-  (λ auto. elim auto [
-    | inl h ↦ let bad : 80 ≡ 104 = first_byte _ _ (sym id ∙ h) in absurd (omega arith)
-    | inr h ↦ let bad : 80 ≡ 118 = first_byte _ _ (sym id ∙ h) in absurd (omega arith)
-  ]),
-)
-
-distinct : (formula proof : Arg) → formula.id.now ≡ codes "FORMULA" → proof.id.now ≡ codes "PROOF" → HasDistinctIds (formula ∷ proof ∷ [])
-distinct formula proof f p zero zero d e lj lk same = refl
-distinct formula proof f p zero (suc zero) d e lj lk same =
-    let bad : bytes_eq (codes "FORMULA") (codes "PROOF") ≡ true = rw (f, p) at same in cc
-distinct formula proof f p zero (suc (suc k)) d e lj lk same = absurd (omega arith)
-distinct formula proof f p (suc zero) zero d e lj lk same =
-    let bad : bytes_eq (codes "PROOF") (codes "FORMULA") ≡ true = rw (f, p) at same in cc
-distinct formula proof f p (suc zero) (suc zero) d e lj lk same = refl
-distinct formula proof f p (suc zero) (suc (suc k)) d e lj lk same = absurd (omega arith)
-distinct formula proof f p (suc (suc j)) k d e lj lk same = absurd (omega arith)
-
--- Both paths have a value.
-pub record BothGiven (m : ArgMatches) : Type 0 where
-  pub formula : is_some (first_value (found_of m) (codes "FORMULA")) ≡ true
-  pub proof : is_some (first_value (found_of m) (codes "PROOF")) ≡ true
-
--- a command of two paths that have to be given is parsed only where both are
-pub both_given : (start mid cmd : Command) (formula proof : Arg) (m : ArgMatches)
-    → IsBare start → IsPath formula → IsPath proof → formula.id.now ≡ codes "FORMULA" → proof.id.now ≡ codes "PROOF"
-    → AddsArg start formula mid → AddsArg mid proof cmd → IsParsedFrom cmd m → BothGiven m
-both_given start mid cmd formula proof m bare f p f_id p_id first second parsed =
-    let xs = formula ∷ proof ∷ [] in
-    let fits : All FitsChain xs = All-cons FitsChain formula (proof ∷ []) (formula_fits formula f f_id)
-    (All-cons FitsChain proof [] (proof_fits proof p p_id) (All-nil FitsChain)) in
-    let apart = distinct formula proof f_id p_id in
-    record {
-      formula = subst (λ id. is_some (first_value (found_of m) id) ≡ true) f_id
-          (required_in_chain start cmd xs 0 formula m (mid, first, (cmd, second, refl)) bare.0 bare.1 bare.2 bare.3 fits apart (omega arith) f.2 parsed);
-      proof = subst (λ id. is_some (first_value (found_of m) id) ≡ true) p_id
-          (required_in_chain start cmd xs 1 formula m (mid, first, (cmd, second, refl)) bare.0 bare.1 bare.2 bare.3 fits apart (omega arith) p.2 parsed);
-    }
-
--- the command is the program's command line
-pub app_made : (start mid cmd : Command) (formula proof : Arg)
-    → IsBare start → IsPath formula → IsPath proof → formula.id.now ≡ codes "FORMULA" → proof.id.now ≡ codes "PROOF"
-    → AddsArg start formula mid → AddsArg mid proof cmd → app_of cmd ≡ program_app
-app_made start mid cmd formula proof bare f p f_id p_id first second =
-    second.shape p.1 ∙ ap₂ with_rule (first.shape f.1 ∙ ap₂ with_rule bare.4 (f.3 ∙ ap path_rule f_id)) (p.3 ∙ ap path_rule p_id)
+-- a command with one argument more
+pub with_argument : (c d : Command) (a : Arg) (app : App) (rule : Rule) → app_of c ≡ app → HasRule rule a → AddsArg c a d → app_of d ≡ with_rule app rule
+with_argument c d a app rule is has added = added.shape has.0 ∙ ap₂ with_rule is has.1
 
 program_is_simple : is_simple program_app ≡ true
 program_is_simple = refl
@@ -98,7 +47,85 @@ pub fails_by : {T : Type 0} (a : App) (words : List (List ℕ)) (r : Result T Er
     → (is_simple_and_free a ≡ true → FailsBy (fault_of a words) r) → FailsBy (fault_of program_app words) r
 fails_by a words r e h = subst (λ b. FailsBy (fault_of b words) r) e (h (ap is_simple_and_free e ∙ program_is_free))
 
--- what holds of an answer holds of what follows from it
-pub if_ok_map : {T E : Type 0} (P Q : T → Type 0) (r : Result T E) → ((t : T) → P t → Q t) → IfOk r P → IfOk r Q
-if_ok_map P Q (Ok t) f p = f t p
-if_ok_map P Q (Err e) f p = p
+-- ---- what is asked for
+
+-- what values ask for without a FORMULA, for too many streams, and for a limit that is none
+pub without_formula : (formula : Option (List ℕ)) (proofs : List (List ℕ)) (closing steps : Option (List ℕ)) → formula ≡ None → the_usage ≡ run_asked formula proofs closing steps
+without_formula None proofs closing steps e = refl
+without_formula (Some formula) proofs closing steps e = cc
+
+pub too_many : (formula : Option (List ℕ)) (proofs : List (List ℕ)) (closing steps : Option (List ℕ)) → is_run_of proofs ≡ false → the_usage ≡ run_asked formula proofs closing steps
+too_many None proofs closing steps e = refl
+too_many (Some formula) proofs closing steps e = rw e refl
+
+pub without_limit : (formula : Option (List ℕ)) (proofs : List (List ℕ)) (closing steps : Option (List ℕ)) → steps_of_value steps ≡ None → the_usage ≡ run_asked formula proofs closing steps
+without_limit None proofs closing steps e = refl
+without_limit (Some formula) proofs closing steps e = go (is_run_of proofs) refl
+  where
+    go : (b : Bool) → is_run_of proofs ≡ b → the_usage ≡ run_asked (Some formula) proofs closing steps
+    go false t = rw t refl
+    go true t = rw (t, e) refl
+
+asks_run : (formula : List ℕ) (proofs : List (List ℕ)) (closing steps : Option (List ℕ)) (limit : ℕ) → is_run_of proofs ≡ true → steps_of_value steps ≡ Some limit
+    → a_run (record { formula = formula; proofs = proofs; closing = closing; max_steps = limit }) ≡ run_asked (Some formula) proofs closing steps
+asks_run formula proofs closing steps limit t e = rw (t, e) refl
+
+-- and what they ask for else
+pub asks_given : (formula : Option (Bor (List ℕ))) (path : Bor (List ℕ)) (proofs items : List (Bor (List ℕ))) (closing steps : Option (Bor (List ℕ))) (limit : ℕ)
+    → formula ≡ Some path → items ≡ proofs → is_run_of (map (λ p. p.now) proofs) ≡ true → steps_of_value (option_map (λ p. p.now) steps) ≡ Some limit
+    → a_run (record { formula = path.now; proofs = map (λ p. p.now) items; closing = option_map (λ p. p.now) closing; max_steps = limit })
+    ≡ run_asked (option_map (λ p. p.now) formula) (map (λ p. p.now) proofs) (option_map (λ p. p.now) closing) (option_map (λ p. p.now) steps)
+asks_given formula path proofs items closing steps limit is same t e =
+    rw (is, same) (asks_run path.now (map (λ p. p.now) proofs) (option_map (λ p. p.now) closing) (option_map (λ p. p.now) steps) limit t e)
+
+-- the values of an argument, which may have none
+pub values_are : (f : Found) (id : List ℕ) (o : Option (Bor (List (Bor (List ℕ))))) (none : Bor (List (Bor (List ℕ)))) → none.now ≡ []
+    → option_map (λ s. map (λ v. v.now) s.now) o ≡ option_map raw_values (matched_of f id)
+    → map (λ v. v.now) (unwrap_or o none).now ≡ unwrap_or (all_of id (rows_of f)) []
+values_are f id o none empty h = go o ∙ ap (λ values. unwrap_or values []) (h ∙ raw_values-rows f id)
+  where
+    go : (p : Option (Bor (List (Bor (List ℕ))))) → map (λ v. v.now) (unwrap_or p none).now ≡ unwrap_or (option_map (λ s. map (λ v. v.now) s.now) p) []
+    go None = ap (map (λ v. v.now)) empty
+    go (Some s) = refl
+
+-- what is found asks for what these values ask for
+pub asks_found : (f : Found) (formula closing steps : Option (List ℕ)) (proofs : List (List ℕ)) → formula ≡ first_value f (codes "FORMULA")
+    → proofs ≡ unwrap_or (all_of (codes "PROOF") (rows_of f)) [] → closing ≡ first_value f (codes "close") → steps ≡ first_value f (codes "max-steps")
+    → run_asked formula proofs closing steps ≡ asked_by_rows (rows_of f)
+asks_found f formula closing steps proofs is_formula are_proofs is_closing is_steps =
+    ap₂ (λ a b. run_asked a b closing steps) (is_formula ∙ first_value-rows f (codes "FORMULA")) are_proofs
+    ∙ ap₂ (λ a b. run_asked (first_of (codes "FORMULA") (rows_of f)) (unwrap_or (all_of (codes "PROOF") (rows_of f)) []) a b)
+    (is_closing ∙ first_value-rows f (codes "close")) (is_steps ∙ first_value-rows f (codes "max-steps"))
+
+-- ---- limits
+
+digits_are : IsNumeralModel (λ ds. list_all is_ascii_digit ds ≡ true) decimal_value
+digits_are = numerals_by_weight _ (search rules) decimal_value (search rules)
+
+-- a text that begins with a plus has no limit
+pub signed_is_none : (text : List ℕ) → starts_with nat_eq text (43 ∷ []) ≡ true → None ≡ limit_of text
+signed_is_none [] e = refl
+signed_is_none (b ∷ bs) e =
+    let plus : 43 ≡ b = eqb-true 43 b (sym (and-true (nat_eq 43 b)) ∙ e) in
+    subst (λ x. None ≡ limit_of (x ∷ bs)) plus refl
+
+-- the limit of a text that doesn't
+limit_from : {E : Type 0} (text : List ℕ) (r : Result ℕ E)
+    → OkIff r ((list_all is_ascii_digit text ≡ true) × (0 < length text) × (decimal_value text < 2 ^ 32)) (decimal_value text) → result_ok r ≡ limit_of text
+limit_from [] (Ok n) h = absurd (omega (arith, h.0.1))
+limit_from [] (Err e) h = refl
+limit_from (b ∷ bs) (Ok n) h = rw (h.0.0, lt-ltb (decimal_value (b ∷ bs)) (2 ^ 32) h.0.2, h.1) refl
+limit_from (b ∷ bs) (Err e) h = go (list_all is_ascii_digit (b ∷ bs)) (nat_lt (decimal_value (b ∷ bs)) (2 ^ 32)) refl refl
+  where
+    go : (t u : Bool) → list_all is_ascii_digit (b ∷ bs) ≡ t → nat_lt (decimal_value (b ∷ bs)) (2 ^ 32) ≡ u → None ≡ limit_of (b ∷ bs)
+    go false u is_t is_u = rw is_t refl
+    go true false is_t is_u = rw (is_t, is_u) refl
+    go true true is_t is_u = absurd (h (is_t, omega arith, ltb-true _ _ is_u))
+
+-- what is parsed without a plus is the limit
+pub parsed_is_limit : {E : Type 0} (text : List ℕ) (r : Result ℕ E) → starts_with nat_eq text (43 ∷ []) ≡ false → ParsesUnsigned 32 10 text r → result_ok r ≡ limit_of text
+parsed_is_limit text r e h = limit_from text r (parse_plain digits_are 32 text r h (without_plus text e))
+  where
+    without_plus : (bs : List ℕ) → starts_with nat_eq bs (43 ∷ []) ≡ false → slice_index bs 0 ≢ 43
+    without_plus [] none = λ plus. absurd (omega (arith, plus))
+    without_plus (b ∷ bs) none = λ plus. let bad : starts_with nat_eq (43 ∷ bs) (43 ∷ []) ≡ false = subst (λ x. starts_with nat_eq (x ∷ bs) (43 ∷ []) ≡ false) plus none in cc

@@ -9,7 +9,7 @@ use Rattle.lj_text.specs.FaultNames.{cnf_fault_name}
 use Rattle.lj_text.specs.Streams.{SourceState}
 use Rattle.lj_book.specs.State.{IsUnsatisfiable}
 use Rattle.lj_run.specs.Checking.{IsPrinted, IsCutText}
-use Rattle.lj_run.specs.Words.{Asked, a_run, the_help, the_version, the_usage}
+use Rattle.lj_run.specs.Words.{Asked, AskedRun, a_run, paths_by_seat, the_help, the_version, the_usage}
 use Rattle.lj_run.specs.declared.checking.CheckFault.{CheckFault}
 use Rattle.lj_run.specs.declared.checking.CheckFault.TheVariants as check_faults
 use Rattle.lj_run.specs.declared.checking.Verdict.{Verdict}
@@ -94,35 +94,32 @@ HasInputs seen [] (input ∷ inputs) = ⊥
 HasInputs seen (content ∷ contents) [] = ⊥
 HasInputs seen (content ∷ contents) (input ∷ inputs) = IsOpened content (seen input) × HasInputs seen contents inputs
 
--- The files of a run: that of the formula, as it was opened and once it was read, and those of the streams as they were opened.
-pub record RunInputs {I : Type 0} (seen : I → SourceState) (content : List ℕ → Option (List ℕ)) (formula : List ℕ) (proofs : List (List ℕ)) : Type 0 where
+-- The files of a run: that of the formula, as it was opened and once it was read, and those of the streams by their seats, as they
+-- were opened.
+pub record RunInputs {I : Type 0} (seen : I → SourceState) (content : List ℕ → Option (List ℕ)) (run : AskedRun) : Type 0 where
   pub opened : I
   pub after : I
   pub streams : List I
-  pub formula_is : IsOpened (content formula) (seen opened)
-  pub streams_are : HasInputs seen (map content proofs) streams
+  pub formula_is : IsOpened (content run.formula) (seen opened)
+  pub streams_are : HasInputs seen (map content (paths_by_seat run)) streams
 
 -- ---- what is printed
 
--- the greatest number of additions that a run accepts where words don't say it
-abbrev pub most_steps : ℕ
-most_steps = 4294967295
+-- What is printed of a run that was asked for so, with this verdict.
+pub record IsRunPrinted {I : Type 0} (seen : I → SourceState) (content : List ℕ → Option (List ℕ)) (run : AskedRun) (verdict : Verdict) (text : List ℕ) : Type 0 where
+  pub inputs : RunInputs seen content run
+  pub printed : IsPrinted (seen inputs.opened) (seen inputs.after) seen run.max_steps inputs.streams verdict text
 
--- What is printed of a run of the files at these paths, with this verdict.
-pub record IsRunPrinted {I : Type 0} (seen : I → SourceState) (content : List ℕ → Option (List ℕ)) (formula : List ℕ) (proofs : List (List ℕ)) (verdict : Verdict) (text : List ℕ) : Type 0 where
-  pub inputs : RunInputs seen content formula proofs
-  pub printed : IsPrinted (seen inputs.opened) (seen inputs.after) seen most_steps inputs.streams verdict text
+-- A beginning of what is printed of a run that was asked for so was taken, and not all.
+pub record IsRunCut {I : Type 0} (seen : I → SourceState) (content : List ℕ → Option (List ℕ)) (run : AskedRun) (old new : List ℕ) : Type 0 where
+  pub inputs : RunInputs seen content run
+  pub cut : IsCutText (seen inputs.opened) (seen inputs.after) seen run.max_steps inputs.streams old new
 
--- A beginning of what is printed of a run of the files at these paths was taken, and not all.
-pub record IsRunCut {I : Type 0} (seen : I → SourceState) (content : List ℕ → Option (List ℕ)) (formula : List ℕ) (proofs : List (List ℕ)) (old new : List ℕ) : Type 0 where
-  pub inputs : RunInputs seen content formula proofs
-  pub cut : IsCutText (seen inputs.opened) (seen inputs.after) seen most_steps inputs.streams old new
-
--- What was taken is what is printed of a run of the files at these paths, and this is the status of its verdict.
-pub record IsRunAnswered {I : Type 0} (seen : I → SourceState) (content : List ℕ → Option (List ℕ)) (formula : List ℕ) (proofs : List (List ℕ)) (old new : List ℕ) (status : ℕ) : Type 0 where
+-- What was taken is what is printed of a run that was asked for so, and this is the status of its verdict.
+pub record IsRunAnswered {I : Type 0} (seen : I → SourceState) (content : List ℕ → Option (List ℕ)) (run : AskedRun) (old new : List ℕ) (status : ℕ) : Type 0 where
   pub verdict : Verdict
   pub text : List ℕ
-  pub printed : IsRunPrinted seen content formula proofs verdict text
+  pub printed : IsRunPrinted seen content run verdict text
   pub took : new ≡ old ++ text
   pub status_is : status ≡ status_code (verdict_status verdict)
 
@@ -135,29 +132,29 @@ pub record SpellsUnsatisfiable (text : List ℕ) : Type 0 where
 -- ---- how the program ends
 
 -- what holds where words ask for a run
-abbrev pub IfRun : Asked → (List ℕ → List (List ℕ) → Type 0) → Type 0
-IfRun (a_run formula proofs) P = P formula proofs
+abbrev pub IfRun : Asked → (AskedRun → Type 0) → Type 0
+IfRun (a_run run) P = P run
 IfRun the_help P = Unit {0}
 IfRun the_version P = Unit {0}
 IfRun the_usage P = Unit {0}
 
 -- words ask for a run, of which this holds
-abbrev pub IsRunAnd : Asked → (List ℕ → List (List ℕ) → Type 0) → Type 0
-IsRunAnd (a_run formula proofs) P = P formula proofs
+abbrev pub IsRunAnd : Asked → (AskedRun → Type 0) → Type 0
+IsRunAnd (a_run run) P = P run
 IsRunAnd the_help P = ⊥
 IsRunAnd the_version P = ⊥
 IsRunAnd the_usage P = ⊥
 
 -- the program may end with this status where words ask for this
 abbrev pub MayEnd : Asked → ℕ → Type 0
-MayEnd (a_run formula proofs) status = status ≤ 2
+MayEnd (a_run run) status = status ≤ 2
 MayEnd the_help status = (status ≡ 0) ⊎ (status ≡ 2)
 MayEnd the_version status = (status ≡ 0) ⊎ (status ≡ 2)
 MayEnd the_usage status = (status ≡ 2) ⊎ (status ≡ 3)
 
 -- what was asked for was answered with this status
 abbrev pub IsAnswered : {I : Type 0} → (I → SourceState) → (List ℕ → Option (List ℕ)) → Asked → List ℕ → List ℕ → Status → Type 0
-IsAnswered seen content (a_run formula proofs) old new status = IsRunAnswered seen content formula proofs old new (status_code status)
+IsAnswered seen content (a_run run) old new status = IsRunAnswered seen content run old new (status_code status)
 IsAnswered seen content the_help old new status = status ≡ statuses.Done
 IsAnswered seen content the_version old new status = status ≡ statuses.Done
 IsAnswered seen content the_usage old new status = ⊥
@@ -166,9 +163,9 @@ IsAnswered seen content the_usage old new status = ⊥
 -- FORMULA; a path that can't be opened, or FORMULA whose read failed; an output that failed; usage. Nothing is said of the want of memory.
 abbrev pub IsFaultOf : Asked → (List ℕ → Option (List ℕ)) → ℕ → Fault → Type 0
 IsFaultOf asked content failures (faults.Formula path fault) =
-    IsRunAnd asked (λ formula proofs. (path.now ≡ formula) × IfSome (content formula) (λ text. HasFault 134217727 text fault))
+    IsRunAnd asked (λ run. (path.now ≡ run.formula) × IfSome (content run.formula) (λ text. HasFault 134217727 text fault))
 IsFaultOf asked content failures (faults.CannotRead path) =
-    IsRunAnd asked (λ formula proofs. (path.now ≡ formula) ⊎ (Contains proofs path.now × (content path.now ≡ None)))
+    IsRunAnd asked (λ run. (path.now ≡ run.formula) ⊎ (Contains (paths_by_seat run) path.now × (content path.now ≡ None)))
 IsFaultOf asked content failures faults.CannotWrite = failures ≡ 1
 IsFaultOf asked content failures (faults.NoMemory e) = Unit {0}
 IsFaultOf asked content failures faults.OutOfMemory = Unit {0}

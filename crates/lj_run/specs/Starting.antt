@@ -11,8 +11,8 @@ use Rattle.lj_run.specs.Words.{Asked}
 pub record ProgramEnds {I : Type 0} (seen : I → SourceState) (before after : List ℕ → Option (List ℕ)) (asked : Asked) (out_old out_new : List ℕ) (failures : ℕ)
     (err_old err_new : List ℕ) (errors status : ℕ) : Type 0 where
   pub may_end : MayEnd asked status
-  pub printed : status < 2 → IfRun asked (λ formula proofs. IsRunAnswered seen before formula proofs out_old out_new status)
-  pub refuted : status ≡ 0 → IfRun asked (λ formula proofs. IfSome (before formula) SpellsUnsatisfiable)
+  pub printed : status < 2 → IfRun asked (λ run. IsRunAnswered seen before run out_old out_new status)
+  pub refuted : status ≡ 0 → IfRun asked (λ run. IfSome (before run.formula) SpellsUnsatisfiable)
   pub told : status < 2 → failures ≡ 0
   pub quiet : status < 2 → err_new ≡ err_old
   pub untouched : 2 ≤ status → failures ≡ 0 → out_new ≡ out_old

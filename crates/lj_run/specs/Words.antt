@@ -1,17 +1,16 @@
 -- What the words of the command line ask for.
-use Rattle.std.specs.Prelude.{◌≡◌, ℕ, List, [], ◌∷◌, map, true, false, Option, Some, codes}
-use Rattle.clap.specs.Built.{IsPlainArg, TakesValue}
-use Rattle.clap.specs.Facts.{args_of, groups_of}
+use Rattle.std.specs.Prelude.{◌≡◌, ◌&&◌, ◌^◌, ℕ, Bool, List, [], ◌∷◌, map, length, nat_lt, true, false, Option, Some, None, if◌then◌else◌, option_and_then, option_map, unwrap_or, codes}
 use Rattle.clap.specs.Faults.{fault_of}
 use Rattle.clap.specs.Kinds.{Kinds}
-use Rattle.clap.specs.Simple.{App, app_of, matches_of, new_app, new_rule, on_top, with_rule}
-use Rattle.clap.specs.Walk.{Row, Rule, first_of, rule_of}
-use Rattle.clap.specs.declared.builder.action.ArgAction.TheVariants.{Set}
+use Rattle.clap.specs.Simple.{App, matches_of, new_app, new_rule, on_top, with_rule}
+use Rattle.clap.specs.Walk.{Row, Rule, all_of, first_of, rule_of}
+use Rattle.clap.specs.declared.builder.action.ArgAction.TheVariants.{Append, Set, SetTrue}
 use Rattle.clap.specs.declared.builder.arg.Arg.{Arg}
-use Rattle.clap.specs.declared.builder.command.Command.{Command}
-use Rattle.clap.specs.declared.builder.command.Command.TheViews.{out-Command}
 use Rattle.clap.specs.declared.error.kind.ErrorKind.{ErrorKind}
 use Rattle.clap.specs.declared.error.kind.ErrorKind.TheVariants.{DisplayHelp, DisplayVersion}
+use Rattle.lj_text.specs.Bytes.{digits_value}
+use Rattle.lj_run.specs.InTurn.{streams_by_seat}
+use Rattle.lj_run.specs.declared.command_line.CommandLine.{CommandLine}
 use Rattle.lj_run.specs.declared.command_line.Request.{Request}
 use Rattle.lj_run.specs.declared.command_line.Request.TheVariants.{Run, Help, Version, Usage}
 
@@ -21,26 +20,88 @@ use Rattle.lj_run.specs.declared.command_line.Request.TheVariants.{Run, Help, Ve
 abbrev pub path_rule : List ℕ → Rule
 path_rule id = record (new_rule id) { action = Some Set; required = true }
 
+-- an argument that has to be given, with one value or more, each word one
+abbrev pub paths_rule : List ℕ → Rule
+paths_rule id = record (new_rule id) { action = Some Append; required = true }
+
+-- an option of this long name, which may be given once, with a value
+abbrev pub option_rule : List ℕ → Rule
+option_rule name = record (new_rule name) { long = Some name; value_names = 1; action = Some Set }
+
+-- an option of this long name, which may be given once, without a value
+abbrev pub flag_rule : List ℕ → Rule
+flag_rule name = record (new_rule name) { long = Some name; action = Some SetTrue }
+
 -- the program without its arguments: it has a version, and its own name isn't among the words
 abbrev pub bare_app : App
 bare_app = on_top (λ s. record s { has_version = true; no_binary_name = true }) (new_app (codes "lratjoin"))
 
--- FORMULA and then PROOF
-abbrev pub program_app : App
-program_app = with_rule (with_rule bare_app (path_rule (codes "FORMULA"))) (path_rule (codes "PROOF"))
+-- FORMULA and then each PROOF
+abbrev pub paths_app : App
+paths_app = with_rule (with_rule bare_app (path_rule (codes "FORMULA"))) (paths_rule (codes "PROOF"))
 
--- What words ask for: a run of the formula at a path and of streams at paths, or to be told the help, the version, or how the program
--- is used.
+-- FORMULA, each PROOF and the options. `--in-turn` is taken, and asks for what is done without it.
+abbrev pub program_app : App
+program_app = with_rule (with_rule (with_rule paths_app (option_rule (codes "close"))) (flag_rule (codes "in-turn")))
+    (option_rule (codes "max-steps"))
+
+-- ---- what words ask for
+
+-- What a run is asked for: the paths of the formula, of the streams in their order, and of the closing stream, and the most
+-- additions that it accepts.
+pub record AskedRun : Type 0 where
+  pub formula : List ℕ
+  pub proofs : List (List ℕ)
+  pub closing : Option (List ℕ)
+  pub max_steps : ℕ
+
+-- What words ask for: a run, or to be told the help, the version, or how the program is used.
 pub data Asked : Type 0 where
-  a_run : List ℕ → List (List ℕ) → Asked
+  a_run : AskedRun → Asked
   the_help : Asked
   the_version : Asked
   the_usage : Asked
 
--- the values of FORMULA and PROOF; right words have both
-abbrev pub run_asked : Option (List ℕ) → Option (List ℕ) → Asked
-run_asked (Some formula) (Some proof) = a_run formula (proof ∷ [])
-run_asked formula proof = the_usage
+-- the paths of the streams of a run by their seats: the closing one has the last
+abbrev pub paths_by_seat : AskedRun → List (List ℕ)
+paths_by_seat run = streams_by_seat run.proofs run.closing
+
+-- the greatest number of additions that a run accepts where words don't say it
+abbrev pub most_steps : ℕ
+most_steps = 4294967295
+
+-- the number, where it is a limit of additions
+abbrev pub as_limit : ℕ → Option ℕ
+as_limit n = if nat_lt n (2 ^ 32) then Some n else None
+
+-- the limit of additions that a text of decimal digits writes
+abbrev pub limit_of : List ℕ → Option ℕ
+limit_of text = option_and_then as_limit (digits_value text)
+
+-- the limit that the value of --max-steps writes, and the greatest where there is none
+abbrev pub steps_of_value : Option (List ℕ) → Option ℕ
+steps_of_value None = Some most_steps
+steps_of_value (Some text) = limit_of text
+
+-- from 1 to 64 streams
+abbrev pub is_run_of : List (List ℕ) → Bool
+is_run_of proofs = nat_lt 0 (length proofs) && nat_lt (length proofs) 65
+
+abbrev pub run_within : List ℕ → List (List ℕ) → Option (List ℕ) → Option ℕ → Asked
+run_within formula proofs closing (Some max_steps) =
+    a_run (record { formula = formula; proofs = proofs; closing = closing; max_steps = max_steps })
+run_within formula proofs closing None = the_usage
+
+-- the values of FORMULA and PROOF, of --close and --max-steps; right words have a FORMULA
+abbrev pub run_asked : Option (List ℕ) → List (List ℕ) → Option (List ℕ) → Option (List ℕ) → Asked
+run_asked (Some formula) proofs closing max_steps =
+    if is_run_of proofs then run_within formula proofs closing (steps_of_value max_steps) else the_usage
+run_asked None proofs closing max_steps = the_usage
+
+-- what is asked for by what the words give
+abbrev pub asked_by_rows : List Row → Asked
+asked_by_rows rows = run_asked (first_of (codes "FORMULA") rows) (unwrap_or (all_of (codes "PROOF") rows) [])
+    (first_of (codes "close") rows) (first_of (codes "max-steps") rows)
 
 -- what words ask for that are wrong by this kind
 abbrev pub kind_asked : ErrorKind → Asked
@@ -50,27 +111,31 @@ kind_asked kind = the_usage
 
 -- what words ask for, by the fault that is found in them first, and by what they give
 abbrev pub asked_by_fault : Kinds → List Row → Asked
-asked_by_fault [] rows = run_asked (first_of (codes "FORMULA") rows) (first_of (codes "PROOF") rows)
+asked_by_fault [] rows = asked_by_rows rows
 asked_by_fault (kind ∷ more) rows = kind_asked kind
 
 -- what words ask for, those after the program's own name, as `clap` reads a command line
 unfoldable pub asked_by : List (List ℕ) → Asked
 asked_by words = asked_by_fault (fault_of program_app words) (matches_of program_app words)
 
+-- what a command line asks for
+abbrev pub line_asked : CommandLine → AskedRun
+line_asked line = record {
+  formula = line.formula.now;
+  proofs = map (λ path. path.now) line.proofs.items;
+  closing = option_map (λ path. path.now) line.closing;
+  max_steps = line.max_steps;
+}
+
 -- what a request asks for; of its texts nothing is said
 abbrev pub request_asked : Request → Asked
-request_asked (Run line) = a_run line.formula.now (map (λ path. path.now) line.proofs.items)
+request_asked (Run line) = a_run (line_asked line)
 request_asked (Help text) = the_help
 request_asked (Version text) = the_version
 request_asked (Usage text) = the_usage
 
 -- ---- how it is built
 
--- a command without arguments, of which each that is required has to be given
-abbrev pub IsBare : Command → Type 0
-IsBare c = (args_of c ≡ []) × (groups_of c ≡ []) × ((out-Command c).has_globals ≡ false) × ((out-Command c).subcommand_negates_reqs ≡ false)
-    × (app_of c ≡ bare_app)
-
--- an argument that has to be given, with a value
-abbrev pub IsPath : Arg → Type 0
-IsPath a = IsPlainArg a × (a.global ≡ false) × TakesValue a × (rule_of a ≡ path_rule a.id.now)
+-- an argument of the command itself, with this rule
+abbrev pub HasRule : Rule → Arg → Type 0
+HasRule rule a = (a.global ≡ false) × (rule_of a ≡ rule)

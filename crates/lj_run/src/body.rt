@@ -11,7 +11,7 @@ use crate::checking::check;
 use crate::command_line::{CommandLine, Request};
 use crate::fault::{Fault, fault_of};
 use crate::files::Files;
-use crate::opening::{open, open_all};
+use crate::opening::{open, open_all, open_closing};
 use crate::outcome::Options;
 use crate::status::Status;
 use crate::words::read_words;
@@ -34,18 +34,18 @@ pub fn program<R: Wait, S: AsStr, F: Files, O: Sink, E: Sink>(
     requires err { E.failures err.old ≡ 0 }
 
     ensures status { MayEnd (asked_by (map S.text words.now)) result }
-    ensures printed { result < 2 → IfRun (asked_by (map S.text words.now)) (λ formula proofs.
-        IsRunAnswered (source_state F.Input.given F.Input.ended F.Input.rest F.Input.failures)
-        (λ path. F.content files.old path) formula proofs (O.taken out.old) (O.taken out.new) result) }
-    ensures refuted { result ≡ 0 → IfRun (asked_by (map S.text words.now)) (λ formula _.
-        IfSome (F.content files.old formula) SpellsUnsatisfiable) }
+    ensures printed { result < 2 → IfRun (asked_by (map S.text words.now)) (λ run. IsRunAnswered
+        (source_state F.Input.given F.Input.ended F.Input.rest F.Input.failures)
+        (λ path. F.content files.old path) run (O.taken out.old) (O.taken out.new) result) }
+    ensures refuted { result ≡ 0 → IfRun (asked_by (map S.text words.now)) (λ run.
+        IfSome (F.content files.old run.formula) SpellsUnsatisfiable) }
     ensures told { result < 2 → O.failures out.new ≡ 0 }
     ensures quiet { result < 2 → err.new ≡ err.old }
 
     ensures untouched { 2 ≤ result → O.failures out.new ≡ 0 → out.new ≡ out.old }
-    ensures cut { O.failures out.new ≢ 0 → IfRun (asked_by (map S.text words.now)) (λ formula proofs.
-        IsRunCut (source_state F.Input.given F.Input.ended F.Input.rest F.Input.failures)
-        (λ path. F.content files.old path) formula proofs (O.taken out.old) (O.taken out.new)) }
+    ensures cut { O.failures out.new ≢ 0 → IfRun (asked_by (map S.text words.now)) (λ run. IsRunCut
+        (source_state F.Input.given F.Input.ended F.Input.rest F.Input.failures)
+        (λ path. F.content files.old path) run (O.taken out.old) (O.taken out.new)) }
     ensures fault { 2 ≤ result → E.failures err.new ≡ 0 → IsFaultTold (asked_by (map S.text words.now))
         (λ path. F.content files.old path) (O.failures out.new) (E.taken err.old) (E.taken err.new) result }
 
@@ -75,9 +75,9 @@ fn answer<'a, R: Wait, S: AsStr, F: Files, O: Sink>(
     ensures ok { OnOk result (O.failures out.new ≡ 0) }
     ensures fault { IfErr result (IsFaultOf (asked_by (map S.text words.entry.now)) (λ path. F.content files.old path) (O.failures out.new)) }
     ensures untouched { IfErr result (λ fault. fault ≢ faults.CannotWrite → out.new ≡ out.old) }
-    ensures cut { IfErr result (λ fault. fault ≡ faults.CannotWrite → IfRun (asked_by (map S.text words.entry.now)) (λ formula proofs.
-        IsRunCut (source_state F.Input.given F.Input.ended F.Input.rest F.Input.failures)
-        (λ path. F.content files.old path) formula proofs (O.taken out.old) (O.taken out.new))) }
+    ensures cut { IfErr result (λ fault. fault ≡ faults.CannotWrite → IfRun (asked_by (map S.text words.entry.now)) (λ run. IsRunCut
+        (source_state F.Input.given F.Input.ended F.Input.rest F.Input.failures)
+        (λ path. F.content files.old path) run (O.taken out.old) (O.taken out.new))) }
     ensures same_files { (path : List ℕ) → F.content files.new path ≡ F.content files.old path }
 {
     match read_words(alloc, words)? {
@@ -115,18 +115,19 @@ fn run<'a, R: Wait, F: Files, O: Sink>(
     ensures ok { OnOk result (O.failures out.new ≡ 0) }
     ensures fault { IfErr result (IsFaultOf (request_asked (Run line.now)) (λ path. F.content files.old path) (O.failures out.new)) }
     ensures untouched { IfErr result (λ fault. fault ≢ faults.CannotWrite → out.new ≡ out.old) }
-    ensures cut { IfErr result (λ fault. fault ≡ faults.CannotWrite → IfRun (request_asked (Run line.now)) (λ formula proofs.
-        IsRunCut (source_state F.Input.given F.Input.ended F.Input.rest F.Input.failures)
-        (λ path. F.content files.old path) formula proofs (O.taken out.old) (O.taken out.new))) }
+    ensures cut { IfErr result (λ fault. fault ≡ faults.CannotWrite → IfRun (request_asked (Run line.now)) (λ run. IsRunCut
+        (source_state F.Input.given F.Input.ended F.Input.rest F.Input.failures)
+        (λ path. F.content files.old path) run (O.taken out.old) (O.taken out.new))) }
     ensures same_files { (path : List ℕ) → F.content files.new path ≡ F.content files.old path }
 {
     let mut formula = open(files, line.formula)?;
     let streams = open_all(alloc, files, &line.proofs)?;
+    let closing = open_closing(files, line.closing)?;
     let options = Options {
-        max_steps: u32::MAX,
+        max_steps: line.max_steps,
         trim: false,
     };
-    match check(rt, alloc, &mut formula, streams, None, &options, out) {
+    match check(rt, alloc, &mut formula, streams, closing, &options, out) {
         Ok(verdict) => Ok(verdict.into()),
         Err(fault) => Err(fault_of(line.formula, fault)),
     }

@@ -1,5 +1,8 @@
 //! What the words ask for.
-ghost use Rattle.std.specs.Prelude.{◌≡◌, vec_len};
+ghost use Rattle.std.specs.Prelude.{◌<◌, ◌≤◌, vec_len};
+
+/// The most PROOF files of a run.
+pub(crate) const MAX_PROOFS: usize = 64;
 
 /// What the words ask for.
 #[derive(Debug, Drop)]
@@ -19,7 +22,12 @@ pub(crate) enum Request<'a> {
 pub(crate) struct CommandLine<'a> {
     /// The path of the formula.
     pub formula: &'a str,
-    /// The paths of the streams, in their order: so far there is one.
+    /// The paths of the streams, in their order.
     pub proofs: Vec<&'a str>,
-    ghost one: { vec_len proofs ≡ 1 },
+    /// The path of the closing stream.
+    pub closing: Option<&'a str>,
+    /// The most additions that the run accepts.
+    pub max_steps: u32,
+    ghost some: { 0 < vec_len proofs },
+    ghost at_most: { vec_len proofs ≤ 64 },
 }

@@ -1,6 +1,7 @@
 //! The files that a run reads.
-ghost use Rattle.std.specs.Prelude.{◌≡◌, ℕ, List, IfOk, IfErr, map};
+ghost use Rattle.std.specs.Prelude.{◌≡◌, ℕ, List, [], IfOk, IfErr, map, option_map};
 ghost use Rattle.lj_text.specs.Streams.{source_state};
+ghost use Rattle.lj_run.specs.InTurn.{streams_by_seat};
 ghost use Rattle.lj_run.specs.Program.{HasInputs, IsOpened, IsOpenFault, IsAnOpenFault};
 
 use crate::fault::Fault;
@@ -38,4 +39,22 @@ pub(crate) fn open_all<'a, F: Files>(
         inputs.push(open(files, path)?)?;
     }
     Ok(inputs)
+}
+
+/// The file at a path, where there is one.
+pub(crate) fn open_closing<'a, F: Files>(
+    files: &mut F,
+    path: Option<&'a str>,
+) -> Result<Option<F::Input>, Fault<'a>>
+    ensures opened { IfOk result (λ closing. HasInputs
+        (source_state F.Input.given F.Input.ended F.Input.rest F.Input.failures)
+        (map (λ path. F.content files.old path.now) (streams_by_seat [] path.entry)) (streams_by_seat [] closing)) }
+    ensures fault { IfErr result (IsAnOpenFault (λ path. F.content files.old path)
+        (map (λ path. path.now) (streams_by_seat [] path.entry))) }
+    ensures same { (other : List ℕ) → F.content files.new other ≡ F.content files.old other }
+{
+    match path {
+        Some(path) => Ok(Some(open(files, path)?)),
+        None => Ok(None),
+    }
 }

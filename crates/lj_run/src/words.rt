@@ -1,17 +1,16 @@
 //! The words that the program is given.
-ghost use Rattle.std.specs.Prelude.{◌≡◌, ◌≢◌, IfOk, Err, codes, is_some, map, true};
+ghost use Rattle.std.specs.Prelude.{◌≡◌, ◌≢◌, IfOk, Err, map, option_map};
 ghost use Rattle.clap.specs.Faults.{fault_of};
 ghost use Rattle.clap.specs.Kinds.{FailsBy};
-ghost use Rattle.clap.specs.Simple.{matches_of};
+ghost use Rattle.clap.specs.Simple.{app_of, matches_of};
 ghost use Rattle.clap.specs.Values.{kind_of};
 ghost use Rattle.clap.specs.Walk.{rows_of};
-ghost use Rattle.clap.specs.Matches.{found_of, first_value};
+ghost use Rattle.clap.specs.Matches.{found_of};
 ghost use Rattle.clap.specs.declared.error.kind.ErrorKind.TheVariants.{OutOfMemory};
-ghost use Rattle.lj_run.specs.Words.{IsBare, IsPath, request_asked, program_app, run_asked, asked_by, kind_asked};
-ghost use Rattle.lj_run.specs.declared.command_line.Request.TheVariants.{Run};
+ghost use Rattle.lj_run.specs.Words.{HasRule, asked_by, asked_by_rows, bare_app, flag_rule, is_run_of, kind_asked, limit_of, option_rule, path_rule, paths_rule, program_app, request_asked, run_asked, steps_of_value, the_usage};
 ghost use Rattle.lj_run.specs.declared.words.WordsFault.TheVariants as words_faults;
 
-use crate::command_line::{CommandLine, Request};
+use crate::command_line::{CommandLine, MAX_PROOFS, Request};
 use clap::error::ErrorKind;
 use clap::{Arg, ArgAction, ArgMatches, Command, Error};
 use lj_clause::NoMemory;
@@ -43,27 +42,45 @@ pub(crate) fn read_words<'a, S: AsStr>(
     ensures { IfOk result (λ request. request_asked request ≡ asked_by (map S.text words.entry.now)) }
 {
     match parsed(alloc, words) {
-        Ok(matches) => Ok(Request::Run(command_line(alloc, &matches)?)),
+        Ok(matches) => Ok(run_of(alloc, &matches)?),
         Err(error) => told(alloc, &error),
     }
 }
 
 /// The words as `clap` reads them.
 fn parsed<'a, S: AsStr>(alloc: Global, words: &'a [S]) -> Result<ArgMatches<'a>, Error>
-    ensures formula { IfOk result (λ m. is_some (first_value (found_of m) (codes "FORMULA")) ≡ true) }
-    ensures proof { IfOk result (λ m. is_some (first_value (found_of m) (codes "PROOF")) ≡ true) }
-    ensures matches { IfOk result (λ m. rows_of (found_of m) ≡ matches_of program_app (map S.text words.entry.now)) }
+    ensures matches { IfOk result (λ m.
+        rows_of (found_of m) ≡ matches_of program_app (map S.text words.entry.now)) }
     ensures kinds { FailsBy (fault_of program_app (map S.text words.entry.now)) result }
 {
+    command(alloc)?.try_get_matches_from(words)
+}
+
+/// The command line of the program.
+fn command<'a>(alloc: Global) -> Result<Command<'a>, AllocError>
+    ensures { IfOk result (λ c. app_of c ≡ program_app) }
+{
     let formula = path(alloc, "FORMULA", "The formula, a DIMACS CNF file");
-    let proof = path(alloc, "PROOF", "A stream of LRAT lines, a file");
-    let command = without_arguments(alloc).arg(formula)?.arg(proof)?;
-    command.try_get_matches_from(words)
+    let proofs = paths(
+        alloc,
+        "PROOF",
+        "A stream of LRAT lines, a file; up to 64 of them",
+    );
+    let close = option(
+        alloc,
+        "close",
+        "FILE",
+        "A stream that runs after all others have ended",
+    );
+    let in_turn = flag(alloc, "in-turn", "Run the streams one after the other");
+    let max_steps = option(alloc, "max-steps", "N", "Accept at most N additions");
+    let command = without_arguments(alloc).arg(formula)?.arg(proofs)?;
+    command.arg(close)?.arg(in_turn)?.arg(max_steps)
 }
 
 /// The program without its arguments.
 fn without_arguments<'a>(alloc: Global) -> Command<'a>
-    ensures { IsBare result }
+    ensures { app_of result ≡ bare_app }
 {
     Command::new(alloc, "lratjoin")
         .about("Checks LRAT proofs that a CNF formula can't be satisfied")
@@ -73,8 +90,7 @@ fn without_arguments<'a>(alloc: Global) -> Command<'a>
 
 /// A path that has to be given.
 fn path<'a>(alloc: Global, id: &'a str, help: &'a str) -> Arg<'a>
-    ensures id { result.id ≡ id.entry }
-    ensures path { IsPath result }
+    ensures { HasRule (path_rule id.entry.now) result }
 {
     Arg::new(alloc, id)
         .help(help)
@@ -82,20 +98,116 @@ fn path<'a>(alloc: Global, id: &'a str, help: &'a str) -> Arg<'a>
         .action(ArgAction::Set)
 }
 
-/// The run that the matches ask for.
-fn command_line<'a>(alloc: Global, matches: &ArgMatches<'a>) -> Result<CommandLine<'a>, AllocError>
-    requires formula { is_some (first_value (found_of matches.now) (codes "FORMULA")) ≡ true }
-    requires proof { is_some (first_value (found_of matches.now) (codes "PROOF")) ≡ true }
-    ensures { IfOk result (λ line. request_asked (Run line) ≡ run_asked (first_value (found_of matches.now) (codes "FORMULA"))
-        (first_value (found_of matches.now) (codes "PROOF"))) }
+/// One path or more that have to be given.
+fn paths<'a>(alloc: Global, id: &'a str, help: &'a str) -> Arg<'a>
+    ensures { HasRule (paths_rule id.entry.now) result }
 {
-    let (Some(formula), Some(proof)) = (matches.get_str("FORMULA"), matches.get_str("PROOF")) else {
-        unreachable!()
+    Arg::new(alloc, id)
+        .help(help)
+        .required(true)
+        .action(ArgAction::Append)
+}
+
+/// An option with a value.
+fn option<'a>(alloc: Global, name: &'a str, value: &'a str, help: &'a str) -> Arg<'a>
+    ensures { HasRule (option_rule name.entry.now) result }
+{
+    Arg::new(alloc, name)
+        .long(name)
+        .value_name(value)
+        .help(help)
+        .action(ArgAction::Set)
+}
+
+/// An option without a value.
+fn flag<'a>(alloc: Global, name: &'a str, help: &'a str) -> Arg<'a>
+    ensures { HasRule (flag_rule name.entry.now) result }
+{
+    Arg::new(alloc, name)
+        .long(name)
+        .help(help)
+        .action(ArgAction::SetTrue)
+}
+
+/// What the matches ask for.
+fn run_of<'a>(alloc: Global, matches: &ArgMatches<'a>) -> Result<Request<'a>, AllocError>
+    ensures { IfOk result (λ request.
+        request_asked request ≡ asked_by_rows (rows_of (found_of matches.now))) }
+{
+    request_of(
+        alloc,
+        matches.get_str("FORMULA"),
+        matches.get_raw("PROOF").unwrap_or(&[]),
+        matches.get_str("close"),
+        matches.get_str("max-steps"),
+    )
+}
+
+/// The run that values ask for, or usage where there are too many streams or the limit is none.
+fn request_of<'a>(
+    alloc: Global,
+    formula: Option<&'a str>,
+    proofs: &[&'a str],
+    closing: Option<&'a str>,
+    max_steps: Option<&str>,
+) -> Result<Request<'a>, AllocError>
+    ensures { IfOk result (λ request. request_asked request
+        ≡ run_asked (option_map (λ path. path.now) formula.entry) (map (λ path. path.now) proofs.now)
+        (option_map (λ path. path.now) closing.entry) (option_map (λ text. text.now) max_steps.entry)) }
+{
+    let Some(formula) = formula else {
+        return usage(alloc, "FORMULA wasn't provided");
     };
-    Ok(CommandLine {
+    if !is_run_of(proofs) {
+        return usage(alloc, "there are more than 64 PROOF files");
+    }
+    let Some(max_steps) = steps_of(max_steps) else {
+        return usage(
+            alloc,
+            "N of '--max-steps <N>' is no number from 0 to 4294967295",
+        );
+    };
+    Ok(Request::Run(CommandLine {
         formula,
-        proofs: vec![in alloc; proof]?,
-    })
+        proofs: proofs.to_vec(alloc)?,
+        closing,
+        max_steps,
+    }))
+}
+
+/// Whether a run takes that many streams.
+fn is_run_of(proofs: &[&str]) -> bool
+    ensures { result ≡ is_run_of (map (λ path. path.now) proofs.now) }
+{
+    !proofs.is_empty() && proofs.len() <= MAX_PROOFS
+}
+
+/// Wrong words, of which this is told.
+fn usage<'a>(alloc: Global, what: &str) -> Result<Request<'a>, AllocError>
+    ensures { IfOk result (λ request. request_asked request ≡ the_usage) }
+{
+    let text = format!(in alloc; "error: {what}\n\nFor more information, try '--help'.\n")?;
+    Ok(Request::Usage(text))
+}
+
+/// The limit that the value of `--max-steps` writes, and the greatest where it isn't given.
+fn steps_of(value: Option<&str>) -> Option<u32>
+    ensures { result ≡ steps_of_value (option_map (λ text. text.now) value.entry) }
+{
+    match value {
+        Some(text) => limit_of(text),
+        None => Some(u32::MAX),
+    }
+}
+
+/// The limit that a text of decimal digits writes. A sign is no digit, though `parse` takes one.
+fn limit_of(text: &str) -> Option<u32>
+    ensures { result ≡ limit_of text.now }
+{
+    if text.as_bytes().starts_with(b"+") {
+        return None;
+    }
+    text.parse::<u32>().ok()
 }
 
 /// What words ask for that are read with this error.

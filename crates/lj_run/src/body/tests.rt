@@ -124,6 +124,10 @@ fn streams_that_refute_nothing(rt: HostRuntime) -> Result<(), Fail> {
             "0 added, 0 deleted, 0 imported, line 1: MissingGroup(2)",
         ),
         (
+            "5 -2 1 0 0\n",
+            "0 added, 0 deleted, 0 imported, line 1: MissingGroup(1)",
+        ),
+        (
             "5 2 0 1 2 0\n6 0 5 3 4",
             "1 added, 0 deleted, 0 imported, line 2: Truncated",
         ),
@@ -134,68 +138,196 @@ fn streams_that_refute_nothing(rt: HostRuntime) -> Result<(), Fail> {
     Ok(())
 }
 
+/// Files of the four binary clauses, two provers, what joins them, and a deletion of what the first prover needs.
+fn portfolio_of(alloc: Global) -> Result<MemoryFiles, Fail> {
+    let mut files = files_of(alloc, BINARY, "5 2 0 1 2 0\n6 0 5 3 4 0\n")?;
+    files.add("a", b"5 2 0 1 2 0\n")?;
+    files.add("b", b"5 -2 0 3 4 0\n")?;
+    files.add("join", b"7 i 2 0\n8 i -2 0\n9 0 7 8 0\n")?;
+    files.add("drop", b"5 d 1 2 0\n")?;
+    Ok(files)
+}
+
+#[test]
+fn several_streams(rt: HostRuntime) -> Result<(), Fail> {
+    let alloc = rt.alloc();
+    let mut files = portfolio_of(alloc)?;
+    let joined = "c stream 0: 1 added, 0 deleted, 0 imported, ended
+c stream 1: 1 added, 0 deleted, 0 imported, ended
+c stream 2: 1 added, 0 deleted, 2 imported, stopped
+s VERIFIED UNSAT
+";
+    for words in [
+        ["cnf", "a", "b", "--close", "join", "--in-turn"],
+        ["--in-turn", "--close", "join", "cnf", "a", "b"],
+        ["cnf", "--close", "join", "a", "--in-turn", "b"],
+        ["--close=join", "--max-steps=3", "cnf", "--", "a", "b"],
+    ] {
+        assert_told(&rt, alloc, &words, &mut files, joined, "", 0);
+    }
+    let dropped = "c stream 0: 0 added, 1 deleted, 0 imported, ended
+c stream 1: 1 added, 0 deleted, 0 imported, ended
+s NOT VERIFIED
+";
+    let words = ["cnf", "drop", "a"];
+    assert_told(&rt, alloc, &words, &mut files, dropped, "", 1);
+    let closed = "c stream 0: 2 added, 0 deleted, 0 imported, stopped
+c stream 1: 0 added, 0 deleted, 0 imported, stopped
+s VERIFIED UNSAT
+";
+    let words = ["cnf", "lrat", "--close", "drop"];
+    assert_told(&rt, alloc, &words, &mut files, closed, "", 0);
+    Ok(())
+}
+
+#[test]
+fn additions_are_limited(rt: HostRuntime) -> Result<(), Fail> {
+    let alloc = rt.alloc();
+    let mut files = portfolio_of(alloc)?;
+    for (limit, report, verdict, status) in [
+        (
+            "0",
+            "0 added, 0 deleted, 0 imported, line 1: Full",
+            "NOT VERIFIED",
+            1,
+        ),
+        (
+            "1",
+            "1 added, 0 deleted, 0 imported, line 2: Full",
+            "NOT VERIFIED",
+            1,
+        ),
+        (
+            "0000000000002",
+            "2 added, 0 deleted, 0 imported, stopped",
+            "VERIFIED UNSAT",
+            0,
+        ),
+        (
+            "4294967295",
+            "2 added, 0 deleted, 0 imported, stopped",
+            "VERIFIED UNSAT",
+            0,
+        ),
+    ] {
+        let out = format!(in alloc; "c stream 0: {report}\ns {verdict}\n")?;
+        let words = ["cnf", "lrat", "--max-steps", limit];
+        assert_told(&rt, alloc, &words, &mut files, &out, "", status);
+    }
+    for limit in ["", "+1", "-1", "1x", " 1", "4294967296"] {
+        let word = format!(in alloc; "--max-steps={limit}")?;
+        let err = "error: N of '--max-steps <N>' is no number from 0 to 4294967295
+
+For more information, try '--help'.
+";
+        assert_told(&rt, alloc, &["cnf", "lrat", &word], &mut files, "", err, 3);
+    }
+    Ok(())
+}
+
 #[test]
 fn faults_are_told(rt: HostRuntime) -> Result<(), Fail> {
     let alloc = rt.alloc();
     let mut files = files_of(alloc, BINARY, "")?;
     files.add("5", b"p cnf 2 5\n1 2 0\n-1 2 0\n1 -2 0\n-1 -2 0\n")?;
     for (words, err) in [
-        (["5", "lrat"], "lratjoin: 5: line 6: ClauseCount\n"),
-        (["none", "none as well"], "lratjoin: none: cannot read\n"),
-        (["cnf", "none"], "lratjoin: none: cannot read\n"),
-        (["-", "lrat"], "lratjoin: -: cannot read\n"),
+        (
+            ["5", "lrat", "lrat", "lrat"],
+            "lratjoin: 5: line 6: ClauseCount\n",
+        ),
+        (
+            ["none", "no", "--close", "nil"],
+            "lratjoin: none: cannot read\n",
+        ),
+        (
+            ["cnf", "none", "--close", "nil"],
+            "lratjoin: none: cannot read\n",
+        ),
+        (
+            ["cnf", "lrat", "none", "nil"],
+            "lratjoin: none: cannot read\n",
+        ),
+        (
+            ["cnf", "lrat", "--close", "nil"],
+            "lratjoin: nil: cannot read\n",
+        ),
+        (["-", "lrat", "--close", ""], "lratjoin: -: cannot read\n"),
     ] {
         assert_told(&rt, alloc, &words, &mut files, "", err, 2);
     }
     Ok(())
 }
 
-/// How the program is used.
-const USAGE: &str =
-    "\n\nUsage: lratjoin <FORMULA> <PROOF>\n\nFor more information, try '--help'.\n";
-
 #[test]
 fn wrong_words_are_usage(rt: HostRuntime) -> Result<(), Fail> {
     let alloc = rt.alloc();
     let mut files = files_of(alloc, BINARY, "")?;
-    for (words, fault) in [
+    for (words, fault, usage) in [
         (
             [].as_slice(),
-            "the following required arguments were not provided:\n  <FORMULA>\n  <PROOF>",
+            "the following required arguments were not provided:\n  <FORMULA>\n  <PROOF>...",
+            "<FORMULA> <PROOF>...",
         ),
         (
             &["cnf"],
-            "the following required arguments were not provided:\n  <PROOF>",
+            "the following required arguments were not provided:\n  <PROOF>...",
+            "<FORMULA> <PROOF>...",
         ),
-        (&["cnf", "lrat", "more"], "unexpected argument 'more' found"),
         (
-            &["cnf", "--", "-h", "lrat"],
-            "unexpected argument 'lrat' found",
+            &["cnf", "lrat", "--in-turn", "--in-turn"],
+            "the argument '--in-turn' cannot be used multiple times",
+            "[OPTIONS] <FORMULA> <PROOF>...",
         ),
     ] {
-        let err = format!(in alloc; "error: {fault}{USAGE}")?;
+        let err = format!(in alloc;
+            "error: {fault}\n\nUsage: lratjoin {usage}\n\nFor more information, try '--help'.\n"
+        )?;
         assert_told(&rt, alloc, words, &mut files, "", &err, 3);
     }
-    for words in [["--unknown", "--help"], ["cnf", "--in-turn"]] {
-        let told = told_of(&rt, alloc, &words, &mut files);
+    for words in [
+        ["--unknown", "--help", "cnf", "lrat"].as_slice(),
+        &["cnf", "--close", "lrat"],
+        &["cnf", "lrat", "--close", "lrat", "--close", "lrat"],
+        &["cnf", "lrat", "--max-steps", "1", "--max-steps=1"],
+        &["cnf", "lrat", "--max-steps", "-1"],
+        &["cnf", "lrat", "--close", "--in-turn"],
+        &["cnf", "lrat", "--in-turn=1"],
+    ] {
+        let told = told_of(&rt, alloc, words, &mut files);
         assert!(rt; told.out.bytes().is_empty() && !told.err.bytes().is_empty());
         assert!(rt; told.status == 3);
     }
     Ok(())
 }
 
+#[test]
+fn streams_are_counted(rt: HostRuntime) -> Result<(), Fail> {
+    let alloc = rt.alloc();
+    let mut files = files_of(alloc, BINARY, "")?;
+    let mut words = vec![in alloc; "lrat"; 65]?;
+    words[0] = "cnf";
+    assert!(rt; told_of(&rt, alloc, &words, &mut files).status == 1);
+    words.push("lrat")?;
+    let err = "error: there are more than 64 PROOF files\n\nFor more information, try '--help'.\n";
+    assert_told(&rt, alloc, &words, &mut files, "", err, 3);
+    Ok(())
+}
+
 /// What `--help` tells.
 const HELP: &str = "Checks LRAT proofs that a CNF formula can't be satisfied
 
-Usage: lratjoin <FORMULA> <PROOF>
+Usage: lratjoin [OPTIONS] <FORMULA> <PROOF>...
 
 Arguments:
-  <FORMULA>  The formula, a DIMACS CNF file
-  <PROOF>    A stream of LRAT lines, a file
+  <FORMULA>   The formula, a DIMACS CNF file
+  <PROOF>...  A stream of LRAT lines, a file; up to 64 of them
 
 Options:
-  -h, --help     Print help
-  -V, --version  Print version
+      --close <FILE>   A stream that runs after all others have ended
+      --in-turn        Run the streams one after the other
+      --max-steps <N>  Accept at most N additions
+  -h, --help           Print help
+  -V, --version        Print version
 ";
 
 #[test]
