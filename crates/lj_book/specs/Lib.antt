@@ -14,3 +14,4 @@ pub mod Worlds
 pub mod Solo
 pub mod RefusalText
 pub mod Slots
+pub mod Telling

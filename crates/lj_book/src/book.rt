@@ -15,6 +15,7 @@ mod inside;
 pub mod laws;
 mod leaving;
 mod playing;
+mod telling;
 
 use crate::committing::{enter_clause, entry_with, first_stale, refuted_at};
 use crate::dying::{bury, no_longer_held, rising};

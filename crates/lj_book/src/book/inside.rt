@@ -55,7 +55,7 @@ impl Book {
     ///
     /// # Errors
     /// As [`Book::add_inside`].
-    fn inside_line(
+    pub(crate) fn inside_line(
         &self,
         seat: u32,
         addition: &Addition,
@@ -91,7 +91,7 @@ impl Book {
     ///
     /// # Errors
     /// [`NoMemory`] where a growth was refused.
-    fn enter_line(
+    pub(crate) fn enter_line(
         &mut self,
         seat: u32,
         addition: &Addition,

@@ -1,0 +1,236 @@
+//! Calls that also tell the entry that they make: a copy, made before the book changes.
+ghost use Rattle.std.specs.Prelude.{◌≡◌, OnOk, OnErr, IfOk, IfErr, IfSome, Ok, Err};
+ghost use Rattle.lj_book.specs.History.{after_entry};
+ghost use Rattle.lj_book.specs.Calls.{IsReplyBy, drop_reply, drop_entry, commit_reply, commit_entry, adopt_reply, adopt_entry, import_reply, import_entry, leave_reply, leave_entry, free_refusal};
+ghost use Rattle.lj_book.specs.Inside.{inside_reply, inside_entry};
+ghost use Rattle.lj_book.specs.JointLines.{line_entry};
+ghost use Rattle.lj_book.specs.Telling.{without_receipt};
+
+use crate::book::{Book, deletion_of};
+use crate::committing::entry_with;
+use crate::dying::{no_longer_held, rising};
+use crate::entry::{Added, Call, Dropped, Entry, Imported};
+use crate::refusal::Refusal;
+use lj_clause::{Clause, NoMemory};
+use lj_hint::{Marks, Receipt};
+use lj_text::{Addition, Group, Groups, Numbers, Step};
+use std::alloc::Global;
+
+impl Book {
+    /// As [`Book::commit`], with a copy of the entry.
+    ///
+    /// # Errors
+    /// As [`Book::commit`].
+    pub fn commit_telling(&mut self, receipt: Receipt) -> Result<(Added, Entry), (Refusal, Receipt)>
+        ensures reply { IsReplyBy (λ told. told.0) (without_receipt result) (commit_reply self.old receipt) }
+        ensures refused { IfErr (commit_reply self.old receipt) (λ e. result ≡ Err (e, receipt)) }
+        ensures told { IfOk result (λ told. told.1 ≡ commit_entry self.old receipt) }
+        ensures ok { OnOk result (self.new ≡ after_entry self.old (commit_entry self.old receipt)) }
+        ensures err { OnErr result (self.new ≡ self.old) }
+        ensures back { IfErr result (λ e. e.1 ≡ receipt) }
+    {
+        if let Some(refusal) = self.commit_refusal(&receipt) {
+            return Err((refusal, receipt));
+        }
+        let entry = match self.entry_of(&receipt) {
+            Ok(entry) => entry,
+            Err(e) => return Err((Refusal::NoMemory(e), receipt)),
+        };
+        match self.enter(&receipt) {
+            Ok(added) => Ok((added, entry)),
+            Err(e) => Err((Refusal::NoMemory(e), receipt)),
+        }
+    }
+
+    /// The entry that the commit of a receipt makes.
+    ///
+    /// # Errors
+    /// [`NoMemory`] where a growth was refused.
+    fn entry_of(&self, receipt: &Receipt) -> Result<Entry, NoMemory>
+        ensures { IfOk result (λ entry. entry ≡ commit_entry self.now receipt.now) }
+    {
+        let added = self.added;
+        let joint = self.formula.len() as u64 + 1 + u64::from(added);
+        entry_with(*self.history.allocator(), joint, receipt)
+    }
+
+    /// As [`Book::add_inside`], with a copy of the entry.
+    ///
+    /// # Errors
+    /// As [`Book::add_inside`].
+    pub fn add_inside_telling(
+        &mut self,
+        seat: u32,
+        addition: &Addition,
+        marks: &mut Marks,
+    ) -> Result<(Added, Entry), Refusal>
+        ensures reply { IsReplyBy (λ told. told.0) result (inside_reply self.old seat addition.now) }
+        ensures refused { IfSome (free_refusal self.old seat addition.now.number) (λ e. result ≡ Err e) }
+        ensures told { IfOk result (λ told. told.1 ≡ inside_entry self.old seat addition.now) }
+        ensures ok { OnOk result (self.new ≡ after_entry self.old (inside_entry self.old seat addition.now)) }
+        ensures err { OnErr result (self.new ≡ self.old) }
+    {
+        let step = match self.inside_line(seat, addition, marks) {
+            Ok(step) => step,
+            Err(refusal) => return Err(refusal),
+        };
+        let entry = match entry_of_line(*self.history.allocator(), seat, addition.number, &step) {
+            Ok(entry) => entry,
+            Err(refused) => return Err(Refusal::NoMemory(refused)),
+        };
+        match self.enter_line(seat, addition, step) {
+            Ok(added) => Ok((added, entry)),
+            Err(refused) => Err(Refusal::NoMemory(refused)),
+        }
+    }
+
+    /// As [`Book::drop_numbers`], with a copy of the entry.
+    ///
+    /// # Errors
+    /// As [`Book::drop_numbers`].
+    pub fn drop_telling(&mut self, seat: u32, numbers: &[u64]) -> Result<(Dropped, Entry), Refusal>
+        ensures reply { IsReplyBy (λ told. told.0) result (drop_reply self.old seat numbers.now) }
+        ensures refused { IfErr (drop_reply self.old seat numbers.now) (λ e. result ≡ Err e) }
+        ensures told { IfOk result (λ told. told.1 ≡ drop_entry self.old seat numbers.now) }
+        ensures ok { OnOk result (self.new ≡ after_entry self.old (drop_entry self.old seat numbers.now)) }
+        ensures err { OnErr result (self.new ≡ self.old) }
+    {
+        if !self.tables.is_here(seat) {
+            return Err(Refusal::SeatGone);
+        }
+        let alloc = *self.history.allocator();
+        let call = Call::Drop {
+            numbers: Numbers::from_slice(alloc, numbers)?,
+        };
+        let joints = rising(self.tables.joints(alloc, seat, numbers)?);
+        let dropped = match self.drop_numbers(seat, numbers) {
+            Ok(dropped) => dropped,
+            Err(refusal) => return Err(refusal),
+        };
+        let step = deletion_of(no_longer_held(&self.tables, joints));
+        Ok((dropped, Entry { seat, call, step }))
+    }
+
+    /// As [`Book::adopt`], with a copy of the entry.
+    ///
+    /// # Errors
+    /// As [`Book::adopt`].
+    pub fn adopt_telling(
+        &mut self,
+        seat: u32,
+        own: u64,
+        joint: u64,
+    ) -> Result<(u64, Entry), Refusal>
+        ensures reply { IsReplyBy (λ told. told.0) result (adopt_reply self.old seat own joint) }
+        ensures refused { IfErr (adopt_reply self.old seat own joint) (λ e. result ≡ Err e) }
+        ensures told { IfOk result (λ told. told.1 ≡ adopt_entry seat own joint) }
+        ensures ok { OnOk result (self.new ≡ after_entry self.old (adopt_entry seat own joint)) }
+        ensures err { OnErr result (self.new ≡ self.old) }
+    {
+        let call = Call::Adopt { own, joint };
+        let step = None;
+        match self.adopt(seat, own, joint) {
+            Ok(place) => Ok((place, Entry { seat, call, step })),
+            Err(refusal) => Err(refusal),
+        }
+    }
+
+    /// As [`Book::import`], with a copy of the entry.
+    ///
+    /// # Errors
+    /// As [`Book::import`].
+    pub fn import_telling(
+        &mut self,
+        seat: u32,
+        own: u64,
+        clause: &Clause,
+    ) -> Result<(Imported, Entry), Refusal>
+        ensures reply { IsReplyBy (λ told. told.0) result (import_reply self.old seat own clause.now) }
+        ensures refused { IfErr (import_reply self.old seat own clause.now) (λ e. result ≡ Err e) }
+        ensures told { IfOk result (λ told. told.1 ≡ import_entry seat own clause.now) }
+        ensures ok { OnOk result (self.new ≡ after_entry self.old (import_entry seat own clause.now)) }
+        ensures err { OnErr result (self.new ≡ self.old) }
+    {
+        if let Some(refusal) = self.free_refusal(seat, own) {
+            return Err(refusal);
+        }
+        if self.clauses.least_number(clause).is_none() {
+            return Err(Refusal::NoSuchClause);
+        }
+        let call = Call::Import {
+            own,
+            clause: clause.copy()?,
+        };
+        let step = None;
+        match self.import(seat, own, clause) {
+            Ok(imported) => Ok((imported, Entry { seat, call, step })),
+            Err(refusal) => Err(refusal),
+        }
+    }
+
+    /// As [`Book::leave`], with a copy of the entry.
+    ///
+    /// # Errors
+    /// As [`Book::leave`].
+    pub fn leave_telling(&mut self, seat: u32) -> Result<(u64, Entry), Refusal>
+        ensures reply { IsReplyBy (λ told. told.0) result (leave_reply self.old seat) }
+        ensures refused { IfErr (leave_reply self.old seat) (λ e. result ≡ Err e) }
+        ensures told { IfOk result (λ told. told.1 ≡ leave_entry self.old seat) }
+        ensures ok { OnOk result (self.new ≡ after_entry self.old (leave_entry self.old seat)) }
+        ensures err { OnErr result (self.new ≡ self.old) }
+    {
+        if !self.tables.is_here(seat) {
+            return Err(Refusal::SeatGone);
+        }
+        let alloc = *self.history.allocator();
+        let numbers = self.tables.own_numbers(alloc, seat)?;
+        let joints = rising(self.tables.joints(alloc, seat, &numbers)?);
+        let place = match self.leave(seat) {
+            Ok(place) => place,
+            Err(refusal) => return Err(refusal),
+        };
+        let call = Call::Leave;
+        let step = deletion_of(no_longer_held(&self.tables, joints));
+        Ok((place, Entry { seat, call, step }))
+    }
+}
+
+/// The entry of a seat's addition with this step.
+///
+/// # Errors
+/// [`NoMemory`] where a growth was refused.
+fn entry_of_line(alloc: Global, seat: u32, own: u64, step: &Addition) -> Result<Entry, NoMemory>
+    ensures { IfOk result (λ entry. entry ≡ line_entry seat own step.now) }
+{
+    let call = Call::Add {
+        own,
+        lemma: step.lemma.copy()?,
+    };
+    let step = Addition {
+        number: step.number,
+        lemma: step.lemma.copy()?,
+        hints: step.hints.copy()?,
+        groups: copy_of_groups(alloc, &step.groups)?,
+    };
+    let step = Some(Step::Add(step));
+    Ok(Entry { seat, call, step })
+}
+
+/// Groups of their own with the same contents.
+///
+/// # Errors
+/// [`NoMemory`] where a growth was refused.
+fn copy_of_groups(alloc: Global, groups: &Groups) -> Result<Groups, NoMemory>
+    ensures { IfOk result (λ copy. copy ≡ groups.now) }
+{
+    let groups = groups.as_slice();
+    let mut copies = Vec::with_capacity(alloc, groups.len())?;
+    for group in groups {
+        let hints = group.hints.copy()?;
+        copies.push(Group {
+            candidate: group.candidate,
+            hints,
+        })?;
+    }
+    Ok(Groups::new(copies))
+}
