@@ -2,12 +2,11 @@
 ghost use Rattle.std.specs.Prelude.{◌≡◌, ◌<◌, ◌+◌, length, OnOk, OnErr, IfOk, IfErr, Err, option_copied, slice_get, is_some, IfSome, None, Some};
 ghost use Rattle.std.specs.FinMap as fin;
 ghost use Rattle.lj_clause.specs.ClauseMap.{formula_map};
-ghost use Rattle.lj_clause.specs.Truth.{IsSatisfiable};
 ghost use Rattle.lj_text.specs.Steps.{replay, refutes};
 ghost use Rattle.lj_text.specs.Needed.{if_some};
 ghost use Rattle.lj_book.specs.Lookup.{numbers_holding};
 ghost use Rattle.lj_book.specs.State.{State, opening, live, steps_of, verdict};
-ghost use Rattle.lj_book.specs.History.{IsReached, after_entry};
+ghost use Rattle.lj_book.specs.History.{after_entry};
 ghost use Rattle.lj_book.specs.Calls.{IsReply, drop_reply, drop_entry, commit_refusal, commit_told, commit_reply, commit_entry, answer_alone, take_reply, free_refusal};
 
 mod adopting;
@@ -156,8 +155,6 @@ impl Book {
     /// [`NoMemory`] where a growth was refused.
     pub fn into_steps(self) -> Result<Vec<Step>, NoMemory>
         ensures steps { IfOk result (λ steps. steps.items ≡ steps_of self.history) }
-        ensures reached { IsReached self }
-        ensures replayed { replay (formula_map self.formula) (steps_of self.history) ≡ Some (live self) }
     {
         let alloc = *self.history.allocator();
         let steps = self.history.into_iter().filter_map(|entry| entry.step);

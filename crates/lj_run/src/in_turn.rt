@@ -10,6 +10,7 @@ use crate::proving::prove;
 use crate::reading::read_formula;
 use crate::stream::run_stream;
 use lj_book::Book;
+use lj_book::laws::{history_is_legal, live_is_the_replay};
 use lj_clause::MAX_VARIABLE;
 use lj_text::{Sink, Source};
 use std::alloc::{AllocFailed, Global};
@@ -49,6 +50,8 @@ pub fn run_in_turn<R: Wait, F: Source, S: Source + Drop, W: Sink>(
     let streams = by_seat(streams, closing)?;
     let mut book = Book::open(alloc, formula, streams.len() as u32, options.max_steps)?;
     let reports = run_all(rt, alloc, &mut book, streams)?;
+    history_is_legal(&book);
+    live_is_the_replay(&book);
     let verified = book.verified()?;
     let steps = book.into_steps()?;
     let proof = prove(alloc, clauses, &verified, options.trim, &steps, out);
