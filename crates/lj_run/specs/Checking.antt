@@ -1,5 +1,5 @@
 -- What a check answers and prints.
-use Rattle.std.specs.Prelude.{◌≡◌, ◌<◌, ℕ, List, ◌++◌, length, take, Option, Some, None}
+use Rattle.std.specs.Prelude.{◌≡◌, ◌<◌, ℕ, Bool, List, ◌++◌, length, take, Option, Some, None}
 use Rattle.lj_clause.specs.ClauseMap.{FormulaValue}
 use Rattle.lj_text.specs.Streams.{SourceState}
 use Rattle.lj_book.specs.State.{IsUnsatisfiable}
@@ -9,7 +9,10 @@ use Rattle.lj_run.specs.declared.checking.Verdict.{Verdict}
 use Rattle.lj_run.specs.declared.checking.Verdict.TheVariants.{Verified, NotVerified}
 use Rattle.lj_run.specs.declared.outcome.Outcome.{Outcome}
 use Rattle.lj_run.specs.FormulaReading.{GaveFormula, IsFormulaFault}
-use Rattle.lj_run.specs.InTurn.{IsOutcome}
+use Rattle.lj_run.specs.InTurn.{IsOutcome, IsRunAnswer}
+use Rattle.lj_run.specs.Proof.{SinkState}
+use Rattle.lj_run.specs.declared.checking.Checked.{Checked}
+use Rattle.lj_run.specs.declared.outcome.RunFault.TheVariants.{Formula, FormulaRead, NoMemory}
 use Rattle.lj_run.specs.OutcomeText.{outcome_text}
 
 -- the verdict of an outcome with this formula of its verification, or without one
@@ -28,6 +31,28 @@ pub record IsPrinted {S : Type 0} (before after : SourceState) (seen : S → Sou
   pub answers : verdict ≡ verdict_of outcome.verified
   pub unsatisfiable : verdict ≡ Verified → IsUnsatisfiable formula
   pub prints : text ≡ outcome_text outcome
+
+-- What a check answers where this text is printed, over a sink of the proof that may have been handed in: the run of the streams on the
+-- formula that the source's bytes spell has an outcome whose text and whose verdict these are, and the proof is what the run made of it.
+-- Where the verdict is that it is verified, no assignment satisfies that formula.
+pub record IsChecked {S W : Type 0} (before after : SourceState) (seen : S → SourceState) (sink : W → SinkState) (max_steps : ℕ) (trims : Bool) (streams : List S) (proof_old proof_new : Option W) (checked : Checked) (text : List ℕ) : Type 0 where
+  pub outcome : Outcome S
+  pub runs : IsRunAnswer before after seen sink max_steps trims streams proof_old proof_new outcome
+  pub answers : checked.verdict ≡ verdict_of outcome.verified
+  pub proof : checked.proof ≡ outcome.proof
+  pub unsatisfiable : checked.verdict ≡ Verified → IsUnsatisfiable runs.formula
+  pub prints : text ≡ outcome_text outcome
+
+-- the run has an outcome, and the proof is what the run made of it
+abbrev pub HasOutcome : {S W : Type 0} → SourceState → SourceState → (S → SourceState) → (W → SinkState) → ℕ → Bool → List S → Option W → Option W → Type 0
+HasOutcome {S} before after seen sink max_steps trims streams proof_old proof_new = (outcome : Outcome S) × IsRunAnswer before after seen sink max_steps trims streams proof_old proof_new outcome
+
+-- the formula is at fault, or a read of it failed
+abbrev pub IsInputFault : CheckFault → Type 0
+IsInputFault (Run (Formula fault)) = Unit {0}
+IsInputFault (Run FormulaRead) = Unit {0}
+IsInputFault (Run (NoMemory _)) = ⊥
+IsInputFault CannotWrite = ⊥
 
 -- What was taken is a beginning of what is printed of a check, and not all of it.
 pub record IsCutText {S : Type 0} (before after : SourceState) (seen : S → SourceState) (max_steps : ℕ) (streams : List S) (old new : List ℕ) : Type 0 where

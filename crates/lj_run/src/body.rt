@@ -15,7 +15,7 @@ use crate::opening::{open, open_all, open_closing};
 use crate::outcome::Options;
 use crate::status::Status;
 use crate::words::read_words;
-use lj_text::{Sink, Source, write_all};
+use lj_text::{MemorySink, Sink, Source, write_all};
 use std::alloc::Global;
 use std::convert::AsStr;
 use std::sync::Wait;
@@ -127,8 +127,18 @@ fn run<'a, R: Wait, F: Files, O: Sink>(
         max_steps: line.max_steps,
         trim: false,
     };
-    match check(rt, alloc, &mut formula, streams, closing, &options, out) {
-        Ok(verdict) => Ok(verdict.into()),
+    let mut proof = None::<MemorySink>;
+    match check(
+        rt,
+        alloc,
+        &mut formula,
+        streams,
+        closing,
+        &options,
+        &mut proof,
+        out,
+    ) {
+        Ok(checked) => Ok(checked.verdict.into()),
         Err(fault) => Err(fault_of(line.formula, fault)),
     }
 }

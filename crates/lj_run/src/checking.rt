@@ -1,20 +1,21 @@
 //! A check: a run whose outcome is printed.
-ghost use Rattle.std.specs.Prelude.{◌≡◌, ◌≢◌, ◌<◌, ◌≤◌, ◌++◌, ℕ, List, All, length, Ok, Err, OnOk, IfOk, IfErr};
+ghost use Rattle.std.specs.Prelude.{◌≡◌, ◌≢◌, ◌<◌, ◌≤◌, ◌++◌, ℕ, List, All, length, Err, OnOk, IfOk, IfErr, IfSome};
 ghost use Rattle.lj_clause.specs.ClauseMap.{FormulaValue};
 ghost use Rattle.lj_clause.specs.Memory.{no_memory};
 ghost use Rattle.lj_text.specs.Streams.{source_state};
 ghost use Rattle.lj_book.specs.State.{IsUnsatisfiable};
 ghost use Rattle.lj_run.specs.FormulaReading.{GaveFormula};
 ghost use Rattle.lj_run.specs.InTurn.{streams_by_seat};
-ghost use Rattle.lj_run.specs.Checking.{IsPrinted, IsCheckFault, verdict_of};
+ghost use Rattle.lj_run.specs.Checking.{IsChecked, IsCheckFault, IsInputFault, HasOutcome, verdict_of};
+ghost use Rattle.lj_run.specs.Proof.{sink_state};
 ghost use Rattle.lj_run.specs.declared.checking.CheckFault.TheVariants as check_faults;
 ghost use Rattle.lj_run.specs.declared.checking.Verdict.TheVariants.{Verified};
 ghost use Rattle.lj_run.specs.declared.outcome.RunFault.TheVariants as run_faults;
 
 use crate::in_turn::run_in_turn;
-use crate::outcome::{Options, Outcome, RunFault};
+use crate::outcome::{Options, Outcome, ProofEnd, RunFault};
 use crate::printing::text_of;
-use lj_text::{MemorySink, Sink, Source, write_all};
+use lj_text::{Sink, Source, write_all};
 use std::alloc::{AllocError, Global};
 use std::sync::Wait;
 use thiserror::Error;
@@ -26,6 +27,14 @@ pub enum Verdict {
     Verified,
     /// They don't.
     NotVerified,
+}
+
+/// What a check answers.
+#[derive(Clone, Copy, Debug, PartialEq, Eq)]
+pub struct Checked {
+    pub verdict: Verdict,
+    /// What became of the proof.
+    pub proof: ProofEnd,
 }
 
 /// Why a check has no answer.
@@ -56,35 +65,38 @@ impl From<AllocError> for CheckFault {
 }
 
 /// Reads a formula, runs the streams on it one after the other, the closing one last, and prints a line for each stream and then
-/// the verdict. What is printed is made whole before any of it is written.
+/// the verdict. What is printed is made whole before any of it is written. Where a sink of the proof is handed in, the proof is
+/// written before that; that it fails changes nothing of what is printed.
 ///
 /// Takes the time of the run, and of the text that is printed.
 ///
 /// # Errors
 /// The fault of the formula's text, a read of it that failed, want of memory outside the streams, or an output that failed.
-pub fn check<R: Wait, F: Source, S: Source + Drop, O: Sink>(
+pub fn check<R: Wait, F: Source, S: Source + Drop, P: Sink, O: Sink>(
     rt: &R,
     alloc: Global,
     formula: &mut F,
     streams: Vec<S>,
     closing: Option<S>,
     options: &Options,
+    proof: &mut Option<P>,
     out: &mut O,
-) -> Result<Verdict, CheckFault>
+) -> Result<Checked, CheckFault>
     requires some { 0 < length (streams_by_seat streams.items closing) }
     requires at_most { length (streams_by_seat streams.items closing) ≤ 1024 }
     requires unfailed { F.failures formula.old ≡ 0 }
     requires streams_unfailed { All (λ stream. S.failures stream ≡ 0) (streams_by_seat streams.items closing) }
+    requires proof_unfailed { IfSome proof.old (λ sink. P.failures sink ≡ 0) }
     requires out_unfailed { O.failures out.old ≡ 0 }
 
-    ensures printed { IfOk result (λ verdict. (text : List ℕ) × (O.taken out.new ≡ O.taken out.old ++ text)
-        × IsPrinted (source_state F.given F.ended F.rest F.failures formula.old)
-        (source_state F.given F.ended F.rest F.failures formula.new)
-        (source_state S.given S.ended S.rest S.failures) options.now.max_steps
-        (streams_by_seat streams.items closing) verdict text) }
-    ensures refuted { result ≡ Ok Verified → (f : FormulaValue) × IsUnsatisfiable f
+    ensures printed { IfOk result (λ checked. (text : List ℕ) × (O.taken out.new ≡ O.taken out.old ++ text)
+        × IsChecked (source_state F.given F.ended F.rest F.failures formula.old)
+        (source_state F.given F.ended F.rest F.failures formula.new) (source_state S.given S.ended S.rest S.failures)
+        (sink_state P.taken P.failures) options.now.max_steps options.now.trim
+        (streams_by_seat streams.items closing) proof.old proof.new checked text) }
+    ensures refuted { IfOk result (λ checked. checked.verdict ≡ Verified → (f : FormulaValue) × IsUnsatisfiable f
         × GaveFormula (source_state F.given F.ended F.rest F.failures formula.old)
-        (source_state F.given F.ended F.rest F.failures formula.new) f }
+        (source_state F.given F.ended F.rest F.failures formula.new) f) }
     ensures ok { OnOk result (O.failures out.new ≡ 0) }
 
     ensures fault { IfErr result (IsCheckFault (source_state F.given F.ended F.rest F.failures formula.old)
@@ -93,12 +105,20 @@ pub fn check<R: Wait, F: Source, S: Source + Drop, O: Sink>(
         (streams_by_seat streams.items closing) (O.taken out.old) (O.taken out.new)) }
     ensures untouched { IfErr result (λ fault. fault ≢ check_faults.CannotWrite → out.new ≡ out.old) }
     ensures failed { result ≡ Err check_faults.CannotWrite → O.failures out.new ≡ 1 }
+    ensures written { result ≡ Err check_faults.CannotWrite
+        → HasOutcome (source_state F.given F.ended F.rest F.failures formula.old)
+        (source_state F.given F.ended F.rest F.failures formula.new) (source_state S.given S.ended S.rest S.failures)
+        (sink_state P.taken P.failures) options.now.max_steps options.now.trim
+        (streams_by_seat streams.items closing) proof.old proof.new }
+    ensures unread { IfErr result (λ fault. IsInputFault fault → proof.new ≡ proof.old) }
 {
-    let mut proof = None::<MemorySink>;
-    let outcome = run_in_turn(rt, alloc, formula, streams, closing, options, &mut proof)?;
+    let outcome = run_in_turn(rt, alloc, formula, streams, closing, options, proof)?;
     let text = text_of(alloc, &outcome)?;
     match write_all(out, text.as_bytes()) {
-        Ok(()) => Ok(verdict_on(&outcome)),
+        Ok(()) => Ok(Checked {
+            verdict: verdict_on(&outcome),
+            proof: outcome.proof,
+        }),
         Err(_) => Err(CheckFault::CannotWrite),
     }
 }

@@ -18,7 +18,7 @@ mod stream;
 mod words;
 
 pub use body::program;
-pub use checking::{CheckFault, Verdict, check};
+pub use checking::{CheckFault, Checked, Verdict, check};
 pub use files::{FileFault, Files, MachineFiles, MemoryFile, MemoryFiles};
 pub use in_turn::run_in_turn;
 pub use outcome::{End, LineEnd, Options, Outcome, ProofEnd, ProofFault, Report, RunFault};

@@ -3,6 +3,7 @@ use Rattle.lj_run.specs.InTurn.{streams_by_seat}
 use Rattle.lj_run.specs.Program.{status_code}
 use Rattle.lj_run.specs.Words.{line_asked}
 use Rattle.lj_run.proofs.ProgramLemmas.{among_closing, among_streams, check_cut, few_streams, inputs_unfailed, open_fault, passed_on, streams_before}
+use Rattle.lj_run.proofs.CheckLemmas.{printed_of}
 use Rattle.lj_run.proofs.body.run.Goals as goal
 
 pub check-requires-clause-some : goal.check-requires-clause-some
@@ -25,7 +26,7 @@ check-requires-clause-streams_unfailed g c = inputs_unfailed _ _ _
 
 pub returns-in-Ok-clause-answered : goal.returns-in-Ok-clause-answered
 returns-in-Ok-clause-answered g c = record {
-  verdict = c.in-Ok.verdict;
+  verdict = c.in-Ok.checked.verdict;
   text = c.in-Ok.ensures.printed.0;
   printed = record {
     inputs = record {
@@ -36,7 +37,7 @@ returns-in-Ok-clause-answered g c = record {
       streams_are = streams_before _ _ _ _ _ _ c.args.line.now.closing _ c.in_ok-closing.closing c.deref.ensures.value c.in_ok-formula.ensures.same c.in_ok-streams.ensures.same
           c.in_ok-streams.ensures.opened c.in_ok-closing.ensures.opened;
     };
-    printed = c.in-Ok.ensures.printed.2;
+    printed = printed_of _ _ _ _ _ _ _ _ _ _ _ c.in-Ok.ensures.printed.2;
   };
   took = c.in-Ok.ensures.printed.1;
   status_is = ap status_code c.into.ensures;
