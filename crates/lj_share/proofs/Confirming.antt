@@ -1,0 +1,72 @@
+-- Which tokens the entries of a seat have to be.
+use Rattle.std.proofs.Common.{◌≡◌, ap, refl, sym, ◌∙◌, ℕ, suc, ◌+◌, ◌<◌, Bool, cond, true, false, arith}
+use Rattle.std.specs.Prelude.{List, [], ◌∷◌, ◌↔◌, ◌==◌, drop, length, Option, Some, None, slice_get}
+use Rattle.std.specs.Option.{MatchOption}
+use Rattle.std.proofs.lemmas.Bool.Decides.{nat_tests}
+use Rattle.std.proofs.Math.Seq.{drop-cons}
+use Rattle.std.proofs.lemmas.Option.{slice_get_within, get_or_from_slice_get, slice_get-get_or}
+use Rattle.lj_book.specs.declared.entry.Entry.{Entry}
+use Rattle.lj_share.specs.Entries.{entries_of}
+
+is_equal : (a b : ℕ) → a ≡ b → (a == b) ≡ true
+is_equal a b h = grind (arith, nat_tests)
+
+are_equal : (a b : ℕ) → (a == b) ≡ true → a ≡ b
+are_equal a b h = grind (arith, nat_tests)
+
+is_other : (a b : ℕ) → (a ≡ b → ⊥) → (a == b) ≡ false
+is_other a b h = go (a == b) refl
+  where
+    go : (x : Bool) → (a == b) ≡ x → x ≡ false
+    go true e = absurd (h (are_equal a b e))
+    go false e = refl
+
+-- the entry at a place stands before those behind it
+at_place : (es : List Entry) (place : ℕ) (e : Entry) → slice_get es place ≡ Some e → drop place es ≡ e ∷ drop (place + 1) es
+at_place es place e is =
+    let next : suc place ≡ place + 1 = omega arith in
+    drop-cons es place e (slice_get_within es place e is)
+    ∙ ap (λ x. x ∷ drop (suc place) es) (get_or_from_slice_get es place e e is)
+    ∙ ap (λ n. e ∷ drop n es) next
+
+-- it is the first of the seat's where it is the seat's
+front_of : (es : List Entry) (seat place : ℕ) (e : Entry) (b : Bool) → slice_get es place ≡ Some e → (e.seat == seat) ≡ b → entries_of seat (drop place es) ≡ cond b (e ∷ entries_of seat (drop (place + 1) es)) (entries_of seat (drop (place + 1) es))
+front_of es seat place e b is at =
+    ap (entries_of seat) (at_place es place e is)
+    ∙ ap (λ x. cond x (e ∷ entries_of seat (drop (place + 1) es)) (entries_of seat (drop (place + 1) es))) at
+
+-- an entry of another seat is passed by
+pub passed_by : {A : Type 0} (es : List Entry) (seat place : ℕ) (e : Entry) (rest left : List Entry) → A ↔ (entries_of seat (drop place es) ≡ rest) → slice_get es place ≡ Some e → (e.seat ≡ seat → ⊥) → left ≡ rest → A ↔ (entries_of seat (drop (place + 1) es) ≡ left)
+passed_by es seat place e rest left so_far is other left_is =
+    let front = front_of es seat place e false is (is_other e.seat seat other) in
+    (λ a. sym front ∙ so_far.0 a ∙ sym left_is, λ h. so_far.1 (front ∙ h ∙ left_is))
+
+-- an entry of the seat is the next token's
+pub matched : {A : Type 0} (es : List Entry) (seat place : ℕ) (e f : Entry) (rest others left : List Entry) → A ↔ (entries_of seat (drop place es) ≡ rest) → slice_get es place ≡ Some e → e.seat ≡ seat → e ≡ f → rest ≡ f ∷ others → left ≡ others → A ↔ (entries_of seat (drop (place + 1) es) ≡ left)
+matched es seat place e f rest others left so_far is same equal rest_is left_is =
+    let front = front_of es seat place e true is (is_equal e.seat seat same) in
+    let behind : List Entry = entries_of seat (drop (place + 1) es) in
+    (λ a. ap (drop 1) (sym front ∙ so_far.0 a ∙ rest_is) ∙ sym left_is, λ h. so_far.1 (front ∙ ap (λ x. x ∷ behind) equal ∙ ap (λ xs. f ∷ xs) (h ∙ left_is) ∙ sym rest_is))
+
+-- where the seat's entries are all tokens, an entry of the seat is the first of those that are left
+pub is_first : {A : Type 0} (es : List Entry) (seat place : ℕ) (e : Entry) (rest : List Entry) → A ↔ (entries_of seat (drop place es) ≡ rest) → slice_get es place ≡ Some e → e.seat ≡ seat → A → rest ≡ e ∷ entries_of seat (drop (place + 1) es)
+is_first es seat place e rest so_far is same a = sym (so_far.0 a) ∙ front_of es seat place e true is (is_equal e.seat seat same)
+
+pub same_first : (e f : Entry) (xs ys : List Entry) → e ∷ xs ≡ f ∷ ys → e ≡ f
+same_first e f xs ys is = cc
+
+pub not_empty : (e : Entry) (xs ys : List Entry) → ys ≡ e ∷ xs → length ys ≡ 0 → ⊥
+not_empty e xs ys is none = let long = ap length is in absurd (omega arith)
+
+is_none : {X : Type 0} (x : X) → Some x ≡ None → ⊥
+is_none x h = cc
+
+-- the fact of an option that is none
+pub where_none : {X : Type 0} {N : Type 0} (S : X → Type 0) (o : Option X) → MatchOption o N S → o ≡ None → N
+where_none S None fact is = fact
+where_none S (Some x) fact is = absurd (is_none x is)
+
+-- no place of a list is without an entry
+pub some_entry : (es : List Entry) (place : ℕ) → place < length es → slice_get es place ≡ None → ⊥
+some_entry [] place within is = absurd (omega arith)
+some_entry (e ∷ es) place within is = is_none _ (sym (slice_get-get_or (e ∷ es) place e within) ∙ is)

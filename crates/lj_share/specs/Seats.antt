@@ -1,0 +1,40 @@
+-- Seats, and how many entries were made through them.
+use Rattle.std.specs.Prelude.{◌≡◌, ℕ, zero, suc, ◌+◌, List, [], ◌∷◌, ◌++◌, length, refl}
+use Rattle.std.specs.Coded.{Coded, code_by, coded×, coded_ℕ}
+use Rattle.lj_clause.specs.ClauseMap.{FormulaValue}
+use Rattle.lj_book.specs.State.{State}
+
+-- The number of the seat, and the count of the entries that were made through it.
+pub record SeatValue : Type 0 where
+  pub number : ℕ
+  pub count : ℕ
+
+-- how a proof stores one
+abbrev pub seat_code : Coded SeatValue
+seat_code = code_by (ℕ × ℕ) (coded× coded_ℕ coded_ℕ) (λ s. (s.number, s.count)) (λ p. record { number = p.0; count = p.1 }) (λ _. refl)
+
+-- the seat of this number, through which no entry was made
+abbrev pub new_seat : ℕ → SeatValue
+new_seat number = record { number = number; count = 0 }
+
+-- the seats of the numbers below this one
+abbrev pub new_seats : ℕ → List SeatValue
+new_seats zero = []
+new_seats (suc n) = new_seats n ++ new_seat n ∷ []
+
+-- the seat after one entry more
+abbrev pub counting_one : SeatValue → SeatValue
+counting_one s = record { number = s.number; count = s.count + 1 }
+
+-- how many entries were made through these seats together
+abbrev pub entries_made : List SeatValue → ℕ
+entries_made [] = 0
+entries_made (s ∷ ss) = s.count + entries_made ss
+
+-- What the lock keeps: the book is of the opening's formula, the total of its ledger is the number of entries, and all
+-- of the ledger is with the seats.
+pub record IsDesk (formula : FormulaValue) (book : State) (total parts amount : ℕ) : Type 0 where
+  pub formula_is : book.formula ≡ formula
+  pub counted : length book.history ≡ total
+  pub no_part : parts ≡ 0
+  pub no_amount : amount ≡ 0

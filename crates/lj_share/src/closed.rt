@@ -1,0 +1,77 @@
+//! Closed books.
+ghost use Rattle.std.specs.Prelude.{◌≡◌, ◌↔◌, IsTrue};
+ghost use Rattle.lj_share.specs.Entries.{entries_of};
+
+use crate::opening::Opening;
+use crate::same::same_entry;
+use crate::told::Told;
+use lj_book::Book;
+use std::marker::{Model, PhantomData};
+
+/// A book that was shared, and whose seats were all handed in. Its formula is the opening's.
+#[derive(Drop)]
+pub struct Closed<L: Opening> {
+    book: Book,
+    opening: PhantomData<L>,
+}
+
+impl<L: Opening> Model for Closed<L> {
+    ghost use Rattle.std.specs.Prelude.{◌≡◌};
+    ghost use Rattle.lj_book.specs.State.{State, state_code};
+
+    ghost Value = { State };
+
+    ghost coded = { state_code };
+
+    ghost view = { λ c. c.book };
+
+    ghost invariant = { λ c. c.book.formula ≡ L.formula };
+}
+
+impl<L: Opening> Closed<L> {
+    /// The closed book of this one.
+    pub(crate) fn new(book: Book) -> Closed<L>
+        requires { book.formula ≡ L.formula }
+        ensures { result ≡ book }
+    {
+        Closed {
+            book,
+            opening: PhantomData,
+        }
+    }
+
+    /// The book.
+    pub fn book(&self) -> &Book
+        ensures book { result.now ≡ self.now }
+        ensures formula { self.now.formula ≡ L.formula }
+    {
+        &self.book
+    }
+
+    /// The book, by value.
+    pub fn into_book(self) -> Book
+        ensures book { result ≡ self }
+        ensures formula { self.formula ≡ L.formula }
+    {
+        self.book
+    }
+
+    /// Whether the seat's entries in the history are exactly those of these tokens, in this order. Takes no memory, and
+    /// time linear in the history and in the contents of the seat's entries.
+    pub fn confirm(&self, seat: u32, told: &[Told]) -> bool
+        ensures { IsTrue result ↔ (entries_of seat self.now.history ≡ told.now) }
+    {
+        let mut rest = told;
+        for place in 0..self.book.history_len() {
+            if let Some(entry) = self.book.entry(place) {
+                if entry.seat == seat {
+                    match rest.split_first() {
+                        Some((first, others)) if same_entry(entry, &first.entry) => rest = others,
+                        _ => return false,
+                    }
+                }
+            }
+        }
+        rest.is_empty()
+    }
+}

@@ -1,0 +1,184 @@
+//! What lies under the lock.
+ghost use Rattle.std.specs.Prelude.{◌≡◌, ◌+◌, length, OnOk, OnErr, IfOk, IfErr};
+ghost use Rattle.lj_book.specs.declared.entry.Call.TheVariants as calls;
+ghost use Rattle.lj_share.specs.Seats.{IsDesk, counting_one};
+ghost use Rattle.lj_share.specs.Entries.{IsEntryOf};
+
+use crate::opening::Opening;
+use crate::seat::Seat;
+use crate::told::Told;
+use lj_book::{Book, Entry, Refusal};
+use lj_clause::Clause;
+use lj_hint::Receipt;
+use lj_text::Addition;
+use std::marker::Model;
+use std::sync::ledger::{Book as Tally, Share};
+
+/// The book, and the ledger of its opening, whose total is the number of entries.
+#[derive(Drop)]
+pub struct Desk<L: Opening> {
+    book: Book,
+    entries: Tally<L>,
+    /// What no seat has of the ledger: nothing.
+    rest: Share<L>,
+}
+
+impl<L: Opening> Model for Desk<L> {
+    ghost use Rattle.std.specs.Prelude.{◌≡◌, length};
+    ghost use Rattle.lj_share.specs.Seats.{IsDesk};
+
+    ghost Value = { Unit {0} };
+
+    ghost view = { λ d. tt };
+
+    ghost invariant = { λ d. IsDesk L.formula d.book d.entries.total d.rest.parts d.rest.amount };
+}
+
+impl<L: Opening> Desk<L> {
+    /// A new book under a ledger all of whose parts the seats have.
+    pub fn new(book: Book, entries: Tally<L>, rest: Share<L>) -> Desk<L>
+        requires { IsDesk L.formula book entries.total rest.parts rest.amount }
+    {
+        Desk {
+            book,
+            entries,
+            rest,
+        }
+    }
+
+    /// The book.
+    pub fn book(&self) -> &Book {
+        &self.book
+    }
+
+    /// The book, the ledger, and what no seat has of it.
+    pub fn into_parts(self) -> (Book, Tally<L>, Share<L>)
+        ensures { IsDesk L.formula result.0 result.1.total result.2.parts result.2.amount }
+    {
+        let Desk {
+            book,
+            entries,
+            rest,
+        } = self;
+        (book, entries, rest)
+    }
+
+    /// Commits a receipt of the seat.
+    pub fn commit(
+        &mut self,
+        seat: &mut Seat<L>,
+        receipt: Receipt,
+    ) -> Result<Told, (Refusal, Receipt)>
+        ensures told { IfOk result (λ told. IsEntryOf receipt.seat (calls.Add receipt.own receipt.lemma) told) }
+        ensures counted { OnOk result (seat.new ≡ counting_one seat.old) }
+        ensures kept { OnErr result (seat.new ≡ seat.old) }
+        ensures back { IfErr result (λ e. e.1 ≡ receipt) }
+    {
+        let Desk {
+            book,
+            entries,
+            rest: _,
+        } = self;
+        match book.commit_telling(receipt) {
+            Ok((_, entry)) => Ok(tell(book, entries, seat, entry)),
+            Err(refused) => Err(refused),
+        }
+    }
+
+    /// Tests a seat's addition, and enters it.
+    pub fn add_inside(&mut self, seat: &mut Seat<L>, addition: &Addition) -> Result<Told, Refusal>
+        ensures told { IfOk result (λ told. IsEntryOf seat.old.number (calls.Add addition.now.number addition.now.lemma) told) }
+        ensures counted { OnOk result (seat.new ≡ counting_one seat.old) }
+        ensures kept { OnErr result (seat.new ≡ seat.old) }
+    {
+        let Desk {
+            book,
+            entries,
+            rest: _,
+        } = self;
+        let number = seat.number();
+        match book.add_inside_telling(number, addition, &mut seat.marks) {
+            Ok((_, entry)) => Ok(tell(book, entries, seat, entry)),
+            Err(refusal) => Err(refusal),
+        }
+    }
+
+    /// Gives own numbers of the seat up.
+    pub fn drop_numbers(&mut self, seat: &mut Seat<L>, numbers: &[u64]) -> Result<Told, Refusal>
+        ensures told { IfOk result (λ told. IsEntryOf seat.old.number (calls.Drop numbers.now) told) }
+        ensures counted { OnOk result (seat.new ≡ counting_one seat.old) }
+        ensures kept { OnErr result (seat.new ≡ seat.old) }
+    {
+        let Desk {
+            book,
+            entries,
+            rest: _,
+        } = self;
+        match book.drop_telling(seat.number(), numbers) {
+            Ok((_, entry)) => Ok(tell(book, entries, seat, entry)),
+            Err(refusal) => Err(refusal),
+        }
+    }
+
+    /// Binds the seat's own number to a live clause with exactly these literals.
+    pub fn import(&mut self, seat: &mut Seat<L>, own: u64, clause: &Clause) -> Result<Told, Refusal>
+        ensures told { IfOk result (λ told. IsEntryOf seat.old.number (calls.Import own clause.now) told) }
+        ensures counted { OnOk result (seat.new ≡ counting_one seat.old) }
+        ensures kept { OnErr result (seat.new ≡ seat.old) }
+    {
+        let Desk {
+            book,
+            entries,
+            rest: _,
+        } = self;
+        match book.import_telling(seat.number(), own, clause) {
+            Ok((_, entry)) => Ok(tell(book, entries, seat, entry)),
+            Err(refusal) => Err(refusal),
+        }
+    }
+
+    /// Binds the seat's own number to a joint number that lives.
+    pub fn adopt(&mut self, seat: &mut Seat<L>, own: u64, joint: u64) -> Result<Told, Refusal>
+        ensures told { IfOk result (λ told. IsEntryOf seat.old.number (calls.Adopt own joint) told) }
+        ensures counted { OnOk result (seat.new ≡ counting_one seat.old) }
+        ensures kept { OnErr result (seat.new ≡ seat.old) }
+    {
+        let Desk {
+            book,
+            entries,
+            rest: _,
+        } = self;
+        match book.adopt_telling(seat.number(), own, joint) {
+            Ok((_, entry)) => Ok(tell(book, entries, seat, entry)),
+            Err(refusal) => Err(refusal),
+        }
+    }
+
+    /// Ends the seat's bindings in the book.
+    pub fn leave(&mut self, seat: &mut Seat<L>) -> Result<Told, Refusal>
+        ensures told { IfOk result (λ told. IsEntryOf seat.old.number calls.Leave told) }
+        ensures counted { OnOk result (seat.new ≡ counting_one seat.old) }
+        ensures kept { OnErr result (seat.new ≡ seat.old) }
+    {
+        let Desk {
+            book,
+            entries,
+            rest: _,
+        } = self;
+        match book.leave_telling(seat.number()) {
+            Ok((_, entry)) => Ok(tell(book, entries, seat, entry)),
+            Err(refusal) => Err(refusal),
+        }
+    }
+}
+
+/// The token of the entry that was just made through the seat, which counts it.
+fn tell<L: Opening>(book: &Book, entries: &mut Tally<L>, seat: &mut Seat<L>, entry: Entry) -> Told
+    requires { entries.old.total + 1 ≡ length book.now.history }
+    ensures told { result ≡ entry }
+    ensures seat { seat.new ≡ counting_one seat.old }
+    ensures entries { entries.new.total ≡ length book.now.history }
+{
+    seat.count_one(entries, book.history_len());
+    Told { entry }
+}

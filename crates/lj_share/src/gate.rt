@@ -1,0 +1,19 @@
+//! Gates of tests.
+
+/// What is called round each line that reaches the book, outside the lock. Tests hold lines up by it.
+pub trait Gate {
+    /// The line, whose number is the second, is about to be handed to the book: its test is over.
+    fn pass(&self, seat: u32, line: u64);
+
+    /// The answer to the line stands.
+    fn answered(&self, seat: u32, line: u64);
+}
+
+/// The gate that does nothing.
+pub(crate) struct NoGate;
+
+impl Gate for NoGate {
+    fn pass(&self, _seat: u32, _line: u64) {}
+
+    fn answered(&self, _seat: u32, _line: u64) {}
+}

@@ -1,0 +1,20 @@
+//! The shared book: seats on many threads call one book, and each call is told the entry that it made.
+#![tactic(auto)]
+
+mod closed;
+mod desk;
+mod gate;
+mod opening;
+mod same;
+mod seat;
+mod shared;
+#[cfg(test)]
+mod tests;
+mod told;
+
+pub use closed::Closed;
+pub use gate::Gate;
+pub use opening::Opening;
+pub use seat::Seat;
+pub use shared::{SeatsOut, Shared};
+pub use told::Told;

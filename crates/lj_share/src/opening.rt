@@ -1,0 +1,23 @@
+//! Which opening of a shared book a value is of.
+use std::marker::Brand;
+use std::sync::ledger::Ledger;
+
+/// One opening of a shared book: its formula, and how many seats it has. The shared book, its seats and the closed book
+/// name it by their type, so what belongs to different openings doesn't mix. Whoever opens is generic over it, and is
+/// called with [`Brand`].
+pub trait Opening: Ledger {
+    ghost use Rattle.std.specs.Prelude.{ℕ};
+    ghost use Rattle.lj_clause.specs.ClauseMap.{FormulaValue};
+
+    ghost formula: { FormulaValue };
+
+    ghost seats: { ℕ };
+}
+
+impl Opening for Brand {
+    ghost use Rattle.std.specs.Prelude.{[]};
+
+    ghost formula = { record { variables = 0; clauses = [] } };
+
+    ghost seats = { 0 };
+}

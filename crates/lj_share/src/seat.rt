@@ -1,0 +1,81 @@
+//! Seats.
+ghost use Rattle.std.specs.Prelude.{◌≡◌, ◌+◌, ◌<◌};
+ghost use Rattle.lj_share.specs.Seats.{new_seat, counting_one};
+
+use crate::opening::Opening;
+use lj_hint::Marks;
+use std::alloc::Global;
+use std::marker::Model;
+use std::sync::ledger::{Book as Tally, Share};
+
+/// A place at a shared book, for one prover. It can't be copied, and counts the entries that were made through it.
+#[derive(Drop)]
+pub struct Seat<L: Opening> {
+    number: u32,
+    count: u64,
+    pub(crate) marks: Marks,
+    /// One part of the opening's ledger, and as great an amount as there are entries.
+    share: Share<L>,
+}
+
+impl<L: Opening> Model for Seat<L> {
+    ghost use Rattle.std.specs.Prelude.{◌≡◌};
+    ghost use Rattle.lj_share.specs.Seats.{SeatValue, seat_code};
+
+    ghost Value = { SeatValue };
+
+    ghost coded = { seat_code };
+
+    ghost view = { λ s. record { number = s.number; count = s.count } };
+
+    ghost invariant = { λ s. (s.share.parts ≡ 1) × (s.share.amount ≡ s.count) };
+}
+
+impl<L: Opening> Seat<L> {
+    /// The seat of this number, through which no entry was made.
+    pub(crate) fn new(alloc: Global, number: u32, share: Share<L>) -> Seat<L>
+        requires part { share.parts ≡ 1 }
+        requires empty { share.amount ≡ 0 }
+        ensures { result ≡ new_seat number }
+    {
+        Seat {
+            number,
+            count: 0,
+            marks: Marks::new(alloc),
+            share,
+        }
+    }
+
+    /// The seat's number in the book, from 0.
+    pub fn number(&self) -> u32
+        ensures { result ≡ self.now.number }
+    {
+        self.number
+    }
+
+    /// How many entries were made through it.
+    pub fn count(&self) -> u64
+        ensures { result ≡ self.now.count }
+    {
+        self.count
+    }
+
+    /// Counts one entry more, here and in the ledger, which then has as many as were made.
+    pub(crate) fn count_one(&mut self, entries: &mut Tally<L>, made: u64)
+        requires { entries.old.total + 1 ≡ made }
+        ensures seat { self.new ≡ counting_one self.old }
+        ensures entries { entries.new.total ≡ made }
+    {
+        entries.add(&mut self.share, 1);
+        entries.audit(&mut self.share);
+        self.count += 1;
+    }
+
+    /// The seat's share of the ledger.
+    pub(crate) fn into_share(self) -> Share<L>
+        ensures parts { result.parts ≡ 1 }
+        ensures amount { result.amount ≡ self.count }
+    {
+        self.share
+    }
+}

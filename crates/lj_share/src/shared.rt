@@ -1,0 +1,283 @@
+//! The shared book.
+ghost use Rattle.std.specs.Prelude.{◌≡◌, ◌==◌, ◌+◌, ◌<◌, length, is_ok, OnOk, OnErr, IfOk, IfErr, Ok, Err};
+ghost use Rattle.lj_book.specs.declared.entry.Call.TheVariants as calls;
+ghost use Rattle.lj_book.specs.History.{IsReached};
+ghost use Rattle.lj_share.specs.Seats.{new_seats, counting_one, entries_made};
+ghost use Rattle.lj_share.specs.Entries.{call_of, IsEntryOf};
+
+use crate::closed::Closed;
+use crate::desk::Desk;
+use crate::gate::{Gate, NoGate};
+use crate::opening::Opening;
+use crate::seat::Seat;
+use crate::told::Told;
+use lj_book::laws::history_is_legal;
+use lj_book::{Book, Entry, Refusal};
+use lj_clause::{Formula, NoMemory};
+use lj_hint::{Case, Receipt, Tested};
+use lj_text::{Addition, Line};
+use std::alloc::Global;
+use std::sync::ledger::{Blank, Share};
+use std::sync::{Mutex, Wait};
+
+/// A book that its seats share, on as many threads as they are on. Lines are tested outside its lock.
+#[derive(Drop)]
+pub struct Shared<L: Opening> {
+    desk: Mutex<Desk<L>>,
+    seats: u32,
+    ghost seats_are: { seats ≡ L.seats },
+}
+
+/// Not all seats were handed in: the shared book, and those that were.
+#[derive(Drop)]
+pub struct SeatsOut<L: Opening> {
+    pub shared: Shared<L>,
+    pub seats: Vec<Seat<L>>,
+}
+
+impl<L: Opening> Shared<L> {
+    /// A new book for so many seats, and the seats, by rising number. Each holds the clauses of the formula under their
+    /// numbers. The history takes at most `max_steps` additions. The blank is the opening's, with a part for each seat.
+    ///
+    /// # Errors
+    /// [`NoMemory`] where a growth was refused.
+    pub fn open(
+        alloc: Global,
+        blank: Blank,
+        formula: Formula,
+        seats: u32,
+        max_steps: u32,
+    ) -> Result<(Shared<L>, Vec<Seat<L>>), NoMemory>
+        requires name { blank.name ≡ L.name }
+        requires parts { (blank.parts ≡ L.parts) × (blank.parts ≡ seats) }
+        requires formula { formula ≡ L.formula }
+        requires seats { (0 < seats) × (seats ≡ L.seats) }
+        ensures seats { IfOk result (λ opened. opened.1.items ≡ new_seats seats) }
+    {
+        let book = Book::open(alloc, formula, seats, max_steps)?;
+        let (entries, mut rest) = blank.open::<L>();
+        let out = seats_of(alloc, &mut rest, seats)?;
+        let desk = Mutex::new(Desk::new(book, entries, rest));
+        Ok((Shared { desk, seats }, out))
+    }
+
+    /// Hands a line of the seat's prover to the book, and gives the token of its entry. An addition is tested outside the
+    /// lock by its first list of hints and then committed; where that list leaves the walk open, it is tested and
+    /// entered under the lock.
+    ///
+    /// # Errors
+    /// The refusals of [`Book`]'s calls.
+    pub fn submit<R: Wait>(&self, rt: &R, seat: &mut Seat<L>, line: &Line) -> Result<Told, Refusal>
+        ensures told { IfOk result (λ told. IsEntryOf seat.old.number (call_of line.now) told) }
+        ensures counted { OnOk result (seat.new ≡ counting_one seat.old) }
+        ensures kept { OnErr result (seat.new ≡ seat.old) }
+    {
+        self.submit_at(rt, seat, line, 0, &NoGate)
+    }
+
+    /// The same for the line of this number, with a gate round it.
+    ///
+    /// # Errors
+    /// As [`Shared::submit`].
+    pub fn submit_at<R: Wait, G: Gate>(
+        &self,
+        rt: &R,
+        seat: &mut Seat<L>,
+        line: &Line,
+        at: u64,
+        gate: &G,
+    ) -> Result<Told, Refusal>
+        ensures told { IfOk result (λ told. IsEntryOf seat.old.number (call_of line.now) told) }
+        ensures counted { OnOk result (seat.new ≡ counting_one seat.old) }
+        ensures kept { OnErr result (seat.new ≡ seat.old) }
+    {
+        let number = seat.number();
+        let answer = match line {
+            Line::Add(addition) => return self.submit_addition(rt, seat, addition, at, gate),
+            Line::Delete(numbers) => {
+                let numbers = numbers.to_vec()?;
+                gate.pass(number, at);
+                self.desk.lock(rt).drop_numbers(seat, &numbers)
+            }
+            Line::Import {
+                number: own,
+                clause,
+            } => {
+                gate.pass(number, at);
+                self.desk.lock(rt).import(seat, *own, clause)
+            }
+        };
+        gate.answered(number, at);
+        answer
+    }
+
+    /// Takes an addition, tests it, and enters it.
+    fn submit_addition<R: Wait, G: Gate>(
+        &self,
+        rt: &R,
+        seat: &mut Seat<L>,
+        addition: &Addition,
+        at: u64,
+        gate: &G,
+    ) -> Result<Told, Refusal>
+        ensures told { IfOk result (λ told. IsEntryOf seat.old.number (calls.Add addition.now.number addition.now.lemma) told) }
+        ensures counted { OnOk result (seat.new ≡ counting_one seat.old) }
+        ensures kept { OnErr result (seat.new ≡ seat.old) }
+    {
+        let number = seat.number();
+        let case = self.take(rt, seat, addition)?;
+        let answer = match case.test(&mut seat.marks) {
+            Tested::Closed(receipt) => {
+                gate.pass(number, at);
+                match self.commit(rt, seat, receipt) {
+                    Ok(told) => Ok(told),
+                    Err((refusal, _receipt)) => Err(refusal),
+                }
+            }
+            Tested::Open(_case) => {
+                gate.pass(number, at);
+                self.desk.lock(rt).add_inside(seat, addition)
+            }
+            Tested::Stuck(place) => return Err(Refusal::HintNotUnit(place)),
+            Tested::NoMemory(_case, refused) => return Err(Refusal::NoMemory(refused)),
+        };
+        gate.answered(number, at);
+        answer
+    }
+
+    /// An addition under the seat's numbers as a case in joint numbers, which can be tested without the book.
+    ///
+    /// # Errors
+    /// As [`Book::take`].
+    pub fn take<R: Wait>(
+        &self,
+        rt: &R,
+        seat: &Seat<L>,
+        addition: &Addition,
+    ) -> Result<Case, Refusal>
+        ensures seat { IfOk result (λ case. case.seat ≡ seat.now.number) }
+        ensures own { IfOk result (λ case. case.own ≡ addition.now.number) }
+        ensures lemma { IfOk result (λ case. case.lemma ≡ addition.now.lemma) }
+    {
+        self.desk.lock(rt).book().take(seat.number(), addition)
+    }
+
+    /// Enters the lemma of a receipt of this seat, while the clauses that it lists still live.
+    ///
+    /// # Errors
+    /// With the receipt, as [`Book::commit`].
+    pub fn commit<R: Wait>(
+        &self,
+        rt: &R,
+        seat: &mut Seat<L>,
+        receipt: Receipt,
+    ) -> Result<Told, (Refusal, Receipt)>
+        requires { receipt.seat ≡ seat.old.number }
+        ensures told { IfOk result (λ told. IsEntryOf seat.old.number (calls.Add receipt.own receipt.lemma) told) }
+        ensures counted { OnOk result (seat.new ≡ counting_one seat.old) }
+        ensures kept { OnErr result (seat.new ≡ seat.old) }
+        ensures back { IfErr result (λ e. e.1 ≡ receipt) }
+    {
+        self.desk.lock(rt).commit(seat, receipt)
+    }
+
+    /// Binds the seat's own number to a joint number that lives.
+    ///
+    /// # Errors
+    /// As [`Book::adopt`].
+    pub fn adopt<R: Wait>(
+        &self,
+        rt: &R,
+        seat: &mut Seat<L>,
+        own: u64,
+        joint: u64,
+    ) -> Result<Told, Refusal>
+        ensures told { IfOk result (λ told. IsEntryOf seat.old.number (calls.Adopt own joint) told) }
+        ensures counted { OnOk result (seat.new ≡ counting_one seat.old) }
+        ensures kept { OnErr result (seat.new ≡ seat.old) }
+    {
+        self.desk.lock(rt).adopt(seat, own, joint)
+    }
+
+    /// Ends the seat's bindings. Its later calls are refused.
+    ///
+    /// # Errors
+    /// As [`Book::leave`].
+    pub fn leave<R: Wait>(&self, rt: &R, seat: &mut Seat<L>) -> Result<Told, Refusal>
+        ensures told { IfOk result (λ told. IsEntryOf seat.old.number calls.Leave told) }
+        ensures counted { OnOk result (seat.new ≡ counting_one seat.old) }
+        ensures kept { OnErr result (seat.new ≡ seat.old) }
+    {
+        self.desk.lock(rt).leave(seat)
+    }
+
+    /// The entry that a token of this book stands for, the same one for good. Waits for nobody.
+    pub fn told<'a>(&'a self, told: &'a Told) -> &'a Entry
+        ensures { result.now ≡ told.now }
+    {
+        &told.entry
+    }
+
+    /// The place of the first entry that adds the empty clause, if there is one by now.
+    pub fn verdict_now<R: Wait>(&self, rt: &R) -> Option<u64> {
+        self.desk.lock(rt).book().verdict()
+    }
+
+    /// Gives the book out of the lock, where all seats are handed in. Takes no memory.
+    ///
+    /// # Errors
+    /// [`SeatsOut`], with all that was handed in, where some seat is missing.
+    pub fn close(self, seats: Vec<Seat<L>>) -> Result<Closed<L>, SeatsOut<L>>
+        requires { L.parts ≡ L.seats }
+        ensures all { is_ok result ≡ (length seats.items == L.seats) }
+        ensures legal { IfOk result (λ closed. IsReached closed) }
+        ensures entries { IfOk result (λ closed. length closed.history ≡ entries_made seats.items) }
+        ensures out { IfErr result (λ out. out.seats.items ≡ seats.items) }
+    {
+        if seats.len() as u64 != u64::from(self.seats) {
+            return Err(SeatsOut {
+                shared: self,
+                seats,
+            });
+        }
+        let (book, mut entries, rest) = self.desk.into_inner().into_parts();
+        let mut all = gathered(rest, seats);
+        entries.audit(&mut all);
+        history_is_legal(&book);
+        Ok(Closed::new(book))
+    }
+}
+
+/// The seats of an opening, by rising number, each with a part of the ledger.
+///
+/// # Errors
+/// [`NoMemory`] where a growth was refused.
+fn seats_of<L: Opening>(
+    alloc: Global,
+    rest: &mut Share<L>,
+    seats: u32,
+) -> Result<Vec<Seat<L>>, NoMemory>
+    requires parts { rest.old.parts ≡ seats }
+    requires amount { rest.old.amount ≡ 0 }
+    ensures seats { IfOk result (λ out. out.items ≡ new_seats seats) }
+    ensures parts { OnOk result (rest.new.parts ≡ 0) }
+    ensures amount { OnOk result (rest.new.amount ≡ 0) }
+{
+    let mut out = Vec::with_capacity(alloc, seats as usize)?;
+    for number in 0..seats {
+        let share = rest.split_off(1, 0);
+        out.push(Seat::new(alloc, number, share))?;
+    }
+    Ok(out)
+}
+
+/// The shares of these seats, put together with the rest.
+fn gathered<L: Opening>(mut rest: Share<L>, seats: Vec<Seat<L>>) -> Share<L>
+    ensures parts { result.parts ≡ rest.parts + length seats.items }
+    ensures amount { result.amount ≡ rest.amount + entries_made seats.items }
+{
+    for seat in seats {
+        rest.merge(seat.into_share());
+    }
+    rest
+}
