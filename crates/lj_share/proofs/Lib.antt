@@ -1,1 +1,2 @@
 mod Confirming
+mod Refusing

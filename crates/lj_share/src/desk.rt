@@ -3,6 +3,7 @@ ghost use Rattle.std.specs.Prelude.{◌≡◌, ◌+◌, length, OnOk, OnErr, IfO
 ghost use Rattle.lj_book.specs.declared.entry.Call.TheVariants as calls;
 ghost use Rattle.lj_share.specs.Seats.{IsDesk, counting_one};
 ghost use Rattle.lj_share.specs.Entries.{IsEntryOf};
+ghost use Rattle.lj_share.specs.Refusals.{CanMeet};
 
 use crate::opening::Opening;
 use crate::seat::Seat;
@@ -104,10 +105,12 @@ impl<L: Opening> Desk<L> {
     }
 
     /// Gives own numbers of the seat up.
+    #[tactic(auto, using(crate::proofs::Refusing::drop_refused))]
     pub fn drop_numbers(&mut self, seat: &mut Seat<L>, numbers: &[u64]) -> Result<Told, Refusal>
         ensures told { IfOk result (λ told. IsEntryOf seat.old.number (calls.Drop numbers.now) told) }
         ensures counted { OnOk result (seat.new ≡ counting_one seat.old) }
         ensures kept { OnErr result (seat.new ≡ seat.old) }
+        ensures refusal { IfErr result (λ e. CanMeet (calls.Drop numbers.now) e) }
     {
         let Desk {
             book,
@@ -121,10 +124,12 @@ impl<L: Opening> Desk<L> {
     }
 
     /// Binds the seat's own number to a live clause with exactly these literals.
+    #[tactic(auto, using(crate::proofs::Refusing::import_refused))]
     pub fn import(&mut self, seat: &mut Seat<L>, own: u64, clause: &Clause) -> Result<Told, Refusal>
         ensures told { IfOk result (λ told. IsEntryOf seat.old.number (calls.Import own clause.now) told) }
         ensures counted { OnOk result (seat.new ≡ counting_one seat.old) }
         ensures kept { OnErr result (seat.new ≡ seat.old) }
+        ensures refusal { IfErr result (λ e. CanMeet (calls.Import own clause.now) e) }
     {
         let Desk {
             book,
@@ -138,10 +143,12 @@ impl<L: Opening> Desk<L> {
     }
 
     /// Binds the seat's own number to a joint number that lives.
+    #[tactic(auto, using(crate::proofs::Refusing::adopt_refused))]
     pub fn adopt(&mut self, seat: &mut Seat<L>, own: u64, joint: u64) -> Result<Told, Refusal>
         ensures told { IfOk result (λ told. IsEntryOf seat.old.number (calls.Adopt own joint) told) }
         ensures counted { OnOk result (seat.new ≡ counting_one seat.old) }
         ensures kept { OnErr result (seat.new ≡ seat.old) }
+        ensures refusal { IfErr result (λ e. CanMeet (calls.Adopt own joint) e) }
     {
         let Desk {
             book,
@@ -155,10 +162,12 @@ impl<L: Opening> Desk<L> {
     }
 
     /// Ends the seat's bindings in the book.
+    #[tactic(auto, using(crate::proofs::Refusing::leave_refused))]
     pub fn leave(&mut self, seat: &mut Seat<L>) -> Result<Told, Refusal>
         ensures told { IfOk result (λ told. IsEntryOf seat.old.number calls.Leave told) }
         ensures counted { OnOk result (seat.new ≡ counting_one seat.old) }
         ensures kept { OnErr result (seat.new ≡ seat.old) }
+        ensures refusal { IfErr result (λ e. CanMeet calls.Leave e) }
     {
         let Desk {
             book,

@@ -4,6 +4,7 @@ ghost use Rattle.lj_book.specs.declared.entry.Call.TheVariants as calls;
 ghost use Rattle.lj_book.specs.History.{IsReached};
 ghost use Rattle.lj_share.specs.Seats.{new_seats, counting_one, entries_made};
 ghost use Rattle.lj_share.specs.Entries.{call_of, IsEntryOf};
+ghost use Rattle.lj_share.specs.Refusals.{CanMeet};
 
 use crate::closed::Closed;
 use crate::desk::Desk;
@@ -71,6 +72,7 @@ impl<L: Opening> Shared<L> {
         ensures told { IfOk result (λ told. IsEntryOf seat.old.number (call_of line.now) told) }
         ensures counted { OnOk result (seat.new ≡ counting_one seat.old) }
         ensures kept { OnErr result (seat.new ≡ seat.old) }
+        ensures refusal { IfErr result (λ e. CanMeet (call_of line.now) e) }
     {
         self.submit_at(rt, seat, line, 0, &NoGate)
     }
@@ -90,6 +92,7 @@ impl<L: Opening> Shared<L> {
         ensures told { IfOk result (λ told. IsEntryOf seat.old.number (call_of line.now) told) }
         ensures counted { OnOk result (seat.new ≡ counting_one seat.old) }
         ensures kept { OnErr result (seat.new ≡ seat.old) }
+        ensures refusal { IfErr result (λ e. CanMeet (call_of line.now) e) }
     {
         let number = seat.number();
         let answer = match line {
@@ -195,6 +198,7 @@ impl<L: Opening> Shared<L> {
         ensures told { IfOk result (λ told. IsEntryOf seat.old.number (calls.Adopt own joint) told) }
         ensures counted { OnOk result (seat.new ≡ counting_one seat.old) }
         ensures kept { OnErr result (seat.new ≡ seat.old) }
+        ensures refusal { IfErr result (λ e. CanMeet (calls.Adopt own joint) e) }
     {
         self.desk.lock(rt).adopt(seat, own, joint)
     }
@@ -207,6 +211,7 @@ impl<L: Opening> Shared<L> {
         ensures told { IfOk result (λ told. IsEntryOf seat.old.number calls.Leave told) }
         ensures counted { OnOk result (seat.new ≡ counting_one seat.old) }
         ensures kept { OnErr result (seat.new ≡ seat.old) }
+        ensures refusal { IfErr result (λ e. CanMeet calls.Leave e) }
     {
         self.desk.lock(rt).leave(seat)
     }
