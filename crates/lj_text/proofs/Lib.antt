@@ -6,6 +6,7 @@ mod CutLemmas
 mod DigitLemmas
 mod FrontLemmas
 mod HeldLemmas
+mod JudgeLemmas
 mod PassLemmas
 mod ReaderLemmas
 pub mod StandLemmas

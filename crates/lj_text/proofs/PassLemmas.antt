@@ -9,9 +9,9 @@ use Rattle.lj_text.specs.declared.lines.fault.LineFaultKind.TheVariants.{BadNumb
 use Rattle.lj_text.specs.Bytes.{line_number, tokens_of, lines_of, is_silent}
 use Rattle.lj_text.specs.Lines.{Said, said_by, said_from, whole_said_from, all_said_from, all_but_last, line_of, with_read}
 use Rattle.lj_text.specs.LineReading.{spoken, IsLineTold}
-use Rattle.lj_text.specs.LinesRead.{HasNoLineEnd, IsSaidAt, joined, is_line_no_memory}
+use Rattle.lj_text.specs.LinesRead.{HasNoLineEnd, IsSaidAt, IsSaidRight, joined, is_line_no_memory}
 use Rattle.lj_text.specs.declared.lines.look.Found.{Found}
-use Rattle.std.specs.Prelude.{MatchOption, is_some}
+use Rattle.std.specs.Prelude.{IsOk, MatchOption, is_some}
 use Rattle.std.proofs.Math.Seq.{drop-append_seam}
 use Rattle.lj_text.specs.Looking.{Looked, LookedBehind, Fails, FailsToEnd, said_of}
 use Rattle.lj_text.proofs.StandLemmas.{all_more, joined_more, next_number, said_for, said-spoken, said_from-append, whole-joined, all-joined, all-none, cut-joined, cut-none}
@@ -23,6 +23,10 @@ get-early (y ∷ xs) ys x h = h
 said-early : (xs ys : List Said) (line : ℕ) → IsSaidAt (slice_get xs 0) line → IsSaidAt (slice_get (xs ++ ys) 0) line
 said-early [] ys line h = absurd h
 said-early (x ∷ xs) ys line h = h
+
+right-early : (xs ys : List Said) → IsSaidRight (slice_get xs 0) → IsSaidRight (slice_get (xs ++ ys) 0)
+right-early [] ys h = absurd h
+right-early (x ∷ xs) ys h = h
 
 for_line : (number : ℕ) (line : Option Line) → said_for number (Ok line) ≡ said_of number line
 for_line number None = refl
@@ -126,8 +130,9 @@ loud_fault max ended l kind loud h =
 
 -- the line behind them has a fault
 pub fails-here : (max first k : ℕ) (ahead rest l after : List ℕ) (number : ℕ) (fault : LineFault) → Passed max first ahead rest number → first ≡ line_number k → rest ≡ l ++ 10 ∷ after → HasNoLineEnd l
-    → (fault.line ≡ number) × IsLineTold fault.kind (spoken max true (tokens_of l)) → is_silent (tokens_of l) ≡ false → Fails max k ahead fault
-fails-here max first k ahead rest l after number fault p first_is e h told loud =
+    → (fault.line ≡ number) × IsLineTold fault.kind (spoken max true (tokens_of l)) → is_silent (tokens_of l) ≡ false → (is_line_no_memory fault.kind ≡ true → IsOk (line_of max true (tokens_of l)))
+    → Fails max k ahead fault
+fails-here max first k ahead rest l after number fault p first_is e h told loud right =
     let number_is : line_number (k + length p.lines) ≡ fault.line = sym (told.0 ∙ p.number_is k first_is) in
     let first : slice_get (whole_said_from max k ahead) 0 ≡ Some (record { line = fault.line; says = line_of max true (tokens_of l) }) =
     ap (λ bytes. slice_get (whole_said_from max k bytes) 0) (p.ahead_is ∙ ap (λ r. joined p.lines ++ r) e)
@@ -137,6 +142,7 @@ fails-here max first k ahead rest l after number fault p first_is e h told loud 
     record {
       told = λ memory. first ∙ ap (λ (r : Result Line LineFaultKind). Some (record { line = fault.line; says = r })) (loud_fault max true l fault.kind loud (fails_at max fault.kind l memory told.1));
       line_is = subst (λ (o : Option Said). IsSaidAt o fault.line) (sym first) refl;
+      right = λ memory. subst (λ (o : Option Said). IsSaidRight o) (sym first) (right memory);
     }
 
 fails_at_end : (max : ℕ) (kind : LineFaultKind) (l : List ℕ) → is_line_no_memory kind ≡ false → IsLineTold kind (spoken max false (tokens_of l)) → spoken max false (tokens_of l) ≡ Err kind
@@ -188,8 +194,9 @@ looked-behind max k ahead last found line p none last_is says = record {
 
 -- the last line has a fault
 pub fails-behind : (max k : ℕ) (ahead last : List ℕ) (found : Found) (fault : LineFault) → Looked max k ahead found → found.line ≡ None → last ≡ drop (length ahead - found.left) ahead
-    → (fault.line ≡ found.number) × IsLineTold fault.kind (spoken max false (tokens_of last)) → is_silent (tokens_of last) ≡ false → FailsToEnd max k ahead fault
-fails-behind max k ahead last found fault p none last_is told loud =
+    → (fault.line ≡ found.number) × IsLineTold fault.kind (spoken max false (tokens_of last)) → is_silent (tokens_of last) ≡ false → (is_line_no_memory fault.kind ≡ true → IsOk (line_of max false (tokens_of last)))
+    → FailsToEnd max k ahead fault
+fails-behind max k ahead last found fault p none last_is told loud right =
     let first : slice_get (all_said_from max k ahead) 0 ≡ Some (record { line = fault.line; says = line_of max false (tokens_of last) }) =
     ap (λ (ss : List Said). slice_get ss 0) (last_said max k ahead found p none ∙ ap (said_by max (k + length p.lines) false) (sym (last_is ∙ after_is max k ahead found p))
     ∙ said_loud max (k + length p.lines) false last loud)
@@ -197,6 +204,7 @@ fails-behind max k ahead last found fault p none last_is told loud =
     record {
       told = λ memory. first ∙ ap (λ (r : Result Line LineFaultKind). Some (record { line = fault.line; says = r })) (loud_fault max false last fault.kind loud (fails_at_end max fault.kind last memory told.1));
       line_is = subst (λ (o : Option Said). IsSaidAt o fault.line) (sym first) refl;
+      right = λ memory. subst (λ (o : Option Said). IsSaidRight o) (sym first) (right memory);
     }
 
 -- a fault of a whole line is one of the input
@@ -204,6 +212,7 @@ pub fails-whole : (max k : ℕ) (ahead : List ℕ) (fault : LineFault) → Fails
 fails-whole max k ahead fault fails = record {
   told = λ memory. get-early _ _ _ (fails.told memory);
   line_is = said-early (whole_said_from max k ahead) _ fault.line fails.line_is;
+  right = λ memory. right-early (whole_said_from max k ahead) _ (fails.right memory);
 }
 
 pub none-from_test : (o : Option Line) → is_some o ≡ false → o ≡ None

@@ -1,5 +1,5 @@
 -- What the parts of the line reader give.
-use Rattle.std.specs.Prelude.{◌≡◌, ℕ, Bool, List, [], ◌∷◌, map, Option, Some, None, Result, Ok, Err, ℤ, MatchOption, MatchResult, if◌then◌else◌}
+use Rattle.std.specs.Prelude.{◌≡◌, ℕ, Bool, true, false, IsOk, List, [], ◌∷◌, map, Option, Some, None, Result, Ok, Err, ℤ, MatchOption, MatchResult, if◌then◌else◌}
 use Rattle.std.specs.Borrow.{Bor}
 use Rattle.lj_text.specs.declared.lines.fault.LineFaultKind.{LineFaultKind}
 use Rattle.lj_text.specs.declared.lines.fault.LineFaultKind.TheVariants.{BadNumber, NumberRange, Syntax, Truncated, NoMemory}
@@ -19,6 +19,15 @@ IsLineTold BadNumber read = read ≡ Err BadNumber
 IsLineTold NumberRange read = read ≡ Err NumberRange
 IsLineTold Syntax read = read ≡ Err Syntax
 IsLineTold Truncated read = read ≡ Err Truncated
+
+abbrev pub is_line_no_memory : LineFaultKind → Bool
+is_line_no_memory (NoMemory _) = true
+is_line_no_memory kind = false
+
+-- whether what is read is right, or its fault
+abbrev pub Judges : {X Y : Type 0} → Result X LineFaultKind → Result Y LineFaultKind → Type 0
+Judges (Ok x) read = IsOk read
+Judges (Err kind) read = (read ≡ Err kind) × (is_line_no_memory kind ≡ false)
 
 -- what a function returned, seen by view, is what the grammar reads
 abbrev pub Gives : {X Y : Type 0} → (X → Y) → Result X LineFaultKind → Result Y LineFaultKind → Type 0

@@ -1,12 +1,12 @@
 -- What a reader of lines holds of what was fed, and what it answers.
-use Rattle.std.specs.Prelude.{◌≡◌, ℕ, Bool, true, false, List, [], ◌∷◌, ◌++◌, length, Option, None, Some, Result, Ok, Err, All, MatchBool}
+use Rattle.std.specs.Prelude.{◌≡◌, ℕ, Bool, true, false, List, [], ◌∷◌, ◌++◌, length, Option, None, Some, Result, Ok, Err, All, IsOk, MatchBool}
 use Rattle.std.specs.List.{AllByRecursion}
 use Rattle.lj_text.specs.declared.lines.fault.LineFault.{LineFault}
 use Rattle.lj_text.specs.declared.lines.fault.LineFaultKind.{LineFaultKind}
-use Rattle.lj_text.specs.declared.lines.fault.LineFaultKind.TheVariants.{NoMemory}
 use Rattle.lj_text.specs.declared.line.Line.{Line}
 use Rattle.lj_text.specs.Bytes.{is_line_end, line_number, lines_of}
 use Rattle.lj_text.specs.Lines.{Said, said_from, all_said, all_but_last}
+pub use Rattle.lj_text.specs.LineReading.{is_line_no_memory}
 
 -- What a reader of lines holds.
 pub record LinesRead : Type 0 where
@@ -66,14 +66,15 @@ abbrev pub number_at : Option Said → ℕ → ℕ
 number_at None last = last
 number_at (Some said) last = said.line
 
-abbrev pub is_line_no_memory : LineFaultKind → Bool
-is_line_no_memory (NoMemory _) = true
-is_line_no_memory kind = false
-
 -- there is such a line, and this is its number
 abbrev pub IsSaidAt : Option Said → ℕ → Type 0
 IsSaidAt None line = ⊥
 IsSaidAt (Some said) line = said.line ≡ line
+
+-- there is such a line, and it is right
+abbrev pub IsSaidRight : Option Said → Type 0
+IsSaidRight None = ⊥
+IsSaidRight (Some said) = IsOk said.says
 
 -- whether memory ran out
 abbrev pub wants_memory : {X : Type 0} → Result X LineFault → Bool

@@ -6,8 +6,8 @@ use Rattle.lj_text.specs.declared.lines.look.Found.{Found}
 use Rattle.lj_text.specs.declared.line.Line.{Line}
 use Rattle.lj_text.specs.Bytes.{line_number, lines_of}
 use Rattle.lj_text.specs.Lines.{Said, said_from, whole_said_from, all_said_from, all_but_last}
-use Rattle.lj_text.specs.LinesRead.{HasNoLineEnd, IsSaidAt, joined, is_line_no_memory}
-use Rattle.std.specs.Prelude.{false}
+use Rattle.lj_text.specs.LinesRead.{HasNoLineEnd, IsSaidAt, IsSaidRight, joined, is_line_no_memory}
+use Rattle.std.specs.Prelude.{true, false}
 
 -- what was found
 abbrev pub said_of : ℕ → Option Line → List Said
@@ -29,10 +29,11 @@ pub record Looked (max k : ℕ) (ahead : List ℕ) (found : Found) : Type 0 wher
   pub all_searched : found.line ≡ None → found.searched ≡ found.left
   pub none_is : MatchOption found.line (HasNoLineEnd after × (found.at ≡ found.number)) (λ line. Unit {0})
 
--- It is told at the first whole line that says something and, unless memory ran out, that line's fault.
+-- It is told at the first whole line that says something, and is that line's fault; memory ran out only where the line is right.
 pub record Fails (max k : ℕ) (ahead : List ℕ) (fault : LineFault) : Type 0 where
   pub told : is_line_no_memory fault.kind ≡ false → slice_get (whole_said_from max k ahead) 0 ≡ Some (record { line = fault.line; says = Err fault.kind })
   pub line_is : IsSaidAt (slice_get (whole_said_from max k ahead) 0) fault.line
+  pub right : is_line_no_memory fault.kind ≡ true → IsSaidRight (slice_get (whole_said_from max k ahead) 0)
 
 -- No whole line says anything, and this is what the last line says; nothing is left.
 pub record LookedBehind (max k : ℕ) (ahead : List ℕ) (found : Found) : Type 0 where
@@ -42,7 +43,8 @@ pub record LookedBehind (max k : ℕ) (ahead : List ℕ) (found : Found) : Type 
   pub left_is : found.left ≡ 0
   pub searched_is : found.searched ≡ 0
 
--- It is told at the first line that says something and, unless memory ran out, that line's fault.
+-- It is told at the first line that says something, and is that line's fault; memory ran out only where the line is right.
 pub record FailsToEnd (max k : ℕ) (ahead : List ℕ) (fault : LineFault) : Type 0 where
   pub told : is_line_no_memory fault.kind ≡ false → slice_get (all_said_from max k ahead) 0 ≡ Some (record { line = fault.line; says = Err fault.kind })
   pub line_is : IsSaidAt (slice_get (all_said_from max k ahead) 0) fault.line
+  pub right : is_line_no_memory fault.kind ≡ true → IsSaidRight (slice_get (all_said_from max k ahead) 0)

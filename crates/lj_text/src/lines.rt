@@ -4,6 +4,7 @@ mod cut;
 mod fault;
 mod held;
 mod hints;
+mod judge;
 mod literals;
 mod look;
 mod numbers;

@@ -1,7 +1,8 @@
 //! The next line that says something.
-ghost use Rattle.std.specs.Prelude.{◌≡◌, ◌-◌, ◌≤◌, ℕ, length, take, drop, IfOk, OnErr, MatchResult, MatchBool, IsSome, Ok, false};
+ghost use Rattle.std.specs.Prelude.{◌≡◌, ◌-◌, ◌≤◌, ℕ, length, take, drop, IfErr, IfOk, IsOk, OnErr, MatchResult, MatchBool, IsSome, Ok, true, false};
 ghost use Rattle.lj_text.specs.Bytes.{tokens_of, line_number, is_silent};
-ghost use Rattle.lj_text.specs.LineReading.{IsLineTold, spoken};
+ghost use Rattle.lj_text.specs.Lines.{line_of};
+ghost use Rattle.lj_text.specs.LineReading.{IsLineTold, spoken, is_line_no_memory};
 ghost use Rattle.lj_text.specs.Looking.{Looked, LookedBehind, Fails, FailsToEnd};
 ghost use Rattle.lj_text.specs.LinesRead.{HasNoLineEnd};
 
@@ -37,6 +38,7 @@ pub(super) fn parse_at(
     requires { max ≤ 134217727 }
     ensures says { MatchResult result (λ line. spoken max ended (tokens_of bytes.now) ≡ Ok line) (λ fault. (fault.line ≡ number) × IsLineTold fault.kind (spoken max ended (tokens_of bytes.now))) }
     ensures speaks { OnErr result (is_silent (tokens_of bytes.now) ≡ false) }
+    ensures right { IfErr result (λ fault. is_line_no_memory fault.kind ≡ true → IsOk (line_of max ended (tokens_of bytes.now))) }
 {
     match parse(room, max, ended, bytes) {
         Ok(line) => Ok(line),

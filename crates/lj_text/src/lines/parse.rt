@@ -1,11 +1,12 @@
 //! One whole line.
-ghost use Rattle.std.specs.Prelude.{◌≡◌, ◌≤◌, ◌∷◌, OnErr, false};
+ghost use Rattle.std.specs.Prelude.{◌≡◌, ◌≤◌, ◌∷◌, IfErr, IsOk, OnErr, true, false};
 ghost use Rattle.lj_text.specs.Bytes.{tokens_of, is_silent};
 ghost use Rattle.lj_text.specs.Lines.{addition_of, deletion_of, import_of, after_zero, after_number, line_of};
-ghost use Rattle.lj_text.specs.LineReading.{Gives, words_of, spoken};
+ghost use Rattle.lj_text.specs.LineReading.{Gives, words_of, spoken, is_line_no_memory};
 
 use super::fault::LineFaultKind;
 use super::hints::read_proof;
+use super::judge::judge;
 use super::literals::read_literals;
 use super::numbers::read_numbers;
 use super::room::Room;
@@ -64,9 +65,10 @@ fn import(
 }
 
 /// The fault of a second token that isn't `d`, where the first number is 0.
-fn after_zero(max: u32, token: &[u8]) -> LineFaultKind
+pub(super) fn after_zero(max: u32, token: &[u8]) -> LineFaultKind
     requires { max ≤ 134217727 }
-    ensures { result ≡ after_zero max token.now }
+    ensures value { result ≡ after_zero max token.now }
+    ensures no_room { is_line_no_memory result ≡ false }
 {
     match token {
         [b'i'] => LineFaultKind::Syntax,
@@ -136,6 +138,26 @@ fn line(room: &mut Room, max: u32, ended: bool, bytes: &[u8]) -> Result<Line, Li
     }
 }
 
+/// The same, where want of memory is told only of a line that is right: another line's fault comes before it.
+fn line_or_fault(
+    room: &mut Room,
+    max: u32,
+    ended: bool,
+    bytes: &[u8],
+) -> Result<Line, LineFaultKind>
+    requires { max ≤ 134217727 }
+    ensures gives { Gives (λ line. line) result (line_of max ended (tokens_of bytes.now)) }
+    ensures right { IfErr result (λ kind. is_line_no_memory kind ≡ true → IsOk (line_of max ended (tokens_of bytes.now))) }
+{
+    match line(room, max, ended, bytes) {
+        Err(LineFaultKind::NoMemory(e)) => {
+            judge(max, ended, bytes)?;
+            Err(LineFaultKind::NoMemory(e))
+        }
+        read => read,
+    }
+}
+
 /// What the bytes of a line say: nothing where it is silent. Takes time linear in the bytes, but for a lemma's sorting.
 pub(super) fn parse(
     room: &mut Room,
@@ -146,11 +168,12 @@ pub(super) fn parse(
     requires { max ≤ 134217727 }
     ensures says { Gives (λ line. line) result (spoken max ended (tokens_of bytes.now)) }
     ensures speaks { OnErr result (is_silent (tokens_of bytes.now) ≡ false) }
+    ensures right { IfErr result (λ kind. is_line_no_memory kind ≡ true → IsOk (line_of max ended (tokens_of bytes.now))) }
 {
     let rest = after_blanks(bytes);
     match rest {
         [] => Ok(None),
         [b'c', ..] => Ok(None),
-        _ => Ok(Some(line(room, max, ended, rest)?)),
+        _ => Ok(Some(line_or_fault(room, max, ended, rest)?)),
     }
 }

@@ -2,7 +2,7 @@
 ghost use Rattle.std.specs.Prelude.{◌≡◌, ◌+◌, ◌≤◌, ◌++◌, ◌⊎◌, ℕ, Bool, true, false, List, [], length, Option, Some, None, Ok, Err, IfSome, IfErr, IsSome, OnOk, OnErr, MatchBool, MatchResult, slice_get};
 ghost use Rattle.lj_text.specs.Bytes.{line_number};
 ghost use Rattle.lj_text.specs.Lines.{whole_said, all_said};
-ghost use Rattle.lj_text.specs.LinesRead.{LineReaderStandsAt, IsSaidAt, wants_memory, line_answer, handed_out, fault_of, number_at, last_number};
+ghost use Rattle.lj_text.specs.LinesRead.{LineReaderStandsAt, IsSaidAt, IsSaidRight, wants_memory, line_answer, handed_out, fault_of, number_at, last_number};
 ghost use Rattle.lj_text.specs.LinesHeld.{IsAhead, passed, kept};
 ghost use Rattle.lj_text.specs.Looking.{Looked, LookedBehind, Fails, FailsToEnd};
 
@@ -90,7 +90,8 @@ impl LineReader {
     /// The next whole line that says something: `None` where there is none yet.
     ///
     /// # Errors
-    /// The line's fault, and from then on that fault again; `NoMemory`, and then the reader is unchanged.
+    /// The line's fault, and from then on that fault again; `NoMemory` of a line that is right, and then the reader is
+    /// unchanged.
     pub fn next(&mut self) -> Result<Option<Line>, LineFault>
         ensures told_again { IfSome self.old.fault (λ fault. (result ≡ Err fault) × (self.new ≡ self.old)) }
 
@@ -98,8 +99,9 @@ impl LineReader {
         ensures answer { (text : List ℕ) (given : ℕ) → LineReaderStandsAt self.old text given → self.old.fault ≡ None → wants_memory result ≡ false → result ≡ line_answer (slice_get (whole_said self.old.max text) given) }
         ensures stands { (text : List ℕ) (given : ℕ) → LineReaderStandsAt self.old text given → LineReaderStandsAt self.new text (given + handed_out result) }
 
-        // Each fault, want of memory too, is told at that line.
+        // Each fault, want of memory too, is told at that line, and want of memory only where the line is right.
         ensures line { (text : List ℕ) (given : ℕ) → LineReaderStandsAt self.old text given → self.old.fault ≡ None → IfErr result (λ fault. IsSaidAt (slice_get (whole_said self.old.max text) given) fault.line) }
+        ensures right { (text : List ℕ) (given : ℕ) → LineReaderStandsAt self.old text given → self.old.fault ≡ None → wants_memory result ≡ true → IsSaidRight (slice_get (whole_said self.old.max text) given) }
 
         // Its number, or that of the line being read.
         ensures at { (text : List ℕ) (given : ℕ) → LineReaderStandsAt self.old text given → self.old.fault ≡ None → wants_memory result ≡ false → self.new.at ≡ number_at (slice_get (whole_said self.old.max text) given) (last_number text) }
@@ -128,7 +130,8 @@ impl LineReader {
     /// there is none.
     ///
     /// # Errors
-    /// The line's fault, and from then on that fault again; `NoMemory`, and then the reader is unchanged.
+    /// The line's fault, and from then on that fault again; `NoMemory` of a line that is right, and then the reader is
+    /// unchanged.
     pub fn finish(&mut self) -> Result<Option<Line>, LineFault>
         ensures told_again { IfSome self.old.fault (λ fault. (result ≡ Err fault) × (self.new ≡ self.old)) }
 
@@ -136,8 +139,9 @@ impl LineReader {
         ensures answer { (text : List ℕ) (given : ℕ) → LineReaderStandsAt self.old text given → self.old.fault ≡ None → wants_memory result ≡ false → result ≡ line_answer (slice_get (all_said self.old.max text) given) }
         ensures stands { (text : List ℕ) (given : ℕ) → LineReaderStandsAt self.old text given → LineReaderStandsAt self.new text (given + handed_out result) }
 
-        // Each fault, want of memory too, is told at that line.
+        // Each fault, want of memory too, is told at that line, and want of memory only where the line is right.
         ensures line { (text : List ℕ) (given : ℕ) → LineReaderStandsAt self.old text given → self.old.fault ≡ None → IfErr result (λ fault. IsSaidAt (slice_get (all_said self.old.max text) given) fault.line) }
+        ensures right { (text : List ℕ) (given : ℕ) → LineReaderStandsAt self.old text given → self.old.fault ≡ None → wants_memory result ≡ true → IsSaidRight (slice_get (all_said self.old.max text) given) }
 
         // Its number, or that of the last line.
         ensures at { (text : List ℕ) (given : ℕ) → LineReaderStandsAt self.old text given → self.old.fault ≡ None → wants_memory result ≡ false → self.new.at ≡ number_at (slice_get (all_said self.old.max text) given) (last_number text) }

@@ -1,14 +1,15 @@
 //! The tokens of a line as numbers, and its end.
-ghost use Rattle.std.specs.Prelude.{◌≡◌, true};
+ghost use Rattle.std.specs.Prelude.{◌≡◌, true, false};
 ghost use Rattle.lj_text.specs.Lines.{closed, cut_short};
-ghost use Rattle.lj_text.specs.LineReading.{Gives, words_of};
+ghost use Rattle.lj_text.specs.LineReading.{Gives, Judges, is_line_no_memory, words_of};
 
 use super::fault::LineFaultKind;
 use crate::bytes::{Word, next_word};
 
 /// The fault of a line that ends before its closing 0.
 pub(super) fn cut_short(ended: bool) -> LineFaultKind
-    ensures { result ≡ cut_short ended }
+    ensures value { result ≡ cut_short ended }
+    ensures no_room { is_line_no_memory result ≡ false }
 {
     if ended {
         LineFaultKind::Syntax
@@ -19,7 +20,8 @@ pub(super) fn cut_short(ended: bool) -> LineFaultKind
 
 /// Asks that nothing follows the closing 0.
 pub(super) fn check_closed(bytes: &[u8]) -> Result<(), LineFaultKind>
-    ensures { Gives (λ _. true) result (closed true (words_of bytes.now)) }
+    ensures gives { Gives (λ _. true) result (closed true (words_of bytes.now)) }
+    ensures judges { Judges result (closed true (words_of bytes.now)) }
 {
     match next_word(bytes) {
         None => Ok(()),

@@ -19,4 +19,4 @@ pub returns-in_err-parse_at-clause-found : goal.returns-in_err-parse_at-clause-f
 returns-in_err-parse_at-clause-found c k first =
     let p = err_from_is_err_and c.from_residual.result c.from_residual.ensures.1 in
     rw (p.1, p.2) (fails-here c.args.max c.args.first k c.args.ahead.now c.loop-bytes.rest c.in-Some.bytes.now c.in-Some.after c.loop-bytes.number _
-    c.loop-bytes.invariant.passed first c.in-Some.ensures.some c.in-Some.ensures.line c.in_err-parse_at.ensures.says c.in_err-parse_at.ensures.speaks)
+    c.loop-bytes.invariant.passed first c.in-Some.ensures.some c.in-Some.ensures.line c.in_err-parse_at.ensures.says c.in_err-parse_at.ensures.speaks c.in_err-parse_at.ensures.right)

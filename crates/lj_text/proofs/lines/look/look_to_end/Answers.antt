@@ -10,7 +10,7 @@ pub returns-in_err-line : goal.returns-in_err-line
 returns-in_err-line c k first =
     let p = err_from_is_err_and c.from_residual-in_err-line.result c.from_residual-in_err-line.ensures.1 in
     let none : c.in_ok-found.found.line ≡ None = none-from_test c.in_ok-found.found.line (sym c.is_some.ensures ∙ c.if-is_some.false) in
-    rw (p.1, p.2) (fails-behind c.args.max k c.args.ahead.now c.last-last.result.now c.in_ok-found.found _ (c.in_ok-found.ensures.found k first) none c.last-last.ensures c.in_err-line.ensures.says c.in_err-line.ensures.speaks)
+    rw (p.1, p.2) (fails-behind c.args.max k c.args.ahead.now c.last-last.result.now c.in_ok-found.found _ (c.in_ok-found.ensures.found k first) none c.last-last.ensures c.in_err-line.ensures.says c.in_err-line.ensures.speaks c.in_err-line.ensures.right)
 
 pub returns : goal.returns
 returns c k first =

@@ -1,6 +1,6 @@
 use Rattle.std.proofs.Common.{length, Option, Ok, sym, ap, ◌∙◌, subst}
 use Rattle.lj_text.specs.Lines.{Said}
-use Rattle.lj_text.specs.LinesRead.{LinesRead, IsSaidAt, line_answer, number_at, last_number}
+use Rattle.lj_text.specs.LinesRead.{LinesRead, IsSaidAt, IsSaidRight, line_answer, number_at, last_number}
 use Rattle.lj_text.specs.LinesHeld.{passed}
 use Rattle.lj_text.proofs.ReaderLemmas.{at_true, at_false, all-at, all-found, behind-found, answers, stands-passed, stands-behind, place-some, place-behind, ahead-found, ahead-behind, within-of, stands-of, stands-kept, kept-at, kept-max}
 use Rattle.lj_text.proofs.lines.reader.LineReader.finish.Goals as goal
@@ -91,3 +91,9 @@ returns-in-Err-clause-line c text given stands none =
     let r = c.args.self.now in
     let s = within-of r text given (sym (ap (λ (v : LinesRead). v.finished) c.self.view_is) ∙ c.if-self.false) stands in
     subst (λ (o : Option Said). IsSaidAt o c.in-Err.fault.line) (sym (all-at r text given s)) (c.in-Err.ensures.found (length s.lines) s.line_is).line_is
+
+pub returns-in-Err-clause-right : goal.returns-in-Err-clause-right
+returns-in-Err-clause-right c text given stands none memory =
+    let r = c.args.self.now in
+    let s = within-of r text given (sym (ap (λ (v : LinesRead). v.finished) c.self.view_is) ∙ c.if-self.false) stands in
+    subst (λ (o : Option Said). IsSaidRight o) (sym (all-at r text given s)) ((c.in-Err.ensures.found (length s.lines) s.line_is).right memory)

@@ -1,0 +1,89 @@
+//! What is wrong with a line, found without room for what it says.
+ghost use Rattle.std.specs.Prelude.{◌≡◌, ◌<◌, ◌≤◌, ℤ, List, length, MatchResult, Ok, Err, false};
+ghost use Rattle.lj_text.specs.Bytes.{tokens_of};
+ghost use Rattle.lj_text.specs.Lines.{literals_then, numbers_of, hints_of, after_number, line_of};
+ghost use Rattle.lj_text.specs.LineReading.{Judges, is_line_no_memory, words_of};
+
+use super::fault::LineFaultKind;
+use super::parse::after_zero;
+use super::words::{check_closed, cut_short};
+use crate::bytes::{Word, first_word, next_token, next_word};
+
+/// Passes the literals up to a 0, and answers what follows it.
+fn pass_literals(max: u32, ended: bool, bytes: &[u8]) -> Result<&[u8], LineFaultKind>
+    ensures { MatchResult result (λ rest. (ls : List ℤ) × (literals_then max ended (words_of bytes.now) ≡ Ok (ls, words_of rest.now)))
+        (λ kind. (literals_then max ended (words_of bytes.now) ≡ Err kind) × (is_line_no_memory kind ≡ false)) }
+{
+    let mut rest = bytes;
+    while let Some((word, after)) = next_word(rest) {
+        match word {
+            Word::Positive(n) | Word::Negative(n) if n <= u64::from(max) => rest = after,
+            Word::Zero => return Ok(after),
+            Word::NoNumber => return Err(LineFaultKind::BadNumber),
+            _ => return Err(LineFaultKind::NumberRange),
+        }
+    }
+    Err(cut_short(ended))
+}
+
+/// Passes the numbers up to the closing 0.
+fn pass_numbers(ended: bool, bytes: &[u8]) -> Result<(), LineFaultKind>
+    ensures { Judges result (numbers_of ended (words_of bytes.now)) }
+{
+    let mut rest = bytes;
+    while let Some((word, after)) = next_word(rest) {
+        match word {
+            Word::Positive(_) => rest = after,
+            Word::Zero => return check_closed(after),
+            Word::NoNumber => return Err(LineFaultKind::BadNumber),
+            Word::Negative(_) => return Err(LineFaultKind::Syntax),
+            Word::Beyond => return Err(LineFaultKind::NumberRange),
+        }
+    }
+    Err(cut_short(ended))
+}
+
+/// Passes the hints and the groups up to the closing 0.
+fn pass_hints(ended: bool, bytes: &[u8]) -> Result<(), LineFaultKind>
+    ensures { Judges result (hints_of ended (words_of bytes.now)) }
+{
+    let mut rest = bytes;
+    while let Some((word, after)) = next_word(rest) {
+        match word {
+            Word::Positive(_) | Word::Negative(_) => rest = after,
+            Word::Zero => return check_closed(after),
+            Word::NoNumber => return Err(LineFaultKind::BadNumber),
+            Word::Beyond => return Err(LineFaultKind::NumberRange),
+        }
+    }
+    Err(cut_short(ended))
+}
+
+/// Passes what follows a line's first number.
+fn pass_after_number(max: u32, ended: bool, number: u64, bytes: &[u8]) -> Result<(), LineFaultKind>
+    requires { max ≤ 134217727 }
+    ensures { Judges result (after_number max ended number (tokens_of bytes.now)) }
+{
+    match next_token(bytes) {
+        None => Err(cut_short(ended)),
+        Some(([b'd'], after)) => pass_numbers(ended, after),
+        Some((token, _)) if number == 0 => Err(after_zero(max, token)),
+        Some(([b'i'], after)) => check_closed(pass_literals(max, ended, after)?),
+        Some(_) => pass_hints(ended, pass_literals(max, ended, bytes)?),
+    }
+}
+
+/// Whether a line that isn't silent is right, or its fault. Takes time linear in the bytes.
+pub(super) fn judge(max: u32, ended: bool, bytes: &[u8]) -> Result<(), LineFaultKind>
+    requires { max ≤ 134217727 }
+    ensures { Judges result (line_of max ended (tokens_of bytes.now)) }
+{
+    match first_word(bytes) {
+        None => Err(cut_short(ended)),
+        Some((Word::NoNumber, _)) => Err(LineFaultKind::BadNumber),
+        Some((Word::Zero, after)) => pass_after_number(max, ended, 0, after),
+        Some((Word::Positive(number), after)) => pass_after_number(max, ended, number, after),
+        Some((Word::Negative(_), _)) => Err(LineFaultKind::Syntax),
+        Some((Word::Beyond, _)) => Err(LineFaultKind::NumberRange),
+    }
+}
