@@ -20,5 +20,6 @@ pub mod LeaveLaws
 mod HolderBounds
 pub mod PlayLaws
 mod Slots
+mod OccurrenceLaws
 pub mod InsideLaws
 pub mod LineLaws

@@ -1,6 +1,7 @@
 -- Lists as far as a loop has come.
-use Rattle.std.proofs.Common.{◌≡◌, ap, ◌∙◌, ℕ, ◌+◌, ◌<◌, take, get_or}
-use Rattle.std.specs.Prelude.{List, [], ◌∷◌, ◌++◌, length, Option, Some, None, filter_map}
+use Rattle.std.proofs.Common.{◌≡◌, ap, refl, ◌∙◌, ℕ, zero, suc, ◌+◌, ◌<◌, take, get_or, Bool, cond, true, false, arith}
+use Rattle.std.specs.Prelude.{List, [], ◌∷◌, ◌++◌, length, Option, Some, None, filter, filter_map, slice_get}
+use Rattle.std.proofs.lemmas.Bool.{false≢true}
 use Rattle.std.specs.List.{cons_option}
 use Rattle.std.proofs.lemmas.List.{take_more, append-nil}
 use Rattle.std.proofs.lemmas.List.Elements.{filter_map-append}
@@ -19,3 +20,37 @@ passed_by f xs i d lt e = one_more f xs i d lt ∙ ap (λ zs. filter_map f (take
   where
     one : {X Y : Type 0} (f : X → Option Y) (x : X) → f x ≡ None → filter_map f (x ∷ []) ≡ []
     one f x e = ap (λ o. cons_option o []) e
+
+-- ---- the first that passes a test
+
+filter-push : {X : Type 0} (test : X → Bool) (xs : List X) (x : X) → filter test (xs ++ x ∷ []) ≡ filter test xs ++ filter test (x ∷ [])
+filter-push test [] x = refl
+filter-push test (y ∷ xs) x =
+    elim (test y) as (λ b. cond b (y ∷ filter test (xs ++ x ∷ [])) (filter test (xs ++ x ∷ [])) ≡ cond b (y ∷ filter test xs) (filter test xs) ++ filter test (x ∷ [])) [
+      | true ↦ ap (λ ys. y ∷ ys) (filter-push test xs x)
+      | false ↦ filter-push test xs x
+    ]
+
+pub none_more : {X : Type 0} (test : X → Bool) (xs : List X) (i : ℕ) (d : X) → i < length xs → filter test (take i xs) ≡ [] → test (get_or xs i d) ≡ false → filter test (take (i + 1) xs) ≡ []
+none_more test xs i d lt none fails =
+    ap (filter test) (take_more xs i d lt)
+    ∙ filter-push test (take i xs) (get_or xs i d)
+    ∙ ap (λ ys. ys ++ filter test (get_or xs i d ∷ [])) none
+    ∙ ap (λ b. cond b (get_or xs i d ∷ []) []) fails
+
+is_nothing : {X : Type 0} → List X → Bool
+is_nothing [] = true
+is_nothing (x ∷ xs) = false
+
+not_empty : {X : Type 0} (x : X) (xs : List X) → x ∷ xs ≡ [] → ⊥
+unfolding is_nothing
+not_empty x xs e = false≢true (ap is_nothing e)
+
+pub first_one : {X : Type 0} (test : X → Bool) (xs : List X) (i : ℕ) (d : X) → i < length xs → filter test (take i xs) ≡ [] → test (get_or xs i d) ≡ true → slice_get (filter test xs) 0 ≡ Some (get_or xs i d)
+first_one test [] i d lt none passes = absurd (grind arith)
+first_one test (x ∷ xs) zero d lt none passes = ap (λ b. slice_get (cond b (x ∷ filter test xs) (filter test xs)) 0) passes
+first_one {X} test (x ∷ xs) (suc i) d lt none passes =
+    elim (test x) as (λ b. cond b (x ∷ filter test (take i xs)) (filter test (take i xs)) ≡ [] → slice_get (cond b (x ∷ filter test xs) (filter test xs)) 0 ≡ Some (get_or xs i d)) [
+      | true ↦ λ e. absurd (not_empty x (filter test (take i xs)) e)
+      | false ↦ λ e. first_one test xs i d (grind arith) e passes
+    ] none

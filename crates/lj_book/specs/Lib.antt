@@ -15,3 +15,4 @@ pub mod Solo
 pub mod RefusalText
 pub mod Slots
 pub mod Telling
+pub mod Occurrences

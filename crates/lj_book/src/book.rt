@@ -19,7 +19,7 @@ mod telling;
 use crate::committing::{enter_clause, entry_with, first_stale, refuted_at};
 use crate::dying::{bury, no_longer_held, rising};
 use crate::entry::{Added, Call, Dropped, Entry};
-use crate::number_map::NumberMap;
+use crate::indexed_clauses::IndexedClauses;
 use crate::refusal::Refusal;
 use crate::seat_tables::SeatTables;
 use crate::taking::case_of;
@@ -39,7 +39,7 @@ pub struct Book {
     max_steps: u32,
     tables: SeatTables,
     /// The clause of each number that some seat holds.
-    clauses: NumberMap<Clause>,
+    clauses: IndexedClauses,
     history: Vec<Entry>,
     /// The number of additions in the history.
     added: u32,
@@ -95,7 +95,8 @@ impl Book {
         &self.formula
     }
 
-    /// The numbers of the live clauses that hold a literal, rising.
+    /// The numbers of the live clauses that hold a literal, rising. Takes time linear in them once an addition or an
+    /// import has asked for clauses by their literals, and in all live clauses before.
     ///
     /// # Errors
     /// [`NoMemory`] where a growth was refused.
@@ -270,10 +271,10 @@ impl Book {
 }
 
 /// The clauses of a formula under their numbers.
-fn clauses_of(alloc: Global, formula: &Formula) -> Result<NumberMap<Clause>, NoMemory>
+fn clauses_of(alloc: Global, formula: &Formula) -> Result<IndexedClauses, NoMemory>
     ensures { IfOk result (λ clauses. clauses ≡ formula_map formula.now) }
 {
-    let mut clauses = NumberMap::new(alloc);
+    let mut clauses = IndexedClauses::new(alloc);
     for number in 0..formula.len() as u64 {
         if let Some(clause) = formula.clause(number + 1) {
             clauses.insert(number + 1, clause.copy()?)?;

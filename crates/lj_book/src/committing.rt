@@ -7,7 +7,7 @@ ghost use Rattle.lj_book.specs.Calls.{is_live_as, first_stale, entry_with};
 ghost use Rattle.lj_book.specs.Kept.{refuted_after};
 
 use crate::entry::{Call, Entry};
-use crate::number_map::NumberMap;
+use crate::indexed_clauses::IndexedClauses;
 use crate::seat_tables::SeatTables;
 use lj_clause::{Clause, NoMemory};
 use lj_hint::{Pair, Receipt};
@@ -15,7 +15,7 @@ use lj_text::{Addition, Groups, Numbers, Step};
 use std::alloc::Global;
 
 /// The number of the first pair that doesn't live with that very clause.
-pub fn first_stale(clauses: &NumberMap<Clause>, listed: &[Pair]) -> Option<u64>
+pub fn first_stale(clauses: &IndexedClauses, listed: &[Pair]) -> Option<u64>
     ensures { result ≡ first_stale clauses.now listed.now }
 {
     for pair in listed {
@@ -27,7 +27,7 @@ pub fn first_stale(clauses: &NumberMap<Clause>, listed: &[Pair]) -> Option<u64>
 }
 
 /// Whether the pair's number lives with that very clause.
-fn is_live_as(clauses: &NumberMap<Clause>, pair: &Pair) -> bool
+fn is_live_as(clauses: &IndexedClauses, pair: &Pair) -> bool
     ensures { result ≡ is_live_as clauses.now pair.now }
 {
     match clauses.get(pair.joint) {
@@ -71,7 +71,7 @@ fn numbers_of(alloc: Global, pairs: &[Pair]) -> Result<Vec<u64>, NoMemory>
 /// # Errors
 /// [`NoMemory`] where a growth was refused.
 pub fn enter_clause(
-    clauses: &mut NumberMap<Clause>,
+    clauses: &mut IndexedClauses,
     tables: &mut SeatTables,
     joint: u64,
     receipt: &Receipt,
@@ -101,7 +101,7 @@ pub fn enter_clause(
 /// # Errors
 /// [`NoMemory`] where a growth was refused.
 pub fn bind_clause(
-    clauses: &mut NumberMap<Clause>,
+    clauses: &mut IndexedClauses,
     tables: &mut SeatTables,
     joint: u64,
     seat: u32,

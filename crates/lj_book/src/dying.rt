@@ -5,7 +5,7 @@ ghost use Rattle.std.specs.Ordering.{nat_cmp};
 ghost use Rattle.lj_text.specs.Steps.{without};
 ghost use Rattle.lj_book.specs.Tables.{is_among, is_held};
 
-use crate::number_map::NumberMap;
+use crate::indexed_clauses::IndexedClauses;
 use crate::seat_tables::SeatTables;
 use lj_clause::Clause;
 
@@ -28,7 +28,7 @@ pub fn no_longer_held(tables: &SeatTables, mut numbers: Vec<u64>) -> Vec<u64>
 }
 
 /// Takes the clauses of these numbers out.
-pub fn bury(clauses: &mut NumberMap<Clause>, numbers: &[u64])
+pub fn bury(clauses: &mut IndexedClauses, numbers: &[u64])
     ensures { clauses.new ≡ without clauses.old numbers.now }
 {
     for &n in numbers {

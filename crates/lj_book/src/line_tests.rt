@@ -1,10 +1,14 @@
 //! The test of a line over the live clauses.
 ghost use Rattle.std.specs.Prelude.{◌≡◌, take};
+ghost use Rattle.lj_clause.specs.LiteralSet.{negations};
+ghost use Rattle.lj_clause.specs.Walk.{walk};
+ghost use Rattle.lj_hint.specs.declared.live_line.LineRefusal.TheVariants.{Rat};
+ghost use Rattle.lj_hint.specs.LineTest.{line_reply, IsLineReply};
 ghost use Rattle.lj_book.specs.Calls.{IsReply};
 ghost use Rattle.lj_book.specs.JointLines.{addition_of, tested_line, refusal_of};
 
+use crate::indexed_clauses::IndexedClauses;
 use crate::joint_line::JointLine;
-use crate::number_map::NumberMap;
 use crate::refusal::Refusal;
 use lj_clause::{Clause, Lemma, Lit, NoMemory};
 use lj_hint::{LineRefusal, Live, Marks, Passed, RatRefusal, test_line};
@@ -15,7 +19,7 @@ use std::alloc::Global;
 #[derive(Drop)]
 pub struct LiveClauses<'a> {
     alloc: Global,
-    clauses: &'a NumberMap<Clause>,
+    clauses: &'a IndexedClauses,
 }
 
 impl Live for LiveClauses<'_> {
@@ -31,38 +35,64 @@ impl Live for LiveClauses<'_> {
     }
 }
 
-/// The recorded form, under a joint number, of an addition in joint numbers that the live clauses accept.
+/// The recorded form, under a joint number, of an addition in joint numbers that the live clauses accept. Where the
+/// candidates of a pivot were asked for, the lists of the clauses are made.
 ///
 /// # Errors
 /// The refusal of its test, and [`Refusal::NoMemory`] where a growth was refused.
 pub fn tested_line(
     alloc: Global,
-    clauses: &NumberMap<Clause>,
+    clauses: &mut IndexedClauses,
     number: u64,
     lemma: &Lemma,
     line: &JointLine,
     marks: &mut Marks,
 ) -> Result<Addition, Refusal>
-    ensures { IsReply result (tested_line clauses.now
+    ensures reply { IsReply result (tested_line clauses.old
         (addition_of number lemma.now (line.now.hints.items, line.now.groups.items))) }
+    ensures same { clauses.new ≡ clauses.old }
 {
-    let live = LiveClauses { alloc, clauses };
-    let hints = line.hints.as_slice();
-    match test_line(alloc, &live, lemma, hints, line.groups.as_slice(), marks) {
+    match test_over(alloc, clauses, lemma, line, marks) {
         Ok(Passed::Closed(read)) => Ok(Addition {
             number,
             lemma: lemma.copy()?,
-            hints: Numbers::from_slice(alloc, first(hints, read))?,
+            hints: Numbers::from_slice(alloc, first(line.hints.as_slice(), read))?,
             groups: Groups::new(Vec::new(alloc)),
         }),
-        Ok(Passed::Covered(groups)) => Ok(Addition {
-            number,
-            lemma: lemma.copy()?,
-            hints: Numbers::from_slice(alloc, hints)?,
-            groups,
-        }),
-        Err(refusal) => Err(refused(refusal)),
+        Ok(Passed::Covered(groups)) => {
+            clauses.make_lists(alloc);
+            Ok(Addition {
+                number,
+                lemma: lemma.copy()?,
+                hints: Numbers::from_slice(alloc, line.hints.as_slice())?,
+                groups,
+            })
+        }
+        Err(LineRefusal::Stuck(place)) => Err(Refusal::HintNotUnit(place)),
+        Err(LineRefusal::Rat(refusal)) => {
+            clauses.make_lists(alloc);
+            Err(refused(refusal))
+        }
     }
+}
+
+/// The test of a line over these clauses.
+///
+/// # Errors
+/// As [`test_line`].
+fn test_over(
+    alloc: Global,
+    clauses: &IndexedClauses,
+    lemma: &Lemma,
+    line: &JointLine,
+    marks: &mut Marks,
+) -> Result<Passed, LineRefusal>
+    ensures { IsLineReply result (line_reply clauses.now lemma.now.pivot line.now.groups.items
+        (walk clauses.now (negations lemma.now.clause) line.now.hints.items)) }
+{
+    let live = LiveClauses { alloc, clauses };
+    let hints = line.hints.as_slice();
+    test_line(alloc, &live, lemma, hints, line.groups.as_slice(), marks)
 }
 
 /// The first numbers, so many.
@@ -75,16 +105,15 @@ fn first(numbers: &[u64], count: usize) -> &[u64]
     }
 }
 
-/// The book's word for a refusal.
-fn refused(refusal: LineRefusal) -> Refusal
-    ensures { result ≡ refusal_of refusal }
+/// The book's word for a refusal by the pivot.
+fn refused(refusal: RatRefusal) -> Refusal
+    ensures { result ≡ refusal_of (Rat refusal) }
 {
     match refusal {
-        LineRefusal::Stuck(place) => Refusal::HintNotUnit(place),
-        LineRefusal::Rat(RatRefusal::EmptyOpen) => Refusal::EmptyOpen,
-        LineRefusal::Rat(RatRefusal::MissingGroup(n)) => Refusal::MissingGroup(n),
-        LineRefusal::Rat(RatRefusal::GroupStuck(n, place)) => Refusal::GroupStuck(n, place),
-        LineRefusal::Rat(RatRefusal::GroupOpen(n)) => Refusal::GroupOpen(n),
-        LineRefusal::Rat(RatRefusal::NoMemory(e)) => Refusal::NoMemory(e),
+        RatRefusal::EmptyOpen => Refusal::EmptyOpen,
+        RatRefusal::MissingGroup(n) => Refusal::MissingGroup(n),
+        RatRefusal::GroupStuck(n, place) => Refusal::GroupStuck(n, place),
+        RatRefusal::GroupOpen(n) => Refusal::GroupOpen(n),
+        RatRefusal::NoMemory(e) => Refusal::NoMemory(e),
     }
 }

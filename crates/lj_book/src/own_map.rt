@@ -79,6 +79,19 @@ impl<V: Drop> OwnMap<V> {
         ensures absent { OnErr result (fin.get self.old key ≡ None) }
     {
         self.set = self.set.saturating_add(1);
+        self.put(key, value)
+    }
+
+    /// Sets the value at the key, as [`OwnMap::insert`] does, but where the key was taken out before, so that it has been
+    /// counted.
+    ///
+    /// # Errors
+    /// [`NoMemory`] where a growth was refused.
+    pub fn put(&mut self, key: u64, value: V) -> Result<(), NoMemory>
+        ensures ok { OnOk result (self.new ≡ fin.insert self.old key value) }
+        ensures err { OnErr result (self.new ≡ self.old) }
+        ensures absent { OnErr result (fin.get self.old key ≡ None) }
+    {
         if is_far(&self.near, &self.far, self.set, key) {
             return self.far.insert(key, value);
         }

@@ -4,7 +4,7 @@ ghost use Rattle.lj_hint.specs.Case.{groups_of};
 ghost use Rattle.lj_book.specs.Tables.{joint_of};
 ghost use Rattle.lj_book.specs.Calls.{IsReply, IsReplyBy, case_with, pair_in, pairs_of, group_pairs_of, repeated_after};
 
-use crate::number_map::NumberMap;
+use crate::indexed_clauses::IndexedClauses;
 use crate::refusal::Refusal;
 use crate::seat_tables::SeatTables;
 use crate::tree_map::TreeMap;
@@ -20,7 +20,7 @@ use std::alloc::Global;
 pub fn case_of(
     alloc: Global,
     tables: &SeatTables,
-    clauses: &NumberMap<Clause>,
+    clauses: &IndexedClauses,
     seat: u32,
     addition: &Addition,
 ) -> Result<Case, Refusal>
@@ -49,7 +49,7 @@ pub fn case_of(
 /// [`NoMemory`] where a growth was refused.
 fn pair_in(
     tables: &SeatTables,
-    clauses: &NumberMap<Clause>,
+    clauses: &IndexedClauses,
     seat: u32,
     own: u64,
 ) -> Result<Option<Pair>, NoMemory>
@@ -73,7 +73,7 @@ fn pair_in(
 fn pairs_of(
     alloc: Global,
     tables: &SeatTables,
-    clauses: &NumberMap<Clause>,
+    clauses: &IndexedClauses,
     seat: u32,
     numbers: &Numbers,
 ) -> Result<Vec<Pair>, Refusal>
@@ -96,7 +96,7 @@ fn pairs_of(
 fn group_pairs_of(
     alloc: Global,
     tables: &SeatTables,
-    clauses: &NumberMap<Clause>,
+    clauses: &IndexedClauses,
     seat: u32,
     groups: &[Group],
 ) -> Result<Vec<(Pair, Vec<Pair>)>, Refusal>

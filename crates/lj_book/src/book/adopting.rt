@@ -2,6 +2,7 @@
 ghost use Rattle.std.specs.Prelude.{◌≡◌, Option, None, Some, OnOk, OnErr, IfOk, IfErr, Err, true, false, length};
 ghost use Rattle.std.specs.FinMap as fin;
 ghost use Rattle.lj_book.specs.Tables.{is_here, is_bound, with_binding};
+ghost use Rattle.lj_book.specs.Lookup.{least_number};
 ghost use Rattle.lj_book.specs.State.{live};
 ghost use Rattle.lj_book.specs.History.{after_entry, tables_after, IsLegalCall};
 ghost use Rattle.lj_book.specs.Calls.{IsReply, free_refusal, binding_entry, adopt_reply, adopt_entry, import_reply, import_entry};
@@ -35,7 +36,7 @@ impl Book {
     }
 
     /// Binds the seat's own number to the least live number with exactly this clause. Takes time linear in the live
-    /// clauses.
+    /// clauses that hold that literal of it which the fewest hold, and the first time in all live clauses.
     ///
     /// # Errors
     /// [`Refusal::SeatGone`], [`Refusal::NumberTaken`], [`Refusal::NoSuchClause`] where no clause with exactly these
@@ -49,12 +50,22 @@ impl Book {
         if let Some(refusal) = self.free_refusal(seat, own) {
             return Err(refusal);
         }
-        let Some(joint) = self.clauses.least_number(clause) else {
+        let Some(joint) = self.least_number(clause) else {
             return Err(Refusal::NoSuchClause);
         };
         let clause = clause.copy()?;
         let place = self.bind_live(seat, own, joint, Call::Import { own, clause })?;
         Ok(Imported { place, joint })
+    }
+
+    /// The least live number with exactly this clause, for which the lists of the clauses are made. The book stays as it
+    /// is.
+    fn least_number(&mut self, clause: &Clause) -> Option<u64>
+        ensures number { result ≡ least_number (live self.old) clause.now }
+        ensures same { self.new ≡ self.old }
+    {
+        self.clauses.make_lists(*self.history.allocator());
+        self.clauses.least_number(clause)
     }
 
     /// The refusal of a binding of this own number, whatever it is to be bound to.

@@ -23,7 +23,8 @@ impl Book {
     /// al., CADE 2017). The room may have served any walk before.
     ///
     /// Takes O(log n) time for each number of the line and each hint that is read, and constant time for each literal
-    /// of these hints; where the first list stays open, time linear in the live clauses too.
+    /// of these hints. Where the first list stays open, takes time linear in the candidates too, and the first time in
+    /// the live clauses.
     ///
     /// # Errors
     /// The first that holds of [`Refusal::SeatGone`], [`Refusal::NumberTaken`], [`Refusal::UnknownNumber`],
@@ -51,19 +52,20 @@ impl Book {
         }
     }
 
-    /// The step of a seat's addition, in recorded form.
+    /// The step of a seat's addition, in recorded form. The book stays as it is.
     ///
     /// # Errors
     /// As [`Book::add_inside`].
     pub(crate) fn inside_line(
-        &self,
+        &mut self,
         seat: u32,
         addition: &Addition,
         marks: &mut Marks,
     ) -> Result<Addition, Refusal>
-        ensures reply { IsReply result (inside_line self.now seat addition.now) }
-        ensures reached { IsReached self.now }
-        ensures refused { IfSome (free_refusal self.now seat addition.now.number) (λ e. result ≡ Err e) }
+        ensures reply { IsReply result (inside_line self.old seat addition.now) }
+        ensures reached { IsReached self.old }
+        ensures refused { IfSome (free_refusal self.old seat addition.now.number) (λ e. result ≡ Err e) }
+        ensures same { self.new ≡ self.old }
     {
         let alloc = *self.history.allocator();
         let added = self.added;
@@ -77,7 +79,7 @@ impl Book {
         };
         let number = self.formula.len() as u64 + 1 + u64::from(added);
         let lemma = &addition.lemma;
-        let step = match tested_line(alloc, &self.clauses, number, lemma, &line, marks) {
+        let step = match tested_line(alloc, &mut self.clauses, number, lemma, &line, marks) {
             Ok(step) => step,
             Err(refusal) => return Err(refusal),
         };

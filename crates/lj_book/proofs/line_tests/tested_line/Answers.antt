@@ -1,5 +1,5 @@
 use Rattle.std.proofs.Common.{◌≡◌, ap, sym, ◌∙◌, ℕ, take}
-use Rattle.std.specs.Prelude.{List, Result, Ok}
+use Rattle.std.specs.Prelude.{List, Ok}
 use Rattle.lj_clause.specs.Lemma.{LemmaValue}
 use Rattle.lj_clause.specs.LiteralSet.{negations}
 use Rattle.lj_clause.specs.Walk.{walk}
@@ -11,18 +11,17 @@ use Rattle.lj_book.specs.JointLines.{addition_of}
 use Rattle.lj_book.proofs.LineLaws.{closed_line}
 use Rattle.lj_book.proofs.line_tests.tested_line.Goals as goal
 
-pub returns-in_ok-from_slice-in-Ok-Closed : goal.returns-in_ok-from_slice-in-Ok-Closed
-returns-in_ok-from_slice-in-Ok-Closed c =
+pub returns-in_ok-from_slice-in-Ok-Closed-clause-reply : goal.returns-in_ok-from_slice-in-Ok-Closed-clause-reply
+returns-in_ok-from_slice-in-Ok-Closed-clause-reply c =
     let p = c.args.clauses.now in
     let lemma = c.args.lemma.now in
     let line = c.args.line.now in
     let b = addition_of c.args.number lemma (line.hints.items, line.groups.items) in
     let made : LemmaValue → List ℕ → List HintGroup → Addition = λ l ns gs. record { number = c.args.number; lemma = l; hints = ns; groups = gs } in
     let told : line_reply p lemma.pivot line.groups.items (walk p (negations lemma.clause) line.hints.items) ≡ Ok (Closed c.in-Ok-Closed.read) =
-    (λ i. line_reply p lemma.pivot (sym c.as_slice.ensures.value i) (walk p (negations lemma.clause) (sym c.as_slice-hints.ensures.value i)))
-    ∙ c.in-Ok-Closed.ensures
+    c.in-Ok-Closed.ensures
     ∙ ap Ok c.in-Ok-Closed.field-0-is in
     let read : c.in_ok-from_slice-in-Ok-Closed.field-0 ≡ take c.in-Ok-Closed.read line.hints.items =
-    c.in_ok-from_slice-in-Ok-Closed.ensures ∙ c.first.ensures ∙ ap (take c.in-Ok-Closed.read) c.as_slice-hints.ensures.value in
+    c.in_ok-from_slice-in-Ok-Closed.ensures ∙ c.first.ensures ∙ ap (take c.in-Ok-Closed.read) c.as_slice.ensures.value in
     closed_line p b c.in-Ok-Closed.read told
     ∙ (λ i. Ok (made (sym c.in_ok-copy-in-Ok-Closed.ensures i) (sym read i) (sym (c.new-in-Ok-Closed.ensures ∙ c.new.ensures.items) i)))

@@ -1,8 +1,8 @@
 use Rattle.std.proofs.Common.{ap, sym, ◌∙◌, subst}
 use Rattle.std.specs.FinMap as fin
 use Rattle.lj_book.specs.Slots.{joined_map, AreApart}
-use Rattle.lj_book.proofs.Slots.{joined_near, joined_far, get_joined, insert_near, insert_far, apart-insert_near, apart-insert_far, either_way, ok_then, err_then}
-use Rattle.lj_book.proofs.own_map.OwnMap.insert.Goals as goal
+use Rattle.lj_book.proofs.Slots.{joined_far, insert_near, insert_far, apart-insert_near, apart-insert_far, either_way, ok_then, err_then}
+use Rattle.lj_book.proofs.own_map.OwnMap.put.Goals as goal
 
 pub invariant_of-self : goal.invariant_of-self
 invariant_of-self g c =
