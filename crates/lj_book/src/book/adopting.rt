@@ -60,7 +60,7 @@ impl Book {
 
     /// The least live number with exactly this clause, for which the lists of the clauses are made. The book stays as it
     /// is.
-    fn least_number(&mut self, clause: &Clause) -> Option<u64>
+    pub(crate) fn least_number(&mut self, clause: &Clause) -> Option<u64>
         ensures number { result ≡ least_number (live self.old) clause.now }
         ensures same { self.new ≡ self.old }
     {

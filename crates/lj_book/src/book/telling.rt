@@ -154,7 +154,7 @@ impl Book {
         if let Some(refusal) = self.free_refusal(seat, own) {
             return Err(refusal);
         }
-        if self.clauses.least_number(clause).is_none() {
+        if self.least_number(clause).is_none() {
             return Err(Refusal::NoSuchClause);
         }
         let call = Call::Import {
