@@ -113,15 +113,15 @@ few_streams seen content items path streams some few h =
     (omega (arith, n, one.0, one.1, all), omega (arith, n, one.0, one.1, all))
 
 -- the file at one of a run's paths, of which this was told after the others were opened, can't be opened
-pub open_fault : (run : AskedRun) (before content : List ℕ → Option (List ℕ)) (failures : ℕ) (paths : List (List ℕ)) (fault : Fault)
+pub open_fault : (run : AskedRun) (before content : List ℕ → Option (List ℕ)) (paths : List (List ℕ)) (fault : Fault)
     → ((path : List ℕ) → Contains paths path → Contains (paths_by_seat run) path) → ((other : List ℕ) → content other ≡ before other)
-    → IsAnOpenFault content paths fault → IsFaultOf (a_run run) before failures fault
-open_fault run before content failures paths (faults.Formula path f) among same h = absurd h
-open_fault run before content failures paths (faults.CannotRead path) among same h = inr (among path.now h.0, sym (same path.now) ∙ h.1)
-open_fault run before content failures paths faults.CannotWrite among same h = absurd h
-open_fault run before content failures paths (faults.NoMemory e) among same h = tt
-open_fault run before content failures paths faults.OutOfMemory among same h = tt
-open_fault run before content failures paths (faults.Usage text) among same h = absurd h
+    → IsAnOpenFault content paths fault → IsFaultOf (a_run run) before fault
+open_fault run before content paths (faults.Formula path f) among same h = absurd h
+open_fault run before content paths (faults.CannotRead path) among same h = inr (among path.now h.0, sym (same path.now) ∙ h.1)
+open_fault run before content paths faults.CannotWrite among same h = absurd h
+open_fault run before content paths (faults.NoMemory e) among same h = tt
+open_fault run before content paths faults.OutOfMemory among same h = tt
+open_fault run before content paths (faults.Usage text) among same h = absurd h
 
 -- the paths of the streams, and that of the closing one, are the run's
 pub among_streams : (given items : List (Bor (List ℕ))) (closing : Option (List ℕ)) (path : List ℕ) → given ≡ items → Contains (map (λ p. p.now) given) path

@@ -1,5 +1,5 @@
 -- How the program ends, and what it tells.
-use Rattle.std.specs.Prelude.{◌≡◌, ◌⊎◌, ◌≤◌, ℕ, List, [], ◌∷◌, ◌++◌, map, Option, None, Contains, IfSome, codes, decimal, string_bytes}
+use Rattle.std.specs.Prelude.{◌≡◌, ◌≢◌, ◌⊎◌, ◌≤◌, ℕ, List, [], ◌∷◌, ◌++◌, map, Option, None, Contains, IfSome, codes, decimal, string_bytes}
 use Rattle.std.specs.Io.KnownBytes.{Keeps}
 use Rattle.std.specs.Borrow.{Bor}
 use Rattle.lj_clause.specs.ClauseMap.{FormulaValue}
@@ -159,21 +159,28 @@ IsAnswered seen content the_help old new status = status ≡ statuses.Done
 IsAnswered seen content the_version old new status = status ≡ statuses.Done
 IsAnswered seen content the_usage old new status = ⊥
 
--- The fault is right of what words ask for, where this is told of files and the output has failed so often: a fault of the text of
--- FORMULA; a path that can't be opened, or FORMULA whose read failed; an output that failed; usage. Nothing is said of the want of memory.
-abbrev pub IsFaultOf : Asked → (List ℕ → Option (List ℕ)) → ℕ → Fault → Type 0
-IsFaultOf asked content failures (faults.Formula path fault) =
+-- The fault is right of what words ask for, where this is told of files: a fault of the text of FORMULA; a path that can't be opened,
+-- or FORMULA whose read failed; an output that failed, where there is something to print; usage. Want of memory may stand in place of
+-- each that memory is taken for.
+abbrev pub IsFaultOf : Asked → (List ℕ → Option (List ℕ)) → Fault → Type 0
+IsFaultOf asked content (faults.Formula path fault) =
     IsRunAnd asked (λ run. (path.now ≡ run.formula) × IfSome (content run.formula) (λ text. HasFault 134217727 text fault))
-IsFaultOf asked content failures (faults.CannotRead path) =
+IsFaultOf asked content (faults.CannotRead path) =
     IsRunAnd asked (λ run. (path.now ≡ run.formula) ⊎ (Contains (paths_by_seat run) path.now × (content path.now ≡ None)))
-IsFaultOf asked content failures faults.CannotWrite = failures ≡ 1
-IsFaultOf asked content failures (faults.NoMemory e) = Unit {0}
-IsFaultOf asked content failures faults.OutOfMemory = Unit {0}
-IsFaultOf asked content failures (faults.Usage text) = asked ≡ the_usage
+IsFaultOf asked content faults.CannotWrite = asked ≢ the_usage
+IsFaultOf asked content (faults.NoMemory e) = Unit {0}
+IsFaultOf asked content faults.OutOfMemory = Unit {0}
+IsFaultOf asked content (faults.Usage text) = asked ≡ the_usage
+
+-- how often the output has failed where this fault is told: an output that failed is told, and nothing else then
+abbrev pub failed_outputs : Fault → ℕ
+failed_outputs faults.CannotWrite = 1
+failed_outputs fault = 0
 
 -- A right fault was told, and this is its status.
 pub record IsFaultTold (asked : Asked) (content : List ℕ → Option (List ℕ)) (failures : ℕ) (old new : List ℕ) (status : ℕ) : Type 0 where
   pub fault : Fault
-  pub right : IsFaultOf asked content failures fault
+  pub right : IsFaultOf asked content fault
+  pub output : failures ≡ failed_outputs fault
   pub took : new ≡ old ++ fault_text fault
   pub status_is : status ≡ status_code (status_of_fault fault)

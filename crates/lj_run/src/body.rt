@@ -1,9 +1,9 @@
 //! The body of the program.
 ghost use Rattle.std.specs.Prelude.{◌≡◌, ◌≢◌, ◌<◌, ◌≤◌, ℕ, List, map, IfOk, IfErr, IfSome, OnOk};
 ghost use Rattle.lj_text.specs.Streams.{source_state};
-ghost use Rattle.lj_run.specs.Words.{asked_by, request_asked};
-ghost use Rattle.lj_run.specs.Program.{IfRun, IsAnswered, IsFaultOf, IsFaultTold, IsRunAnswered, IsRunCut, MayEnd, SpellsUnsatisfiable, status_code};
-ghost use Rattle.lj_run.specs.declared.command_line.Request.TheVariants.{Run};
+ghost use Rattle.lj_run.specs.Words.{a_run, asked_by, line_asked};
+ghost use Rattle.lj_run.specs.Program.{IfRun, IsAnswered, IsFaultOf, IsFaultTold, IsRunAnswered, IsRunCut, MayEnd};
+ghost use Rattle.lj_run.specs.Program.{SpellsUnsatisfiable, failed_outputs, status_code};
 ghost use Rattle.lj_run.specs.declared.fault.Fault.TheVariants as faults;
 ghost use Rattle.lj_run.specs.declared.status.Status.TheVariants as statuses;
 
@@ -70,12 +70,17 @@ fn answer<'a, R: Wait, S: AsStr, F: Files, O: Sink>(
     out: &mut O,
 ) -> Result<Status, Fault<'a>>
     requires { O.failures out.old ≡ 0 }
-    ensures answered { IfOk result (IsAnswered (source_state F.Input.given F.Input.ended F.Input.rest F.Input.failures)
-        (λ path. F.content files.old path) (asked_by (map S.text words.entry.now)) (O.taken out.old) (O.taken out.new)) }
+    ensures answered { IfOk result (IsAnswered
+        (source_state F.Input.given F.Input.ended F.Input.rest F.Input.failures)
+        (λ path. F.content files.old path) (asked_by (map S.text words.entry.now))
+        (O.taken out.old) (O.taken out.new)) }
     ensures ok { OnOk result (O.failures out.new ≡ 0) }
-    ensures fault { IfErr result (IsFaultOf (asked_by (map S.text words.entry.now)) (λ path. F.content files.old path) (O.failures out.new)) }
+    ensures fault { IfErr result (IsFaultOf (asked_by (map S.text words.entry.now))
+        (λ path. F.content files.old path)) }
+    ensures output { IfErr result (λ fault. O.failures out.new ≡ failed_outputs fault) }
     ensures untouched { IfErr result (λ fault. fault ≢ faults.CannotWrite → out.new ≡ out.old) }
-    ensures cut { IfErr result (λ fault. fault ≡ faults.CannotWrite → IfRun (asked_by (map S.text words.entry.now)) (λ run. IsRunCut
+    ensures cut { IfErr result (λ fault. fault ≡ faults.CannotWrite
+        → IfRun (asked_by (map S.text words.entry.now)) (λ run. IsRunCut
         (source_state F.Input.given F.Input.ended F.Input.rest F.Input.failures)
         (λ path. F.content files.old path) run (O.taken out.old) (O.taken out.new))) }
     ensures same_files { (path : List ℕ) → F.content files.new path ≡ F.content files.old path }
@@ -110,14 +115,16 @@ fn run<'a, R: Wait, F: Files, O: Sink>(
     out: &mut O,
 ) -> Result<Status, Fault<'a>>
     requires { O.failures out.old ≡ 0 }
-    ensures answered { IfOk result (IsAnswered (source_state F.Input.given F.Input.ended F.Input.rest F.Input.failures)
-        (λ path. F.content files.old path) (request_asked (Run line.now)) (O.taken out.old) (O.taken out.new)) }
-    ensures ok { OnOk result (O.failures out.new ≡ 0) }
-    ensures fault { IfErr result (IsFaultOf (request_asked (Run line.now)) (λ path. F.content files.old path) (O.failures out.new)) }
-    ensures untouched { IfErr result (λ fault. fault ≢ faults.CannotWrite → out.new ≡ out.old) }
-    ensures cut { IfErr result (λ fault. fault ≡ faults.CannotWrite → IfRun (request_asked (Run line.now)) (λ run. IsRunCut
+    ensures answered { IfOk result (IsAnswered
         (source_state F.Input.given F.Input.ended F.Input.rest F.Input.failures)
-        (λ path. F.content files.old path) run (O.taken out.old) (O.taken out.new))) }
+        (λ path. F.content files.old path) (a_run (line_asked line.now)) (O.taken out.old) (O.taken out.new)) }
+    ensures ok { OnOk result (O.failures out.new ≡ 0) }
+    ensures fault { IfErr result (IsFaultOf (a_run (line_asked line.now)) (λ path. F.content files.old path)) }
+    ensures output { IfErr result (λ fault. O.failures out.new ≡ failed_outputs fault) }
+    ensures untouched { IfErr result (λ fault. fault ≢ faults.CannotWrite → out.new ≡ out.old) }
+    ensures cut { IfErr result (λ fault. fault ≡ faults.CannotWrite → IsRunCut
+        (source_state F.Input.given F.Input.ended F.Input.rest F.Input.failures)
+        (λ path. F.content files.old path) (line_asked line.now) (O.taken out.old) (O.taken out.new)) }
     ensures same_files { (path : List ℕ) → F.content files.new path ≡ F.content files.old path }
 {
     let mut formula = open(files, line.formula)?;

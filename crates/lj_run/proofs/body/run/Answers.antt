@@ -58,10 +58,10 @@ returns-clause-cut g c = λ e. record {
 
 pub returns-in_err-streams-clause-fault : goal.returns-in_err-streams-clause-fault
 returns-in_err-streams-clause-fault g c = passed_on _ c.from_residual-in_err-streams.result _ c.from_residual-in_err-streams.ensures.1
-    (open_fault (line_asked c.args.line.now) _ _ (g.O.Sink.failures c.args.out.now) _ _
+    (open_fault (line_asked c.args.line.now) _ _ _ _
     (λ path. among_streams _ c.args.line.now.proofs.items (line_asked c.args.line.now).closing path c.deref.ensures.value) c.in_ok-formula.ensures.same c.in_err-streams.ensures.fault)
 
 pub returns-in_err-closing-clause-fault : goal.returns-in_err-closing-clause-fault
 returns-in_err-closing-clause-fault g c = passed_on _ c.from_residual-in_err-closing.result _ c.from_residual-in_err-closing.ensures.1
-    (open_fault (line_asked c.args.line.now) _ _ (g.O.Sink.failures c.args.out.now) _ _
+    (open_fault (line_asked c.args.line.now) _ _ _ _
     (λ path. among_closing (line_asked c.args.line.now).proofs c.args.line.now.closing path) (λ other. c.in_ok-streams.ensures.same other ∙ c.in_ok-formula.ensures.same other) c.in_err-closing.ensures.fault)
