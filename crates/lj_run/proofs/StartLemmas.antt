@@ -1,9 +1,9 @@
 -- How the program ends on the arguments that the system gave.
-use Rattle.std.proofs.Common.{◌≡◌, ◌<◌, ◌≤◌, ℕ, suc, List, [], ◌∷◌, ◌-◌, length, min, take, drop, Option, refl, sym, ap, ◌∙◌, subst, arith}
+use Rattle.std.proofs.Common.{◌≡◌, ◌≢◌, ◌<◌, ◌≤◌, ℕ, suc, List, [], ◌∷◌, ◌-◌, length, min, take, drop, Option, refl, sym, ap, ◌∙◌, subst, arith}
 use Rattle.std.specs.Prelude.{IfSome}
 use Rattle.std.proofs.lemmas.List.{take_all}
 use Rattle.lj_text.specs.Streams.{SourceState}
-use Rattle.lj_run.specs.Program.{IfRun, IsFaultTold, IsRunAnswered, MayEnd, SpellsUnsatisfiable}
+use Rattle.lj_run.specs.Program.{IfRun, IsFaultTold, IsRunAnswered, IsRunCut, MayEnd, SpellsUnsatisfiable}
 use Rattle.lj_run.specs.Starting.{ProgramEnds}
 use Rattle.lj_run.specs.Words.{asked_by}
 
@@ -23,10 +23,11 @@ pub program_ends : {I : Type 0} (seen : I → SourceState) (before after : List 
     → (status < 2 → IfRun (asked_by given) (λ run. IsRunAnswered seen before run out_old out_new status))
     → (status ≡ 0 → IfRun (asked_by given) (λ run. IfSome (before run.formula) SpellsUnsatisfiable))
     → (status < 2 → failures ≡ 0) → (status < 2 → err_new ≡ err_old) → (2 ≤ status → failures ≡ 0 → out_new ≡ out_old)
+    → (failures ≢ 0 → IfRun (asked_by given) (λ run. IsRunCut seen before run out_old out_new))
     → (2 ≤ status → errors ≡ 0 → IsFaultTold (asked_by given) before failures err_old err_new status)
     → ((path : List ℕ) → after path ≡ before path)
     → ProgramEnds seen before after (asked_by words) out_old out_new failures err_old err_new errors code
-program_ends seen before after given words out_old out_new failures err_old err_new errors status code same code_is may_end printed refuted told quiet untouched fault files =
+program_ends seen before after given words out_old out_new failures err_old err_new errors status code same code_is may_end printed refuted told quiet untouched cut fault files =
     subst (λ ws. ProgramEnds seen before after (asked_by ws) out_old out_new failures err_old err_new errors code) same
     (subst (λ n. ProgramEnds seen before after (asked_by given) out_old out_new failures err_old err_new errors n) (sym code_is) (record {
       may_end = may_end;
@@ -35,6 +36,7 @@ program_ends seen before after given words out_old out_new failures err_old err_
       told = told;
       quiet = quiet;
       untouched = untouched;
+      cut = cut;
       fault = fault;
       same_files = files;
     }))

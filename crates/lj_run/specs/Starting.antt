@@ -1,9 +1,9 @@
 -- How the program ends on the arguments that the system gave.
-use Rattle.std.specs.Prelude.{◌≡◌, ◌<◌, ◌≤◌, ℕ, List, Option, IfSome, codes}
+use Rattle.std.specs.Prelude.{◌≡◌, ◌≢◌, ◌<◌, ◌≤◌, ℕ, List, Option, IfSome, codes}
 use Rattle.std.specs.declared.io.ErrorKind.{ErrorKind}
 use Rattle.std.specs.declared.io.ErrorKind.TheVariants.{OutOfMemory}
 use Rattle.lj_text.specs.Streams.{SourceState}
-use Rattle.lj_run.specs.Program.{IfRun, IsFaultTold, IsRunAnswered, MayEnd, SpellsUnsatisfiable}
+use Rattle.lj_run.specs.Program.{IfRun, IsFaultTold, IsRunAnswered, IsRunCut, MayEnd, SpellsUnsatisfiable}
 use Rattle.lj_run.specs.Words.{Asked}
 
 -- The program ended with this status where this was asked for: what standard output and standard error took is right of what is told
@@ -16,6 +16,7 @@ pub record ProgramEnds {I : Type 0} (seen : I → SourceState) (before after : L
   pub told : status < 2 → failures ≡ 0
   pub quiet : status < 2 → err_new ≡ err_old
   pub untouched : 2 ≤ status → failures ≡ 0 → out_new ≡ out_old
+  pub cut : failures ≢ 0 → IfRun asked (λ run. IsRunCut seen before run out_old out_new)
   pub fault : 2 ≤ status → errors ≡ 0 → IsFaultTold asked before failures err_old err_new status
   pub same_files : (path : List ℕ) → after path ≡ before path
 

@@ -35,6 +35,7 @@ pub fn start<R: Wait, F: Files, O: Sink, E: Sink>(
     ensures unread_told { IfErr arguments (λ e. E.failures err.new ≡ 0
         → E.taken err.new ≡ E.taken err.old ++ unread_text (error_kind e)) }
     ensures unread_untouched { IfErr arguments (λ _. out.new ≡ out.old) }
+    ensures unread_files { IfErr arguments (λ _. files.new ≡ files.old) }
 {
     match arguments {
         Ok(arguments) => {
