@@ -46,8 +46,10 @@ pub fn program<R: Wait, S: AsStr, F: Files, O: Sink, E: Sink>(
     ensures cut { O.failures out.new ≢ 0 → IfRun (asked_by (map S.text words.now)) (λ run. IsRunCut
         (source_state F.Input.given F.Input.ended F.Input.rest F.Input.failures)
         (λ path. F.content files.old path) run (O.taken out.old) (O.taken out.new)) }
-    ensures fault { 2 ≤ result → E.failures err.new ≡ 0 → IsFaultTold (asked_by (map S.text words.now))
-        (λ path. F.content files.old path) (O.failures out.new) (E.taken err.old) (E.taken err.new) result }
+    ensures fault { 2 ≤ result → E.failures err.new ≡ 0
+        → IsFaultTold (asked_by (map S.text words.now))
+        (λ path. F.content files.old path) (O.failures out.new) (E.taken err.old) (E.taken err.new)
+        result }
 
     ensures same_files { (path : List ℕ) → F.content files.new path ≡ F.content files.old path }
 {
@@ -117,14 +119,17 @@ fn run<'a, R: Wait, F: Files, O: Sink>(
     requires { O.failures out.old ≡ 0 }
     ensures answered { IfOk result (IsAnswered
         (source_state F.Input.given F.Input.ended F.Input.rest F.Input.failures)
-        (λ path. F.content files.old path) (a_run (line_asked line.now)) (O.taken out.old) (O.taken out.new)) }
+        (λ path. F.content files.old path) (a_run (line_asked line.now))
+        (O.taken out.old) (O.taken out.new)) }
     ensures ok { OnOk result (O.failures out.new ≡ 0) }
-    ensures fault { IfErr result (IsFaultOf (a_run (line_asked line.now)) (λ path. F.content files.old path)) }
+    ensures fault { IfErr result (IsFaultOf (a_run (line_asked line.now))
+        (λ path. F.content files.old path)) }
     ensures output { IfErr result (λ fault. O.failures out.new ≡ failed_outputs fault) }
     ensures untouched { IfErr result (λ fault. fault ≢ faults.CannotWrite → out.new ≡ out.old) }
     ensures cut { IfErr result (λ fault. fault ≡ faults.CannotWrite → IsRunCut
         (source_state F.Input.given F.Input.ended F.Input.rest F.Input.failures)
-        (λ path. F.content files.old path) (line_asked line.now) (O.taken out.old) (O.taken out.new)) }
+        (λ path. F.content files.old path) (line_asked line.now)
+        (O.taken out.old) (O.taken out.new)) }
     ensures same_files { (path : List ℕ) → F.content files.new path ≡ F.content files.old path }
 {
     let mut formula = open(files, line.formula)?;

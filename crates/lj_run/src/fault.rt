@@ -61,7 +61,8 @@ impl Fault<'_> {
 /// Tells something of a path.
 fn tell_path<E: Sink>(path: &str, what: &str, err: &mut E) -> Result<(), SinkFault>
     requires { E.failures err.old ≡ 0 }
-    ensures text { OnOk result (E.taken err.new ≡ E.taken err.old ++ (codes "lratjoin: " ++ (path.now ++ what.now))) }
+    ensures text { OnOk result (E.taken err.new
+        ≡ E.taken err.old ++ (codes "lratjoin: " ++ (path.now ++ what.now))) }
     ensures ok { OnOk result (E.failures err.new ≡ 0) }
     ensures err { OnErr result (E.failures err.new ≡ 1) }
 {
@@ -73,7 +74,8 @@ fn tell_path<E: Sink>(path: &str, what: &str, err: &mut E) -> Result<(), SinkFau
 /// Tells the fault of the formula at a path.
 fn tell_formula<E: Sink>(path: &str, fault: &CnfFault, err: &mut E) -> Result<(), SinkFault>
     requires { E.failures err.old ≡ 0 }
-    ensures text { OnOk result (E.taken err.new ≡ E.taken err.old ++ formula_fault_text path.now fault.now) }
+    ensures text { OnOk result (E.taken err.new
+        ≡ E.taken err.old ++ formula_fault_text path.now fault.now) }
     ensures ok { OnOk result (E.failures err.new ≡ 0) }
     ensures err { OnErr result (E.failures err.new ≡ 1) }
 {

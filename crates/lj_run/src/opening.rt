@@ -29,9 +29,11 @@ pub(crate) fn open_all<'a, F: Files>(
     files: &mut F,
     paths: &[&'a str],
 ) -> Result<Vec<F::Input>, Fault<'a>>
-    ensures opened { IfOk result (λ inputs. HasInputs (source_state F.Input.given F.Input.ended F.Input.rest F.Input.failures)
+    ensures opened { IfOk result (λ inputs. HasInputs
+        (source_state F.Input.given F.Input.ended F.Input.rest F.Input.failures)
         (map (λ path. F.content files.old path.now) paths.now) inputs.items) }
-    ensures fault { IfErr result (IsAnOpenFault (λ path. F.content files.old path) (map (λ path. path.now) paths.now)) }
+    ensures fault { IfErr result (IsAnOpenFault (λ path. F.content files.old path)
+        (map (λ path. path.now) paths.now)) }
     ensures same { (other : List ℕ) → F.content files.new other ≡ F.content files.old other }
 {
     let mut inputs = Vec::with_capacity(alloc, paths.len())?;
@@ -48,7 +50,8 @@ pub(crate) fn open_closing<'a, F: Files>(
 ) -> Result<Option<F::Input>, Fault<'a>>
     ensures opened { IfOk result (λ closing. HasInputs
         (source_state F.Input.given F.Input.ended F.Input.rest F.Input.failures)
-        (map (λ path. F.content files.old path.now) (streams_by_seat [] path.entry)) (streams_by_seat [] closing)) }
+        (map (λ path. F.content files.old path.now) (streams_by_seat [] path.entry))
+        (streams_by_seat [] closing)) }
     ensures fault { IfErr result (IsAnOpenFault (λ path. F.content files.old path)
         (map (λ path. path.now) (streams_by_seat [] path.entry))) }
     ensures same { (other : List ℕ) → F.content files.new other ≡ F.content files.old other }

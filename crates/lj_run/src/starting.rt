@@ -27,9 +27,12 @@ pub fn start<R: Wait, F: Files, O: Sink, E: Sink>(
     requires out { O.failures out.old ≡ 0 }
     requires err { E.failures err.old ≡ 0 }
 
-    ensures ends { IfOk arguments (λ all. ProgramEnds (source_state F.Input.given F.Input.ended F.Input.rest F.Input.failures)
-        (λ path. F.content files.old path) (λ path. F.content files.new path) (asked_by (map string_bytes (drop 1 all.items)))
-        (O.taken out.old) (O.taken out.new) (O.failures out.new) (E.taken err.old) (E.taken err.new) (E.failures err.new)
+    ensures ends { IfOk arguments (λ all. ProgramEnds
+        (source_state F.Input.given F.Input.ended F.Input.rest F.Input.failures)
+        (λ path. F.content files.old path) (λ path. F.content files.new path)
+        (asked_by (map string_bytes (drop 1 all.items)))
+        (O.taken out.old) (O.taken out.new) (O.failures out.new)
+        (E.taken err.old) (E.taken err.new) (E.failures err.new)
         (exit_status result)) }
     ensures unread { IfErr arguments (λ e. exit_status result ≡ unread_status (error_kind e)) }
     ensures unread_told { IfErr arguments (λ e. E.failures err.new ≡ 0

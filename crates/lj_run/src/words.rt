@@ -39,7 +39,8 @@ pub(crate) fn read_words<'a, S: AsStr>(
     alloc: Global,
     words: &'a [S],
 ) -> Result<Request<'a>, WordsFault>
-    ensures { IfOk result (λ request. request_asked request ≡ asked_by (map S.text words.entry.now)) }
+    ensures { IfOk result (λ request.
+        request_asked request ≡ asked_by (map S.text words.entry.now)) }
 {
     match parsed(alloc, words) {
         Ok(matches) => Ok(run_of(alloc, &matches)?),
@@ -152,8 +153,9 @@ fn request_of<'a>(
     max_steps: Option<&str>,
 ) -> Result<Request<'a>, AllocError>
     ensures { IfOk result (λ request. request_asked request
-        ≡ run_asked (option_map (λ path. path.now) formula.entry) (map (λ path. path.now) proofs.now)
-        (option_map (λ path. path.now) closing.entry) (option_map (λ text. text.now) max_steps.entry)) }
+        ≡ run_asked (option_map (λ path. path.now) formula.entry)
+        (map (λ path. path.now) proofs.now) (option_map (λ path. path.now) closing.entry)
+        (option_map (λ text. text.now) max_steps.entry)) }
 {
     let Some(formula) = formula else {
         return usage(alloc, "FORMULA wasn't provided");
