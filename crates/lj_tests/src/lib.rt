@@ -4,3 +4,5 @@
 
 #[cfg(test)]
 mod book;
+#[cfg(test)]
+mod sizes;
