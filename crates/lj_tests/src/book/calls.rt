@@ -1,8 +1,8 @@
 //! Calls by themselves, each with memory at hand.
 use crate::book::{BINARY, Line, addition, clause, opened};
 use lj_book::{Added, Book, Dropped, Imported, Refusal};
-use lj_clause::Lit;
-use lj_hint::{Marks, Tested};
+use lj_clause::{Clause, Lit, NoMemory};
+use lj_hint::{Live, Marks, Tested, rat_test};
 use std::alloc::Global;
 use std::process::Abort;
 use std::test::Fail;
@@ -69,5 +69,42 @@ fn a_receipt_of_another_book_is_stale(rt: HostRuntime) -> Result<(), Fail> {
         panic!(&rt; "entered");
     };
     assert!(rt; refusal == Refusal::Stale(1));
+    Ok(())
+}
+
+/// A book in which no clause lives.
+#[derive(Drop)]
+struct NothingLives {
+    alloc: Global,
+}
+
+impl Live for NothingLives {
+    ghost use Rattle.std.specs.FinMap as fin;
+
+    ghost live = { λ _. fin.empty };
+
+    fn clause(&self, _joint: u64) -> Option<&Clause> {
+        None
+    }
+
+    fn candidates(&self, _lit: Lit) -> Result<Vec<u64>, NoMemory> {
+        Ok(Vec::new(self.alloc))
+    }
+}
+
+/// A lemma whose pivot's negation no live clause holds needs no group.
+#[test]
+fn an_open_case_has_no_candidates(rt: HostRuntime) -> Result<(), Fail> {
+    let alloc = rt.alloc();
+    let book = opened(&rt, alloc, &BINARY, 1, 9)?;
+    let mut marks = Marks::new(alloc);
+    let case = book.take(0, &addition(alloc, &Line(5, &[3], &[], &[]))?)?;
+    let Tested::Open(case) = case.test(&mut marks) else {
+        panic!(&rt; "not open");
+    };
+    let Ok(groups) = rat_test(&NothingLives { alloc }, &case, &mut marks) else {
+        panic!(&rt; "a candidate");
+    };
+    assert!(rt; groups.is_empty());
     Ok(())
 }
