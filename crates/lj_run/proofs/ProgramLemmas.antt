@@ -1,6 +1,6 @@
 -- What the program tells, and how it ends.
-use Rattle.std.proofs.Common.{suc, ◌≡◌, ◌<◌, ◌≤◌, ℕ, List, [], ◌∷◌, ◌++◌, ◌+◌, length, map, take, get_or, Option, Some, None, refl, sym, ap, ◌∙◌, subst, append-nil, length-append, inr, arith}
-use Rattle.std.specs.Prelude.{All, Contains, IfErr, IfSome, IsErrAnd, Result, Ok, Err, option_map}
+use Rattle.std.proofs.Common.{suc, ◌≡◌, ◌<◌, ◌≤◌, ℕ, List, [], ◌∷◌, ◌++◌, ◌+◌, length, map, take, get_or, Option, Some, None, refl, sym, ap, ◌∙◌, subst, append-nil, length-append, ◌⊎◌, inl, inr, Bool, true, false, arith}
+use Rattle.std.specs.Prelude.{All, Contains, IfOk, IfErr, IfSome, IsErrAnd, Result, Ok, Err, option_map}
 use Rattle.std.specs.Io.KnownBytes.{Consumes, IsAtEnd, Keeps}
 use Rattle.std.specs.Borrow.{Bor}
 use Rattle.std.proofs.lemmas.List.{take_more, map-append, length-map}
@@ -8,7 +8,12 @@ use Rattle.std.proofs.lemmas.List.Elements.{All-cons, All-nil, Contains-append_l
 use Rattle.lj_text.specs.Streams.{SourceState}
 use Rattle.lj_run.specs.Checking.{IsCheckFault, IsCutText}
 use Rattle.lj_run.specs.FormulaReading.{GaveAll}
-use Rattle.lj_run.specs.Program.{HasInputs, IfRun, IsAnOpenFault, IsAnswered, IsFaultOf, IsOpened, IsRunAnswered, SpellsUnsatisfiable, fault_at, status_code, verdict_status}
+use Rattle.lj_run.specs.Program.{HasInputs, IfRun, IsAnOpenFault, IsAnswered, IsAskedFor, IsCreated, IsFaultOf, IsLostAt, IsOpened, IsRunAnswered, SpellsUnsatisfiable, failed_outputs, fault_at, is_told_late, proof_status, status_code, verdict_status}
+use Rattle.lj_run.specs.Proof.{SinkState, IsProof}
+use Rattle.lj_run.specs.declared.outcome.ProofEnd.{ProofEnd}
+use Rattle.lj_run.specs.declared.outcome.ProofEnd.TheVariants.{NotAsked, Written, Failed}
+use Rattle.lj_clause.specs.ClauseMap.{FormulaValue}
+use Rattle.lj_text.specs.declared.step.Step.{Step}
 use Rattle.lj_run.specs.InTurn.{streams_by_seat}
 use Rattle.lj_run.specs.Words.{Asked, AskedRun, a_run, paths_by_seat, the_help, the_version, the_usage}
 use Rattle.lj_run.specs.declared.checking.CheckFault.{CheckFault}
@@ -119,6 +124,8 @@ pub open_fault : (run : AskedRun) (before content : List ℕ → Option (List �
 open_fault run before content paths (faults.Formula path f) among same h = absurd h
 open_fault run before content paths (faults.CannotRead path) among same h = inr (among path.now h.0, sym (same path.now) ∙ h.1)
 open_fault run before content paths faults.CannotWrite among same h = absurd h
+open_fault run before content paths (faults.CannotCreate path) among same h = absurd h
+open_fault run before content paths (faults.ProofLost path f) among same h = absurd h
 open_fault run before content paths (faults.NoMemory e) among same h = tt
 open_fault run before content paths faults.OutOfMemory among same h = tt
 open_fault run before content paths (faults.Usage text) among same h = absurd h
@@ -168,23 +175,74 @@ check_cut seen formula before after max streams old new check_faults.CannotWrite
 
 -- ---- verdicts
 
-zero_is_verified : (verdict : Verdict) → 0 ≡ status_code (verdict_status verdict) → verdict ≡ Verified
-zero_is_verified Verified e = refl
-zero_is_verified NotVerified e = absurd (omega arith)
+zero_is_verified : (end : ProofEnd) (verdict : Verdict) → 0 ≡ status_code (proof_status end (verdict_status verdict)) → verdict ≡ Verified
+zero_is_verified NotAsked Verified e = refl
+zero_is_verified NotAsked NotVerified e = absurd (omega arith)
+zero_is_verified Written Verified e = refl
+zero_is_verified Written NotVerified e = absurd (omega arith)
+zero_is_verified (Failed fault) verdict e = absurd (omega arith)
 
-answer_refutes : {I : Type 0} (seen : I → SourceState) (content : List ℕ → Option (List ℕ)) (run : AskedRun) (old new : List ℕ) (status : ℕ)
-    → IsRunAnswered seen content run old new status → status ≡ 0 → IfSome (content run.formula) SpellsUnsatisfiable
-answer_refutes seen content run old new status h zero_is =
+answer_refutes : {I W : Type 0} (seen : I → SourceState) (sink : W → SinkState) (content : List ℕ → Option (List ℕ)) (run : AskedRun) (old new : List ℕ) (status : ℕ)
+    → IsRunAnswered seen sink content run old new status → status ≡ 0 → IfSome (content run.formula) SpellsUnsatisfiable
+answer_refutes seen sink content run old new status h zero_is =
     let inputs = h.printed.inputs in
-    let printed = h.printed.printed in
-    let verified = zero_is_verified h.verdict (sym zero_is ∙ h.status_is) in
-    of_content SpellsUnsatisfiable (content run.formula) (seen inputs.opened) (seen inputs.after) printed.gave.text inputs.formula_is printed.gave.all
-    (record { formula = printed.formula; spells = printed.gave.spells; unsatisfiable = printed.unsatisfiable verified })
+    let runs = h.printed.printed.runs in
+    let verified = zero_is_verified h.checked.proof h.checked.verdict (sym zero_is ∙ h.status_is) in
+    of_content SpellsUnsatisfiable (content run.formula) (seen inputs.opened) (seen inputs.after) runs.gave.text inputs.formula_is runs.gave.all
+    (record { formula = runs.formula; spells = runs.gave.spells; unsatisfiable = h.printed.printed.unsatisfiable verified })
 
 -- where status 0 answers a run, no assignment satisfies what FORMULA holds, if that is told
-pub run_refutes : {I : Type 0} (seen : I → SourceState) (content : List ℕ → Option (List ℕ)) (asked : Asked) (old new : List ℕ) (status : Status)
-    → IsAnswered seen content asked old new status → status_code status ≡ 0 → IfRun asked (λ run. IfSome (content run.formula) SpellsUnsatisfiable)
-run_refutes seen content (a_run run) old new status h zero_is = answer_refutes seen content run old new (status_code status) h zero_is
-run_refutes seen content the_help old new status h zero_is = tt
-run_refutes seen content the_version old new status h zero_is = tt
-run_refutes seen content the_usage old new status h zero_is = tt
+pub run_refutes : {I W : Type 0} (seen : I → SourceState) (sink : W → SinkState) (content : List ℕ → Option (List ℕ)) (asked : Asked) (old new : List ℕ) (status : Status)
+    → IsAnswered seen sink content asked old new status → status_code status ≡ 0 → IfRun asked (λ run. IfSome (content run.formula) SpellsUnsatisfiable)
+run_refutes seen sink content (a_run run) old new status h zero_is = answer_refutes seen sink content run old new (status_code status) h zero_is
+run_refutes seen sink content the_help old new status h zero_is = tt
+run_refutes seen sink content the_version old new status h zero_is = tt
+run_refutes seen sink content the_usage old new status h zero_is = tt
+
+-- ---- proofs
+
+-- the proof that couldn't be written was asked for
+pub asked_proof : {W : Type 0} (sink : W → SinkState) (f : FormulaValue) (trims : Bool) (steps : List Step) (given : Option (Bor (List ℕ))) (created written : Option W) (end : ProofEnd)
+    → IsCreated sink (option_map (λ p. p.now) given) created → IsProof sink f trims steps created written end → IsAskedFor end given
+asked_proof sink f trims steps given created written NotAsked h is = tt
+asked_proof sink f trims steps given created written Written h is = tt
+asked_proof sink f trims steps (Some x) created written (Failed fault) h is = tt
+asked_proof sink f trims steps None None None (Failed fault) h is = cc
+asked_proof sink f trims steps None None (Some w) (Failed fault) h is = absurd is
+asked_proof sink f trims steps None (Some c) written (Failed fault) h is = absurd h
+
+-- a sink that was just created hasn't failed
+pub created_unfailed : {W : Type 0} (sink : W → SinkState) (path : Option (List ℕ)) (created : Option W) → IsCreated sink path created → IfSome created (λ w. (sink w).failures ≡ 0)
+created_unfailed sink None None h = tt
+created_unfailed sink None (Some w) h = absurd h
+created_unfailed sink (Some p) None h = absurd h
+created_unfailed sink (Some p) (Some w) h = h.1
+
+pub ok_more : {T E : Type 0} (P Q : T → Type 0) (r : Result T E) → ((t : T) → P t → Q t) → IfOk r P → IfOk r Q
+ok_more P Q (Ok t) f h = f t h
+ok_more P Q (Err e) f h = tt
+
+pub err_more : {T E : Type 0} (P Q : E → Type 0) (r : Result T E) → ((e : E) → P e → Q e) → IfErr r P → IfErr r Q
+err_more P Q (Ok t) f h = tt
+err_more P Q (Err e) f h = f e h
+
+-- what is known of the fault of a proof that couldn't be written
+pub lost_fault : (run : AskedRun) (content : List ℕ → Option (List ℕ)) (fault : Fault) → IsLostAt run.proof fault → IsFaultOf (a_run run) content fault
+lost_fault run content (faults.Formula path f) h = absurd h
+lost_fault run content (faults.CannotRead path) h = absurd h
+lost_fault run content faults.CannotWrite h = absurd h
+lost_fault run content (faults.CannotCreate path) h = absurd h
+lost_fault run content (faults.ProofLost path f) h = h
+lost_fault run content (faults.NoMemory e) h = absurd h
+lost_fault run content faults.OutOfMemory h = absurd h
+lost_fault run content (faults.Usage text) h = absurd h
+
+pub lost_late : (path : Option (List ℕ)) (fault : Fault) → IsLostAt path fault → (is_told_late fault ≡ true) × (fault ≡ faults.CannotWrite → ⊥) × (failed_outputs fault ≡ 0)
+lost_late path (faults.Formula p f) h = absurd h
+lost_late path (faults.CannotRead p) h = absurd h
+lost_late path faults.CannotWrite h = absurd h
+lost_late path (faults.CannotCreate p) h = absurd h
+lost_late path (faults.ProofLost p f) h = (refl, λ e. cc, refl)
+lost_late path (faults.NoMemory e) h = absurd h
+lost_late path faults.OutOfMemory h = absurd h
+lost_late path (faults.Usage text) h = absurd h

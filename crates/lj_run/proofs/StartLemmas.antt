@@ -1,9 +1,10 @@
 -- How the program ends on the arguments that the system gave.
-use Rattle.std.proofs.Common.{◌≡◌, ◌≢◌, ◌<◌, ◌≤◌, ℕ, suc, List, [], ◌∷◌, ◌-◌, length, min, take, drop, Option, refl, sym, ap, ◌∙◌, subst, arith}
-use Rattle.std.specs.Prelude.{IfSome}
+use Rattle.std.proofs.Common.{◌≡◌, ◌≢◌, ◌<◌, ◌≤◌, ℕ, suc, List, [], ◌∷◌, ◌-◌, length, min, take, drop, Option, refl, sym, ap, ◌∙◌, subst, inl, inr, arith}
+use Rattle.std.specs.Prelude.{◌⊎◌, IfSome}
 use Rattle.std.proofs.lemmas.List.{take_all}
 use Rattle.lj_text.specs.Streams.{SourceState}
-use Rattle.lj_run.specs.Program.{IfRun, IsFaultTold, IsRunAnswered, IsRunCut, MayEnd, SpellsUnsatisfiable}
+use Rattle.lj_run.specs.Program.{IfRun, IsFaultTold, IsOther, IsProofLost, IsRunAnswered, IsRunCut, MayEnd, SpellsUnsatisfiable}
+use Rattle.lj_run.specs.Proof.{SinkState}
 use Rattle.lj_run.specs.Starting.{ProgramEnds}
 use Rattle.lj_run.specs.Words.{asked_by}
 
@@ -17,19 +18,19 @@ without_first {X} (x ∷ xs) n e =
     subst P (sym (e ∙ one)) (ap (λ k. take k xs) less ∙ take_all (length xs) xs (omega arith))
 
 -- what the program's clauses say of these words and this status, said of those behind the first argument and of how the process ends
-pub program_ends : {I : Type 0} (seen : I → SourceState) (before after : List ℕ → Option (List ℕ)) (given words : List (List ℕ)) (out_old out_new : List ℕ) (failures : ℕ)
+pub program_ends : {I W : Type 0} (seen : I → SourceState) (sink : W → SinkState) (before after : List ℕ → Option (List ℕ)) (given words : List (List ℕ)) (out_old out_new : List ℕ) (failures : ℕ)
     (err_old err_new : List ℕ) (errors status code : ℕ) → given ≡ words → code ≡ status
     → MayEnd (asked_by given) status
-    → (status < 2 → IfRun (asked_by given) (λ run. IsRunAnswered seen before run out_old out_new status))
+    → (status < 2 → IfRun (asked_by given) (λ run. IsRunAnswered seen sink before run out_old out_new status))
     → (status ≡ 0 → IfRun (asked_by given) (λ run. IfSome (before run.formula) SpellsUnsatisfiable))
-    → (status < 2 → failures ≡ 0) → (status < 2 → err_new ≡ err_old) → (2 ≤ status → failures ≡ 0 → out_new ≡ out_old)
+    → (status < 2 → failures ≡ 0) → (status < 2 → err_new ≡ err_old) → (2 ≤ status → failures ≡ 0 → (out_new ≡ out_old) ⊎ IsProofLost seen sink before (asked_by given) out_old out_new)
     → (failures ≢ 0 → IfRun (asked_by given) (λ run. IsRunCut seen before run out_old out_new))
     → (2 ≤ status → errors ≡ 0 → IsFaultTold (asked_by given) before failures err_old err_new status)
-    → ((path : List ℕ) → after path ≡ before path)
-    → ProgramEnds seen before after (asked_by words) out_old out_new failures err_old err_new errors code
-program_ends seen before after given words out_old out_new failures err_old err_new errors status code same code_is may_end printed refuted told quiet untouched cut fault files =
-    subst (λ ws. ProgramEnds seen before after (asked_by ws) out_old out_new failures err_old err_new errors code) same
-    (subst (λ n. ProgramEnds seen before after (asked_by given) out_old out_new failures err_old err_new errors n) (sym code_is) (record {
+    → ((path : List ℕ) → IsOther (asked_by given) path → after path ≡ before path)
+    → ProgramEnds seen sink before after (asked_by words) out_old out_new failures err_old err_new errors code
+program_ends seen sink before after given words out_old out_new failures err_old err_new errors status code same code_is may_end printed refuted told quiet untouched cut fault files =
+    subst (λ ws. ProgramEnds seen sink before after (asked_by ws) out_old out_new failures err_old err_new errors code) same
+    (subst (λ n. ProgramEnds seen sink before after (asked_by given) out_old out_new failures err_old err_new errors n) (sym code_is) (record {
       may_end = may_end;
       printed = printed;
       refuted = refuted;
@@ -40,3 +41,8 @@ program_ends seen before after given words out_old out_new failures err_old err_
       fault = fault;
       same_files = files;
     }))
+
+-- what is untouched is so in what it took
+pub taken_same : {O : Type 0} (taken : O → List ℕ) (L : Type 0) (old new : O) → (new ≡ old) ⊎ L → (taken new ≡ taken old) ⊎ L
+taken_same taken L old new (inl e) = inl (ap taken e)
+taken_same taken L old new (inr lost) = inr lost

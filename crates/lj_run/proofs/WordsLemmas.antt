@@ -67,13 +67,13 @@ without_limit (Some formula) proofs closing steps e = go (is_run_of proofs) refl
     go true t = rw (t, e) refl
 
 asks_run : (formula : List ℕ) (proofs : List (List ℕ)) (closing steps : Option (List ℕ)) (limit : ℕ) → is_run_of proofs ≡ true → steps_of_value steps ≡ Some limit
-    → a_run (record { formula = formula; proofs = proofs; closing = closing; max_steps = limit }) ≡ run_asked (Some formula) proofs closing steps
+    → a_run (record { formula = formula; proofs = proofs; closing = closing; max_steps = limit; proof = None; trims = false }) ≡ run_asked (Some formula) proofs closing steps
 asks_run formula proofs closing steps limit t e = rw (t, e) refl
 
 -- and what they ask for else
 pub asks_given : (formula : Option (Bor (List ℕ))) (path : Bor (List ℕ)) (proofs items : List (Bor (List ℕ))) (closing steps : Option (Bor (List ℕ))) (limit : ℕ)
     → formula ≡ Some path → items ≡ proofs → is_run_of (map (λ p. p.now) proofs) ≡ true → steps_of_value (option_map (λ p. p.now) steps) ≡ Some limit
-    → a_run (record { formula = path.now; proofs = map (λ p. p.now) items; closing = option_map (λ p. p.now) closing; max_steps = limit })
+    → a_run (record { formula = path.now; proofs = map (λ p. p.now) items; closing = option_map (λ p. p.now) closing; max_steps = limit; proof = None; trims = false })
     ≡ run_asked (option_map (λ p. p.now) formula) (map (λ p. p.now) proofs) (option_map (λ p. p.now) closing) (option_map (λ p. p.now) steps)
 asks_given formula path proofs items closing steps limit is same t e =
     rw (is, same) (asks_run path.now (map (λ p. p.now) proofs) (option_map (λ p. p.now) closing) (option_map (λ p. p.now) steps) limit t e)

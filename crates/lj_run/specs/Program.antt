@@ -1,5 +1,5 @@
 -- How the program ends, and what it tells.
-use Rattle.std.specs.Prelude.{◌≡◌, ◌≢◌, ◌⊎◌, ◌≤◌, ℕ, List, [], ◌∷◌, ◌++◌, map, Option, None, Contains, IfSome, codes, decimal, string_bytes}
+use Rattle.std.specs.Prelude.{◌≡◌, ◌≢◌, ◌⊎◌, ◌≤◌, Bool, true, false, Some, ℕ, List, [], ◌∷◌, ◌++◌, map, Option, None, Contains, IfSome, codes, decimal, string_bytes}
 use Rattle.std.specs.Io.KnownBytes.{Keeps}
 use Rattle.std.specs.Borrow.{Bor}
 use Rattle.lj_clause.specs.ClauseMap.{FormulaValue}
@@ -8,7 +8,13 @@ use Rattle.lj_text.specs.Cnf.{HasFault, Spells}
 use Rattle.lj_text.specs.FaultNames.{cnf_fault_name}
 use Rattle.lj_text.specs.Streams.{SourceState}
 use Rattle.lj_book.specs.State.{IsUnsatisfiable}
-use Rattle.lj_run.specs.Checking.{IsPrinted, IsCutText}
+use Rattle.lj_run.specs.Checking.{IsChecked, IsCutText}
+use Rattle.lj_run.specs.Proof.{SinkState}
+use Rattle.lj_run.specs.declared.checking.Checked.{Checked}
+use Rattle.lj_run.specs.declared.outcome.ProofEnd.{ProofEnd}
+use Rattle.lj_run.specs.declared.outcome.ProofEnd.TheVariants.{NotAsked, Written, Failed}
+use Rattle.lj_run.specs.declared.outcome.ProofFault.{ProofFault}
+use Rattle.lj_run.specs.declared.outcome.ProofFault.TheVariants.{Device, NoMemory}
 use Rattle.lj_run.specs.Words.{Asked, AskedRun, a_run, paths_by_seat, the_help, the_version, the_usage}
 use Rattle.lj_run.specs.declared.checking.CheckFault.{CheckFault}
 use Rattle.lj_run.specs.declared.checking.CheckFault.TheVariants as check_faults
@@ -34,6 +40,15 @@ abbrev pub verdict_status : Verdict → Status
 verdict_status Verified = statuses.Done
 verdict_status NotVerified = statuses.NotVerified
 
+-- the status of what a check answers: a proof that couldn't be written is a fault
+abbrev pub proof_status : ProofEnd → Status → Status
+proof_status NotAsked status = status
+proof_status Written status = status
+proof_status (Failed fault) status = statuses.Fault
+
+abbrev pub checked_status : Checked → Status
+checked_status checked = proof_status checked.proof (verdict_status checked.verdict)
+
 -- the status after a fault
 abbrev pub status_of_fault : Fault → Status
 status_of_fault (faults.Usage text) = statuses.Usage
@@ -53,11 +68,18 @@ abbrev pub formula_fault_text : List ℕ → CnfFault → List ℕ
 formula_fault_text path fault =
     (codes "lratjoin: " ++ (path ++ codes ": line ")) ++ (decimal fault.line ++ (codes ": " ++ (cnf_fault_name fault.kind ++ codes "\n")))
 
+-- what is told of a proof that couldn't be written into the file at a path
+abbrev pub lost_text : List ℕ → ProofFault → List ℕ
+lost_text path Device = codes "lratjoin: " ++ (path ++ codes ": cannot write\n")
+lost_text path (NoMemory e) = codes "lratjoin: NoMemory\n"
+
 -- the line of a fault; usage is told by its text
 abbrev pub fault_text : Fault → List ℕ
 fault_text (faults.Formula path fault) = formula_fault_text path.now fault
 fault_text (faults.CannotRead path) = codes "lratjoin: " ++ (path.now ++ codes ": cannot read\n")
 fault_text faults.CannotWrite = codes "lratjoin: cannot write\n"
+fault_text (faults.CannotCreate path) = codes "lratjoin: " ++ (path.now ++ codes ": cannot write\n")
+fault_text (faults.ProofLost path fault) = lost_text path.now fault
 fault_text (faults.NoMemory e) = codes "lratjoin: NoMemory\n"
 fault_text faults.OutOfMemory = codes "lratjoin: NoMemory\n"
 fault_text (faults.Usage text) = string_bytes text
@@ -77,6 +99,11 @@ IsOpenFault path content fault = IsNoMemory fault
 abbrev pub IsAnOpenFault : (List ℕ → Option (List ℕ)) → List (List ℕ) → Fault → Type 0
 IsAnOpenFault content paths (faults.CannotRead p) = Contains paths p.now × (content p.now ≡ None)
 IsAnOpenFault content paths fault = IsNoMemory fault
+
+-- the file of the proof, which is asked for at this path, can't be created, or memory was refused
+abbrev pub IsCreateFault : Option (List ℕ) → Fault → Type 0
+IsCreateFault path (faults.CannotCreate p) = path ≡ Some p.now
+IsCreateFault path fault = IsNoMemory fault
 
 -- ---- the files of a run
 
@@ -103,25 +130,36 @@ pub record RunInputs {I : Type 0} (seen : I → SourceState) (content : List ℕ
   pub formula_is : IsOpened (content run.formula) (seen opened)
   pub streams_are : HasInputs seen (map content (paths_by_seat run)) streams
 
+-- a sink that was just created, where a path is asked for: it has taken nothing and hasn't failed
+abbrev pub IsCreated : {W : Type 0} → (W → SinkState) → Option (List ℕ) → Option W → Type 0
+IsCreated sink None None = Unit {0}
+IsCreated sink None (Some created) = ⊥
+IsCreated sink (Some path) None = ⊥
+IsCreated sink (Some path) (Some created) = ((sink created).taken ≡ []) × ((sink created).failures ≡ 0)
+
 -- ---- what is printed
 
--- What is printed of a run that was asked for so, with this verdict.
-pub record IsRunPrinted {I : Type 0} (seen : I → SourceState) (content : List ℕ → Option (List ℕ)) (run : AskedRun) (verdict : Verdict) (text : List ℕ) : Type 0 where
+-- What is printed of a run that was asked for so, where the check answers this. The sink of the proof was created for it, and holds what
+-- the run made of the proof.
+pub record IsRunPrinted {I W : Type 0} (seen : I → SourceState) (sink : W → SinkState) (content : List ℕ → Option (List ℕ)) (run : AskedRun) (checked : Checked) (text : List ℕ) : Type 0 where
   pub inputs : RunInputs seen content run
-  pub printed : IsPrinted (seen inputs.opened) (seen inputs.after) seen run.max_steps inputs.streams verdict text
+  pub created : Option W
+  pub written : Option W
+  pub created_is : IsCreated sink run.proof created
+  pub printed : IsChecked (seen inputs.opened) (seen inputs.after) seen sink run.max_steps run.trims inputs.streams created written checked text
 
 -- A beginning of what is printed of a run that was asked for so was taken, and not all.
 pub record IsRunCut {I : Type 0} (seen : I → SourceState) (content : List ℕ → Option (List ℕ)) (run : AskedRun) (old new : List ℕ) : Type 0 where
   pub inputs : RunInputs seen content run
   pub cut : IsCutText (seen inputs.opened) (seen inputs.after) seen run.max_steps inputs.streams old new
 
--- What was taken is what is printed of a run that was asked for so, and this is the status of its verdict.
-pub record IsRunAnswered {I : Type 0} (seen : I → SourceState) (content : List ℕ → Option (List ℕ)) (run : AskedRun) (old new : List ℕ) (status : ℕ) : Type 0 where
-  pub verdict : Verdict
+-- What was taken is what is printed of a run that was asked for so, and this is the status of what the check answers.
+pub record IsRunAnswered {I W : Type 0} (seen : I → SourceState) (sink : W → SinkState) (content : List ℕ → Option (List ℕ)) (run : AskedRun) (old new : List ℕ) (status : ℕ) : Type 0 where
+  pub checked : Checked
   pub text : List ℕ
-  pub printed : IsRunPrinted seen content run verdict text
+  pub printed : IsRunPrinted seen sink content run checked text
   pub took : new ≡ old ++ text
-  pub status_is : status ≡ status_code (verdict_status verdict)
+  pub status_is : status ≡ status_code (checked_status checked)
 
 -- this text spells a formula that no assignment satisfies
 pub record SpellsUnsatisfiable (text : List ℕ) : Type 0 where
@@ -153,14 +191,46 @@ MayEnd the_version status = (status ≡ 0) ⊎ (status ≡ 2)
 MayEnd the_usage status = (status ≡ 2) ⊎ (status ≡ 3)
 
 -- what was asked for was answered with this status
-abbrev pub IsAnswered : {I : Type 0} → (I → SourceState) → (List ℕ → Option (List ℕ)) → Asked → List ℕ → List ℕ → Status → Type 0
-IsAnswered seen content (a_run run) old new status = IsRunAnswered seen content run old new (status_code status)
-IsAnswered seen content the_help old new status = status ≡ statuses.Done
-IsAnswered seen content the_version old new status = status ≡ statuses.Done
-IsAnswered seen content the_usage old new status = ⊥
+abbrev pub IsAnswered : {I W : Type 0} → (I → SourceState) → (W → SinkState) → (List ℕ → Option (List ℕ)) → Asked → List ℕ → List ℕ → Status → Type 0
+IsAnswered seen sink content (a_run run) old new status = IsRunAnswered seen sink content run old new (status_code status)
+IsAnswered seen sink content the_help old new status = status ≡ statuses.Done
+IsAnswered seen sink content the_version old new status = status ≡ statuses.Done
+IsAnswered seen sink content the_usage old new status = ⊥
+
+-- the proof that words ask for couldn't be written, and what is printed of the run was taken
+abbrev pub IsProofLost : {I W : Type 0} → (I → SourceState) → (W → SinkState) → (List ℕ → Option (List ℕ)) → Asked → List ℕ → List ℕ → Type 0
+IsProofLost seen sink content asked old new = IsRunAnd asked (λ run. IsRunAnswered seen sink content run old new 2)
+
+-- whether something stands on standard output where this fault is told
+abbrev pub is_told_late : Fault → Bool
+is_told_late faults.CannotWrite = true
+is_told_late (faults.ProofLost path fault) = true
+is_told_late fault = false
+
+-- the fault is that of a proof that couldn't be written
+abbrev pub is_lost : Fault → Bool
+is_lost (faults.ProofLost path fault) = true
+is_lost fault = false
+
+-- the fault is that of a proof that was asked for at this path
+abbrev pub IsLostAt : Option (List ℕ) → Fault → Type 0
+IsLostAt path (faults.ProofLost p fault) = path ≡ Some p.now
+IsLostAt path fault = ⊥
+
+-- a proof that couldn't be written was asked for
+abbrev pub IsAskedFor : {A : Type 0} → ProofEnd → Option A → Type 0
+IsAskedFor NotAsked path = Unit {0}
+IsAskedFor Written path = Unit {0}
+IsAskedFor (Failed fault) (Some path) = Unit {0}
+IsAskedFor (Failed fault) None = ⊥
+
+-- the words ask for no proof at this path
+abbrev pub IsOther : Asked → List ℕ → Type 0
+IsOther asked path = IfRun asked (λ run. run.proof ≢ Some path)
 
 -- The fault is right of what words ask for, where this is told of files: a fault of the text of FORMULA; a path that can't be opened,
--- or FORMULA whose read failed; an output that failed, where there is something to print; usage. Want of memory may stand in place of
+-- or FORMULA whose read failed; an output that failed, where there is something to print; OUT that can't be created
+-- or written; usage. Want of memory may stand in place of
 -- each that memory is taken for.
 abbrev pub IsFaultOf : Asked → (List ℕ → Option (List ℕ)) → Fault → Type 0
 IsFaultOf asked content (faults.Formula path fault) =
@@ -168,6 +238,8 @@ IsFaultOf asked content (faults.Formula path fault) =
 IsFaultOf asked content (faults.CannotRead path) =
     IsRunAnd asked (λ run. (path.now ≡ run.formula) ⊎ (Contains (paths_by_seat run) path.now × (content path.now ≡ None)))
 IsFaultOf asked content faults.CannotWrite = asked ≢ the_usage
+IsFaultOf asked content (faults.CannotCreate path) = IsRunAnd asked (λ run. run.proof ≡ Some path.now)
+IsFaultOf asked content (faults.ProofLost path fault) = IsRunAnd asked (λ run. run.proof ≡ Some path.now)
 IsFaultOf asked content (faults.NoMemory e) = Unit {0}
 IsFaultOf asked content faults.OutOfMemory = Unit {0}
 IsFaultOf asked content (faults.Usage text) = asked ≡ the_usage

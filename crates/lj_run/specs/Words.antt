@@ -54,6 +54,8 @@ pub record AskedRun : Type 0 where
   pub proofs : List (List ℕ)
   pub closing : Option (List ℕ)
   pub max_steps : ℕ
+  pub proof : Option (List ℕ)
+  pub trims : Bool
 
 -- What words ask for: a run, or to be told the help, the version, or how the program is used.
 pub data Asked : Type 0 where
@@ -89,7 +91,7 @@ is_run_of proofs = nat_lt 0 (length proofs) && nat_lt (length proofs) 65
 
 abbrev pub run_within : List ℕ → List (List ℕ) → Option (List ℕ) → Option ℕ → Asked
 run_within formula proofs closing (Some max_steps) =
-    a_run (record { formula = formula; proofs = proofs; closing = closing; max_steps = max_steps })
+    a_run (record { formula = formula; proofs = proofs; closing = closing; max_steps = max_steps; proof = None; trims = false })
 run_within formula proofs closing None = the_usage
 
 -- the values of FORMULA and PROOF, of --close and --max-steps; right words have a FORMULA
@@ -125,6 +127,8 @@ line_asked line = record {
   proofs = map (λ path. path.now) line.proofs.items;
   closing = option_map (λ path. path.now) line.closing;
   max_steps = line.max_steps;
+  proof = option_map (λ path. path.now) line.proof;
+  trims = line.trim;
 }
 
 -- what a request asks for; of its texts nothing is said

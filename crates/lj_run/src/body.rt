@@ -1,21 +1,23 @@
 //! The body of the program.
-ghost use Rattle.std.specs.Prelude.{◌≡◌, ◌≢◌, ◌<◌, ◌≤◌, ℕ, List, map, IfOk, IfErr, IfSome, OnOk};
+ghost use Rattle.std.specs.Prelude.{◌≡◌, ◌≢◌, ◌⊎◌, ◌<◌, ◌≤◌, ℕ, List, map, true, false, option_map, IfOk, IfErr, IfSome, OnOk};
 ghost use Rattle.lj_text.specs.Streams.{source_state};
 ghost use Rattle.lj_run.specs.Words.{a_run, asked_by, line_asked};
-ghost use Rattle.lj_run.specs.Program.{IfRun, IsAnswered, IsFaultOf, IsFaultTold, IsRunAnswered, IsRunCut, MayEnd};
-ghost use Rattle.lj_run.specs.Program.{SpellsUnsatisfiable, failed_outputs, status_code};
+ghost use Rattle.lj_run.specs.Program.{IfRun, IsAnswered, IsAskedFor, IsFaultOf, IsFaultTold, IsLostAt};
+ghost use Rattle.lj_run.specs.Program.{IsOther, IsProofLost, IsRunAnswered, IsRunCut, MayEnd};
+ghost use Rattle.lj_run.specs.Program.{SpellsUnsatisfiable, checked_status, failed_outputs, is_lost, is_told_late, status_code};
+ghost use Rattle.lj_run.specs.Proof.{sink_state};
 ghost use Rattle.lj_run.specs.declared.fault.Fault.TheVariants as faults;
 ghost use Rattle.lj_run.specs.declared.status.Status.TheVariants as statuses;
 
-use crate::checking::check;
+use crate::checking::{Checked, check};
 use crate::command_line::{CommandLine, Request};
 use crate::fault::{Fault, fault_of};
 use crate::files::Files;
-use crate::opening::{open, open_all, open_closing};
-use crate::outcome::Options;
+use crate::opening::{create, open, open_all, open_closing};
+use crate::outcome::{Options, ProofEnd};
 use crate::status::Status;
 use crate::words::read_words;
-use lj_text::{MemorySink, Sink, Source, write_all};
+use lj_text::{Sink, Source, write_all};
 use std::alloc::Global;
 use std::convert::AsStr;
 use std::sync::Wait;
@@ -36,13 +38,17 @@ pub fn program<R: Wait, S: AsStr, F: Files, O: Sink, E: Sink>(
     ensures status { MayEnd (asked_by (map S.text words.now)) result }
     ensures printed { result < 2 → IfRun (asked_by (map S.text words.now)) (λ run. IsRunAnswered
         (source_state F.Input.given F.Input.ended F.Input.rest F.Input.failures)
-        (λ path. F.content files.old path) run (O.taken out.old) (O.taken out.new) result) }
+        (sink_state F.Output.taken F.Output.failures) (λ path. F.content files.old path) run
+        (O.taken out.old) (O.taken out.new) result) }
     ensures refuted { result ≡ 0 → IfRun (asked_by (map S.text words.now)) (λ run.
         IfSome (F.content files.old run.formula) SpellsUnsatisfiable) }
     ensures told { result < 2 → O.failures out.new ≡ 0 }
     ensures quiet { result < 2 → err.new ≡ err.old }
 
-    ensures untouched { 2 ≤ result → O.failures out.new ≡ 0 → out.new ≡ out.old }
+    ensures untouched { 2 ≤ result → O.failures out.new ≡ 0 → (out.new ≡ out.old) ⊎ IsProofLost
+        (source_state F.Input.given F.Input.ended F.Input.rest F.Input.failures)
+        (sink_state F.Output.taken F.Output.failures) (λ path. F.content files.old path)
+        (asked_by (map S.text words.now)) (O.taken out.old) (O.taken out.new) }
     ensures cut { O.failures out.new ≢ 0 → IfRun (asked_by (map S.text words.now)) (λ run. IsRunCut
         (source_state F.Input.given F.Input.ended F.Input.rest F.Input.failures)
         (λ path. F.content files.old path) run (O.taken out.old) (O.taken out.new)) }
@@ -51,7 +57,8 @@ pub fn program<R: Wait, S: AsStr, F: Files, O: Sink, E: Sink>(
         (λ path. F.content files.old path) (O.failures out.new) (E.taken err.old) (E.taken err.new)
         result }
 
-    ensures same_files { (path : List ℕ) → F.content files.new path ≡ F.content files.old path }
+    ensures same_files { (path : List ℕ) → IsOther (asked_by (map S.text words.now)) path
+        → F.content files.new path ≡ F.content files.old path }
 {
     match answer(rt, alloc, words, files, out) {
         Ok(status) => status.code(),
@@ -74,18 +81,24 @@ fn answer<'a, R: Wait, S: AsStr, F: Files, O: Sink>(
     requires { O.failures out.old ≡ 0 }
     ensures answered { IfOk result (IsAnswered
         (source_state F.Input.given F.Input.ended F.Input.rest F.Input.failures)
-        (λ path. F.content files.old path) (asked_by (map S.text words.entry.now))
-        (O.taken out.old) (O.taken out.new)) }
+        (sink_state F.Output.taken F.Output.failures) (λ path. F.content files.old path)
+        (asked_by (map S.text words.entry.now)) (O.taken out.old) (O.taken out.new)) }
     ensures ok { OnOk result (O.failures out.new ≡ 0) }
+    ensures ended { IfOk result (λ status. status_code status < 2) }
     ensures fault { IfErr result (IsFaultOf (asked_by (map S.text words.entry.now))
         (λ path. F.content files.old path)) }
     ensures output { IfErr result (λ fault. O.failures out.new ≡ failed_outputs fault) }
-    ensures untouched { IfErr result (λ fault. fault ≢ faults.CannotWrite → out.new ≡ out.old) }
+    ensures untouched { IfErr result (λ fault. is_told_late fault ≡ false → out.new ≡ out.old) }
+    ensures lost { IfErr result (λ fault. is_lost fault ≡ true → IsProofLost
+        (source_state F.Input.given F.Input.ended F.Input.rest F.Input.failures)
+        (sink_state F.Output.taken F.Output.failures) (λ path. F.content files.old path)
+        (asked_by (map S.text words.entry.now)) (O.taken out.old) (O.taken out.new)) }
     ensures cut { IfErr result (λ fault. fault ≡ faults.CannotWrite
         → IfRun (asked_by (map S.text words.entry.now)) (λ run. IsRunCut
         (source_state F.Input.given F.Input.ended F.Input.rest F.Input.failures)
         (λ path. F.content files.old path) run (O.taken out.old) (O.taken out.new))) }
-    ensures same_files { (path : List ℕ) → F.content files.new path ≡ F.content files.old path }
+    ensures same_files { (path : List ℕ) → IsOther (asked_by (map S.text words.entry.now)) path
+        → F.content files.new path ≡ F.content files.old path }
 {
     match read_words(alloc, words)? {
         Request::Run(line) => run(rt, alloc, &line, files, out),
@@ -119,27 +132,33 @@ fn run<'a, R: Wait, F: Files, O: Sink>(
     requires { O.failures out.old ≡ 0 }
     ensures answered { IfOk result (IsAnswered
         (source_state F.Input.given F.Input.ended F.Input.rest F.Input.failures)
-        (λ path. F.content files.old path) (a_run (line_asked line.now))
-        (O.taken out.old) (O.taken out.new)) }
+        (sink_state F.Output.taken F.Output.failures) (λ path. F.content files.old path)
+        (a_run (line_asked line.now)) (O.taken out.old) (O.taken out.new)) }
     ensures ok { OnOk result (O.failures out.new ≡ 0) }
+    ensures ended { IfOk result (λ status. status_code status < 2) }
     ensures fault { IfErr result (IsFaultOf (a_run (line_asked line.now))
         (λ path. F.content files.old path)) }
     ensures output { IfErr result (λ fault. O.failures out.new ≡ failed_outputs fault) }
-    ensures untouched { IfErr result (λ fault. fault ≢ faults.CannotWrite → out.new ≡ out.old) }
+    ensures untouched { IfErr result (λ fault. is_told_late fault ≡ false → out.new ≡ out.old) }
+    ensures lost { IfErr result (λ fault. is_lost fault ≡ true → IsProofLost
+        (source_state F.Input.given F.Input.ended F.Input.rest F.Input.failures)
+        (sink_state F.Output.taken F.Output.failures) (λ path. F.content files.old path)
+        (a_run (line_asked line.now)) (O.taken out.old) (O.taken out.new)) }
     ensures cut { IfErr result (λ fault. fault ≡ faults.CannotWrite → IsRunCut
         (source_state F.Input.given F.Input.ended F.Input.rest F.Input.failures)
         (λ path. F.content files.old path) (line_asked line.now)
         (O.taken out.old) (O.taken out.new)) }
-    ensures same_files { (path : List ℕ) → F.content files.new path ≡ F.content files.old path }
+    ensures same_files { (path : List ℕ) → IsOther (a_run (line_asked line.now)) path
+        → F.content files.new path ≡ F.content files.old path }
 {
     let mut formula = open(files, line.formula)?;
     let streams = open_all(alloc, files, &line.proofs)?;
     let closing = open_closing(files, line.closing)?;
+    let mut proof = create(files, line.proof)?;
     let options = Options {
         max_steps: line.max_steps,
-        trim: false,
+        trim: line.trim,
     };
-    let mut proof = None::<MemorySink>;
     match check(
         rt,
         alloc,
@@ -150,8 +169,22 @@ fn run<'a, R: Wait, F: Files, O: Sink>(
         &mut proof,
         out,
     ) {
-        Ok(checked) => Ok(checked.verdict.into()),
+        Ok(checked) => ended(checked, line.proof),
         Err(fault) => Err(fault_of(line.formula, fault)),
+    }
+}
+
+/// How a run ends whose check answers this, and whose proof was asked for at this path.
+fn ended<'a>(checked: Checked, path: Option<&'a str>) -> Result<Status, Fault<'a>>
+    requires { IsAskedFor checked.proof path }
+    ensures ok { IfOk result (λ status. (status ≡ checked_status checked)
+        × (status_code status < 2)) }
+    ensures fault { IfErr result (λ fault. IsLostAt (option_map (λ path. path.now) path.entry) fault
+        × (checked_status checked ≡ statuses.Fault)) }
+{
+    match (checked.proof, path) {
+        (ProofEnd::Failed(fault), Some(path)) => Err(Fault::ProofLost { path, fault }),
+        _ => Ok(checked.verdict.into()),
     }
 }
 

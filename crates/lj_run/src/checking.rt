@@ -89,12 +89,15 @@ pub fn check<R: Wait, F: Source, S: Source + Drop, P: Sink, O: Sink>(
     requires proof_unfailed { IfSome proof.old (λ sink. P.failures sink ≡ 0) }
     requires out_unfailed { O.failures out.old ≡ 0 }
 
-    ensures printed { IfOk result (λ checked. (text : List ℕ) × (O.taken out.new ≡ O.taken out.old ++ text)
+    ensures printed { IfOk result (λ checked. (text : List ℕ)
+        × (O.taken out.new ≡ O.taken out.old ++ text)
         × IsChecked (source_state F.given F.ended F.rest F.failures formula.old)
-        (source_state F.given F.ended F.rest F.failures formula.new) (source_state S.given S.ended S.rest S.failures)
+        (source_state F.given F.ended F.rest F.failures formula.new)
+        (source_state S.given S.ended S.rest S.failures)
         (sink_state P.taken P.failures) options.now.max_steps options.now.trim
         (streams_by_seat streams.items closing) proof.old proof.new checked text) }
-    ensures refuted { IfOk result (λ checked. checked.verdict ≡ Verified → (f : FormulaValue) × IsUnsatisfiable f
+    ensures refuted { IfOk result (λ checked. checked.verdict ≡ Verified
+        → (f : FormulaValue) × IsUnsatisfiable f
         × GaveFormula (source_state F.given F.ended F.rest F.failures formula.old)
         (source_state F.given F.ended F.rest F.failures formula.new) f) }
     ensures ok { OnOk result (O.failures out.new ≡ 0) }
@@ -107,7 +110,8 @@ pub fn check<R: Wait, F: Source, S: Source + Drop, P: Sink, O: Sink>(
     ensures failed { result ≡ Err check_faults.CannotWrite → O.failures out.new ≡ 1 }
     ensures written { result ≡ Err check_faults.CannotWrite
         → HasOutcome (source_state F.given F.ended F.rest F.failures formula.old)
-        (source_state F.given F.ended F.rest F.failures formula.new) (source_state S.given S.ended S.rest S.failures)
+        (source_state F.given F.ended F.rest F.failures formula.new)
+        (source_state S.given S.ended S.rest S.failures)
         (sink_state P.taken P.failures) options.now.max_steps options.now.trim
         (streams_by_seat streams.items closing) proof.old proof.new }
     ensures unread { IfErr result (λ fault. IsInputFault fault → proof.new ≡ proof.old) }
@@ -132,3 +136,6 @@ fn verdict_on<S>(outcome: &Outcome<S>) -> Verdict
         None => Verdict::NotVerified,
     }
 }
+
+#[cfg(test)]
+mod tests;

@@ -28,6 +28,10 @@ pub(crate) struct CommandLine<'a> {
     pub closing: Option<&'a str>,
     /// The most additions that the run accepts.
     pub max_steps: u32,
+    /// The path of the file that the proof is written into.
+    pub proof: Option<&'a str>,
+    /// Whether the proof is to hold only what the empty clause needs.
+    pub trim: bool,
     ghost some: { 0 < vec_len proofs },
     ghost at_most: { vec_len proofs ≤ 64 },
 }

@@ -1,10 +1,10 @@
 //! What is told on standard error.
 ghost use Rattle.std.specs.Prelude.{◌≡◌, ◌++◌, OnOk, OnErr, codes};
-ghost use Rattle.lj_run.specs.Program.{fault_at, fault_text, formula_fault_text, status_of_fault, IsNoMemory};
+ghost use Rattle.lj_run.specs.Program.{fault_at, fault_text, formula_fault_text, lost_text, status_of_fault, IsNoMemory};
 ghost use Rattle.lj_run.specs.declared.fault.Fault.TheVariants as faults;
 
 use crate::checking::CheckFault;
-use crate::outcome::RunFault;
+use crate::outcome::{ProofFault, RunFault};
 use crate::status::Status;
 use crate::words::WordsFault;
 use itoa::Buffer;
@@ -21,6 +21,10 @@ pub(crate) enum Fault<'a> {
     CannotRead { path: &'a str },
     /// Standard output failed.
     CannotWrite,
+    /// The file that the proof is to be written into can't be created.
+    CannotCreate { path: &'a str },
+    /// The proof couldn't be written. What came of the run was printed.
+    ProofLost { path: &'a str, fault: ProofFault },
     /// A growth of memory was refused.
     NoMemory(NoMemory),
     /// A growth of memory was refused to `clap`.
@@ -51,6 +55,8 @@ impl Fault<'_> {
             Fault::Formula { path, fault } => tell_formula(path, fault, err),
             Fault::CannotRead { path } => tell_path(path, ": cannot read\n", err),
             Fault::CannotWrite => write_all(err, b"lratjoin: cannot write\n"),
+            Fault::CannotCreate { path } => tell_path(path, ": cannot write\n", err),
+            Fault::ProofLost { path, fault } => tell_lost(path, fault, err),
             Fault::NoMemory(_) => write_all(err, b"lratjoin: NoMemory\n"),
             Fault::OutOfMemory => write_all(err, b"lratjoin: NoMemory\n"),
             Fault::Usage(text) => write_all(err, text.as_bytes()),
@@ -69,6 +75,19 @@ fn tell_path<E: Sink>(path: &str, what: &str, err: &mut E) -> Result<(), SinkFau
     write_all(err, b"lratjoin: ")?;
     write_all(err, path.as_bytes())?;
     write_all(err, what.as_bytes())
+}
+
+/// Tells why the proof couldn't be written into the file at a path.
+fn tell_lost<E: Sink>(path: &str, fault: &ProofFault, err: &mut E) -> Result<(), SinkFault>
+    requires { E.failures err.old ≡ 0 }
+    ensures text { OnOk result (E.taken err.new ≡ E.taken err.old ++ lost_text path.now fault.now) }
+    ensures ok { OnOk result (E.failures err.new ≡ 0) }
+    ensures err { OnErr result (E.failures err.new ≡ 1) }
+{
+    match fault {
+        ProofFault::Device => tell_path(path, ": cannot write\n", err),
+        ProofFault::NoMemory(_) => write_all(err, b"lratjoin: NoMemory\n"),
+    }
 }
 
 /// Tells the fault of the formula at a path.

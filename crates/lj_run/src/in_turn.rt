@@ -37,8 +37,10 @@ pub fn run_in_turn<R: Wait, F: Source, S: Source + Drop, W: Sink>(
     requires streams_unfailed { All (λ stream. S.failures stream ≡ 0) (streams_by_seat streams.items closing) }
     requires out_unfailed { IfSome out.old (λ sink. W.failures sink ≡ 0) }
 
-    ensures outcome { IfOk result (IsRunAnswer (source_state F.given F.ended F.rest F.failures formula.old)
-        (source_state F.given F.ended F.rest F.failures formula.new) (source_state S.given S.ended S.rest S.failures)
+    ensures outcome { IfOk result (IsRunAnswer
+        (source_state F.given F.ended F.rest F.failures formula.old)
+        (source_state F.given F.ended F.rest F.failures formula.new)
+        (source_state S.given S.ended S.rest S.failures)
         (sink_state W.taken W.failures) options.now.max_steps options.now.trim
         (streams_by_seat streams.items closing) out.old out.new) }
     ensures fault { IfErr result (IsFormulaFault (source_state F.given F.ended F.rest F.failures formula.old)

@@ -1,12 +1,13 @@
 //! The files that a run reads.
-ghost use Rattle.std.specs.Prelude.{◌≡◌, ℕ, List, [], IfOk, IfErr, map, option_map};
+ghost use Rattle.std.specs.Prelude.{◌≡◌, ◌≢◌, ℕ, List, [], Some, IfOk, IfErr, map, option_map};
 ghost use Rattle.lj_text.specs.Streams.{source_state};
 ghost use Rattle.lj_run.specs.InTurn.{streams_by_seat};
-ghost use Rattle.lj_run.specs.Program.{HasInputs, IsOpened, IsOpenFault, IsAnOpenFault};
+ghost use Rattle.lj_run.specs.Program.{HasInputs, IsCreated, IsCreateFault, IsOpened, IsOpenFault, IsAnOpenFault};
+ghost use Rattle.lj_run.specs.Proof.{sink_state};
 
 use crate::fault::Fault;
 use crate::files::{FileFault, Files};
-use lj_text::Source;
+use lj_text::{Sink, Source};
 use std::alloc::Global;
 
 /// The file at a path.
@@ -59,5 +60,37 @@ pub(crate) fn open_closing<'a, F: Files>(
     match path {
         Some(path) => Ok(Some(open(files, path)?)),
         None => Ok(None),
+    }
+}
+
+/// An empty file at a path for the proof, where there is one. What stood there is gone.
+pub(crate) fn create<'a, F: Files>(
+    files: &mut F,
+    path: Option<&'a str>,
+) -> Result<Option<F::Output>, Fault<'a>>
+    ensures created { IfOk result (IsCreated (sink_state F.Output.taken F.Output.failures)
+        (option_map (λ path. path.now) path.entry)) }
+    ensures fault { IfErr result (IsCreateFault (option_map (λ path. path.now) path.entry)) }
+    ensures others { (other : List ℕ) → option_map (λ path. path.now) path.entry ≢ Some other
+        → F.content files.new other ≡ F.content files.old other }
+{
+    match path {
+        Some(path) => Ok(Some(created(files, path)?)),
+        None => Ok(None),
+    }
+}
+
+/// An empty file at a path.
+fn created<'a, F: Files>(files: &mut F, path: &'a str) -> Result<F::Output, Fault<'a>>
+    ensures fresh { IfOk result (λ sink. (F.Output.taken sink ≡ [])
+        × (F.Output.failures sink ≡ 0)) }
+    ensures fault { IfErr result (IsCreateFault (Some path.entry.now)) }
+    ensures others { (other : List ℕ) → other ≢ path.entry.now
+        → F.content files.new other ≡ F.content files.old other }
+{
+    match files.create(path) {
+        Ok(sink) => Ok(sink),
+        Err(FileFault::CannotOpen) => Err(Fault::CannotCreate { path }),
+        Err(FileFault::NoMemory(e)) => Err(Fault::NoMemory(e)),
     }
 }

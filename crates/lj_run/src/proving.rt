@@ -46,7 +46,8 @@ fn write_trimmed<W: Sink>(
 ) -> ProofEnd
     requires unfailed { W.failures sink.old ≡ 0 }
     requires some { list_any adds_empty steps.now ≡ true }
-    ensures { IsProofEnd formula.now true steps.now (sink_state W.taken W.failures sink.old) (sink_state W.taken W.failures sink.new) result }
+    ensures { IsProofEnd formula.now true steps.now (sink_state W.taken W.failures sink.old)
+        (sink_state W.taken W.failures sink.new) result }
 {
     match trim(alloc, formula, steps) {
         Ok(kept) => written(sink, formula.len() as u64, &kept),
@@ -58,8 +59,8 @@ fn write_trimmed<W: Sink>(
 /// Writes steps, and answers what became of them.
 fn written<W: Sink, S: AsStep>(sink: &mut W, clauses: u64, steps: &[S]) -> ProofEnd
     requires { W.failures sink.old ≡ 0 }
-    ensures { IsTextEnd (proof_text clauses (map S.step steps.now)) (sink_state W.taken W.failures sink.old)
-        (sink_state W.taken W.failures sink.new) result }
+    ensures { IsTextEnd (proof_text clauses (map S.step steps.now))
+        (sink_state W.taken W.failures sink.old) (sink_state W.taken W.failures sink.new) result }
 {
     match write_proof(sink, clauses, steps) {
         Ok(()) => ProofEnd::Written,

@@ -3,6 +3,7 @@ ghost use Rattle.std.specs.Prelude.{◌≡◌, ◌++◌, ℕ, List, drop, map, s
 ghost use Rattle.std.specs.IoError.{error_kind};
 ghost use Rattle.std.specs.Process.{exit_status};
 ghost use Rattle.lj_text.specs.Streams.{source_state};
+ghost use Rattle.lj_run.specs.Proof.{sink_state};
 ghost use Rattle.lj_run.specs.Words.{asked_by};
 ghost use Rattle.lj_run.specs.Starting.{ProgramEnds, unread_status, unread_text};
 
@@ -29,6 +30,7 @@ pub fn start<R: Wait, F: Files, O: Sink, E: Sink>(
 
     ensures ends { IfOk arguments (λ all. ProgramEnds
         (source_state F.Input.given F.Input.ended F.Input.rest F.Input.failures)
+        (sink_state F.Output.taken F.Output.failures)
         (λ path. F.content files.old path) (λ path. F.content files.new path)
         (asked_by (map string_bytes (drop 1 all.items)))
         (O.taken out.old) (O.taken out.new) (O.failures out.new)

@@ -174,6 +174,8 @@ fn request_of<'a>(
         proofs: proofs.to_vec(alloc)?,
         closing,
         max_steps,
+        proof: None,
+        trim: false,
     }))
 }
 

@@ -409,3 +409,34 @@ fn reads_fail(rt: HostRuntime) -> Result<(), Fail> {
     assert_told(&rt, alloc, &["lrat", "cnf"], &mut files, "", err, 2);
     Ok(())
 }
+
+#[test]
+fn proofs_stand_in_files(rt: HostRuntime) -> Result<(), Fail> {
+    let alloc = rt.alloc();
+    let stream = "5 2 0 1 2 0\n6 1 0 1 3 0\n7 0 5 3 4 0\n";
+    for (trim, text) in [(false, stream), (true, "5 2 0 1 2 0\n7 0 5 3 4 0\n")] {
+        let mut files = files_of(alloc, BINARY, stream)?;
+        let mut proofs = Vec::new(alloc);
+        proofs.push("lrat")?;
+        let line = CommandLine {
+            formula: "cnf",
+            proofs,
+            closing: None,
+            max_steps: u32::MAX,
+            proof: Some("out"),
+            trim,
+        };
+        let mut out = MemorySink::new(alloc);
+        let status = run(&rt, alloc, &line, &mut files, &mut out);
+        assert!(rt; matches!(status, Ok(Status::Done)));
+        assert_eq!(rt;
+            files.written("out").ok_or("out")?.as_slice(),
+            text.as_bytes()
+        );
+        assert_eq!(rt;
+            out.bytes(),
+            b"c stream 0: 3 added, 0 deleted, 0 imported, stopped\ns VERIFIED UNSAT\n".as_slice()
+        );
+    }
+    Ok(())
+}

@@ -1,9 +1,10 @@
-use Rattle.std.proofs.Common.{◌∙◌, ap, sym, arith}
+use Rattle.std.proofs.Common.{◌∙◌, ap, sym, subst, arith}
 use Rattle.lj_run.specs.InTurn.{streams_by_seat}
-use Rattle.lj_run.specs.Program.{status_code}
+use Rattle.std.proofs.lemmas.Bool.{both_ways}
+use Rattle.lj_run.specs.Program.{IsAskedFor, is_told_late, status_code}
+use Rattle.lj_run.specs.Proof.{sink_state}
 use Rattle.lj_run.specs.Words.{line_asked}
-use Rattle.lj_run.proofs.ProgramLemmas.{among_closing, among_streams, check_cut, few_streams, inputs_unfailed, open_fault, passed_on, streams_before}
-use Rattle.lj_run.proofs.CheckLemmas.{printed_of}
+use Rattle.lj_run.proofs.ProgramLemmas.{among_closing, among_streams, asked_proof, check_cut, created_unfailed, err_more, lost_fault, lost_late, ok_more, few_streams, inputs_unfailed, open_fault, passed_on, streams_before}
 use Rattle.lj_run.proofs.body.run.Goals as goal
 
 pub check-requires-clause-some : goal.check-requires-clause-some
@@ -24,24 +25,74 @@ check-requires-clause-streams_unfailed g c = inputs_unfailed _ _ _
     (streams_before _ _ _ _ _ _ c.args.line.now.closing _ c.in_ok-closing.closing c.deref.ensures.value c.in_ok-formula.ensures.same c.in_ok-streams.ensures.same
     c.in_ok-streams.ensures.opened c.in_ok-closing.ensures.opened)
 
+pub check-requires-clause-proof_unfailed : goal.check-requires-clause-proof_unfailed
+check-requires-clause-proof_unfailed g c = created_unfailed (sink_state g.F.Output.Sink.taken g.F.Output.Sink.failures) _ _ c.in_ok-proof.ensures.created
+
+pub ended-requires : goal.ended-requires
+ended-requires g c =
+    let is = c.in-Ok.ensures.printed.2 in
+    subst (λ e. IsAskedFor e c.args.line.now.proof) (sym is.proof) (asked_proof (sink_state g.F.Output.Sink.taken g.F.Output.Sink.failures) is.runs.formula c.args.line.now.trim is.outcome.steps.items c.args.line.now.proof c.in_ok-proof.proof c.check.new.proof is.outcome.proof c.in_ok-proof.ensures.created is.runs.proof)
+
 pub returns-in-Ok-clause-answered : goal.returns-in-Ok-clause-answered
-returns-in-Ok-clause-answered g c = record {
-  verdict = c.in-Ok.checked.verdict;
-  text = c.in-Ok.ensures.printed.0;
-  printed = record {
-    inputs = record {
-      opened = c.in_ok-formula.formula;
-      after = c.check.new.formula;
-      streams = streams_by_seat c.in_ok-streams.streams.items c.in_ok-closing.closing;
-      formula_is = c.in_ok-formula.ensures.opened;
-      streams_are = streams_before _ _ _ _ _ _ c.args.line.now.closing _ c.in_ok-closing.closing c.deref.ensures.value c.in_ok-formula.ensures.same c.in_ok-streams.ensures.same
-          c.in_ok-streams.ensures.opened c.in_ok-closing.ensures.opened;
-    };
-    printed = printed_of _ _ _ _ _ _ _ _ _ _ _ c.in-Ok.ensures.printed.2;
-  };
-  took = c.in-Ok.ensures.printed.1;
-  status_is = ap status_code c.into.ensures;
-}
+returns-in-Ok-clause-answered g c =
+    ok_more _ _ c.ended.result (λ status is. record {
+      checked = c.in-Ok.checked;
+      text = c.in-Ok.ensures.printed.0;
+      printed = record {
+        inputs = record {
+          opened = c.in_ok-formula.formula;
+          after = c.check.new.formula;
+          streams = streams_by_seat c.in_ok-streams.streams.items c.in_ok-closing.closing;
+          formula_is = c.in_ok-formula.ensures.opened;
+          streams_are = streams_before _ _ _ _ _ _ c.args.line.now.closing _ c.in_ok-closing.closing c.deref.ensures.value c.in_ok-formula.ensures.same c.in_ok-streams.ensures.same
+              c.in_ok-streams.ensures.opened c.in_ok-closing.ensures.opened;
+        };
+        created = c.in_ok-proof.proof;
+        written = c.check.new.proof;
+        created_is = c.in_ok-proof.ensures.created;
+        printed = c.in-Ok.ensures.printed.2;
+      };
+      took = c.in-Ok.ensures.printed.1;
+      status_is = ap status_code is.0;
+    }) c.ended.ensures.ok
+
+pub returns-in-Ok-clause-ended : goal.returns-in-Ok-clause-ended
+returns-in-Ok-clause-ended g c = ok_more _ _ c.ended.result (λ status is. is.1) c.ended.ensures.ok
+
+pub returns-in-Ok-clause-lost : goal.returns-in-Ok-clause-lost
+returns-in-Ok-clause-lost g c =
+    err_more _ _ c.ended.result (λ fault is _. record {
+      checked = c.in-Ok.checked;
+      text = c.in-Ok.ensures.printed.0;
+      printed = record {
+        inputs = record {
+          opened = c.in_ok-formula.formula;
+          after = c.check.new.formula;
+          streams = streams_by_seat c.in_ok-streams.streams.items c.in_ok-closing.closing;
+          formula_is = c.in_ok-formula.ensures.opened;
+          streams_are = streams_before _ _ _ _ _ _ c.args.line.now.closing _ c.in_ok-closing.closing c.deref.ensures.value c.in_ok-formula.ensures.same c.in_ok-streams.ensures.same
+              c.in_ok-streams.ensures.opened c.in_ok-closing.ensures.opened;
+        };
+        created = c.in_ok-proof.proof;
+        written = c.check.new.proof;
+        created_is = c.in_ok-proof.ensures.created;
+        printed = c.in-Ok.ensures.printed.2;
+      };
+      took = c.in-Ok.ensures.printed.1;
+      status_is = ap status_code (sym is.1);
+    }) c.ended.ensures.fault
+
+pub returns-in-Ok-clause-fault : goal.returns-in-Ok-clause-fault
+returns-in-Ok-clause-fault g c = err_more _ _ c.ended.result (λ fault is. lost_fault (line_asked c.args.line.now) (λ path. g.F.Files.content c.args.files.now path) fault is.0) c.ended.ensures.fault
+
+pub returns-in-Ok-clause-output : goal.returns-in-Ok-clause-output
+returns-in-Ok-clause-output g c = err_more _ _ c.ended.result (λ fault is. c.in-Ok.ensures.ok ∙ sym (lost_late _ fault is.0).2) c.ended.ensures.fault
+
+pub returns-in-Ok-clause-untouched : goal.returns-in-Ok-clause-untouched
+returns-in-Ok-clause-untouched g c = err_more _ _ c.ended.result (λ fault is early. absurd (both_ways (is_told_late fault) early (lost_late _ fault is.0).0)) c.ended.ensures.fault
+
+pub returns-in-Ok-clause-cut : goal.returns-in-Ok-clause-cut
+returns-in-Ok-clause-cut g c = err_more _ _ c.ended.result (λ fault is e. absurd ((lost_late _ fault is.0).1 e)) c.ended.ensures.fault
 
 pub returns-clause-cut : goal.returns-clause-cut
 returns-clause-cut g c = λ e. record {
