@@ -1,8 +1,11 @@
 -- How words are read.
-use Rattle.std.proofs.Common.{◌≡◌, ◌≢◌, ◌<◌, ◌^◌, ℕ, List, [], ◌∷◌, Bool, true, false, Option, Some, None, refl, sym, ap, ap₂, ◌∙◌, subst, rules, arith, length, map, nat_eq, nat_lt, lt-ltb, ltb-true, slice_index, codes, Result, Ok, Err, IfOk}
+use Rattle.std.proofs.Common.{◌≡◌, ◌≢◌, ◌||◌, ◌<◌, ◌^◌, ℕ, List, [], ◌∷◌, Bool, true, false, Option, Some, None, refl, sym, ap, ap₂, ◌∙◌, subst, rules, arith, length, map, nat_eq, nat_lt, lt-ltb, ltb-true, slice_index, codes, Result, Ok, Err, IfOk}
 use Rattle.std.specs.Prelude.{option_map, unwrap_or}
 use Rattle.std.specs.Borrow.{Bor}
-use Rattle.std.specs.List.{list_all, starts_with}
+use Rattle.std.specs.List.{list_all, list_any, starts_with}
+use Rattle.std.specs.Cmp.Lexicographic.{pointwise}
+use Rattle.std.specs.Option.{option_eq}
+use Rattle.std.specs.Str.{bytes_eq}
 use Rattle.std.specs.Char.{is_ascii_digit}
 use Rattle.std.specs.Result.{OkIff, result_ok}
 use Rattle.std.specs.Str.Parse.{ParsesUnsigned}
@@ -22,7 +25,7 @@ use Rattle.clap.specs.Simple.{App, app_of, HasMatchesOf, is_simple, matches_of, 
 use Rattle.clap.specs.Walk.{Rule, all_of, first_of, rows_of}
 use Rattle.clap.proofs.WalkLemmas.{first_value-rows, raw_values-rows}
 use Rattle.lj_text.specs.Bytes.{decimal_value}
-use Rattle.lj_run.specs.Words.{HasRule, a_run, asked_by_rows, is_run_of, limit_of, program_app, run_asked, steps_of_value, the_usage}
+use Rattle.lj_run.specs.Words.{Asked, HasRule, a_run, asked_by_rows, is_given, is_run_of, limit_of, program_app, run_asked, run_by_rows, steps_of_value, the_usage, with_proof}
 
 -- ---- the command line
 
@@ -46,6 +49,29 @@ rows_are a words (Err error) e h = h
 pub fails_by : {T : Type 0} (a : App) (words : List (List ℕ)) (r : Result T Error) → a ≡ program_app
     → (is_simple_and_free a ≡ true → FailsBy (fault_of a words) r) → FailsBy (fault_of program_app words) r
 fails_by a words r e h = subst (λ b. FailsBy (fault_of b words) r) e (h (ap is_simple_and_free e ∙ program_is_free))
+
+-- ---- paths
+
+-- whether a path is one of these
+pub among_paths : (paths : List (Bor (List ℕ))) (path : List ℕ) → list_any (λ p. pointwise nat_eq p.now path) paths ≡ list_any (λ p. bytes_eq p path) (map (λ p. p.now) paths)
+among_paths [] path = refl
+among_paths (p ∷ paths) path = ap (λ b. pointwise nat_eq p.now path || b) (among_paths paths path)
+
+-- whether a path that there may be is this one
+pub is_path : (o : Option (Bor (List ℕ))) (path : Bor (List ℕ)) → option_eq (λ x y. pointwise nat_eq x.now y.now) o (Some path) ≡ option_eq bytes_eq (option_map (λ p. p.now) o) (Some path.now)
+is_path None path = refl
+is_path (Some p) path = refl
+
+-- the paths of a run by three tests, one after the other
+pub is_first : (a x : Bool) → a ≡ true → true ≡ (a || x)
+is_first a x e = rw e refl
+
+pub is_second : (a b x : Bool) → b ≡ true → true ≡ (a || (b || x))
+is_second true b x e = refl
+is_second false b x e = rw e refl
+
+pub is_third : (a b x : Bool) → a ≡ false → b ≡ false → x ≡ (a || (b || x))
+is_third a b x e f = rw (e, f) refl
 
 -- ---- what is asked for
 
@@ -88,10 +114,22 @@ values_are f id o none empty h = go o ∙ ap (λ values. unwrap_or values []) (h
     go None = ap (map (λ v. v.now)) empty
     go (Some s) = refl
 
--- what is found asks for what these values ask for
+-- a flag is given whose value is true
+pub flag_is : (f : Found) (id : List ℕ) (o : Option (Bor (List ℕ))) (value : Bor (List ℕ)) → option_map (λ v. v.now) o ≡ first_value f id → value.now ≡ codes "true"
+    → option_eq (λ x y. pointwise nat_eq x.now y.now) o (Some value) ≡ is_given id (rows_of f)
+flag_is f id o value is true_word = is_path o value ∙ ap₂ (λ a b. option_eq bytes_eq a (Some b)) (is ∙ first_value-rows f id) true_word
+
+-- what is found asks for these values with this proof
+pub asks_with_proof : (f : Found) (asked request : Asked) (proof : Option (List ℕ)) (trims : Bool) → request ≡ run_by_rows (rows_of f) → proof ≡ first_value f (codes "proof")
+    → trims ≡ is_given (codes "trim") (rows_of f) → asked ≡ with_proof request proof trims → asked ≡ asked_by_rows (rows_of f)
+asks_with_proof f asked request proof trims is_request is_proof is_trim h =
+    h ∙ ap₂ (λ a b. with_proof a b trims) is_request (is_proof ∙ first_value-rows f (codes "proof"))
+    ∙ ap (with_proof (run_by_rows (rows_of f)) (first_of (codes "proof") (rows_of f))) is_trim
+
+-- what is found asks for what these values ask for, but for the proof
 pub asks_found : (f : Found) (formula closing steps : Option (List ℕ)) (proofs : List (List ℕ)) → formula ≡ first_value f (codes "FORMULA")
     → proofs ≡ unwrap_or (all_of (codes "PROOF") (rows_of f)) [] → closing ≡ first_value f (codes "close") → steps ≡ first_value f (codes "max-steps")
-    → run_asked formula proofs closing steps ≡ asked_by_rows (rows_of f)
+    → run_asked formula proofs closing steps ≡ run_by_rows (rows_of f)
 asks_found f formula closing steps proofs is_formula are_proofs is_closing is_steps =
     ap₂ (λ a b. run_asked a b closing steps) (is_formula ∙ first_value-rows f (codes "FORMULA")) are_proofs
     ∙ ap₂ (λ a b. run_asked (first_of (codes "FORMULA") (rows_of f)) (unwrap_or (all_of (codes "PROOF") (rows_of f)) []) a b)

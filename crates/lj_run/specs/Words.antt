@@ -1,5 +1,8 @@
 -- What the words of the command line ask for.
-use Rattle.std.specs.Prelude.{◌≡◌, ◌&&◌, ◌^◌, ℕ, Bool, List, [], ◌∷◌, map, length, nat_lt, true, false, Option, Some, None, if◌then◌else◌, option_and_then, option_map, unwrap_or, codes}
+use Rattle.std.specs.Prelude.{◌≡◌, ◌&&◌, ◌||◌, ◌^◌, ℕ, Bool, List, [], ◌∷◌, map, length, nat_lt, true, false, Option, Some, None, if◌then◌else◌, option_and_then, option_map, unwrap_or, codes}
+use Rattle.std.specs.List.{list_any}
+use Rattle.std.specs.Option.{option_eq}
+use Rattle.std.specs.Str.{bytes_eq}
 use Rattle.clap.specs.Faults.{fault_of}
 use Rattle.clap.specs.Kinds.{Kinds}
 use Rattle.clap.specs.Simple.{App, matches_of, new_app, new_rule, on_top, with_rule}
@@ -42,13 +45,13 @@ paths_app = with_rule (with_rule bare_app (path_rule (codes "FORMULA"))) (paths_
 
 -- FORMULA, each PROOF and the options. `--in-turn` is taken, and asks for what is done without it.
 abbrev pub program_app : App
-program_app = with_rule (with_rule (with_rule paths_app (option_rule (codes "close"))) (flag_rule (codes "in-turn")))
-    (option_rule (codes "max-steps"))
+program_app = with_rule (with_rule (with_rule (with_rule (with_rule paths_app (option_rule (codes "close"))) (flag_rule (codes "in-turn")))
+    (option_rule (codes "proof"))) (flag_rule (codes "trim"))) (option_rule (codes "max-steps"))
 
 -- ---- what words ask for
 
--- What a run is asked for: the paths of the formula, of the streams in their order, and of the closing stream, and the most
--- additions that it accepts.
+-- What a run is asked for: the paths of the formula, of the streams in their order, and of the closing stream, the most
+-- additions that it accepts, the path that the proof is written to, and whether it is trimmed.
 pub record AskedRun : Type 0 where
   pub formula : List ℕ
   pub proofs : List (List ℕ)
@@ -100,10 +103,35 @@ run_asked (Some formula) proofs closing max_steps =
     if is_run_of proofs then run_within formula proofs closing (steps_of_value max_steps) else the_usage
 run_asked None proofs closing max_steps = the_usage
 
+-- whether a run reads the file at this path: paths are taken as written
+abbrev pub is_input : AskedRun → List ℕ → Bool
+is_input run path = bytes_eq run.formula path
+    || (list_any (λ proof. bytes_eq proof path) run.proofs || option_eq bytes_eq run.closing (Some path))
+
+-- the run with its proof at this path, which isn't to overwrite what the run reads
+abbrev pub run_with_proof : AskedRun → List ℕ → Bool → Asked
+run_with_proof run path trims = if is_input run path then the_usage else a_run (record run { proof = Some path; trims = trims })
+
+-- what is asked for with the value of --proof, and with --trim or without it: without --proof it does nothing
+abbrev pub with_proof : Asked → Option (List ℕ) → Bool → Asked
+with_proof (a_run run) (Some path) trims = run_with_proof run path trims
+with_proof (a_run run) None trims = a_run run
+with_proof the_help proof trims = the_help
+with_proof the_version proof trims = the_version
+with_proof the_usage proof trims = the_usage
+
+-- whether the flag of this name is given, by its value
+abbrev pub is_given : List ℕ → List Row → Bool
+is_given name rows = option_eq bytes_eq (first_of name rows) (Some (codes "true"))
+
+-- what is asked for by what the words give, but for the proof
+abbrev pub run_by_rows : List Row → Asked
+run_by_rows rows = run_asked (first_of (codes "FORMULA") rows) (unwrap_or (all_of (codes "PROOF") rows) [])
+    (first_of (codes "close") rows) (first_of (codes "max-steps") rows)
+
 -- what is asked for by what the words give
 abbrev pub asked_by_rows : List Row → Asked
-asked_by_rows rows = run_asked (first_of (codes "FORMULA") rows) (unwrap_or (all_of (codes "PROOF") rows) [])
-    (first_of (codes "close") rows) (first_of (codes "max-steps") rows)
+asked_by_rows rows = with_proof (run_by_rows rows) (first_of (codes "proof") rows) (is_given (codes "trim") rows)
 
 -- what words ask for that are wrong by this kind
 abbrev pub kind_asked : ErrorKind → Asked

@@ -7,7 +7,8 @@ ghost use Rattle.clap.specs.Values.{kind_of};
 ghost use Rattle.clap.specs.Walk.{rows_of};
 ghost use Rattle.clap.specs.Matches.{found_of};
 ghost use Rattle.clap.specs.declared.error.kind.ErrorKind.TheVariants.{OutOfMemory};
-ghost use Rattle.lj_run.specs.Words.{HasRule, asked_by, asked_by_rows, bare_app, flag_rule, is_run_of, kind_asked, limit_of, option_rule, path_rule, paths_rule, program_app, request_asked, run_asked, steps_of_value, the_usage};
+ghost use Rattle.lj_run.specs.Words.{HasRule, asked_by, asked_by_rows, bare_app, flag_rule, is_input, is_run_of, kind_asked};
+ghost use Rattle.lj_run.specs.Words.{limit_of, line_asked, option_rule, path_rule, paths_rule, program_app, request_asked, run_asked, run_with_proof, steps_of_value, the_usage, with_proof};
 ghost use Rattle.lj_run.specs.declared.words.WordsFault.TheVariants as words_faults;
 
 use crate::command_line::{CommandLine, MAX_PROOFS, Request};
@@ -74,9 +75,20 @@ fn command<'a>(alloc: Global) -> Result<Command<'a>, AllocError>
         "A stream that runs after all others have ended",
     );
     let in_turn = flag(alloc, "in-turn", "Run the streams one after the other");
+    let proof = option(alloc, "proof", "OUT", "Write the joint proof to OUT");
+    let trim = flag(
+        alloc,
+        "trim",
+        "Write only the steps that the empty clause needs",
+    );
     let max_steps = option(alloc, "max-steps", "N", "Accept at most N additions");
     let command = without_arguments(alloc).arg(formula)?.arg(proofs)?;
-    command.arg(close)?.arg(in_turn)?.arg(max_steps)
+    command
+        .arg(close)?
+        .arg(in_turn)?
+        .arg(proof)?
+        .arg(trim)?
+        .arg(max_steps)
 }
 
 /// The program without its arguments.
@@ -135,13 +147,15 @@ fn run_of<'a>(alloc: Global, matches: &ArgMatches<'a>) -> Result<Request<'a>, Al
     ensures { IfOk result (λ request.
         request_asked request ≡ asked_by_rows (rows_of (found_of matches.now))) }
 {
-    request_of(
+    let request = request_of(
         alloc,
         matches.get_str("FORMULA"),
         matches.get_raw("PROOF").unwrap_or(&[]),
         matches.get_str("close"),
         matches.get_str("max-steps"),
-    )
+    )?;
+    let trim = matches.get_str("trim") == Some("true");
+    with_proof(alloc, request, matches.get_str("proof"), trim)
 }
 
 /// The run that values ask for, or usage where there are too many streams or the limit is none.
@@ -177,6 +191,50 @@ fn request_of<'a>(
         proof: None,
         trim: false,
     }))
+}
+
+/// The request with the proof that is to be written at a path, where there is one.
+fn with_proof<'a>(
+    alloc: Global,
+    request: Request<'a>,
+    proof: Option<&'a str>,
+    trim: bool,
+) -> Result<Request<'a>, AllocError>
+    ensures { IfOk result (λ asked. request_asked asked ≡ with_proof (request_asked request.entry)
+        (option_map (λ path. path.now) proof.entry) trim) }
+{
+    match (request, proof) {
+        (Request::Run(line), Some(path)) => run_with_proof(alloc, line, path, trim),
+        (request, _) => Ok(request),
+    }
+}
+
+/// The run with the proof at this path, or usage where it would overwrite what the run reads.
+fn run_with_proof<'a>(
+    alloc: Global,
+    mut line: CommandLine<'a>,
+    path: &'a str,
+    trim: bool,
+) -> Result<Request<'a>, AllocError>
+    ensures { IfOk result (λ request. request_asked request
+        ≡ run_with_proof (line_asked line.entry) path.entry.now trim) }
+{
+    if is_input(&line, path) {
+        return usage(alloc, "OUT of '--proof <OUT>' is a file that the run reads");
+    }
+    line.proof = Some(path);
+    line.trim = trim;
+    Ok(Request::Run(line))
+}
+
+/// Whether the run reads the file at this path.
+fn is_input<'a>(line: &CommandLine<'a>, path: &'a str) -> bool
+    ensures { result ≡ is_input (line_asked line.now) path.now }
+{
+    if line.formula == path {
+        return true;
+    }
+    line.proofs.contains(&path) || line.closing == Some(path)
 }
 
 /// Whether a run takes that many streams.

@@ -325,6 +325,8 @@ Arguments:
 Options:
       --close <FILE>   A stream that runs after all others have ended
       --in-turn        Run the streams one after the other
+      --proof <OUT>    Write the joint proof to OUT
+      --trim           Write only the steps that the empty clause needs
       --max-steps <N>  Accept at most N additions
   -h, --help           Print help
   -V, --version        Print version
@@ -366,7 +368,7 @@ fn standard_streams_fail(rt: HostRuntime) -> Result<(), Fail> {
     Ok(())
 }
 
-/// Files in memory, each of which fails once its bytes were pulled, but for `cnf`.
+/// Files in memory, each of which fails once its bytes were pulled, but for `cnf`. None can be created.
 #[derive(Drop)]
 struct FailingFiles(MemoryFiles);
 
@@ -382,8 +384,8 @@ impl Files for FailingFiles {
         Ok(FailingSource::new(self.0.open(path)?, pulls))
     }
 
-    fn create(&mut self, path: &str) -> Result<MemoryFile, FileFault> {
-        self.0.create(path)
+    fn create(&mut self, _: &str) -> Result<MemoryFile, FileFault> {
+        Err(FileFault::CannotOpen)
     }
 }
 
@@ -405,8 +407,15 @@ fn reads_fail(rt: HostRuntime) -> Result<(), Fail> {
         assert_told(&rt, alloc, &["cnf", "lrat"], &mut files, &out, "", 1);
     }
     let mut files = FailingFiles(files_of(alloc, BINARY, BINARY)?);
-    let err = "lratjoin: lrat: cannot read\n";
-    assert_told(&rt, alloc, &["lrat", "cnf"], &mut files, "", err, 2);
+    for (words, err) in [
+        (["lrat", "cnf"].as_slice(), "lratjoin: lrat: cannot read\n"),
+        (
+            &["cnf", "lrat", "--proof", "out"],
+            "lratjoin: out: cannot write\n",
+        ),
+    ] {
+        assert_told(&rt, alloc, words, &mut files, "", err, 2);
+    }
     Ok(())
 }
 
@@ -414,29 +423,34 @@ fn reads_fail(rt: HostRuntime) -> Result<(), Fail> {
 fn proofs_stand_in_files(rt: HostRuntime) -> Result<(), Fail> {
     let alloc = rt.alloc();
     let stream = "5 2 0 1 2 0\n6 1 0 1 3 0\n7 0 5 3 4 0\n";
-    for (trim, text) in [(false, stream), (true, "5 2 0 1 2 0\n7 0 5 3 4 0\n")] {
+    let told = "c stream 0: 3 added, 0 deleted, 0 imported, stopped\ns VERIFIED UNSAT\n";
+    for (words, text) in [
+        (["cnf", "lrat", "--proof", "out"].as_slice(), stream),
+        (
+            &["--trim", "cnf", "lrat", "--proof=out"],
+            "5 2 0 1 2 0\n7 0 5 3 4 0\n",
+        ),
+    ] {
         let mut files = files_of(alloc, BINARY, stream)?;
-        let mut proofs = Vec::new(alloc);
-        proofs.push("lrat")?;
-        let line = CommandLine {
-            formula: "cnf",
-            proofs,
-            closing: None,
-            max_steps: u32::MAX,
-            proof: Some("out"),
-            trim,
-        };
-        let mut out = MemorySink::new(alloc);
-        let status = run(&rt, alloc, &line, &mut files, &mut out);
-        assert!(rt; matches!(status, Ok(Status::Done)));
-        assert_eq!(rt;
-            files.written("out").ok_or("out")?.as_slice(),
-            text.as_bytes()
-        );
-        assert_eq!(rt;
-            out.bytes(),
-            b"c stream 0: 3 added, 0 deleted, 0 imported, stopped\ns VERIFIED UNSAT\n".as_slice()
-        );
+        assert_told(&rt, alloc, words, &mut files, told, "", 0);
+        let proof = files.written("out").ok_or("out")?;
+        assert_eq!(rt; proof.as_slice(), text.as_bytes());
+    }
+    Ok(())
+}
+
+#[test]
+fn inputs_are_not_overwritten(rt: HostRuntime) -> Result<(), Fail> {
+    let alloc = rt.alloc();
+    let mut files = portfolio_of(alloc)?;
+    let err = "error: OUT of '--proof <OUT>' is a file that the run reads
+
+For more information, try '--help'.
+";
+    for out in ["cnf", "b", "join"] {
+        let words = ["cnf", "a", "b", "--close", "join", "--proof", out];
+        assert_told(&rt, alloc, &words, &mut files, "", err, 3);
+        assert!(rt; files.written(out).is_none());
     }
     Ok(())
 }

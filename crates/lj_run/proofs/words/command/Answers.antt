@@ -8,4 +8,6 @@ returns c =
     let proofs = with_argument _ _ _ _ _ formula c.paths-proofs.ensures c.in_ok-command.ensures in
     let close = with_argument _ _ _ _ _ proofs c.option-close.ensures c.in_ok-arg-2.ensures in
     let in_turn = with_argument _ _ _ _ _ close c.flag-in_turn.ensures c.in_ok-arg-3.ensures in
-    IfOk-weaker c.arg-5.result _ _ (λ d added. with_argument _ _ _ _ _ in_turn c.option-max_steps.ensures added) c.arg-5.ensures
+    let proof = with_argument _ _ _ _ _ in_turn c.option-proof.ensures c.in_ok-arg-4.ensures in
+    let trim = with_argument _ _ _ _ _ proof c.flag-trim.ensures c.in_ok-arg-5.ensures in
+    IfOk-weaker c.arg-7.result _ _ (λ d added. with_argument _ _ _ _ _ trim c.option-max_steps.ensures added) c.arg-7.ensures
