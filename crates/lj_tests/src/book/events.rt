@@ -218,3 +218,19 @@ fn a_drop_by_one_seat_is_no_step(rt: HostRuntime) -> Result<(), Fail> {
     assert_entries(&rt, &book, &[(0, ListedStep::None), second]);
     Ok(())
 }
+
+/// Nothing has died, but no addition may come any more.
+#[test]
+fn a_full_history_takes_no_commit(rt: HostRuntime) -> Result<(), Fail> {
+    let alloc = rt.alloc();
+    let mut book = opened(&rt, alloc, &[&[-1]], 1, 0)?;
+    let script = [
+        (Listed::Take(0, Line(2, &[-1], &[1], &[])), Reply::Taken),
+        (Listed::Test(0), Reply::Closed),
+        (Listed::Commit(0), Reply::Refused(Refusal::Full)),
+        (Listed::Commit(0), Reply::Nothing),
+    ];
+    assert_plays(&rt, alloc, &mut book, &script)?;
+    assert_entries(&rt, &book, &[]);
+    Ok(())
+}
