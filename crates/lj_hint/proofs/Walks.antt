@@ -6,7 +6,7 @@ use Rattle.lj_clause.specs.LiteralSet.{LiteralSet, with_literal}
 use Rattle.lj_clause.specs.Walk.{Walk, Closed, Open, Stuck, Hint, rest, is_contradictory, after_hint, by_rest, by_hint, walk_over}
 use Rattle.lj_hint.specs.declared.walk.Rest.TheVariants.{Nothing, One, More}
 use Rattle.lj_hint.specs.declared.walk.Ending.TheVariants.{ClosedAfter, StuckAt}
-use Rattle.lj_hint.specs.Hints.{no_hint, number_at, clause_at, hint_numbers}
+use Rattle.lj_hint.specs.Hints.{no_hint, hint_number, clause_at, hint_numbers}
 use Rattle.lj_hint.specs.Rest.{seen}
 use Rattle.lj_hint.specs.Ending.{ending_of}
 
@@ -75,15 +75,15 @@ pub record Reads (a : LiteralSet) (hs : List Hint) (i : ℕ) (clause : Option Li
 abbrev onward : LiteralSet → List Hint → ℕ → ℤ → Walk
 onward a hs i l = walk_over (with_literal a l) (drop (i + 1) hs)
 
-at_index : (a : LiteralSet) (hs : List Hint) (i : ℕ) (clause : Option LiteralSet) → Reads a hs i clause → walk_from a hs i ≡ after_hints (hint_numbers (take i hs)) (by_hint (number_at hs i) clause a (onward a hs i))
+at_index : (a : LiteralSet) (hs : List Hint) (i : ℕ) (clause : Option LiteralSet) → Reads a hs i clause → walk_from a hs i ≡ after_hints (hint_numbers (take i hs)) (by_hint (hint_number hs i) clause a (onward a hs i))
 at_index a hs i clause r =
     let cut : drop i hs ≡ get_or hs i no_hint ∷ drop (i + 1) hs = rw add-one (drop-cons hs i no_hint r.within) in
     ap (λ qs. after_hints (hint_numbers (take i hs)) (walk_over a qs)) cut
     ∙ ap (after_hints (hint_numbers (take i hs))) (at_hint a (get_or hs i no_hint) (drop (i + 1) hs) r.open_yet)
-    ∙ ap (λ c. after_hints (hint_numbers (take i hs)) (by_hint (number_at hs i) c a (onward a hs i))) (sym r.is)
+    ∙ ap (λ c. after_hints (hint_numbers (take i hs)) (by_hint (hint_number hs i) c a (onward a hs i))) (sym r.is)
 
 -- one number more
-pub numbers_more : (hs : List Hint) (i : ℕ) → i < length hs → hint_numbers (take i hs) ++ number_at hs i ∷ [] ≡ hint_numbers (take (i + 1) hs)
+pub numbers_more : (hs : List Hint) (i : ℕ) → i < length hs → hint_numbers (take i hs) ++ hint_number hs i ∷ [] ≡ hint_numbers (take (i + 1) hs)
 numbers_more hs i lt =
     sym (map-append (λ (h : Hint). h.number) (take i hs) (get_or hs i no_hint ∷ []))
     ∙ ap hint_numbers (sym (take_more hs i no_hint lt))
@@ -107,8 +107,8 @@ left_more (l ∷ m ∷ ls) n onward e = refl
 pub ends_closed : (a : LiteralSet) (hs : List Hint) (i : ℕ) (d : LiteralSet) → Reads a hs i (Some d) → Nothing ≡ seen (rest d a) → ClosedAfter (i + 1) ≡ ending_of (walk_from a hs i)
 ends_closed a hs i d r e =
     sym
-    (ap ending_of (at_index a hs i (Some d) r ∙ ap (λ ls. after_hints (hint_numbers (take i hs)) (by_rest (number_at hs i) ls (onward a hs i))) (left_nothing (rest d a) e) ∙ after_hints-Closed (hint_numbers (take i hs)) (number_at hs i ∷ []))
-    ∙ ap ClosedAfter (length-append (hint_numbers (take i hs)) (number_at hs i ∷ []) ∙ (let n : length (hint_numbers (take i hs)) ≡ i = count_read hs i (omega (arith, r.within)) in omega arith)))
+    (ap ending_of (at_index a hs i (Some d) r ∙ ap (λ ls. after_hints (hint_numbers (take i hs)) (by_rest (hint_number hs i) ls (onward a hs i))) (left_nothing (rest d a) e) ∙ after_hints-Closed (hint_numbers (take i hs)) (hint_number hs i ∷ []))
+    ∙ ap ClosedAfter (length-append (hint_numbers (take i hs)) (hint_number hs i ∷ []) ∙ (let n : length (hint_numbers (take i hs)) ≡ i = count_read hs i (omega (arith, r.within)) in omega arith)))
 
 stuck_here : (a : LiteralSet) (hs : List Hint) (i : ℕ) → i < length hs → walk_from a hs i ≡ after_hints (hint_numbers (take i hs)) (Stuck 1) → StuckAt (i + 1) ≡ ending_of (walk_from a hs i)
 stuck_here a hs i lt e =
@@ -119,7 +119,7 @@ stuck_here a hs i lt e =
 -- a clause with two literals left stops it there
 pub ends_stuck : (a : LiteralSet) (hs : List Hint) (i : ℕ) (d : LiteralSet) → Reads a hs i (Some d) → More ≡ seen (rest d a) → StuckAt (i + 1) ≡ ending_of (walk_from a hs i)
 ends_stuck a hs i d r e =
-    stuck_here a hs i r.within (at_index a hs i (Some d) r ∙ ap (after_hints (hint_numbers (take i hs))) (left_more (rest d a) (number_at hs i) (onward a hs i) e))
+    stuck_here a hs i r.within (at_index a hs i (Some d) r ∙ ap (after_hints (hint_numbers (take i hs))) (left_more (rest d a) (hint_number hs i) (onward a hs i) e))
 
 -- and so does a hint that names no clause
 pub ends_nowhere : (a : LiteralSet) (hs : List Hint) (i : ℕ) → Reads a hs i None → StuckAt (i + 1) ≡ ending_of (walk_from a hs i)
@@ -129,6 +129,6 @@ ends_nowhere a hs i r = stuck_here a hs i r.within (at_index a hs i None r)
 pub goes_on : (a : LiteralSet) (hs : List Hint) (i : ℕ) (d : LiteralSet) (l : ℤ) → Reads a hs i (Some d) → One l ≡ seen (rest d a) → walk_from a hs i ≡ walk_from (with_literal a l) hs (i + 1)
 goes_on a hs i d l r e =
     at_index a hs i (Some d) r
-    ∙ ap (λ ls. after_hints (hint_numbers (take i hs)) (by_rest (number_at hs i) ls (onward a hs i))) (left_one (rest d a) l e)
-    ∙ sym (after_hints-append (hint_numbers (take i hs)) (number_at hs i) (walk_over (with_literal a l) (drop (i + 1) hs)))
+    ∙ ap (λ ls. after_hints (hint_numbers (take i hs)) (by_rest (hint_number hs i) ls (onward a hs i))) (left_one (rest d a) l e)
+    ∙ sym (after_hints-append (hint_numbers (take i hs)) (hint_number hs i) (walk_over (with_literal a l) (drop (i + 1) hs)))
     ∙ ap (λ ns. after_hints ns (walk_over (with_literal a l) (drop (i + 1) hs))) (numbers_more hs i r.within)

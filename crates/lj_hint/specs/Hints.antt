@@ -23,8 +23,8 @@ abbrev pub no_hint : Hint
 no_hint = record { number = 0; clause = None }
 
 -- the number of the hint at an index, 0 where there is none
-abbrev pub number_at : List Hint → ℕ → ℕ
-number_at hints index = (slice_index_or hints index no_hint).number
+abbrev pub hint_number : List Hint → ℕ → ℕ
+hint_number hints index = (slice_index_or hints index no_hint).number
 
 -- the clause that the hint at an index names, if it names one
 abbrev pub clause_at : List Hint → ℕ → Option LiteralSet

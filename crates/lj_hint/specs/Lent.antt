@@ -16,8 +16,8 @@ abbrev pub group_at : {H : Type 0} → (H → List Hint) → List (LentGroup H) 
 group_at hints groups place = option_map (λ g. hints g.hints) (option_and_then (λ at. slice_get groups at) place)
 
 -- the hints, none where there is no group
-abbrev pub hints_of : Option (List Hint) → List Hint
-hints_of group = unwrap_or group []
+abbrev pub lent_hints : Option (List Hint) → List Hint
+lent_hints group = unwrap_or group []
 
 -- what a candidate's walk tells, by whether it has a group: the group of the hints that were read, or the refusal
 abbrev pub candidate_told : ℕ → Bool → walks.Walk → Result HintGroup RatRefusal

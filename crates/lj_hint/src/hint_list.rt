@@ -1,7 +1,7 @@
 //! Lists of hints, wherever their clauses are kept.
 ghost use Rattle.std.specs.Prelude.{◌≡◌, List, length, option_copied};
 ghost use Rattle.lj_clause.specs.Walk.{Hint};
-ghost use Rattle.lj_hint.specs.Hints.{named, number_at, clause_at};
+ghost use Rattle.lj_hint.specs.Hints.{named, hint_number, clause_at};
 
 use crate::pair::Pair;
 use lj_clause::Clause;
@@ -16,7 +16,7 @@ pub trait HintList {
 
     /// The number of the hint at an index, and 0 where there is none.
     fn number(&self, index: usize) -> u64
-        ensures { result ≡ number_at (hints self.now) index };
+        ensures { result ≡ hint_number (hints self.now) index };
 
     /// The clause that the hint at an index names.
     fn clause(&self, index: usize) -> Option<&Clause>

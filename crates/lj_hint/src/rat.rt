@@ -9,7 +9,7 @@ ghost use Rattle.lj_hint.specs.Hints.{hint_numbers};
 ghost use Rattle.lj_hint.specs.Trail.{Extends};
 ghost use Rattle.lj_hint.specs.Ending.{ending_of};
 ghost use Rattle.lj_hint.specs.RatTest.{rat_told, IsRatReply};
-ghost use Rattle.lj_hint.specs.Lent.{lent_groups, group_at, hints_of, candidate_told, IsCandidateReply};
+ghost use Rattle.lj_hint.specs.Lent.{lent_groups, group_at, lent_hints, candidate_told, IsCandidateReply};
 
 use crate::hint_list::HintList;
 use crate::live::Live;
@@ -145,9 +145,9 @@ fn first_numbers<H: HintList>(
     hints: Option<&H>,
     count: usize,
 ) -> Result<Vec<u64>, NoMemory>
-    requires { count ≤ length (hints_of (option_map H.hints (option_copied hints))) }
+    requires { count ≤ length (lent_hints (option_map H.hints (option_copied hints))) }
     ensures { IfOk result (λ numbers. numbers.items
-        ≡ hint_numbers (take count (hints_of (option_map H.hints (option_copied hints.entry))))) }
+        ≡ hint_numbers (take count (lent_hints (option_map H.hints (option_copied hints.entry))))) }
 {
     match hints {
         Some(hints) => numbers_of(alloc, hints, count),

@@ -8,7 +8,7 @@ use Rattle.std.proofs.lemmas.List.Elements.{All-cons, All-nil, Contains-append_l
 use Rattle.lj_text.specs.Streams.{SourceState}
 use Rattle.lj_run.specs.Checking.{IsCheckFault, IsCutText}
 use Rattle.lj_run.specs.FormulaReading.{GaveAll}
-use Rattle.lj_run.specs.Program.{HasInputs, IfRun, IsAnOpenFault, IsAnswered, IsAskedFor, IsCreated, IsFaultOf, IsLostAt, IsOpened, IsRunAnswered, SpellsUnsatisfiable, failed_outputs, fault_at, is_told_late, proof_status, status_code, verdict_status}
+use Rattle.lj_run.specs.Program.{HasInputs, IfRun, IsAnOpenFault, IsAnswerTo, IsAskedFor, IsCreated, IsFaultOf, IsLostAt, IsOpened, IsRunAnswered, SpellsUnsatisfiable, failed_outputs, fault_at, is_told_late, proof_status, status_code, verdict_status}
 use Rattle.lj_run.specs.Proof.{SinkState, IsProof}
 use Rattle.lj_run.specs.declared.outcome.ProofEnd.{ProofEnd}
 use Rattle.lj_run.specs.declared.outcome.ProofEnd.TheVariants.{NotAsked, Written, Failed}
@@ -193,7 +193,7 @@ answer_refutes seen sink content run old new status h zero_is =
 
 -- where status 0 answers a run, no assignment satisfies what FORMULA holds, if that is told
 pub run_refutes : {I W : Type 0} (seen : I → SourceState) (sink : W → SinkState) (content : List ℕ → Option (List ℕ)) (asked : Asked) (old new : List ℕ) (status : Status)
-    → IsAnswered seen sink content asked old new status → status_code status ≡ 0 → IfRun asked (λ run. IfSome (content run.formula) SpellsUnsatisfiable)
+    → IsAnswerTo seen sink content asked old new status → status_code status ≡ 0 → IfRun asked (λ run. IfSome (content run.formula) SpellsUnsatisfiable)
 run_refutes seen sink content (a_run run) old new status h zero_is = answer_refutes seen sink content run old new (status_code status) h zero_is
 run_refutes seen sink content the_help old new status h zero_is = tt
 run_refutes seen sink content the_version old new status h zero_is = tt

@@ -7,7 +7,7 @@ use Rattle.lj_text.specs.declared.line.Line.{Line}
 use Rattle.lj_text.specs.declared.lines.fault.LineFault.{LineFault}
 use Rattle.lj_text.specs.declared.lines.fault.LineFaultKind.{LineFaultKind}
 use Rattle.lj_text.specs.Lines.{Said, said_from, whole_said_from, whole_said, all_said_from, all_said}
-use Rattle.lj_text.specs.LinesRead.{LinesRead, LineReaderStandsAt, StandsWithin, StandsBehind, line_answer, told, number_at, last_number, handed_out, joined, is_line_no_memory}
+use Rattle.lj_text.specs.LinesRead.{LinesRead, LineReaderStandsAt, StandsWithin, StandsBehind, line_answer, told, line_number_of, last_number, handed_out, joined, is_line_no_memory}
 use Rattle.lj_text.specs.Streams.{SourceState, HasGiven, HasEnded}
 use Rattle.lj_text.proofs.Fronts.{said_in_front}
 use Rattle.lj_text.proofs.StandLemmas.{whole-joined, all-joined, get-behind}
@@ -34,7 +34,7 @@ told_fault n (Err kind) fault e =
     (sym (ap (λ (f : LineFault). f.line) same), ap Err (sym (ap (λ (f : LineFault). f.kind) same)))
 
 -- an answer with a line: the line that stands there
-pub answered : (o : Option Said) (line : Line) (at last : ℕ) → Ok (Some line) ≡ line_answer o → at ≡ number_at o last → o ≡ Some (record { line = at; says = Ok line })
+pub answered : (o : Option Said) (line : Line) (at last : ℕ) → Ok (Some line) ≡ line_answer o → at ≡ line_number_of o last → o ≡ Some (record { line = at; says = Ok line })
 answered None line at last e n = cc
 answered (Some said) line at last e n = λ i. Some (record { line = sym n i; says = told_line said.line said.says line e i })
 
@@ -50,7 +50,7 @@ faulted (Some said) fault e = let parts = told_fault said.line said.says fault e
 
 -- what the answers of a reader mean for what it was fed, with whole lines looked at
 pub line_of_text : (max : ℕ) (text : List ℕ) (handed at last : ℕ) (line : Line)
-    → Ok (Some line) ≡ line_answer (slice_get (whole_said max text) handed) → at ≡ number_at (slice_get (whole_said max text) handed) last → slice_get (all_said max text) handed ≡ Some (record { line = at; says = Ok line })
+    → Ok (Some line) ≡ line_answer (slice_get (whole_said max text) handed) → at ≡ line_number_of (slice_get (whole_said max text) handed) last → slice_get (all_said max text) handed ≡ Some (record { line = at; says = Ok line })
 line_of_text max text handed at last line e n =
     subst (λ t. slice_get (all_said max t) handed ≡ Some (record { line = at; says = Ok line })) (append-nil text)
     (said_in_front max text [] handed (record { line = at; says = Ok line }) (answered (slice_get (whole_said max text) handed) line at last e n))
@@ -63,7 +63,7 @@ fault_of_text max text handed fault e =
 
 -- and with all of them
 pub last_of_text : (max : ℕ) (text : List ℕ) (handed at last : ℕ) (line : Option Line)
-    → Ok line ≡ line_answer (slice_get (all_said max text) handed) → at ≡ number_at (slice_get (all_said max text) handed) last → IsNext (all_said max text) handed at line
+    → Ok line ≡ line_answer (slice_get (all_said max text) handed) → at ≡ line_number_of (slice_get (all_said max text) handed) last → IsNext (all_said max text) handed at line
 last_of_text max text handed at last None e n = none_answered (slice_get (all_said max text) handed) e
 last_of_text max text handed at last (Some line) e n = answered (slice_get (all_said max text) handed) line at last e n
 
@@ -109,11 +109,11 @@ same_handed reader text more handed goes stands =
 
 -- a read failed, where no whole line of what was fed says more
 pub read_failed : (text : List ℕ) (handed at : ℕ) (reader : LinesRead) → reader.finished ≡ false → LineReaderStandsAt reader text handed
-    → Ok None ≡ line_answer (slice_get (whole_said reader.max text) handed) → at ≡ number_at (slice_get (whole_said reader.max text) handed) (last_number text) → FailsAt reader.max text handed at
+    → Ok None ≡ line_answer (slice_get (whole_said reader.max text) handed) → at ≡ line_number_of (slice_get (whole_said reader.max text) handed) (last_number text) → FailsAt reader.max text handed at
 read_failed text handed at reader goes stands answer place =
     let none = none_answered (slice_get (whole_said reader.max text) handed) answer in
     record {
-      at_is = place ∙ ap (λ o. number_at o (last_number text)) none;
+      at_is = place ∙ ap (λ o. line_number_of o (last_number text)) none;
       handed_is = all_handed reader text handed (within reader text handed goes stands) none;
     }
 
@@ -173,7 +173,7 @@ line_faulty max fed handed at old start after fault f is = record { piece = f.pi
 -- the miss of a piece is one of the line
 pub piece_missed : (max : ℕ) (fed : List ℕ) (handed : ℕ) (old mid new : LinesRead) (start before after : SourceState) (miss : Miss) → old.max ≡ max → old.finished ≡ false → mid.max ≡ max → mid.finished ≡ false
     → (f : FedSince max fed handed old start before) → Ok None ≡ line_answer (slice_get (whole_said old.max (fed ++ f.piece)) handed)
-    → mid.at ≡ number_at (slice_get (whole_said old.max (fed ++ f.piece)) handed) (last_number (fed ++ f.piece)) → LineReaderStandsAt mid (fed ++ f.piece) (handed + 0)
+    → mid.at ≡ line_number_of (slice_get (whole_said old.max (fed ++ f.piece)) handed) (last_number (fed ++ f.piece)) → LineReaderStandsAt mid (fed ++ f.piece) (handed + 0)
     → PieceMissed mid new before after miss → LineMissed max fed handed new.at start after miss
 piece_missed max fed handed old mid new start before after miss max_is goes mid_max mid_goes f answer place passed p =
     let here = subst (λ n. LineReaderStandsAt mid (fed ++ f.piece) n) (add-zero handed) passed in

@@ -28,7 +28,7 @@ use Rattle.lj_run.specs.declared.reading.Miss.{Miss}
 use Rattle.lj_run.specs.declared.reading.Miss.TheVariants.{Failed, AtFault}
 use Rattle.lj_run.specs.declared.stream.Tally.{Tally}
 use Rattle.lj_run.specs.Tally.{with_count, missed_at}
-use Rattle.lj_run.specs.Run.{if_accepted, line_reply, Progress, progress_of, with_line, has_verdict, if_entered, said_entered, all_entered, IsCounted, IsLineEnd, MeetsFault, MeetsRefused, MeetsRefusal, EndsAtLine, EndsWith, IsRun, IsStreamRun, IfReadFailed, IsFailedRead, failed_reads}
+use Rattle.lj_run.specs.Run.{if_accepted, reply_to_line, Progress, progress_of, with_line, has_verdict, if_line_entered, said_entered, all_entered, IsCounted, IsLineEnd, MeetsFault, MeetsRefused, MeetsRefusal, EndsAtLine, EndsWith, IsRunOfLines, IsStreamRun, IfReadFailed, IsFailedRead, failed_reads}
 use Rattle.lj_run.proofs.GivenLemmas.{given_none, given_on}
 
 -- ---- an entered line makes one entry
@@ -41,18 +41,18 @@ unfolding OneMore
 one_accepted (Ok x) s t e is = (e, cc)
 one_accepted (Err refusal) s t e is = cc
 
-one_entered : (s t : State) (seat : ℕ) (line : Line) → line_reply s seat line ≡ Ok t → OneMore s t
+one_entered : (s t : State) (seat : ℕ) (line : Line) → reply_to_line s seat line ≡ Ok t → OneMore s t
 one_entered s t seat (Add a) is = one_accepted (inside_reply s seat a) s t (inside_entry s seat a) is
 one_entered s t seat (Delete numbers) is = one_accepted (drop_reply s seat numbers) s t (drop_entry s seat numbers) is
 one_entered s t seat (Import number clause) is = one_accepted (import_reply s seat number clause) s t (import_entry seat number clause) is
 
-pub entered_longer : (s t : State) (seat : ℕ) (line : Line) → line_reply s seat line ≡ Ok t → length t.history ≡ length s.history + 1
+pub entered_longer : (s t : State) (seat : ℕ) (line : Line) → reply_to_line s seat line ≡ Ok t → length t.history ≡ length s.history + 1
 unfolding OneMore
 entered_longer s t seat line is =
     let more = one_entered s t seat line is in
     ap (λ (u : State). length u.history) (sym more.1) ∙ length-append s.history (more.0 ∷ [])
 
-pub entered_formula : (s t : State) (seat : ℕ) (line : Line) → line_reply s seat line ≡ Ok t → t.formula ≡ s.formula
+pub entered_formula : (s t : State) (seat : ℕ) (line : Line) → reply_to_line s seat line ≡ Ok t → t.formula ≡ s.formula
 unfolding OneMore
 entered_formula s t seat line is = ap (λ (u : State). u.formula) (sym (one_entered s t seat line is).1)
 
@@ -96,10 +96,10 @@ counted_is s t tally (Add a) count is = ap (λ c. progress_of t (with_count tall
 counted_is s t tally (Delete numbers) count is = ap (λ c. progress_of t (with_count tally c).added (with_count tally c).deleted (with_count tally c).imported) (sym is)
 counted_is s t tally (Import number clause) count is = ap (λ c. progress_of t (with_count tally c).added (with_count tally c).deleted (with_count tally c).imported) (sym is)
 
-one_line : (seat : ℕ) (s t : State) (tally : Tally) (n : ℕ) (line : Line) (count : Count) → has_verdict s ≡ false → line_reply s seat line ≡ Ok t → IsCounted line count
+one_line : (seat : ℕ) (s t : State) (tally : Tally) (n : ℕ) (line : Line) (count : Count) → has_verdict s ≡ false → reply_to_line s seat line ≡ Ok t → IsCounted line count
     → all_entered seat (progress_of s tally.added tally.deleted tally.imported) (record { line = n; says = Ok line } ∷ []) ≡ Some (progress_of t (with_count tally count).added (with_count tally count).deleted (with_count tally count).imported)
 one_line seat s t tally n line count open_state is count_is =
-    (λ i. cond (open_state i) None (option_and_then (λ q. all_entered seat q []) (if_entered (progress_of s tally.added tally.deleted tally.imported) line (is i))))
+    (λ i. cond (open_state i) None (option_and_then (λ q. all_entered seat q []) (if_line_entered (progress_of s tally.added tally.deleted tally.imported) line (is i))))
     ∙ ap Some (counted_is s t tally line count count_is)
 
 -- ---- the run so far
@@ -123,7 +123,7 @@ enters_since seat start now text piece handed same enters = ap (all_entered seat
 -- a line was read and entered
 pub runs_on : (seat : ℕ) (start : Progress) (s t : State) (tally : Tally) (line : Line) (count : Count) (reader new : LinesRead) (first before after : SourceState)
     → (r : RunsTo seat first before start (progress_of s tally.added tally.deleted tally.imported) reader) → LineRead 134217727 r.text r.handed new before after (Some line)
-    → has_verdict s ≡ false → line_reply s seat line ≡ Ok t → IsCounted line count
+    → has_verdict s ≡ false → reply_to_line s seat line ≡ Ok t → IsCounted line count
     → RunsTo seat first after start (progress_of t (with_count tally count).added (with_count tally count).deleted (with_count tally count).imported) new
 runs_on seat start s t tally line count reader new first before after r read open_state is count_is =
     let now = progress_of s tally.added tally.deleted tally.imported in
@@ -212,7 +212,7 @@ run_missed seat first before after start now reader r at miss m v failures =
       failures = failures ∙ sym (reads_missed at miss);
     }
 
-refused_line : (seat : ℕ) (s : State) (at : ℕ) (lines : List Said) (given : ℕ) (line : Line) (end : LineEnd) → slice_get lines given ≡ Some (record { line = at; says = Ok line }) → line_reply s seat line ≡ Err end → MeetsRefusal seat s at end (drop given lines)
+refused_line : (seat : ℕ) (s : State) (at : ℕ) (lines : List Said) (given : ℕ) (line : Line) (end : LineEnd) → slice_get lines given ≡ Some (record { line = at; says = Ok line }) → reply_to_line s seat line ≡ Err end → MeetsRefusal seat s at end (drop given lines)
 refused_line seat s at lines given line end next is = record { line = line; first = first_left lines given ∙ next; refused = is }
 
 -- a call tells no fault of a text
@@ -220,12 +220,12 @@ no_fault_accepted : {A : Type 0} (r : Result A Refusal) (s : State) (kind : Line
 no_fault_accepted (Ok x) s kind e = cc
 no_fault_accepted (Err refusal) s kind e = cc
 
-no_fault_entered : (s : State) (seat : ℕ) (line : Line) (kind : LineFaultKind) → line_reply s seat line ≡ Err (Fault kind) → ⊥
+no_fault_entered : (s : State) (seat : ℕ) (line : Line) (kind : LineFaultKind) → reply_to_line s seat line ≡ Err (Fault kind) → ⊥
 no_fault_entered s seat (Add a) kind e = no_fault_accepted (inside_reply s seat a) (after_entry s (inside_entry s seat a)) kind e
 no_fault_entered s seat (Delete numbers) kind e = no_fault_accepted (drop_reply s seat numbers) (after_entry s (drop_entry s seat numbers)) kind e
 no_fault_entered s seat (Import number clause) kind e = no_fault_accepted (import_reply s seat number clause) (after_entry s (import_entry seat number clause)) kind e
 
-meets_refused : (seat : ℕ) (s : State) (at : ℕ) (lines : List Said) (given : ℕ) (line : Line) (refusal : Refusal) → slice_get lines given ≡ Some (record { line = at; says = Ok line }) → IsLineEnd (Refused refusal) (line_reply s seat line) → MeetsRefused seat s at refusal (drop given lines)
+meets_refused : (seat : ℕ) (s : State) (at : ℕ) (lines : List Said) (given : ℕ) (line : Line) (refusal : Refusal) → slice_get lines given ≡ Some (record { line = at; says = Ok line }) → IsLineEnd (Refused refusal) (reply_to_line s seat line) → MeetsRefused seat s at refusal (drop given lines)
 meets_refused seat s at lines given line (refusals.NoMemory e) next is = record { line = line; first = first_left lines given ∙ next }
 meets_refused seat s at lines given line refusals.SeatGone next is = refused_line seat s at lines given line (Refused refusals.SeatGone) next is
 meets_refused seat s at lines given line refusals.NumberTaken next is = refused_line seat s at lines given line (Refused refusals.NumberTaken) next is
@@ -240,7 +240,7 @@ meets_refused seat s at lines given line (refusals.GroupStuck n m) next is = ref
 meets_refused seat s at lines given line (refusals.GroupOpen n) next is = refused_line seat s at lines given line (Refused (refusals.GroupOpen n)) next is
 meets_refused seat s at lines given line refusals.NoSuchClause next is = refused_line seat s at lines given line (Refused refusals.NoSuchClause) next is
 
-at_refusal : (seat : ℕ) (s : State) (at : ℕ) (lines : List Said) (given : ℕ) (line : Line) (end : LineEnd) → slice_get lines given ≡ Some (record { line = at; says = Ok line }) → IsLineEnd end (line_reply s seat line) → EndsAtLine seat s at end (drop given lines)
+at_refusal : (seat : ℕ) (s : State) (at : ℕ) (lines : List Said) (given : ℕ) (line : Line) (end : LineEnd) → slice_get lines given ≡ Some (record { line = at; says = Ok line }) → IsLineEnd end (reply_to_line s seat line) → EndsAtLine seat s at end (drop given lines)
 at_refusal seat s at lines given line (Fault kind) next is = absurd (no_fault_entered s seat line kind is)
 at_refusal seat s at lines given line (Refused refusal) next is = meets_refused seat s at lines given line refusal next is
 at_refusal seat s at lines given line ReadFailed next is = tt
@@ -251,24 +251,24 @@ no_read_accepted : {A : Type 0} (r : Result A Refusal) (s : State) → if_accept
 no_read_accepted (Ok x) s e = cc
 no_read_accepted (Err refusal) s e = cc
 
-no_read_entered : (s : State) (seat : ℕ) (line : Line) → line_reply s seat line ≡ Err ReadFailed → ⊥
+no_read_entered : (s : State) (seat : ℕ) (line : Line) → reply_to_line s seat line ≡ Err ReadFailed → ⊥
 no_read_entered s seat (Add a) e = no_read_accepted (inside_reply s seat a) (after_entry s (inside_entry s seat a)) e
 no_read_entered s seat (Delete numbers) e = no_read_accepted (drop_reply s seat numbers) (after_entry s (drop_entry s seat numbers)) e
 no_read_entered s seat (Import number clause) e = no_read_accepted (import_reply s seat number clause) (after_entry s (import_entry seat number clause)) e
 
 -- a line that the book doesn't accept is no failed read
-no_read_refused : (s : State) (seat : ℕ) (line : Line) (at : ℕ) (end : LineEnd) → IsLineEnd end (line_reply s seat line) → failed_reads (AtLine at end) ≡ 0
+no_read_refused : (s : State) (seat : ℕ) (line : Line) (at : ℕ) (end : LineEnd) → IsLineEnd end (reply_to_line s seat line) → failed_reads (AtLine at end) ≡ 0
 no_read_refused s seat line at (Fault kind) is = refl
 no_read_refused s seat line at (Refused refusal) is = refl
 no_read_refused s seat line at ReadFailed is = absurd (no_read_entered s seat line is)
 
-no_read_line : (s : State) (seat : ℕ) (line : Line) (at : ℕ) (end : LineEnd) (P : ℕ → Type 0) → IsLineEnd end (line_reply s seat line) → IfReadFailed (AtLine at end) P
+no_read_line : (s : State) (seat : ℕ) (line : Line) (at : ℕ) (end : LineEnd) (P : ℕ → Type 0) → IsLineEnd end (reply_to_line s seat line) → IfReadFailed (AtLine at end) P
 no_read_line s seat line at (Fault kind) P is = tt
 no_read_line s seat line at (Refused refusal) P is = tt
 no_read_line s seat line at ReadFailed P is = absurd (no_read_entered s seat line is)
 
 pub run_refused : (seat : ℕ) (first before after : SourceState) (start now : Progress) (reader new : LinesRead) (r : RunsTo seat first before start now reader) (line : Line) (end : LineEnd) → LineRead 134217727 r.text r.handed new before after (Some line)
-    → has_verdict now.state ≡ false → after.failures ≡ 0 → IsLineEnd end (line_reply now.state seat line) → IsStreamRun seat first after start now (AtLine new.at end)
+    → has_verdict now.state ≡ false → after.failures ≡ 0 → IsLineEnd end (reply_to_line now.state seat line) → IsStreamRun seat first after start now (AtLine new.at end)
 run_refused seat first before after start now reader new r line end read v unfailed is =
     let text = r.text ++ read.piece in
     record {

@@ -191,11 +191,11 @@ MayEnd the_version status = (status ≡ 0) ⊎ (status ≡ 2)
 MayEnd the_usage status = (status ≡ 2) ⊎ (status ≡ 3)
 
 -- what was asked for was answered with this status
-abbrev pub IsAnswered : {I W : Type 0} → (I → SourceState) → (W → SinkState) → (List ℕ → Option (List ℕ)) → Asked → List ℕ → List ℕ → Status → Type 0
-IsAnswered seen sink content (a_run run) old new status = IsRunAnswered seen sink content run old new (status_code status)
-IsAnswered seen sink content the_help old new status = status ≡ statuses.Done
-IsAnswered seen sink content the_version old new status = status ≡ statuses.Done
-IsAnswered seen sink content the_usage old new status = ⊥
+abbrev pub IsAnswerTo : {I W : Type 0} → (I → SourceState) → (W → SinkState) → (List ℕ → Option (List ℕ)) → Asked → List ℕ → List ℕ → Status → Type 0
+IsAnswerTo seen sink content (a_run run) old new status = IsRunAnswered seen sink content run old new (status_code status)
+IsAnswerTo seen sink content the_help old new status = status ≡ statuses.Done
+IsAnswerTo seen sink content the_version old new status = status ≡ statuses.Done
+IsAnswerTo seen sink content the_usage old new status = ⊥
 
 -- the proof that words ask for couldn't be written, and what is printed of the run was taken
 abbrev pub IsProofLost : {I W : Type 0} → (I → SourceState) → (W → SinkState) → (List ℕ → Option (List ℕ)) → Asked → List ℕ → List ℕ → Type 0

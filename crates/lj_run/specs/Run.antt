@@ -28,10 +28,10 @@ if_accepted (Ok reply) s = Ok s
 if_accepted (Err refusal) s = Err (Refused refusal)
 
 -- A stream's line given to the book: the state that it leaves, or why it isn't accepted.
-abbrev pub line_reply : State → ℕ → Line → Result State LineEnd
-line_reply s seat (Add a) = if_accepted (inside_reply s seat a) (after_entry s (inside_entry s seat a))
-line_reply s seat (Delete numbers) = if_accepted (drop_reply s seat numbers) (after_entry s (drop_entry s seat numbers))
-line_reply s seat (Import number clause) = if_accepted (import_reply s seat number clause) (after_entry s (import_entry seat number clause))
+abbrev pub reply_to_line : State → ℕ → Line → Result State LineEnd
+reply_to_line s seat (Add a) = if_accepted (inside_reply s seat a) (after_entry s (inside_entry s seat a))
+reply_to_line s seat (Delete numbers) = if_accepted (drop_reply s seat numbers) (after_entry s (drop_entry s seat numbers))
+reply_to_line s seat (Import number clause) = if_accepted (import_reply s seat number clause) (after_entry s (import_entry seat number clause))
 
 -- the answer that a line isn't accepted is right, unless memory ran out
 abbrev pub IsLineEnd : {A : Type 0} → LineEnd → Result A LineEnd → Type 0
@@ -66,12 +66,12 @@ with_line p (Import number clause) s = record p { state = s; imported = p.import
 abbrev pub has_verdict : State → Bool
 has_verdict s = is_some (verdict s.history)
 
-abbrev pub if_entered : Progress → Line → Result State LineEnd → Option Progress
-if_entered p line (Ok s) = Some (with_line p line s)
-if_entered p line (Err end) = None
+abbrev pub if_line_entered : Progress → Line → Result State LineEnd → Option Progress
+if_line_entered p line (Ok s) = Some (with_line p line s)
+if_line_entered p line (Err end) = None
 
 abbrev pub said_entered : ℕ → Progress → Result Line LineFaultKind → Option Progress
-said_entered seat p (Ok line) = if_entered p line (line_reply p.state seat line)
+said_entered seat p (Ok line) = if_line_entered p line (reply_to_line p.state seat line)
 said_entered seat p (Err kind) = None
 
 -- what lines leave, where none is at fault or refused and the verdict stands before none of them
@@ -90,7 +90,7 @@ MeetsFault n kind rest = slice_get rest 0 ≡ Some (record { line = n; says = Er
 pub record MeetsRefusal (seat : ℕ) (s : State) (n : ℕ) (end : LineEnd) (rest : List Said) : Type 0 where
   pub line : Line
   pub first : slice_get rest 0 ≡ Some (record { line = n; says = Ok line })
-  pub refused : line_reply s seat line ≡ Err end
+  pub refused : reply_to_line s seat line ≡ Err end
 
 -- The first of the lines is this one, and its text has no fault.
 pub record MeetsLine (n : ℕ) (rest : List Said) : Type 0 where
@@ -117,7 +117,7 @@ EndsWith seat s rest (AtLine n end) = (has_verdict s ≡ false) × EndsAtLine se
 
 -- A seat's stream of these lines leads from one progress to the other, and ends so: its first lines are entered, each of them
 -- before the verdict, and the next one isn't.
-pub record IsRun (seat : ℕ) (lines : List Said) (start final : Progress) (end : End) : Type 0 where
+pub record IsRunOfLines (seat : ℕ) (lines : List Said) (start final : Progress) (end : End) : Type 0 where
   pub count : ℕ
   pub enters : all_entered seat start (take count lines) ≡ Some final
   pub ends : EndsWith seat final.state (drop count lines) end
@@ -147,7 +147,7 @@ failed_reads (AtLine n end) = 0
 pub record IsStreamRun (seat : ℕ) (before after : SourceState) (start final : Progress) (end : End) : Type 0 where
   pub text : List ℕ
   pub gave : HasGiven before after text
-  pub runs : IsRun seat (all_said 134217727 text) start final end
+  pub runs : IsRunOfLines seat (all_said 134217727 text) start final end
   pub failed_read : IfReadFailed end (IsFailedRead seat text start final)
   pub ended : end ≡ Ended → HasEnded after
   pub failures : after.failures ≡ failed_reads end

@@ -2,7 +2,7 @@
 ghost use Rattle.std.specs.Prelude.{◌≡◌, ◌≢◌, ◌⊎◌, ◌<◌, ◌≤◌, ℕ, List, map, true, false, option_map, IfOk, IfErr, IfSome, OnOk};
 ghost use Rattle.lj_text.specs.Streams.{source_state};
 ghost use Rattle.lj_run.specs.Words.{a_run, asked_by, line_asked};
-ghost use Rattle.lj_run.specs.Program.{IfRun, IsAnswered, IsAskedFor, IsFaultOf, IsFaultTold, IsLostAt};
+ghost use Rattle.lj_run.specs.Program.{IfRun, IsAnswerTo, IsAskedFor, IsFaultOf, IsFaultTold, IsLostAt};
 ghost use Rattle.lj_run.specs.Program.{IsOther, IsProofLost, IsRunAnswered, IsRunCut, MayEnd};
 ghost use Rattle.lj_run.specs.Program.{SpellsUnsatisfiable, checked_status, failed_outputs, is_lost, is_told_late, status_code};
 ghost use Rattle.lj_run.specs.Proof.{sink_state};
@@ -79,7 +79,7 @@ fn answer<'a, R: Wait, S: AsStr, F: Files, O: Sink>(
     out: &mut O,
 ) -> Result<Status, Fault<'a>>
     requires { O.failures out.old ≡ 0 }
-    ensures answered { IfOk result (IsAnswered
+    ensures answered { IfOk result (IsAnswerTo
         (source_state F.Input.given F.Input.ended F.Input.rest F.Input.failures)
         (sink_state F.Output.taken F.Output.failures) (λ path. F.content files.old path)
         (asked_by (map S.text words.entry.now)) (O.taken out.old) (O.taken out.new)) }
@@ -130,7 +130,7 @@ fn run<'a, R: Wait, F: Files, O: Sink>(
     out: &mut O,
 ) -> Result<Status, Fault<'a>>
     requires { O.failures out.old ≡ 0 }
-    ensures answered { IfOk result (IsAnswered
+    ensures answered { IfOk result (IsAnswerTo
         (source_state F.Input.given F.Input.ended F.Input.rest F.Input.failures)
         (sink_state F.Output.taken F.Output.failures) (λ path. F.content files.old path)
         (a_run (line_asked line.now)) (O.taken out.old) (O.taken out.new)) }

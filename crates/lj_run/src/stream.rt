@@ -1,7 +1,7 @@
 //! The run of one stream on a book.
 ghost use Rattle.std.specs.Prelude.{◌≡◌, ◌+◌, ◌<◌, MatchResult, Ok};
 ghost use Rattle.lj_text.specs.Streams.{source_state};
-ghost use Rattle.lj_run.specs.Run.{line_reply, IsLineEnd, IsCounted, IsStreamRun, progress_of, has_verdict};
+ghost use Rattle.lj_run.specs.Run.{reply_to_line, IsLineEnd, IsCounted, IsStreamRun, progress_of, has_verdict};
 ghost use Rattle.lj_text.specs.declared.line.Line.TheVariants.{Delete};
 ghost use Rattle.lj_run.specs.declared.outcome.LineEnd.TheVariants.{Refused};
 ghost use Rattle.lj_run.specs.Tally.{with_count, with_end, missed_at};
@@ -121,7 +121,7 @@ pub(crate) fn enter(
     line: Line,
     marks: &mut Marks,
 ) -> Result<Count, LineEnd>
-    ensures { MatchResult result (λ count. (line_reply book.old seat line ≡ Ok book.new) × IsCounted line count) (λ end. (book.new ≡ book.old) × IsLineEnd end (line_reply book.old seat line)) }
+    ensures { MatchResult result (λ count. (reply_to_line book.old seat line ≡ Ok book.new) × IsCounted line count) (λ end. (book.new ≡ book.old) × IsLineEnd end (reply_to_line book.old seat line)) }
 {
     match line {
         Line::Add(addition) => match book.add_inside(seat, &addition, marks) {
@@ -142,8 +142,8 @@ pub(crate) fn enter(
 /// Drops the numbers of a seat.
 fn delete(book: &mut Book, seat: u32, numbers: &Numbers) -> Result<(), Refusal>
     ensures { MatchResult result
-        (λ _. line_reply book.old seat (Delete numbers.now) ≡ Ok book.new)
-        (λ refusal. (book.new ≡ book.old) × IsLineEnd (Refused refusal) (line_reply book.old seat (Delete numbers.now))) }
+        (λ _. reply_to_line book.old seat (Delete numbers.now) ≡ Ok book.new)
+        (λ refusal. (book.new ≡ book.old) × IsLineEnd (Refused refusal) (reply_to_line book.old seat (Delete numbers.now))) }
 {
     let list = numbers.to_vec()?;
     book.drop_numbers(seat, &list)?;

@@ -16,7 +16,7 @@ use Rattle.lj_text.specs.declared.cnf.fault.CnfFault.{CnfFault}
 use Rattle.lj_text.specs.declared.cnf.fault.CnfFaultKind.TheVariants.{NoHeader, BadHeader, BadNumber, VariableRange, ClauseCount, Truncated, NoMemory}
 use Rattle.lj_text.specs.Lines.{with_read, then_read}
 use Rattle.lj_text.specs.Cnf.{Place, Percent, NoNumber, Number, number_at, fault_in, literals_up_to, clauses_of}
-use Rattle.lj_text.specs.CnfReading.{Begun, completed, clauses_after, IsCnfTold, IsNumberUpTo, is_up_to, is_kept, keeps_first, Goes, places_behind}
+use Rattle.lj_text.specs.CnfReading.{Begun, completed, clauses_after, IsCnfTold, IsNumberUpTo, is_up_to, is_literal_kept, keeps_first, Goes, places_behind}
 use Rattle.lj_text.specs.declared.cnf.fault.CnfFaultKind.{CnfFaultKind}
 
 pub not_zero : (n : ℕ) → 0 < n → (n == 0) ≡ false
@@ -226,8 +226,8 @@ completed-end b last h e =
 
 -- where a token's number is kept, so is that of the first token of the line
 pub first-kept : (old now : Begun) (all left : List (List ℕ)) (token : List ℕ) (after : List (List ℕ)) → ((now ≡ old) × (left ≡ all)) ⊎ (keeps_first old all ≡ true)
-    → left ≡ token ∷ after → is_kept now (number_of token) ≡ true → keeps_first old all ≡ true
+    → left ≡ token ∷ after → is_literal_kept now (number_of token) ≡ true → keeps_first old all ≡ true
 first-kept old now all left token after first cut kept = elim first [
-  | inl same ↦ ap (λ ts. keeps_first old ts) (sym same.1 ∙ cut) ∙ ap (λ (b : Begun). is_kept b (number_of token)) (sym same.0) ∙ kept
+  | inl same ↦ ap (λ ts. keeps_first old ts) (sym same.1 ∙ cut) ∙ ap (λ (b : Begun). is_literal_kept b (number_of token)) (sym same.0) ∙ kept
   | inr h ↦ h
 ]

@@ -8,7 +8,7 @@ use Rattle.lj_text.specs.declared.lines.fault.LineFault.{LineFault}
 use Rattle.lj_text.specs.declared.lines.look.Found.{Found}
 use Rattle.lj_text.specs.Bytes.{line_number, lines_of}
 use Rattle.lj_text.specs.Lines.{Said, said_from, whole_said, all_said, whole_said_from, all_said_from, all_but_last}
-use Rattle.lj_text.specs.LinesRead.{LinesRead, HasNoLineEnd, joined, StandsWithin, StandsBehind, LineReaderStandsAt, line_answer, handed_out, number_at, last_number, is_line_no_memory}
+use Rattle.lj_text.specs.LinesRead.{LinesRead, HasNoLineEnd, joined, StandsWithin, StandsBehind, LineReaderStandsAt, line_answer, handed_out, line_number_of, last_number, is_line_no_memory}
 use Rattle.lj_text.specs.LinesHeld.{IsAhead, passed, kept}
 use Rattle.lj_text.specs.Looking.{Looked, LookedBehind, said_of}
 use Rattle.lj_text.proofs.StandLemmas.{both, joined_both, whole-joined, all-joined, whole-none, get-behind, said_from-append, cut-joined, cut-none}
@@ -97,15 +97,15 @@ place-none r text given found s p none =
     ∙ ap (λ ls. s.lines ++ ls) (cut-joined p.lines p.after p.whole ∙ ap (λ ls. p.lines ++ all_but_last ls) (cut-none p.after (none-open r.max (length s.lines) r.ahead found p none)) ∙ append-nil p.lines) in
     (subst P none p.none_is).1 ∙ p.number_is ∙ ap line_number (sym (ap length last ∙ length-append s.lines p.lines))
 
-places : (at last : ℕ) (o : Option Line) → (o ≡ None → at ≡ last) → at ≡ number_at (found_said at o) last
+places : (at last : ℕ) (o : Option Line) → (o ≡ None → at ≡ last) → at ≡ line_number_of (found_said at o) last
 places at last None h = h refl
 places at last (Some line) h = refl
 
 pub place-whole : (r : LinesRead) (text : List ℕ) (given : ℕ) (found : Found) (s : StandsWithin r text given) (p : Looked r.max (length s.lines) r.ahead found)
-    → found.at ≡ number_at (slice_get (whole_said r.max text) given) (last_number text)
+    → found.at ≡ line_number_of (slice_get (whole_said r.max text) given) (last_number text)
 place-whole r text given found s p =
     places found.at (last_number text) found.line (λ none. place-none r text given found s p none)
-    ∙ ap (λ o. number_at o (last_number text)) (sym (whole-at r text given s ∙ whole-found r.max (length s.lines) r.ahead found p))
+    ∙ ap (λ o. line_number_of o (last_number text)) (sym (whole-at r text given s ∙ whole-found r.max (length s.lines) r.ahead found p))
 
 -- what was found may be passed
 pub ahead-found : (max k : ℕ) (ahead : List ℕ) (found : Found) → Looked max k ahead found → IsAhead ahead found
@@ -152,20 +152,20 @@ stands-behind r new text given found s p max_is line_is =
     }
 
 pub place-behind : (r : LinesRead) (text : List ℕ) (given : ℕ) (found : Found) (s : StandsWithin r text given) (p : LookedBehind r.max (length s.lines) r.ahead found)
-    → found.at ≡ number_at (slice_get (all_said r.max text) given) (last_number text)
+    → found.at ≡ line_number_of (slice_get (all_said r.max text) given) (last_number text)
 place-behind r text given found s p =
     places found.at (last_number text) found.line (λ none. p.at_is ∙ number-behind r text given found s p)
-    ∙ ap (λ o. number_at o (last_number text)) (sym (all-at r text given s ∙ behind-found r.max (length s.lines) r.ahead found p))
+    ∙ ap (λ o. line_number_of o (last_number text)) (sym (all-at r text given s ∙ behind-found r.max (length s.lines) r.ahead found p))
 
 not_both : (o : Option Line) → is_some o ≡ true → o ≡ None → ⊥
 not_both None h e = cc
 not_both (Some line) h e = cc
 
 pub place-some : (r : LinesRead) (text : List ℕ) (given : ℕ) (found : Found) (s : StandsWithin r text given) (p : Looked r.max (length s.lines) r.ahead found) → is_some found.line ≡ true
-    → found.at ≡ number_at (slice_get (all_said r.max text) given) (last_number text)
+    → found.at ≡ line_number_of (slice_get (all_said r.max text) given) (last_number text)
 place-some r text given found s p some =
     places found.at (last_number text) found.line (λ none. absurd (not_both found.line some none))
-    ∙ ap (λ o. number_at o (last_number text)) (sym (all-at r text given s ∙ all-found r.max (length s.lines) r.ahead found p some))
+    ∙ ap (λ o. line_number_of o (last_number text)) (sym (all-at r text given s ∙ all-found r.max (length s.lines) r.ahead found p some))
 
 pub ahead-behind : (max k : ℕ) (ahead : List ℕ) (found : Found) → LookedBehind max k ahead found → IsAhead ahead found
 ahead-behind max k ahead found p = record {

@@ -37,14 +37,14 @@ is_cnf_no_memory (NoMemory _) = true
 is_cnf_no_memory kind = false
 
 -- a number up to the number of variables where a clause is to come: what it says has to be kept
-abbrev pub is_kept : Begun → Option ℤ → Bool
-is_kept begun None = false
-is_kept begun (Some n) = nat_lt 0 begun.left && nat_le (unsigned_abs n) begun.variables
+abbrev pub is_literal_kept : Begun → Option ℤ → Bool
+is_literal_kept begun None = false
+is_literal_kept begun (Some n) = nat_lt 0 begun.left && nat_le (unsigned_abs n) begun.variables
 
 -- the first of a line's tokens is such a number
 abbrev pub keeps_first : Begun → List (List ℕ) → Bool
 keeps_first begun [] = false
-keeps_first begun (token ∷ tokens) = is_kept begun (number_of token)
+keeps_first begun (token ∷ tokens) = is_literal_kept begun (number_of token)
 
 -- the fault is what the grammar tells, unless memory ran out
 abbrev pub IsCnfTold : {Y : Type 0} → CnfFaultKind → ℕ → Result Y CnfFault → Type 0

@@ -62,9 +62,9 @@ line_answer None = Ok None
 line_answer (Some said) = told said.line said.says
 
 -- the number of the line that says something, or else of the one being read
-abbrev pub number_at : Option Said → ℕ → ℕ
-number_at None last = last
-number_at (Some said) last = said.line
+abbrev pub line_number_of : Option Said → ℕ → ℕ
+line_number_of None last = last
+line_number_of (Some said) last = said.line
 
 -- there is such a line, and this is its number
 abbrev pub IsSaidAt : Option Said → ℕ → Type 0

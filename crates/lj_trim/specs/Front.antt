@@ -16,5 +16,5 @@ abbrev pub empty_number_of : Step → List ℕ
 empty_number_of s = if adds_empty s then added_number s else []
 
 -- the addition behind a reference
-abbrev pub addition_of : Bor Addition → Addition
-addition_of a = a.now
+abbrev pub lent_addition : Bor Addition → Addition
+lent_addition a = a.now

@@ -4,7 +4,7 @@ ghost use Rattle.std.specs.List.{list_any};
 ghost use Rattle.lj_text.specs.Steps.{adds_empty};
 ghost use Rattle.lj_text.specs.Needed.{up_to_empty, additions, empty_numbers, has};
 ghost use Rattle.lj_trim.specs.Marks.{is_marked, Marked, Passed};
-ghost use Rattle.lj_trim.specs.Front.{needed_in, addition_of, empty_number_of};
+ghost use Rattle.lj_trim.specs.Front.{needed_in, lent_addition, empty_number_of};
 
 use crate::marks::Marks;
 use lj_clause::NoMemory;
@@ -69,7 +69,7 @@ fn mark_empty(marks: &mut Marks, steps: &[Step]) -> Result<(), NoMemory>
 
 /// The additions among the steps.
 fn additions_of<'a>(alloc: Global, steps: &'a [Step]) -> Result<Vec<&'a Addition>, NoMemory>
-    ensures { IfOk result (λ v. map addition_of v.items ≡ additions steps.now) }
+    ensures { IfOk result (λ v. map lent_addition v.items ≡ additions steps.now) }
 {
     let mut found = Vec::new(alloc);
     for step in steps {
@@ -86,7 +86,7 @@ fn pass<'a>(
     marks: &mut Marks,
     begun: &Vec<&'a Addition>,
 ) -> Result<Vec<&'a Addition>, NoMemory>
-    ensures { IfOk result (λ still. Passed marks.old marks.new (map addition_of begun.now.items) (map addition_of still.items)) }
+    ensures { IfOk result (λ still. Passed marks.old marks.new (map lent_addition begun.now.items) (map lent_addition still.items)) }
 {
     let mut still = Vec::new(alloc);
     let mut left = begun.len();

@@ -3,7 +3,7 @@ ghost use Rattle.std.specs.Prelude.{◌≡◌, ◌≤◌, ◌∷◌, ◌++◌, �
 ghost use Rattle.lj_clause.specs.ClauseMap.{formula_of};
 ghost use Rattle.lj_text.specs.Bytes.{begins, number_of};
 ghost use Rattle.lj_text.specs.Cnf.{Place, Percent, Number, number_at, place_at};
-ghost use Rattle.lj_text.specs.CnfReading.{Goes, IsCnfTold, IsNumberUpTo, completed, is_cnf_no_memory, is_kept};
+ghost use Rattle.lj_text.specs.CnfReading.{Goes, IsCnfTold, IsNumberUpTo, completed, is_cnf_no_memory, is_literal_kept};
 
 use super::fault::CnfFaultKind;
 use crate::bytes::{Word, word_of};
@@ -100,7 +100,7 @@ impl Body {
 
     /// Takes a token that isn't to end the formula.
     fn take_number(&mut self, token: &[u8]) -> Result<(), CnfFaultKind>
-        ensures room { MatchResult result (λ _. is_kept self.old (number_of token.now) ≡ true) (λ kind. is_cnf_no_memory kind ≡ true → is_kept self.old (number_of token.now) ≡ true) }
+        ensures room { MatchResult result (λ _. is_literal_kept self.old (number_of token.now) ≡ true) (λ kind. is_cnf_no_memory kind ≡ true → is_literal_kept self.old (number_of token.now) ≡ true) }
         ensures reads { (last line : ℕ) (rest : List Place) → MatchResult result (λ _. completed self.old last (number_at line (number_of token.now) ∷ rest) ≡ completed self.new last rest) (λ kind. IsCnfTold kind line (completed self.old last (number_at line (number_of token.now) ∷ rest))) }
     {
         let number = number_up_to(token, self.variables)?;
@@ -113,7 +113,7 @@ impl Body {
 
     /// Takes a token, and answers whether it ends the formula.
     pub(super) fn take(&mut self, token: &[u8]) -> Result<bool, CnfFaultKind>
-        ensures room { MatchResult result (λ ended. ended ≡ false → is_kept self.old (number_of token.now) ≡ true) (λ kind. is_cnf_no_memory kind ≡ true → is_kept self.old (number_of token.now) ≡ true) }
+        ensures room { MatchResult result (λ ended. ended ≡ false → is_literal_kept self.old (number_of token.now) ≡ true) (λ kind. is_cnf_no_memory kind ≡ true → is_literal_kept self.old (number_of token.now) ≡ true) }
         ensures reads { (last line : ℕ) (rest : List Place) → Goes last line (token.now ∷ []) rest self.old self.new result }
     {
         if is_percent(token) {

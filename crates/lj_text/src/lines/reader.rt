@@ -2,7 +2,7 @@
 ghost use Rattle.std.specs.Prelude.{◌≡◌, ◌+◌, ◌≤◌, ◌++◌, ◌⊎◌, ℕ, Bool, true, false, List, [], length, Option, Some, None, Ok, Err, IfSome, IfErr, IsSome, OnOk, OnErr, MatchBool, MatchResult, slice_get};
 ghost use Rattle.lj_text.specs.Bytes.{line_number};
 ghost use Rattle.lj_text.specs.Lines.{whole_said, all_said};
-ghost use Rattle.lj_text.specs.LinesRead.{LineReaderStandsAt, IsSaidAt, IsSaidRight, wants_memory, line_answer, handed_out, fault_of, number_at, last_number};
+ghost use Rattle.lj_text.specs.LinesRead.{LineReaderStandsAt, IsSaidAt, IsSaidRight, wants_memory, line_answer, handed_out, fault_of, line_number_of, last_number};
 ghost use Rattle.lj_text.specs.LinesHeld.{IsAhead, passed, kept};
 ghost use Rattle.lj_text.specs.Looking.{Looked, LookedBehind, Fails, FailsToEnd};
 
@@ -104,7 +104,7 @@ impl LineReader {
         ensures right { (text : List ℕ) (given : ℕ) → LineReaderStandsAt self.old text given → self.old.fault ≡ None → wants_memory result ≡ true → IsSaidRight (slice_get (whole_said self.old.max text) given) }
 
         // Its number, or that of the line being read.
-        ensures at { (text : List ℕ) (given : ℕ) → LineReaderStandsAt self.old text given → self.old.fault ≡ None → wants_memory result ≡ false → self.new.at ≡ number_at (slice_get (whole_said self.old.max text) given) (last_number text) }
+        ensures at { (text : List ℕ) (given : ℕ) → LineReaderStandsAt self.old text given → self.old.fault ≡ None → wants_memory result ≡ false → self.new.at ≡ line_number_of (slice_get (whole_said self.old.max text) given) (last_number text) }
 
         ensures fault { self.old.fault ≡ None → wants_memory result ≡ false → self.new.fault ≡ fault_of result }
         ensures unchanged { wants_memory result ≡ true → self.new ≡ self.old }
@@ -144,7 +144,7 @@ impl LineReader {
         ensures right { (text : List ℕ) (given : ℕ) → LineReaderStandsAt self.old text given → self.old.fault ≡ None → wants_memory result ≡ true → IsSaidRight (slice_get (all_said self.old.max text) given) }
 
         // Its number, or that of the last line.
-        ensures at { (text : List ℕ) (given : ℕ) → LineReaderStandsAt self.old text given → self.old.fault ≡ None → wants_memory result ≡ false → self.new.at ≡ number_at (slice_get (all_said self.old.max text) given) (last_number text) }
+        ensures at { (text : List ℕ) (given : ℕ) → LineReaderStandsAt self.old text given → self.old.fault ≡ None → wants_memory result ≡ false → self.new.at ≡ line_number_of (slice_get (all_said self.old.max text) given) (last_number text) }
 
         ensures fault { self.old.fault ≡ None → wants_memory result ≡ false → self.new.fault ≡ fault_of result }
         ensures unchanged { wants_memory result ≡ true → self.new ≡ self.old }

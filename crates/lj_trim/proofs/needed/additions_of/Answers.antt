@@ -1,7 +1,7 @@
 use Rattle.std.proofs.Common.{ap, ◌∙◌, sym, ◌++◌, ◌∷◌, [], append-nil, map, take}
 use Rattle.std.proofs.lemmas.List.{map-append}
 use Rattle.lj_text.specs.Needed.{additions}
-use Rattle.lj_trim.specs.Front.{addition_of}
+use Rattle.lj_trim.specs.Front.{lent_addition}
 use Rattle.lj_trim.proofs.FrontLemmas.{additions-more}
 use Rattle.lj_trim.proofs.needed.additions_of.Goals as goal
 use Rattle.lj_trim.proofs.needed.additions_of.Goals.{in-Add+in_ok-push, in_default}
@@ -12,14 +12,14 @@ loop-step-preserved c =
     let more = additions-more c.args.steps.now c.loop-step.step-index c.step-item.result c.loop-step-test.true c.step-item.is in
     elim c.match-step.branch [
       | in-Add+in_ok-push w ↦
-          ap (λ v. map addition_of v.items) w.found-is
-          ∙ ap (map addition_of) w.in_ok-push.ensures.items
-          ∙ map-append addition_of c.loop-step.found.items _
+          ap (λ v. map lent_addition v.items) w.found-is
+          ∙ ap (map lent_addition) w.in_ok-push.ensures.items
+          ∙ map-append lent_addition c.loop-step.found.items _
           ∙ ap (λ t. t ++ w.in-Add.addition ∷ []) c.loop-step.invariant
           ∙ ap (λ s. before ++ additions (s ∷ [])) (sym w.in-Add.is)
           ∙ sym more
       | in_default w ↦
-          ap (λ v. map addition_of v.items) w.found-is
+          ap (λ v. map lent_addition v.items) w.found-is
           ∙ c.loop-step.invariant
           ∙ sym (append-nil before)
           ∙ ap (λ s. before ++ additions (s ∷ [])) (sym w.in_default.is)

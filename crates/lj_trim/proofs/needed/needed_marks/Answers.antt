@@ -4,7 +4,7 @@ use Rattle.std.proofs.lemmas.Bool.{false≢true}
 use Rattle.std.proofs.lemmas.List.{length-map}
 use Rattle.lj_text.specs.Needed.{empty_numbers}
 use Rattle.lj_trim.specs.Marks.{is_marked, IsCovered, Covers}
-use Rattle.lj_trim.specs.Front.{needed_in, addition_of}
+use Rattle.lj_trim.specs.Front.{needed_in, lent_addition}
 use Rattle.lj_trim.proofs.MarkLemmas.{all-map, covered_unmarked}
 use Rattle.lj_trim.proofs.ClosureLemmas.{needed-empty, needed-covers, marked-needed}
 use Rattle.lj_trim.proofs.needed.needed_marks.Goals as goal
@@ -26,11 +26,11 @@ returns-then-len c =
     let p = c.in_ok-still.ensures in
     let i = c.loop-begun.invariant in
     let equal : length c.in_ok-still.still.items ≡ length c.loop-begun.begun.items = omega (arith, c.in_ok-still.still.ok, c.loop-begun.begun.ok, c.len.ensures, c.if-len.true, c.len-in-loop-begun.ensures) in
-    let same = length-map c.in_ok-still.still.items addition_of ∙ equal ∙ sym (length-map c.loop-begun.begun.items addition_of) in
+    let same = length-map c.in_ok-still.still.items lent_addition ∙ equal ∙ sym (length-map c.loop-begun.begun.items lent_addition) in
     let after = c.pass.new.marks in
     let first = all-map (λ n. is_marked c.loop-begun.marks n ≡ true) (λ n. is_marked after n ≡ true) p.grows (empty_numbers steps) i.first in
     let within = p.only (needed_in steps) i.within i.covers in
-    marked-needed steps after first within (i.closes after p.grows (p.closes after (λ n h. h) (covered_unmarked after (map addition_of c.in_ok-still.still.items) (p.idle same))))
+    marked-needed steps after first within (i.closes after p.grows (p.closes after (λ n h. h) (covered_unmarked after (map lent_addition c.in_ok-still.still.items) (p.idle same))))
 
 pub loop-begun-preserved : goal.loop-begun-preserved
 loop-begun-preserved c =

@@ -2,15 +2,15 @@ use Rattle.std.proofs.Common.{◌≡◌, ℕ, ap, ◌∙◌, sym, ◌∷◌, [],
 use Rattle.std.specs.Borrow.{Bor}
 use Rattle.std.proofs.lemmas.List.{map-append}
 use Rattle.lj_text.specs.declared.line.Addition.{Addition}
-use Rattle.lj_trim.specs.Front.{addition_of}
+use Rattle.lj_trim.specs.Front.{lent_addition}
 use Rattle.lj_trim.proofs.MarkLemmas.{passed_taken, passed_open, passed_along, passed_still}
 use Rattle.lj_trim.proofs.FrontLemmas.{drop-item, drop-map}
 use Rattle.lj_trim.proofs.needed.pass.Goals as goal
 
 next_addition : (items : List (Bor Addition)) (n : ℕ) (x : Bor Addition) → 0 < n → n ≤ length items → x ≡ get_or items (n - 1) x
-    → addition_of x ∷ drop n (map addition_of items) ≡ drop (n - 1) (map addition_of items)
+    → lent_addition x ∷ drop n (map lent_addition items) ≡ drop (n - 1) (map lent_addition items)
 next_addition items n x some le e =
-    sym (drop-map addition_of (n - 1) items ∙ ap (map addition_of) (drop-item items n x some le e) ∙ ap (λ t. addition_of x ∷ t) (sym (drop-map addition_of n items)))
+    sym (drop-map lent_addition (n - 1) items ∙ ap (map lent_addition) (drop-item items n x some le e) ∙ ap (λ t. lent_addition x ∷ t) (sym (drop-map lent_addition n items)))
 
 pub loop-left-preserved-in-Continue-1 : goal.loop-left-preserved-in-Continue-1
 loop-left-preserved-in-Continue-1 c =
@@ -26,7 +26,7 @@ pub loop-left-preserved : goal.loop-left-preserved
 loop-left-preserved c =
     let items = c.args.begun.now.items in
     let next = next_addition items c.loop-left.left c.index-addition.result.now c.loop-left-test.true c.loop-left.invariant.inside c.index-addition.ensures in
-    let longer = sym (ap (map addition_of) c.in_ok-push.ensures.items ∙ map-append addition_of c.loop-left.still.items (c.index-addition.result.now ∷ [])) in
+    let longer = sym (ap (map lent_addition) c.in_ok-push.ensures.items ∙ map-append lent_addition c.loop-left.still.items (c.index-addition.result.now ∷ [])) in
     record {
       within = omega (arith, c.loop-left.invariant.within);
       inside = omega (arith, c.loop-left.invariant.inside);
@@ -36,4 +36,4 @@ loop-left-preserved c =
 pub returns : goal.returns
 returns c =
     let none : c.loop-left.left ≡ 0 = omega (arith, c.loop-left-test.false) in
-    passed_along _ _ _ _ _ (ap (λ n. drop n (map addition_of c.args.begun.now.items)) none) c.loop-left.invariant.passed
+    passed_along _ _ _ _ _ (ap (λ n. drop n (map lent_addition c.args.begun.now.items)) none) c.loop-left.invariant.passed

@@ -1,6 +1,6 @@
 use Rattle.std.proofs.Common.{length, Option, Ok, sym, ap, ◌∙◌, subst}
 use Rattle.lj_text.specs.Lines.{Said}
-use Rattle.lj_text.specs.LinesRead.{LinesRead, IsSaidAt, IsSaidRight, line_answer, number_at, last_number}
+use Rattle.lj_text.specs.LinesRead.{LinesRead, IsSaidAt, IsSaidRight, line_answer, line_number_of, last_number}
 use Rattle.lj_text.specs.LinesHeld.{passed}
 use Rattle.lj_text.proofs.ReaderLemmas.{at_true, at_false, all-at, all-found, behind-found, answers, stands-passed, stands-behind, place-some, place-behind, ahead-found, ahead-behind, within-of, stands-of, stands-kept, kept-at, kept-max}
 use Rattle.lj_text.proofs.lines.reader.LineReader.finish.Goals as goal
@@ -81,7 +81,7 @@ returns-in-Err-clause-at c text given stands none memory =
     let r = c.args.self.now in
     let s = within-of r text given (sym (ap (λ (v : LinesRead). v.finished) c.self.view_is) ∙ c.if-self.false) stands in
     ap (λ (v : LinesRead). v.at) c.keep.ensures ∙ kept-at c.look_to_end.new.self c.in-Err.fault memory
-    ∙ ap (λ o. number_at o (last_number text)) (sym (all-at r text given s ∙ (c.in-Err.ensures.found (length s.lines) s.line_is).told memory))
+    ∙ ap (λ o. line_number_of o (last_number text)) (sym (all-at r text given s ∙ (c.in-Err.ensures.found (length s.lines) s.line_is).told memory))
 
 pub returns-in-Err-clause-max : goal.returns-in-Err-clause-max
 returns-in-Err-clause-max c = ap (λ (v : LinesRead). v.max) c.keep.ensures ∙ kept-max c.look_to_end.new.self c.in-Err.fault ∙ ap (λ (v : LinesRead). v.max) c.look_to_end.ensures.same

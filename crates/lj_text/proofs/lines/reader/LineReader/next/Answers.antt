@@ -1,6 +1,6 @@
 use Rattle.std.proofs.Common.{length, Option, Ok, sym, ap, ◌∙◌, subst}
 use Rattle.lj_text.specs.Lines.{Said}
-use Rattle.lj_text.specs.LinesRead.{LinesRead, IsSaidAt, IsSaidRight, line_answer, number_at, last_number}
+use Rattle.lj_text.specs.LinesRead.{LinesRead, IsSaidAt, IsSaidRight, line_answer, line_number_of, last_number}
 use Rattle.lj_text.specs.LinesHeld.{passed}
 use Rattle.lj_text.proofs.ReaderLemmas.{whole-at, whole-found, answers, stands-passed, place-whole, ahead-found, within-of, stands-of, kept-at}
 use Rattle.lj_text.proofs.lines.reader.LineReader.next.Goals as goal
@@ -43,7 +43,7 @@ returns-in-Err-clause-at c text given stands none memory =
     let r = c.args.self.now in
     let s = within-of r text given (sym (ap (λ (v : LinesRead). v.finished) c.self.view_is) ∙ c.if-self.false) stands in
     ap (λ (v : LinesRead). v.at) c.keep.ensures ∙ kept-at c.look_ahead.new.self c.in-Err.fault memory
-    ∙ ap (λ o. number_at o (last_number text)) (sym (whole-at r text given s ∙ (c.in-Err.ensures.found (length s.lines) s.line_is).told memory))
+    ∙ ap (λ o. line_number_of o (last_number text)) (sym (whole-at r text given s ∙ (c.in-Err.ensures.found (length s.lines) s.line_is).told memory))
 
 pub returns-in-Err-clause-line : goal.returns-in-Err-clause-line
 returns-in-Err-clause-line c text given stands none =
