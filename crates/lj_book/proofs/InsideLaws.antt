@@ -31,7 +31,7 @@ use Rattle.lj_book.specs.State.{State, steps_of, added, next, live, verdict}
 use Rattle.lj_book.specs.History.{after_entry, IsLegal}
 use Rattle.lj_book.specs.Calls.{IsRefusal, unless_refused, pair_in, if_held, with_pair, pairs_of, with_group_pair, group_pairs_of, repeated_after, is_seen, with_seen, case_with, free_refusal, if_free, take_reply, commit_told}
 use Rattle.lj_book.specs.Inside.{joint_addition, walk_refusal, open_refusal, rat_refusal, or_full, test_refusal, inside_after, inside_reply, inside_step, inside_entry}
-use Rattle.lj_book.specs.JointLines.{LineParts, if_bound, with_joint, joints_in, with_joint_group, joint_groups_in, parts_with, joint_parts, joint_addition, tested_line, line_by, inside_line, line_entry}
+use Rattle.lj_book.specs.JointLines.{LineParts, if_bound, with_joint, joints_in, with_joint_group, joint_groups_in, parts_with, joint_parts, addition_of_parts, tested_line, line_by, inside_line, line_entry}
 use Rattle.lj_book.specs.Kept.{IsKept, refuted_after}
 use Rattle.lj_book.proofs.HistoryLaws.{IsSound, IsSound-reached, IsReached-after, live-addition, live-held, steps_of-push, additions-append}
 use Rattle.lj_book.proofs.BookLaws.{same_state, verdict-same, verdict-first, verdict-stays}
@@ -101,11 +101,11 @@ lives_sound s seat sound own joint e = some_clause (fin.get (live s) joint) (liv
 
 abbrev told_by : State → LemmaValue → Result LineParts Refusal → Result Added Refusal
 told_by s lemma (Err e) = Err e
-told_by s lemma (Ok parts) = unless_refused (test_refusal s (joint_addition (next s) lemma parts)) (commit_told s)
+told_by s lemma (Ok parts) = unless_refused (test_refusal s (addition_of_parts (next s) lemma parts)) (commit_told s)
 
 abbrev step_by : State → LemmaValue → Result LineParts Refusal → Option Step
 step_by s lemma (Err e) = None
-step_by s lemma (Ok parts) = Some (steps.Add (recorded (live s) (joint_addition (next s) lemma parts)))
+step_by s lemma (Ok parts) = Some (steps.Add (recorded (live s) (addition_of_parts (next s) lemma parts)))
 
 after_case : (s : State) (seat : ℕ) (a : Addition) (rep : Option ℕ) (hs : Result (List Pair) Refusal) (gs : Result (List (Pair × List Pair)) Refusal) → inside_after s (case_with seat a rep hs gs) ≡ told_by s a.lemma (parts_with rep (numbers_of hs) (joint_groups gs))
 after_case s seat a rep (Err e) gs = refl
@@ -154,9 +154,9 @@ step_free s seat a sound can =
 
 refused_by : (s : State) (lemma : LemmaValue) (r : Result LineParts Refusal) (e : Refusal) → line_by s lemma r ≡ Err e → told_by s lemma r ≡ Err e
 refused_by s lemma (Err x) e h = let same : x ≡ e = cc in ap Err same
-refused_by s lemma (Ok parts) e h = go (test_refusal s (joint_addition (next s) lemma parts)) h
+refused_by s lemma (Ok parts) e h = go (test_refusal s (addition_of_parts (next s) lemma parts)) h
   where
-    go : (o : Option Refusal) → unless_refused o (recorded (live s) (joint_addition (next s) lemma parts)) ≡ Err e → unless_refused o (commit_told s) ≡ Err e
+    go : (o : Option Refusal) → unless_refused o (recorded (live s) (addition_of_parts (next s) lemma parts)) ≡ Err e → unless_refused o (commit_told s) ≡ Err e
     go None h = cc
     go (Some x) h = let same : x ≡ e = cc in ap Err same
 
@@ -172,21 +172,21 @@ inside_refused s seat a e sound h = go (free_refusal s seat a.number) refl h
 pub record IsEntered (s : State) (seat : ℕ) (a step : Addition) (parts : LineParts) : Type 0 where
   pub can : CanBind s seat a.number
   pub are : joint_parts (joint_of s.tables seat) a ≡ Ok parts
-  pub passed : test_refusal s (joint_addition (next s) a.lemma parts) ≡ None
-  pub is : recorded (live s) (joint_addition (next s) a.lemma parts) ≡ step
+  pub passed : test_refusal s (addition_of_parts (next s) a.lemma parts) ≡ None
+  pub is : recorded (live s) (addition_of_parts (next s) a.lemma parts) ≡ step
 
 pub entered : (s : State) (seat : ℕ) (a step : Addition) → inside_line s seat a ≡ Ok step → (parts : LineParts) × IsEntered s seat a step parts
 entered s seat a step h = go (free_refusal s seat a.number) refl (joint_parts (joint_of s.tables seat) a) refl h
   where
-    made : (can : CanBind s seat a.number) (parts : LineParts) → joint_parts (joint_of s.tables seat) a ≡ Ok parts → (o : Option Refusal) → test_refusal s (joint_addition (next s) a.lemma parts) ≡ o → unless_refused o (recorded (live s) (joint_addition (next s) a.lemma parts)) ≡ Ok step → (parts : LineParts) × IsEntered s seat a step parts
-    made can parts are None passed h = let same : recorded (live s) (joint_addition (next s) a.lemma parts) ≡ step = cc in (parts, record { can = can; are = are; passed = passed; is = same })
+    made : (can : CanBind s seat a.number) (parts : LineParts) → joint_parts (joint_of s.tables seat) a ≡ Ok parts → (o : Option Refusal) → test_refusal s (addition_of_parts (next s) a.lemma parts) ≡ o → unless_refused o (recorded (live s) (addition_of_parts (next s) a.lemma parts)) ≡ Ok step → (parts : LineParts) × IsEntered s seat a step parts
+    made can parts are None passed h = let same : recorded (live s) (addition_of_parts (next s) a.lemma parts) ≡ step = cc in (parts, record { can = can; are = are; passed = passed; is = same })
     made can parts are (Some x) passed h = absurd (not_ok x h)
       where
         not_ok : (x : Refusal) → ◌≡◌ {A = Result Addition Refusal} (Err x) (Ok step) → ⊥
         not_ok x h = cc
 
     go : (o : Option Refusal) → free_refusal s seat a.number ≡ o → (r : Result LineParts Refusal) → joint_parts (joint_of s.tables seat) a ≡ r → if_free o (line_by s a.lemma r) ≡ Ok step → (parts : LineParts) × IsEntered s seat a step parts
-    go None is (Ok parts) are h = made (can_bind s seat a.number is) parts are (test_refusal s (joint_addition (next s) a.lemma parts)) refl h
+    go None is (Ok parts) are h = made (can_bind s seat a.number is) parts are (test_refusal s (addition_of_parts (next s) a.lemma parts)) refl h
     go None is (Err x) are h = absurd (let no : ⊥ = cc in no)
     go (Some x) is r are h = absurd (let no : ⊥ = cc in no)
 
@@ -208,7 +208,7 @@ recorded_same p a (Open t) = go a.lemma.pivot
 -- its step has the lemma, and the next number
 pub step_kept : (s : State) (seat : ℕ) (a step : Addition) (parts : LineParts) → IsEntered s seat a step parts → (step.number ≡ next s) × (step.lemma ≡ a.lemma)
 step_kept s seat a step parts e =
-    let b = joint_addition (next s) a.lemma parts in
+    let b = addition_of_parts (next s) a.lemma parts in
     let kept = recorded_same (live s) b (first_walk (live s) b) in
     (sym (ap (λ (x : Addition). x.number) e.is) ∙ kept.0, sym (ap (λ (x : Addition). x.lemma) e.is) ∙ kept.1)
 
@@ -251,35 +251,35 @@ line_taken s seat a parts t =
     ap (λ o. if_free o (line_by s a.lemma (joint_parts (joint_of s.tables seat) a))) t.free
     ∙ ap (line_by s a.lemma) t.are
 
-pub line_refused : (s : State) (seat : ℕ) (a : Addition) (parts : LineParts) (x : Refusal) → IsTaken s seat a parts → tested_line (live s) (joint_addition (next s) a.lemma parts) ≡ Err x → inside_line s seat a ≡ Err x
+pub line_refused : (s : State) (seat : ℕ) (a : Addition) (parts : LineParts) (x : Refusal) → IsTaken s seat a parts → tested_line (live s) (addition_of_parts (next s) a.lemma parts) ≡ Err x → inside_line s seat a ≡ Err x
 line_refused s seat a parts x t h =
     line_taken s seat a parts t
-    ∙ go (walk_refusal (live s) (joint_addition (next s) a.lemma parts) (first_walk (live s) (joint_addition (next s) a.lemma parts))) h
+    ∙ go (walk_refusal (live s) (addition_of_parts (next s) a.lemma parts) (first_walk (live s) (addition_of_parts (next s) a.lemma parts))) h
   where
-    go : (o : Option Refusal) → unless_refused o (recorded (live s) (joint_addition (next s) a.lemma parts)) ≡ Err x → unless_refused (or_full s o) (recorded (live s) (joint_addition (next s) a.lemma parts)) ≡ Err x
+    go : (o : Option Refusal) → unless_refused o (recorded (live s) (addition_of_parts (next s) a.lemma parts)) ≡ Err x → unless_refused (or_full s o) (recorded (live s) (addition_of_parts (next s) a.lemma parts)) ≡ Err x
     go None h = cc
     go (Some y) h = h
 
-line_room : (s : State) (seat : ℕ) (a : Addition) (parts : LineParts) (step : Addition) (b : Bool) → IsTaken s seat a parts → tested_line (live s) (joint_addition (next s) a.lemma parts) ≡ Ok step → nat_lt (added s.history) s.max_steps ≡ b → inside_line s seat a ≡ (if b then Ok step else Err refusals.Full)
+line_room : (s : State) (seat : ℕ) (a : Addition) (parts : LineParts) (step : Addition) (b : Bool) → IsTaken s seat a parts → tested_line (live s) (addition_of_parts (next s) a.lemma parts) ≡ Ok step → nat_lt (added s.history) s.max_steps ≡ b → inside_line s seat a ≡ (if b then Ok step else Err refusals.Full)
 line_room s seat a parts step b t h room =
     line_taken s seat a parts t
-    ∙ go (walk_refusal (live s) (joint_addition (next s) a.lemma parts) (first_walk (live s) (joint_addition (next s) a.lemma parts))) b h room
+    ∙ go (walk_refusal (live s) (addition_of_parts (next s) a.lemma parts) (first_walk (live s) (addition_of_parts (next s) a.lemma parts))) b h room
   where
     full : (c : Bool) (x : Addition) → ◌≡◌ {A = Result Addition Refusal} (Ok x) (Ok step) → unless_refused (if c then None else Some refusals.Full) x ≡ (if c then Ok step else Err refusals.Full)
     full true x h = h
     full false x h = refl
 
-    go : (o : Option Refusal) (c : Bool) → unless_refused o (recorded (live s) (joint_addition (next s) a.lemma parts)) ≡ Ok step → nat_lt (added s.history) s.max_steps ≡ c → unless_refused (or_full s o) (recorded (live s) (joint_addition (next s) a.lemma parts)) ≡ (if c then Ok step else Err refusals.Full)
-    go None c h room = ap (λ k. unless_refused (if k then None else Some refusals.Full) (recorded (live s) (joint_addition (next s) a.lemma parts))) room ∙ full c (recorded (live s) (joint_addition (next s) a.lemma parts)) h
+    go : (o : Option Refusal) (c : Bool) → unless_refused o (recorded (live s) (addition_of_parts (next s) a.lemma parts)) ≡ Ok step → nat_lt (added s.history) s.max_steps ≡ c → unless_refused (or_full s o) (recorded (live s) (addition_of_parts (next s) a.lemma parts)) ≡ (if c then Ok step else Err refusals.Full)
+    go None c h room = ap (λ k. unless_refused (if k then None else Some refusals.Full) (recorded (live s) (addition_of_parts (next s) a.lemma parts))) room ∙ full c (recorded (live s) (addition_of_parts (next s) a.lemma parts)) h
     go (Some y) c h room = cc
 
-pub line_full : (s : State) (seat : ℕ) (a : Addition) (parts : LineParts) (step : Addition) → IsTaken s seat a parts → tested_line (live s) (joint_addition (next s) a.lemma parts) ≡ Ok step → s.max_steps ≤ added s.history → inside_line s seat a ≡ Err refusals.Full
+pub line_full : (s : State) (seat : ℕ) (a : Addition) (parts : LineParts) (step : Addition) → IsTaken s seat a parts → tested_line (live s) (addition_of_parts (next s) a.lemma parts) ≡ Ok step → s.max_steps ≤ added s.history → inside_line s seat a ≡ Err refusals.Full
 line_full s seat a parts step t h le = line_room s seat a parts step false t h (above (added s.history) s.max_steps le)
   where
     above : (n m : ℕ) → m ≤ n → nat_lt n m ≡ false
     above n m e = grind (arith, nat_tests)
 
-pub line_passed : (s : State) (seat : ℕ) (a : Addition) (parts : LineParts) (step : Addition) → IsTaken s seat a parts → tested_line (live s) (joint_addition (next s) a.lemma parts) ≡ Ok step → added s.history < s.max_steps → inside_line s seat a ≡ Ok step
+pub line_passed : (s : State) (seat : ℕ) (a : Addition) (parts : LineParts) (step : Addition) → IsTaken s seat a parts → tested_line (live s) (addition_of_parts (next s) a.lemma parts) ≡ Ok step → added s.history < s.max_steps → inside_line s seat a ≡ Ok step
 line_passed s seat a parts step t h lt = line_room s seat a parts step true t h (below (added s.history) s.max_steps lt)
   where
     below : (n m : ℕ) → n < m → nat_lt n m ≡ true
@@ -409,14 +409,14 @@ passed_by s a h = go (walk_refusal (live s) a (first_walk (live s) a)) refl (nat
 
 -- there is room for it
 pub entered_room : (s : State) (seat : ℕ) (a step : Addition) (parts : LineParts) → IsEntered s seat a step parts → added s.history < s.max_steps
-entered_room s seat a step parts e = (passed_by s (joint_addition (next s) a.lemma parts) e.passed).room
+entered_room s seat a step parts e = (passed_by s (addition_of_parts (next s) a.lemma parts) e.passed).room
 
 -- the entry is legal
 pub entered_legal : (s : State) (seat : ℕ) (a step : Addition) (parts : LineParts) → IsSound s → IsPivot a.lemma → IsEntered s seat a step parts → IsLegal s (line_entry seat a.number step)
 entered_legal s seat a step parts sound pivot e =
     let p = live s in
     let joint = joint_of s.tables seat in
-    let b = joint_addition (next s) a.lemma parts in
+    let b = addition_of_parts (next s) a.lemma parts in
     let found = parts_of (repeated_after joint [] a.groups) (joints_in joint a.hints) (joint_groups_in joint a.groups) parts e.are in
     let named : (own j : ℕ) → joint own ≡ Some j → names p j ≡ true = λ own j is. live-held s sound j ∙ bound_is_held s.tables seat own j is in
     let placed : is_in_place p b ≡ true =

@@ -60,8 +60,8 @@ abbrev pub joint_parts : (ℕ → Option ℕ) → Addition → Result LineParts 
 joint_parts joint a = parts_with (repeated_after joint [] a.groups) (joints_in joint a.hints) (joint_groups_in joint a.groups)
 
 -- the addition of these parts under a joint number
-abbrev pub joint_addition : ℕ → LemmaValue → LineParts → Addition
-joint_addition number lemma parts = record { number = number; lemma = lemma; hints = parts.0; groups = parts.1 }
+abbrev pub addition_of_parts : ℕ → LemmaValue → LineParts → Addition
+addition_of_parts number lemma parts = record { number = number; lemma = lemma; hints = parts.0; groups = parts.1 }
 
 -- the recorded form of an addition in joint numbers, or the refusal of its test
 abbrev pub tested_line : ClauseMap → Addition → Result Addition Refusal
@@ -79,7 +79,7 @@ refusal_of (Rat (rats.NoMemory e)) = NoMemory e
 -- the step of an addition whose parts are these, or its first refusal
 abbrev pub line_by : State → LemmaValue → Result LineParts Refusal → Result Addition Refusal
 line_by s lemma (Err e) = Err e
-line_by s lemma (Ok parts) = unless_refused (test_refusal s (joint_addition (next s) lemma parts)) (recorded (live s) (joint_addition (next s) lemma parts))
+line_by s lemma (Ok parts) = unless_refused (test_refusal s (addition_of_parts (next s) lemma parts)) (recorded (live s) (addition_of_parts (next s) lemma parts))
 
 -- the step of a seat's addition, or its first refusal
 abbrev pub inside_line : State → ℕ → Addition → Result Addition Refusal

@@ -5,7 +5,7 @@ ghost use Rattle.lj_clause.specs.Walk.{walk};
 ghost use Rattle.lj_hint.specs.declared.live_line.LineRefusal.TheVariants.{Rat};
 ghost use Rattle.lj_hint.specs.LineTest.{line_reply, IsLineReply};
 ghost use Rattle.lj_book.specs.Calls.{IsReply};
-ghost use Rattle.lj_book.specs.JointLines.{joint_addition, tested_line, refusal_of};
+ghost use Rattle.lj_book.specs.JointLines.{addition_of_parts, tested_line, refusal_of};
 
 use crate::indexed_clauses::IndexedClauses;
 use crate::joint_line::JointLine;
@@ -49,7 +49,7 @@ pub fn tested_line(
     marks: &mut Marks,
 ) -> Result<Addition, Refusal>
     ensures reply { IsReply result (tested_line clauses.old
-        (addition_of number lemma.now (line.now.hints.items, line.now.groups.items))) }
+        (addition_of_parts number lemma.now (line.now.hints.items, line.now.groups.items))) }
     ensures same { clauses.new ≡ clauses.old }
 {
     match test_over(alloc, clauses, lemma, line, marks) {

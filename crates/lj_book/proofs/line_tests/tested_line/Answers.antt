@@ -7,7 +7,7 @@ use Rattle.lj_clause.specs.Rat.{HintGroup}
 use Rattle.lj_text.specs.declared.line.Addition.{Addition}
 use Rattle.lj_hint.specs.declared.live_line.Passed.TheVariants.{Closed}
 use Rattle.lj_hint.specs.LineTest.{line_reply}
-use Rattle.lj_book.specs.JointLines.{joint_addition}
+use Rattle.lj_book.specs.JointLines.{addition_of_parts}
 use Rattle.lj_book.proofs.LineLaws.{closed_line}
 use Rattle.lj_book.proofs.line_tests.tested_line.Goals as goal
 
@@ -16,7 +16,7 @@ returns-in_ok-from_slice-in-Ok-Closed-clause-reply c =
     let p = c.args.clauses.now in
     let lemma = c.args.lemma.now in
     let line = c.args.line.now in
-    let b = joint_addition c.args.number lemma (line.hints.items, line.groups.items) in
+    let b = addition_of_parts c.args.number lemma (line.hints.items, line.groups.items) in
     let made : LemmaValue → List ℕ → List HintGroup → Addition = λ l ns gs. record { number = c.args.number; lemma = l; hints = ns; groups = gs } in
     let told : line_reply p lemma.pivot line.groups.items (walk p (negations lemma.clause) line.hints.items) ≡ Ok (Closed c.in-Ok-Closed.read) =
     c.in-Ok-Closed.ensures

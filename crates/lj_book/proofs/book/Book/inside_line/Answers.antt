@@ -3,7 +3,7 @@ use Rattle.std.specs.Prelude.{Ok, Err}
 use Rattle.lj_book.specs.State.{State, added, next, live}
 use Rattle.lj_book.specs.History.{IsReached}
 use Rattle.lj_book.specs.Calls.{free_refusal}
-use Rattle.lj_book.specs.JointLines.{LineParts, joint_addition, tested_line, inside_line}
+use Rattle.lj_book.specs.JointLines.{LineParts, addition_of_parts, tested_line, inside_line}
 use Rattle.lj_book.proofs.InsideLaws.{IsTaken, refusal_passes, line_refused, line_full, line_passed}
 use Rattle.lj_book.proofs.book.Book.inside_line.Goals as goal
 
@@ -20,7 +20,7 @@ returns-in-Err-tested_line-clause-reply c =
     refusal_passes c.in-Err-tested_line.refusal _ _
     (λ x one.
     ap (λ (t : State). inside_line t c.args.seat a) (sym c.self.view_is)
-    ∙ line_refused s c.args.seat a parts x taken ((λ i. tested_line (sym c.self.invariant.lives i) (joint_addition (sym number i) a.lemma parts)) ∙ one))
+    ∙ line_refused s c.args.seat a parts x taken ((λ i. tested_line (sym c.self.invariant.lives i) (addition_of_parts (sym number i) a.lemma parts)) ∙ one))
     c.in-Err-tested_line.ensures.reply
 
 pub returns-then-added-max_steps-clause-reply : goal.returns-then-added-max_steps-clause-reply
@@ -35,7 +35,7 @@ returns-then-added-max_steps-clause-reply c =
     let number : c.len.result + 1 + c.from.result ≡ next s = λ i. c.len.ensures.len i + 1 + (c.from.ensures ∙ c.self.invariant.additions) i in
     let full : s.max_steps ≤ added s.history = let counted = c.self.invariant.additions in omega arith in
     ap (λ (t : State). inside_line t c.args.seat a) (sym c.self.view_is)
-    ∙ line_full s c.args.seat a parts c.in-Ok-tested_line.step taken ((λ i. tested_line (sym c.self.invariant.lives i) (joint_addition (sym number i) a.lemma parts)) ∙ c.in-Ok-tested_line.ensures.reply) full
+    ∙ line_full s c.args.seat a parts c.in-Ok-tested_line.step taken ((λ i. tested_line (sym c.self.invariant.lives i) (addition_of_parts (sym number i) a.lemma parts)) ∙ c.in-Ok-tested_line.ensures.reply) full
 
 pub returns-clause-reply : goal.returns-clause-reply
 returns-clause-reply c =
@@ -49,4 +49,4 @@ returns-clause-reply c =
     let number : c.len.result + 1 + c.from.result ≡ next s = λ i. c.len.ensures.len i + 1 + (c.from.ensures ∙ c.self.invariant.additions) i in
     let room : added s.history < s.max_steps = let counted = c.self.invariant.additions in omega arith in
     ap (λ (t : State). inside_line t c.args.seat a) (sym c.self.view_is)
-    ∙ line_passed s c.args.seat a parts c.in-Ok-tested_line.step taken ((λ i. tested_line (sym c.self.invariant.lives i) (joint_addition (sym number i) a.lemma parts)) ∙ c.in-Ok-tested_line.ensures.reply) room
+    ∙ line_passed s c.args.seat a parts c.in-Ok-tested_line.step taken ((λ i. tested_line (sym c.self.invariant.lives i) (addition_of_parts (sym number i) a.lemma parts)) ∙ c.in-Ok-tested_line.ensures.reply) room
