@@ -9,7 +9,7 @@ use Rattle.lj_text.specs.CnfRead.{CnfRead, CnfReaderStandsAt}
 use Rattle.lj_text.specs.CnfReading.{is_cnf_no_memory}
 use Rattle.lj_text.specs.Streams.{SourceState, HasEnded}
 use Rattle.lj_run.specs.declared.outcome.RunFault.{RunFault}
-use Rattle.lj_run.specs.declared.outcome.RunFault.TheVariants.{Formula, FormulaRead, NoMemory}
+use Rattle.lj_run.specs.declared.outcome.RunFault.TheVariants.{Formula, FormulaRead, NoMemory, Unconfirmed}
 use Rattle.lj_run.specs.FormulaReading.{IsReadingFormula, FormulaReadOn, KeepsFault, IsFaultAtEnd, IsFormulaFault, GaveAll, GaveFormula, GaveFault}
 use Rattle.lj_run.proofs.GivenLemmas.{given_none, given_on}
 
@@ -96,6 +96,7 @@ fault_told (Ok formula) reader start after max read all told = tt
 fault_told (Err (Formula fault)) reader start after max read all told = record { text = read.piece; all = all; has = subst (λ m. HasFault m read.piece fault) max (told read.piece read.reading) }
 fault_told (Err FormulaRead) reader start after max read all told = absurd told
 fault_told (Err (NoMemory e)) reader start after max read all told = all.unfailed
+fault_told (Err Unconfirmed) reader start after max read all told = absurd told
 
 -- the bytes that were read until the source ended
 pub all_given : (reader : CnfRead) (start after : SourceState) → (read : FormulaReadOn [] reader start after) → HasEnded after → after.failures ≡ 0 → GaveAll start after read.piece

@@ -128,6 +128,7 @@ open_fault run before content paths (faults.CannotCreate path) among same h = ab
 open_fault run before content paths (faults.ProofLost path f) among same h = absurd h
 open_fault run before content paths (faults.NoMemory e) among same h = tt
 open_fault run before content paths faults.OutOfMemory among same h = tt
+open_fault run before content paths faults.Unconfirmed among same h = absurd h
 open_fault run before content paths (faults.Usage text) among same h = absurd h
 
 -- the paths of the streams, and that of the closing one, are the run's
@@ -171,6 +172,7 @@ pub check_cut : {I : Type 0} (seen : I → SourceState) (formula : Bor (List ℕ
 check_cut seen formula before after max streams old new (check_faults.Run (run_faults.Formula fault)) h e = cc
 check_cut seen formula before after max streams old new (check_faults.Run run_faults.FormulaRead) h e = cc
 check_cut seen formula before after max streams old new (check_faults.Run (run_faults.NoMemory refused)) h e = cc
+check_cut seen formula before after max streams old new (check_faults.Run run_faults.Unconfirmed) h e = cc
 check_cut seen formula before after max streams old new check_faults.CannotWrite h e = h
 
 -- ---- verdicts
@@ -235,6 +237,7 @@ lost_fault run content (faults.CannotCreate path) h = absurd h
 lost_fault run content (faults.ProofLost path f) h = h
 lost_fault run content (faults.NoMemory e) h = absurd h
 lost_fault run content faults.OutOfMemory h = absurd h
+lost_fault run content faults.Unconfirmed h = absurd h
 lost_fault run content (faults.Usage text) h = absurd h
 
 pub lost_late : (path : Option (List ℕ)) (fault : Fault) → IsLostAt path fault → (is_told_late fault ≡ true) × (fault ≡ faults.CannotWrite → ⊥) × (failed_outputs fault ≡ 0)
@@ -245,4 +248,5 @@ lost_late path (faults.CannotCreate p) h = absurd h
 lost_late path (faults.ProofLost p f) h = (refl, λ e. cc, refl)
 lost_late path (faults.NoMemory e) h = absurd h
 lost_late path faults.OutOfMemory h = absurd h
+lost_late path faults.Unconfirmed h = absurd h
 lost_late path (faults.Usage text) h = absurd h

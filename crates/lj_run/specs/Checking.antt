@@ -12,7 +12,7 @@ use Rattle.lj_run.specs.FormulaReading.{GaveFormula, IsFormulaFault}
 use Rattle.lj_run.specs.InTurn.{IsOutcome, IsRunAnswer}
 use Rattle.lj_run.specs.Proof.{SinkState}
 use Rattle.lj_run.specs.declared.checking.Checked.{Checked}
-use Rattle.lj_run.specs.declared.outcome.RunFault.TheVariants.{Formula, FormulaRead, NoMemory}
+use Rattle.lj_run.specs.declared.outcome.RunFault.TheVariants.{Formula, FormulaRead, NoMemory, Unconfirmed}
 use Rattle.lj_run.specs.OutcomeText.{outcome_text}
 
 -- the verdict of an outcome with this formula of its verification, or without one
@@ -52,6 +52,7 @@ abbrev pub IsInputFault : CheckFault → Type 0
 IsInputFault (Run (Formula fault)) = Unit {0}
 IsInputFault (Run FormulaRead) = Unit {0}
 IsInputFault (Run (NoMemory _)) = ⊥
+IsInputFault (Run Unconfirmed) = ⊥
 IsInputFault CannotWrite = ⊥
 
 -- What was taken is a beginning of what is printed of a check, and not all of it.

@@ -7,7 +7,7 @@ use Rattle.lj_text.specs.CnfRead.{CnfRead, CnfReaderStandsAt}
 use Rattle.lj_text.specs.CnfReading.{is_cnf_no_memory}
 use Rattle.lj_text.specs.Streams.{SourceState, HasGiven, HasEnded}
 use Rattle.lj_run.specs.declared.outcome.RunFault.{RunFault}
-use Rattle.lj_run.specs.declared.outcome.RunFault.TheVariants.{Formula, FormulaRead, NoMemory}
+use Rattle.lj_run.specs.declared.outcome.RunFault.TheVariants.{Formula, FormulaRead, NoMemory, Unconfirmed}
 
 -- The reader keeps a fault: that of what it was fed, whatever follows, unless memory ran out.
 pub record KeepsFault (fed : List ℕ) (reader : CnfRead) : Type 0 where
@@ -30,6 +30,7 @@ abbrev pub IsFaultAtEnd : CnfRead → RunFault → Type 0
 IsFaultAtEnd reader (Formula fault) = (fed : List ℕ) → IsReadingFormula fed reader → HasFault reader.max fed fault
 IsFaultAtEnd reader FormulaRead = ⊥
 IsFaultAtEnd reader (NoMemory _) = Unit {0}
+IsFaultAtEnd reader Unconfirmed = ⊥
 
 -- The source has ended without a failure, and these are the bytes that it gave.
 pub record GaveAll (before after : SourceState) (text : List ℕ) : Type 0 where
@@ -49,8 +50,9 @@ pub record GaveFault (before after : SourceState) (fault : CnfFault) : Type 0 wh
   pub all : GaveAll before after text
   pub has : HasFault 134217727 text fault
 
--- Why there is no formula: all that the source gave has this fault, a read failed, or memory ran out.
+-- Why there is no formula: all that the source gave has this fault, a read failed, or memory ran out. Nothing is confirmed here.
 abbrev pub IsFormulaFault : SourceState → SourceState → RunFault → Type 0
 IsFormulaFault before after (Formula fault) = GaveFault before after fault
 IsFormulaFault before after FormulaRead = after.failures ≡ 1
 IsFormulaFault before after (NoMemory _) = after.failures ≡ 0
+IsFormulaFault before after Unconfirmed = ⊥

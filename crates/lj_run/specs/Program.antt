@@ -61,6 +61,7 @@ abbrev pub fault_at : Bor (List ℕ) → CheckFault → Fault
 fault_at path (check_faults.Run (run_faults.Formula fault)) = faults.Formula path fault
 fault_at path (check_faults.Run run_faults.FormulaRead) = faults.CannotRead path
 fault_at path (check_faults.Run (run_faults.NoMemory e)) = faults.NoMemory e
+fault_at path (check_faults.Run run_faults.Unconfirmed) = faults.Unconfirmed
 fault_at path check_faults.CannotWrite = faults.CannotWrite
 
 -- the line of a fault of the formula's text at a path
@@ -82,6 +83,7 @@ fault_text (faults.CannotCreate path) = codes "lratjoin: " ++ (path.now ++ codes
 fault_text (faults.ProofLost path fault) = lost_text path.now fault
 fault_text (faults.NoMemory e) = codes "lratjoin: NoMemory\n"
 fault_text faults.OutOfMemory = codes "lratjoin: NoMemory\n"
+fault_text faults.Unconfirmed = codes "lratjoin: Unconfirmed\n"
 fault_text (faults.Usage text) = string_bytes text
 
 -- a growth of memory was refused
@@ -231,7 +233,7 @@ IsOther asked path = IfRun asked (λ run. run.proof ≢ Some path)
 -- The fault is right of what words ask for, where this is told of files: a fault of the text of FORMULA; a path that can't be opened,
 -- or FORMULA whose read failed; an output that failed, where there is something to print; OUT that can't be created
 -- or written; usage. Want of memory may stand in place of
--- each that memory is taken for.
+-- each that memory is taken for. A run in turn has nothing to confirm.
 abbrev pub IsFaultOf : Asked → (List ℕ → Option (List ℕ)) → Fault → Type 0
 IsFaultOf asked content (faults.Formula path fault) =
     IsRunAnd asked (λ run. (path.now ≡ run.formula) × IfSome (content run.formula) (λ text. HasFault 134217727 text fault))
@@ -242,6 +244,7 @@ IsFaultOf asked content (faults.CannotCreate path) = IsRunAnd asked (λ run. run
 IsFaultOf asked content (faults.ProofLost path fault) = IsRunAnd asked (λ run. run.proof ≡ Some path.now)
 IsFaultOf asked content (faults.NoMemory e) = Unit {0}
 IsFaultOf asked content faults.OutOfMemory = Unit {0}
+IsFaultOf asked content faults.Unconfirmed = ⊥
 IsFaultOf asked content (faults.Usage text) = asked ≡ the_usage
 
 -- how often the output has failed where this fault is told: an output that failed is told, and nothing else then

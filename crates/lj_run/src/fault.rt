@@ -29,6 +29,8 @@ pub(crate) enum Fault<'a> {
     NoMemory(NoMemory),
     /// A growth of memory was refused to `clap`.
     OutOfMemory,
+    /// The closed book didn't confirm what its seats were told.
+    Unconfirmed,
     /// The words ask for nothing that the program knows. The text says why, and how the program is used.
     Usage(String),
 }
@@ -59,6 +61,7 @@ impl Fault<'_> {
             Fault::ProofLost { path, fault } => tell_lost(path, fault, err),
             Fault::NoMemory(_) => write_all(err, b"lratjoin: NoMemory\n"),
             Fault::OutOfMemory => write_all(err, b"lratjoin: NoMemory\n"),
+            Fault::Unconfirmed => write_all(err, b"lratjoin: Unconfirmed\n"),
             Fault::Usage(text) => write_all(err, text.as_bytes()),
         }
     }
@@ -141,6 +144,7 @@ pub(crate) fn fault_of<'a>(path: &'a str, fault: CheckFault) -> Fault<'a>
         CheckFault::Run(RunFault::Formula(fault)) => Fault::Formula { path, fault },
         CheckFault::Run(RunFault::FormulaRead) => Fault::CannotRead { path },
         CheckFault::Run(RunFault::NoMemory(e)) => Fault::NoMemory(e),
+        CheckFault::Run(RunFault::Unconfirmed) => Fault::Unconfirmed,
         CheckFault::CannotWrite => Fault::CannotWrite,
     }
 }

@@ -168,6 +168,9 @@ pub enum RunFault {
     /// A growth of memory was refused outside a stream.
     #[error("NoMemory")]
     NoMemory(NoMemory),
+    /// The closed book didn't confirm what its seats were told.
+    #[error("Unconfirmed")]
+    Unconfirmed,
 }
 
 impl From<AllocError> for RunFault {
