@@ -1,4 +1,5 @@
 pub mod Literals
+pub mod Turns
 pub mod LiteralSets
 pub mod Searches
 pub mod Formulas

@@ -1,5 +1,5 @@
 //! Literals.
-ghost use Rattle.std.specs.Prelude.{◌≡◌, ◌+◌, ◌*◌, ◌<◌, ◌≤◌, SomeIff, neg_ℤ};
+ghost use Rattle.std.specs.Prelude.{◌≡◌, ◌+◌, ◌-◌, ◌*◌, ◌%◌, ◌<◌, ◌≤◌, SomeIff, neg_ℤ};
 ghost use Rattle.lj_clause.specs.Literal.{IsLiteral, variable_of, place_of};
 
 use std::cmp::Ordering;
@@ -88,16 +88,19 @@ impl Lit {
     pub fn negated(self) -> Lit
         ensures { result ≡ neg_ℤ self }
     {
-        if self.code % 2 == 0 {
-            Lit {
-                code: self.code + 1,
-            }
-        } else {
-            Lit {
-                code: self.code - 1,
-            }
+        Lit {
+            code: turned(self.code),
         }
     }
+}
+
+/// The code of the negation: the other one of the same variable. It is one instruction, without a branch.
+#[inline]
+fn turned(code: u32) -> u32
+    ensures even { code % 2 ≡ 0 → result ≡ code + 1 }
+    ensures odd { code % 2 ≡ 1 → result ≡ code - 1 }
+{
+    code ^ 1
 }
 
 impl PartialEq for Lit {
