@@ -5,5 +5,6 @@ pub mod Walks
 pub mod Used
 pub mod Receipts
 pub mod StampLaws
+pub mod NearLaws
 pub mod TrailLaws
 pub mod RatTests

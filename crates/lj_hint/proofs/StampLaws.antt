@@ -5,7 +5,7 @@ use Rattle.std.proofs.lemmas.Bool.Decides.{nat_tests}
 use Rattle.std.proofs.lemmas.List.{get_or-set_other, get_or_read, get_or_past, set-get_or, take_all}
 use Rattle.std.proofs.lemmas.Grind.{get_or-set_at}
 use Rattle.std.specs.Prelude.{Result, Ok, Err, OnErr}
-use Rattle.lj_hint.specs.Stamps.{page_at, stamp_at}
+use Rattle.lj_hint.specs.Stamps.{page_at, page_stamp}
 
 zero_at : (m q : ℕ) → slice_index (replicate m 0) q ≡ 0
 zero_at zero q = refl
@@ -36,13 +36,13 @@ written xs at v q lt =
     differ a b e = grind (arith, nat_tests)
 
 -- pages that are the same one by one have the same stamps
-pub same_stamps : (old new : List (List ℕ)) → ((k : ℕ) → slice_index_or new k [] ≡ slice_index_or old k []) → (q : ℕ) → stamp_at new q ≡ stamp_at old q
-unfolding stamp_at
+pub same_stamps : (old new : List (List ℕ)) → ((k : ℕ) → slice_index_or new k [] ≡ slice_index_or old k []) → (q : ℕ) → page_stamp new q ≡ page_stamp old q
+unfolding page_stamp
 same_stamps old new h q = ap (λ page. slice_index page (q % 8192)) (h (q / 8192))
 
 -- one stamp is written in its page
-pub stamped : (pages : List (List ℕ)) (place v : ℕ) (before after : List ℕ) → place / 8192 < length pages → before ≡ get_or pages (place / 8192) before → ((q : ℕ) → slice_index after q ≡ (if q == place % 8192 then v else slice_index before q)) → (q : ℕ) → stamp_at (slice_set pages (place / 8192) after) q ≡ (if q == place then v else stamp_at pages q)
-unfolding stamp_at
+pub stamped : (pages : List (List ℕ)) (place v : ℕ) (before after : List ℕ) → place / 8192 < length pages → before ≡ get_or pages (place / 8192) before → ((q : ℕ) → slice_index after q ≡ (if q == place % 8192 then v else slice_index before q)) → (q : ℕ) → page_stamp (slice_set pages (place / 8192) after) q ≡ (if q == place then v else page_stamp pages q)
+unfolding page_stamp
 stamped pages place v before after lt is h q =
     elim (q / 8192 == place / 8192) as (λ b. (q / 8192 == place / 8192) ≡ b → slice_index (page_at (slice_set pages (place / 8192) after) (q / 8192)) (q % 8192) ≡ (if q == place then v else slice_index (page_at pages (q / 8192)) (q % 8192))) [
       | true ↦ λ e.
@@ -71,20 +71,20 @@ stamped pages place v before after lt is h q =
     before_is there = sym is ∙ get_or_read pages (place / 8192) before lt is [] ∙ ap (page_at pages) (sym there)
 
 -- without a page there is no stamp
-pub no_stamps : (pages : List (List ℕ)) → pages ≡ [] → (q : ℕ) → stamp_at pages q ≡ 0
-unfolding stamp_at
+pub no_stamps : (pages : List (List ℕ)) → pages ≡ [] → (q : ℕ) → page_stamp pages q ≡ 0
+unfolding page_stamp
 no_stamps pages is q = ap (λ ps. slice_index (page_at ps (q / 8192)) (q % 8192)) is
 
 -- nor past the last page
-pub past_pages : (pages : List (List ℕ)) (place : ℕ) → length pages ≤ place / 8192 → stamp_at pages place ≡ 0
-unfolding stamp_at
+pub past_pages : (pages : List (List ℕ)) (place : ℕ) → length pages ≤ place / 8192 → page_stamp pages place ≡ 0
+unfolding page_stamp
 past_pages pages place le = ap (λ page. slice_index page (place % 8192)) (get_or_past pages (place / 8192) [] le)
 
 -- nothing to erase there
-pub none_erased : (pages : List (List ℕ)) (place : ℕ) → length pages ≤ place / 8192 → (q : ℕ) → stamp_at pages q ≡ (if q == place then 0 else stamp_at pages q)
+pub none_erased : (pages : List (List ℕ)) (place : ℕ) → length pages ≤ place / 8192 → (q : ℕ) → page_stamp pages q ≡ (if q == place then 0 else page_stamp pages q)
 none_erased pages place le q =
-    elim (q == place) as (λ b. (q == place) ≡ b → stamp_at pages q ≡ cond b 0 (stamp_at pages q)) [
-      | true ↦ λ e. ap (stamp_at pages) (same q place e) ∙ past_pages pages place le
+    elim (q == place) as (λ b. (q == place) ≡ b → page_stamp pages q ≡ cond b 0 (page_stamp pages q)) [
+      | true ↦ λ e. ap (page_stamp pages) (same q place e) ∙ past_pages pages place le
       | false ↦ λ e. refl
     ] refl
   where
@@ -92,8 +92,8 @@ none_erased pages place le q =
     same a b e = grind (arith, nat_tests)
 
 -- a stamp that is read
-pub stamp_read : (pages : List (List ℕ)) (place : ℕ) (page : List ℕ) → page ≡ page_at pages (place / 8192) → slice_index page (place % 8192) ≡ stamp_at pages place
-unfolding stamp_at
+pub stamp_read : (pages : List (List ℕ)) (place : ℕ) (page : List ℕ) → page ≡ page_at pages (place / 8192) → slice_index page (place % 8192) ≡ page_stamp pages place
+unfolding page_stamp
 stamp_read pages place page is = ap (λ p. slice_index p (place % 8192)) is
 
 -- a fact that holds whatever the result

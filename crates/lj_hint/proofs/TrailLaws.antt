@@ -13,7 +13,7 @@ use Rattle.lj_clause.specs.Literal.{lit_cmp, place_of}
 use Rattle.lj_clause.specs.LiteralSet.{LiteralSet, holds, with_literal, from_literals}
 use Rattle.lj_clause.proofs.Literals.{same_literal}
 use Rattle.lj_clause.proofs.LiteralSets.{same_set, holds-from_literals, holds-with_literal, holds-no_literals}
-use Rattle.lj_hint.specs.Stamps.{stamp_at, AreMarks}
+use Rattle.lj_hint.specs.Stamps.{Stamped, stamp_at, AreMarks}
 use Rattle.lj_hint.specs.Trail.{with_mark, Extends}
 
 -- two literals are the same where their places are
@@ -63,31 +63,31 @@ itself : (a : ℕ) → (a == a) ≡ true
 itself a = grind (arith, nat_tests)
 
 -- where each stamp is below the new one, no literal has it
-pub fresh_marks : (pages : List (List ℕ)) (stamp : ℕ) → ((place : ℕ) → stamp_at pages place < stamp) → AreMarks pages stamp []
-fresh_marks pages stamp below = record {
+pub fresh_marks : (stamps : Stamped) (stamp : ℕ) → ((place : ℕ) → stamp_at stamps place < stamp) → AreMarks stamps stamp []
+fresh_marks stamps stamp below = record {
   some = let h = below 0 in omega arith;
   greatest = λ place. let h = below place in omega arith;
-  marked = λ l. older (stamp_at pages (place_of l)) stamp (below (place_of l)) ∙ sym (holds-no_literals l);
+  marked = λ l. older (stamp_at stamps (place_of l)) stamp (below (place_of l)) ∙ sym (holds-no_literals l);
   once = λ k lt. absurd (omega arith);
 }
   where
     older : (a b : ℕ) → a < b → (a == b) ≡ false
     older a b lt = grind (arith, nat_tests)
 
--- pages with the same stamps serve as well
-pub same_marks : (pages others : List (List ℕ)) (stamp : ℕ) (trail : List ℤ) → ((place : ℕ) → stamp_at others place ≡ stamp_at pages place) → AreMarks pages stamp trail → AreMarks others stamp trail
-same_marks pages others stamp trail is m = record {
+-- the same stamps serve as well
+pub same_marks : (stamps others : Stamped) (stamp : ℕ) (trail : List ℤ) → ((place : ℕ) → stamp_at others place ≡ stamp_at stamps place) → AreMarks stamps stamp trail → AreMarks others stamp trail
+same_marks stamps others stamp trail is m = record {
   some = m.some;
   greatest = λ place. let e = is place in let h = m.greatest place in omega arith;
   marked = λ l. ap (λ n. n == stamp) (is (place_of l)) ∙ m.marked l;
   once = m.once;
 }
 
-pub pushed_marks : (pages others : List (List ℕ)) (stamp : ℕ) (trail : List ℤ) (l : ℤ) → holds (from_literals trail) l ≡ false → ((place : ℕ) → stamp_at others place ≡ (if place == place_of l then stamp else stamp_at pages place)) → AreMarks pages stamp trail → AreMarks others stamp (trail ++ l ∷ [])
-pushed_marks pages others stamp trail l new is m = record {
+pub pushed_marks : (stamps others : Stamped) (stamp : ℕ) (trail : List ℤ) (l : ℤ) → holds (from_literals trail) l ≡ false → ((place : ℕ) → stamp_at others place ≡ (if place == place_of l then stamp else stamp_at stamps place)) → AreMarks stamps stamp trail → AreMarks others stamp (trail ++ l ∷ [])
+pushed_marks stamps others stamp trail l new is m = record {
   some = m.some;
-  greatest = λ place. highest (stamp_at others place) (place == place_of l) (stamp_at pages place) (is place) (m.greatest place);
-  marked = λ q. ap (λ n. n == stamp) (is (place_of q)) ∙ chosen (place_of q == place_of l) (stamp_at pages (place_of q)) (holds (from_literals trail) q) (m.marked q) ∙ sym (holds-push trail l q);
+  greatest = λ place. highest (stamp_at others place) (place == place_of l) (stamp_at stamps place) (is place) (m.greatest place);
+  marked = λ q. ap (λ n. n == stamp) (is (place_of q)) ∙ chosen (place_of q == place_of l) (stamp_at stamps (place_of q)) (holds (from_literals trail) q) (m.marked q) ∙ sym (holds-push trail l q);
   once = λ k lt. elim (less_or_last k (length trail) (omega (arith, length-append trail (l ∷ [])))) [
     | inl below ↦ ap (λ t. holds (from_literals t) (get_or (trail ++ l ∷ []) k (pos 0))) (take-append-le k trail (l ∷ []) (omega arith)) ∙ ap (holds (from_literals (take k trail))) (get_or-append trail (l ∷ []) (pos 0) k below) ∙ m.once k below
     | inr last ↦ (λ i. holds (from_literals ((ap (λ n. take n (trail ++ l ∷ [])) last ∙ take-append_seam trail (l ∷ [])) i)) ((ap (λ n. get_or (trail ++ l ∷ []) n (pos 0)) last ∙ get_or-append_seam trail l [] (pos 0)) i)) ∙ new
@@ -106,10 +106,10 @@ pushed_marks pages others stamp trail l new is m = record {
     less_or_last k n lt = elim (k == n) as (λ b. (k == n) ≡ b → (k < n) ⊎ (k ≡ n)) [ true ↦ λ e. inr (same k n e) | false ↦ λ e. inl (lower k n lt e) ] refl
 
 -- where the last literal is taken out, its stamp is
-pub popped_marks : (pages others : List (List ℕ)) (stamp : ℕ) (trail : List ℤ) (l : ℤ) → ((place : ℕ) → stamp_at others place ≡ (if place == place_of l then 0 else stamp_at pages place)) → AreMarks pages stamp (trail ++ l ∷ []) → AreMarks others stamp trail
-popped_marks pages others stamp trail l is m = record {
+pub popped_marks : (stamps others : Stamped) (stamp : ℕ) (trail : List ℤ) (l : ℤ) → ((place : ℕ) → stamp_at others place ≡ (if place == place_of l then 0 else stamp_at stamps place)) → AreMarks stamps stamp (trail ++ l ∷ []) → AreMarks others stamp trail
+popped_marks stamps others stamp trail l is m = record {
   some = m.some;
-  greatest = λ place. lower_or_none (stamp_at others place) (place == place_of l) (stamp_at pages place) (is place) (m.greatest place);
+  greatest = λ place. lower_or_none (stamp_at others place) (place == place_of l) (stamp_at stamps place) (is place) (m.greatest place);
   marked = λ q. ap (λ n. n == stamp) (is (place_of q)) ∙ chosen q (place_of q == place_of l) refl;
   once = λ k lt.
       (λ i. holds (from_literals (sym (take-append-le k trail (l ∷ []) (omega arith)) i)) (sym (get_or-append trail (l ∷ []) (pos 0) k lt) i))
@@ -128,7 +128,7 @@ popped_marks pages others stamp trail l is m = record {
     not_none : (n : ℕ) → 0 < n → (0 == n) ≡ false
     not_none n lt = grind (arith, nat_tests)
 
-    chosen : (q : ℤ) (b : Bool) → (place_of q == place_of l) ≡ b → ((if b then 0 else stamp_at pages (place_of q)) == stamp) ≡ holds (from_literals trail) q
+    chosen : (q : ℤ) (b : Bool) → (place_of q == place_of l) ≡ b → ((if b then 0 else stamp_at stamps (place_of q)) == stamp) ≡ holds (from_literals trail) q
     chosen q true e = not_none stamp m.some ∙ sym (ap (holds (from_literals trail)) (same_literal q l (tied q l ∙ e)) ∙ gone)
     chosen q false e = m.marked q ∙ holds-push trail l q ∙ ap (λ b. b || holds (from_literals trail) q) e
 

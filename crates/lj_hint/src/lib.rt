@@ -15,6 +15,7 @@ mod pair;
 mod rat;
 mod rat_refusal;
 mod receipt;
+mod stamps;
 mod tested;
 #[cfg(test)]
 mod tests;

@@ -1,12 +1,11 @@
-//! One page of stamps.
+//! One list of stamps.
 ghost use Rattle.std.specs.Prelude.{◌≡◌, ◌==◌, ◌<◌, ℕ, OnOk, OnErr, slice_index, vec_len, [], if◌then◌else◌};
 
-use crate::pages::PAGE;
 use lj_clause::NoMemory;
 use std::alloc::Global;
 use std::marker::Model;
 
-/// A page of stamps, which takes memory at the first that is set. Where none was set it is 0.
+/// A list of stamps, which takes memory at the first that is set. Where none was set it is 0.
 #[derive(Drop)]
 pub struct Page {
     stamps: Vec<u32>,
@@ -21,7 +20,7 @@ impl Model for Page {
 }
 
 impl Page {
-    /// The page without a stamp. Takes no memory.
+    /// The list without a stamp. Takes no memory.
     pub fn new(alloc: Global) -> Page
         ensures { result ≡ [] }
     {
@@ -38,20 +37,27 @@ impl Page {
         self.stamps.get(at).copied().unwrap_or(0)
     }
 
-    /// Sets the stamp at an index.
+    /// Sets the stamp at an index, and where that is past the end takes room for so many stamps.
     ///
     /// # Errors
     /// [`NoMemory`] where a growth was refused.
     #[inline]
-    pub fn set(&mut self, at: usize, stamp: u32) -> Result<(), NoMemory>
-        requires { at < PAGE }
+    pub fn set(&mut self, at: usize, stamp: u32, room: usize) -> Result<(), NoMemory>
+        requires { at < room }
         ensures ok { OnOk result ((q : ℕ) → slice_index self.new q
             ≡ (if q == at then stamp else slice_index self.old q)) }
         ensures err { OnErr result (self.new ≡ self.old) }
     {
-        make_room(&mut self.stamps, at)?;
+        make_room(&mut self.stamps, at, room)?;
         self.stamps[at] = stamp;
         Ok(())
+    }
+
+    /// Clears every stamp, and keeps the room.
+    pub fn clear(&mut self)
+        ensures { self.new ≡ [] }
+    {
+        self.stamps.clear();
     }
 
     /// Sets the stamp at an index to 0.
@@ -65,19 +71,19 @@ impl Page {
     }
 }
 
-/// Makes room for the stamp at an index. No stamp changes.
+/// Makes room for so many stamps, where there is none for that at an index. No stamp changes.
 ///
 /// # Errors
 /// [`NoMemory`] where a growth was refused.
 #[inline]
-fn make_room(stamps: &mut Vec<u32>, at: usize) -> Result<(), NoMemory>
-    requires { at < PAGE }
+fn make_room(stamps: &mut Vec<u32>, at: usize, room: usize) -> Result<(), NoMemory>
+    requires { at < room }
     ensures room { OnOk result (at < vec_len stamps.new) }
     ensures same { (q : ℕ) → slice_index stamps.new.items q ≡ slice_index stamps.old.items q }
     ensures err { OnErr result (stamps.new.items ≡ stamps.old.items) }
 {
     if at >= stamps.len() {
-        stamps.resize(PAGE, 0)?;
+        stamps.resize(room, 0)?;
     }
     Ok(())
 }

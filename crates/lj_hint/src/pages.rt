@@ -1,6 +1,6 @@
 //! Stamps of literals, in pages that are made at first need.
 ghost use Rattle.std.specs.Prelude.{◌≡◌, ◌==◌, ◌<◌, ℕ, [], OnOk, OnErr, if◌then◌else◌, vec_len, slice_index_or};
-ghost use Rattle.lj_hint.specs.Stamps.{stamp_at};
+ghost use Rattle.lj_hint.specs.Stamps.{page_stamp};
 
 use crate::page::Page;
 use lj_clause::NoMemory;
@@ -28,7 +28,7 @@ impl Model for Pages {
 impl Pages {
     /// No stamp anywhere. Takes no memory.
     pub fn new(alloc: Global) -> Pages
-        ensures { (q : ℕ) → stamp_at result q ≡ 0 }
+        ensures { (q : ℕ) → page_stamp result q ≡ 0 }
     {
         Pages {
             pages: Vec::new(alloc),
@@ -38,7 +38,7 @@ impl Pages {
     /// The stamp at a place. Takes constant time.
     #[inline]
     pub fn get(&self, place: usize) -> u32
-        ensures { result ≡ stamp_at self.now place }
+        ensures { result ≡ page_stamp self.now place }
     {
         match self.pages.get(place / PAGE) {
             Some(page) => page.get(place % PAGE),
@@ -52,20 +52,20 @@ impl Pages {
     /// [`NoMemory`] where a growth was refused.
     #[inline]
     pub fn set(&mut self, place: usize, stamp: u32) -> Result<(), NoMemory>
-        ensures ok { OnOk result ((q : ℕ) → stamp_at self.new q
-            ≡ (if q == place then stamp else stamp_at self.old q)) }
-        ensures err { OnErr result ((q : ℕ) → stamp_at self.new q ≡ stamp_at self.old q) }
+        ensures ok { OnOk result ((q : ℕ) → page_stamp self.new q
+            ≡ (if q == place then stamp else page_stamp self.old q)) }
+        ensures err { OnErr result ((q : ℕ) → page_stamp self.new q ≡ page_stamp self.old q) }
     {
         let number = place / PAGE;
         make_room(&mut self.pages, number)?;
         let page = &mut self.pages[number];
-        page.set(place % PAGE, stamp)
+        page.set(place % PAGE, stamp, PAGE)
     }
 
     /// Sets the stamp at a place to 0. Takes constant time.
     #[inline]
     pub fn erase(&mut self, place: usize)
-        ensures { (q : ℕ) → stamp_at self.new q ≡ (if q == place then 0 else stamp_at self.old q) }
+        ensures { (q : ℕ) → page_stamp self.new q ≡ (if q == place then 0 else page_stamp self.old q) }
     {
         let number = place / PAGE;
         if number < self.pages.len() {
@@ -78,7 +78,7 @@ impl Pages {
     #[cold]
     #[tactic(auto, using(crate::proofs::StampLaws::no_stamps))]
     pub fn clear(&mut self)
-        ensures { (q : ℕ) → stamp_at self.new q ≡ 0 }
+        ensures { (q : ℕ) → page_stamp self.new q ≡ 0 }
     {
         self.pages.clear();
     }

@@ -2,7 +2,7 @@
 ghost use Rattle.std.specs.Prelude.{◌≡◌, ◌<◌, ◌-◌, [], ◌∷◌, ◌++◌, OnOk, OnErr, take, length, false};
 ghost use Rattle.lj_clause.specs.LiteralSet.{holds, from_literals};
 
-use crate::pages::Pages;
+use crate::stamps::Stamps;
 use lj_clause::{Lit, NoMemory};
 use std::alloc::Global;
 use std::marker::Model;
@@ -10,7 +10,7 @@ use std::marker::Model;
 /// Literals in the order in which they came in, each once, with constant time for the question whether one is there.
 #[derive(Drop)]
 pub struct Trail {
-    pages: Pages,
+    stamps: Stamps,
     /// The stamp of the literals on the trail: an older one means nothing any more.
     stamp: u32,
     lits: Vec<Lit>,
@@ -24,7 +24,7 @@ impl Model for Trail {
 
     ghost view = { λ t. t.lits.items };
 
-    ghost invariant = { λ t. AreMarks t.pages t.stamp t.lits.items };
+    ghost invariant = { λ t. AreMarks t.stamps t.stamp t.lits.items };
 }
 
 impl Trail {
@@ -34,19 +34,19 @@ impl Trail {
         ensures { result ≡ [] }
     {
         Trail {
-            pages: Pages::new(alloc),
+            stamps: Stamps::new(alloc),
             stamp,
             lits: Vec::new(alloc),
         }
     }
 
     /// Takes every literal out, by a new stamp. Takes constant time, but for one call in 4,294,967,295, which clears
-    /// the pages.
+    /// all stamps.
     pub fn clear(&mut self)
         ensures { self.new ≡ [] }
     {
         if self.stamp == u32::MAX {
-            self.pages.clear();
+            self.stamps.clear();
             self.stamp = 1;
         } else {
             self.stamp += 1;
@@ -67,7 +67,7 @@ impl Trail {
     pub fn holds(&self, lit: Lit) -> bool
         ensures { result ≡ holds (from_literals self.now) lit }
     {
-        self.pages.get(lit.place()) == self.stamp
+        self.stamps.get(lit.place()) == self.stamp
     }
 
     /// Puts a literal at the end that isn't there yet. Takes constant time, but for the first of its page.
@@ -81,7 +81,7 @@ impl Trail {
         ensures err { OnErr result (self.new ≡ self.old) }
     {
         self.lits.reserve(1)?;
-        self.pages.set(lit.place(), self.stamp)?;
+        self.stamps.set(lit.place(), self.stamp)?;
         self.lits.push(lit).unwrap();
         Ok(())
     }
@@ -92,7 +92,7 @@ impl Trail {
         ensures { self.new ≡ take (length self.old - 1) self.old }
     {
         if let Some(lit) = self.lits.pop() {
-            self.pages.erase(lit.place());
+            self.stamps.erase(lit.place());
         }
     }
 }

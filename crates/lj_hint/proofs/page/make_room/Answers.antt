@@ -7,5 +7,6 @@ pub returns-in_ok-resize-clause-same : goal.returns-in_ok-resize-clause-same
 returns-in_ok-resize-clause-same c = λ q.
     let h = c.in_ok-resize.ensures.items in
     let xs = c.args.stamps.now.items in
-    let le : length xs ≤ 8192 = omega (arith, c.args.stamps.now.ok.0) in
-    resized xs c.resize.new.self.items 8192 q (h ∙ ap (λ (n : ℕ). take 8192 xs ++ replicate (8192 - n) 0) c.args.stamps.now.ok.0) le
+    let room = c.args.room in
+    let le : length xs ≤ room = omega (arith, c.args.stamps.now.ok.0) in
+    resized xs c.resize.new.self.items room q (h ∙ ap (λ (n : ℕ). take room xs ++ replicate (room - n) 0) c.args.stamps.now.ok.0) le

@@ -8,8 +8,8 @@ use Rattle.lj_hint.proofs.trail.Trail.clear.Goals.{then-self, else-self}
 pub invariant_of-self : goal.invariant_of-self
 invariant_of-self c =
     let now = c.if-self.self-inside in
-    let below : (place : ℕ) → stamp_at now.pages place < now.stamp = elim c.if-self.branch [
-      | then-self w ↦ subst (λ (s : Inside). (place : ℕ) → stamp_at s.pages place < s.stamp) (sym w.self-inside-is) (λ place. let none = w.clear.ensures place in omega arith)
-      | else-self w ↦ subst (λ (s : Inside). (place : ℕ) → stamp_at s.pages place < s.stamp) (sym w.self-inside-is) (λ place. let most = c.self.invariant.greatest place in omega arith)
+    let below : (place : ℕ) → stamp_at now.stamps place < now.stamp = elim c.if-self.branch [
+      | then-self w ↦ subst (λ (s : Inside). (place : ℕ) → stamp_at s.stamps place < s.stamp) (sym w.self-inside-is) (λ place. let none = w.clear.ensures place in omega arith)
+      | else-self w ↦ subst (λ (s : Inside). (place : ℕ) → stamp_at s.stamps place < s.stamp) (sym w.self-inside-is) (λ place. let most = c.self.invariant.greatest place in omega arith)
     ] in
-    subst (AreMarks now.pages now.stamp) (sym c.clear-2.ensures.items) (fresh_marks now.pages now.stamp below)
+    subst (AreMarks now.stamps now.stamp) (sym c.clear-2.ensures.items) (fresh_marks now.stamps now.stamp below)

@@ -6,6 +6,6 @@ use Rattle.lj_hint.proofs.trail.Trail.holds.Goals as goal
 
 pub returns : goal.returns
 returns c =
-    (λ i. (c.get.ensures ∙ ap (stamp_at c.self.inside.pages) c.place.ensures.place) i == c.self.inside.stamp)
+    (λ i. (c.get.ensures ∙ ap (stamp_at c.self.inside.stamps) c.place.ensures.place) i == c.self.inside.stamp)
     ∙ c.self.invariant.marked c.args.lit
     ∙ ap (λ (ls : List ℤ). holds (from_literals ls) c.args.lit) c.self.view_is

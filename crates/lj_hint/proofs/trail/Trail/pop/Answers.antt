@@ -6,8 +6,8 @@ use Rattle.lj_hint.proofs.trail.Trail.pop.Goals as goal
 
 pub invariant_of-self : goal.invariant_of-self
 invariant_of-self c =
-    let pages = c.self.inside.pages in
+    let stamps = c.self.inside.stamps in
     let had = c.in-Some.ensures in
-    popped_marks pages c.erase.new.self c.self.inside.stamp c.pop.new.self.items c.in-Some.lit
-    (subst (λ (n : ℕ). (q : ℕ) → stamp_at c.erase.new.self q ≡ (if q == n then 0 else stamp_at pages q)) c.place.ensures.place c.erase.ensures)
-    (subst (AreMarks pages c.self.inside.stamp) had.items c.self.invariant)
+    popped_marks stamps c.erase.new.self c.self.inside.stamp c.pop.new.self.items c.in-Some.lit
+    (subst (λ (n : ℕ). (q : ℕ) → stamp_at c.erase.new.self q ≡ (if q == n then 0 else stamp_at stamps q)) c.place.ensures.place c.erase.ensures)
+    (subst (AreMarks stamps c.self.inside.stamp) had.items c.self.invariant)

@@ -7,7 +7,7 @@ use Rattle.lj_hint.proofs.trail.Trail.push.Goals as goal
 
 pub invariant_of-self-2 : goal.invariant_of-self-2
 invariant_of-self-2 c =
-    let pages = c.self.inside.pages in
+    let stamps = c.self.inside.stamps in
     let stamp = c.self.inside.stamp in
     let lits = c.self.inside.lits.items in
     let new = ap (λ (ls : List ℤ). holds (from_literals ls) c.args.lit) c.self.view_is ∙ c.requires in
@@ -15,6 +15,6 @@ invariant_of-self-2 c =
     let pushed : c.push.new.self.items ≡ lits ++ c.args.lit ∷ [] =
     c.push.ensures.items ∙ ap (λ (b : Bool). cond b (c.reserve.new.self.items ++ c.args.lit ∷ []) c.reserve.new.self.items) (ap is_ok c.unwrap.ensures) ∙ ap (λ (ls : List ℤ). ls ++ c.args.lit ∷ []) c.in_ok-reserve.ensures.items in
     subst (AreMarks c.set.new.self stamp) (sym pushed)
-    (pushed_marks pages c.set.new.self stamp lits c.args.lit new
-    (subst (λ (n : ℕ). (q : ℕ) → stamp_at c.set.new.self q ≡ (if q == n then stamp else stamp_at pages q)) c.place.ensures.place told.ok)
+    (pushed_marks stamps c.set.new.self stamp lits c.args.lit new
+    (subst (λ (n : ℕ). (q : ℕ) → stamp_at c.set.new.self q ≡ (if q == n then stamp else stamp_at stamps q)) c.place.ensures.place told.ok)
     c.self.invariant)

@@ -1,0 +1,64 @@
+-- Stamps of near places, and of the others.
+use Rattle.std.proofs.Common.{◌≡◌, ap, refl, sym, ◌∙◌, ℕ, ◌<◌, ◌≤◌, true, false, arith}
+use Rattle.std.specs.Prelude.{◌==◌, nat_lt, slice_index, if◌then◌else◌}
+use Rattle.std.proofs.lemmas.Bool.Decides.{nat_tests}
+use Rattle.lj_hint.specs.Stamps.{Stamped, page_stamp, stamp_at}
+
+below : (a b : ℕ) → nat_lt a b ≡ true → a < b
+below a b e = grind (arith, nat_tests)
+
+above : (a b : ℕ) → nat_lt a b ≡ false → b ≤ a
+above a b e = grind (arith, nat_tests)
+
+is_below : (a b : ℕ) → a < b → nat_lt a b ≡ true
+is_below a b lt = grind (arith, nat_tests)
+
+is_above : (a b : ℕ) → b ≤ a → nat_lt a b ≡ false
+is_above a b le = grind (arith, nat_tests)
+
+apart : (q place : ℕ) → place < 1048576 → 1048576 ≤ q → (q == place) ≡ false
+apart q place lt le = grind (arith, nat_tests)
+
+apart_too : (q place : ℕ) → 1048576 ≤ place → q < 1048576 → (q == place) ≡ false
+apart_too q place le lt = grind (arith, nat_tests)
+
+-- the stamp of a near place
+pub near_stamp : (stamps : Stamped) (place : ℕ) → place < 1048576 → stamp_at stamps place ≡ slice_index stamps.0 place
+unfolding stamp_at
+near_stamp stamps place lt = ap (λ b. if b then slice_index stamps.0 place else page_stamp stamps.1 place) (is_below place 1048576 lt)
+
+-- the stamp of another
+pub far_stamp : (stamps : Stamped) (place : ℕ) → 1048576 ≤ place → stamp_at stamps place ≡ page_stamp stamps.1 place
+unfolding stamp_at
+far_stamp stamps place le = ap (λ b. if b then slice_index stamps.0 place else page_stamp stamps.1 place) (is_above place 1048576 le)
+
+-- what holds of the stamps of near places and of the others, holds of all
+pub for_all : (stamps : Stamped) (P : ℕ → ℕ → Type 0) → ((q : ℕ) → q < 1048576 → P q (slice_index stamps.0 q)) → ((q : ℕ) → 1048576 ≤ q → P q (page_stamp stamps.1 q)) → (q : ℕ) → P q (stamp_at stamps q)
+unfolding stamp_at
+for_all stamps P near far q =
+    elim (nat_lt q 1048576) as (λ b. nat_lt q 1048576 ≡ b → P q (if b then slice_index stamps.0 q else page_stamp stamps.1 q)) [
+      | true ↦ λ e. near q (below q 1048576 e)
+      | false ↦ λ e. far q (above q 1048576 e)
+    ] refl
+
+-- no stamp anywhere
+pub none_stamped : (stamps : Stamped) → ((q : ℕ) → slice_index stamps.0 q ≡ 0) → ((q : ℕ) → page_stamp stamps.1 q ≡ 0) → (q : ℕ) → stamp_at stamps q ≡ 0
+none_stamped stamps near far = for_all stamps (λ q n. n ≡ 0) (λ q lt. near q) (λ q le. far q)
+
+-- the same stamps of near places and of the others
+pub same_stamped : (stamps others : Stamped) → ((q : ℕ) → slice_index others.0 q ≡ slice_index stamps.0 q) → ((q : ℕ) → page_stamp others.1 q ≡ page_stamp stamps.1 q) → (q : ℕ) → stamp_at others q ≡ stamp_at stamps q
+same_stamped stamps others near far = for_all others (λ q n. n ≡ stamp_at stamps q)
+    (λ q lt. near q ∙ sym (near_stamp stamps q lt))
+    (λ q le. far q ∙ sym (far_stamp stamps q le))
+
+-- the stamp of a near place is set
+pub near_set : (stamps others : Stamped) (place v : ℕ) → place < 1048576 → others.1 ≡ stamps.1 → ((q : ℕ) → slice_index others.0 q ≡ (if q == place then v else slice_index stamps.0 q)) → (q : ℕ) → stamp_at others q ≡ (if q == place then v else stamp_at stamps q)
+near_set stamps others place v lt same h = for_all others (λ q n. n ≡ (if q == place then v else stamp_at stamps q))
+    (λ q near. h q ∙ ap (λ n. if q == place then v else n) (sym (near_stamp stamps q near)))
+    (λ q le. ap (λ ps. page_stamp ps q) same ∙ sym (far_stamp stamps q le) ∙ ap (λ b. if b then v else stamp_at stamps q) (sym (apart q place lt le)))
+
+-- the stamp of another is set
+pub far_set : (stamps others : Stamped) (place v : ℕ) → 1048576 ≤ place → others.0 ≡ stamps.0 → ((q : ℕ) → page_stamp others.1 q ≡ (if q == place then v else page_stamp stamps.1 q)) → (q : ℕ) → stamp_at others q ≡ (if q == place then v else stamp_at stamps q)
+far_set stamps others place v le same h = for_all others (λ q n. n ≡ (if q == place then v else stamp_at stamps q))
+    (λ q near. ap (λ xs. slice_index xs q) same ∙ sym (near_stamp stamps q near) ∙ ap (λ b. if b then v else stamp_at stamps q) (sym (apart_too q place le near)))
+    (λ q far. h q ∙ ap (λ n. if q == place then v else n) (sym (far_stamp stamps q far)))

@@ -1,0 +1,100 @@
+//! Stamps of literals by their place.
+ghost use Rattle.std.specs.Prelude.{◌≡◌, ◌==◌, ◌<◌, ℕ, OnOk, OnErr, if◌then◌else◌};
+ghost use Rattle.lj_hint.specs.Stamps.{stamp_at};
+
+use crate::page::Page;
+use crate::pages::Pages;
+use lj_clause::NoMemory;
+use std::alloc::Global;
+use std::marker::Model;
+
+/// How many places have their stamps in one list: those of the literals of 524,287 variables, in four megabytes.
+pub const NEAR: usize = 1_048_576;
+
+/// The least number of places that the list takes more than it has to.
+const SPARE: usize = 1024;
+
+/// A stamp for each place of a literal, 0 where none was set. Those of the first places stand in one list, which grows
+/// with the greatest of them that was set, and the others in pages, so that a great variable alone costs little.
+#[derive(Drop)]
+pub struct Stamps {
+    near: Page,
+    far: Pages,
+}
+
+impl Model for Stamps {
+    ghost use Rattle.lj_hint.specs.Stamps.{Stamped};
+
+    ghost Value = { Stamped };
+
+    ghost view = { λ s. (s.near, s.far) };
+}
+
+impl Stamps {
+    /// No stamp anywhere. Takes no memory.
+    pub fn new(alloc: Global) -> Stamps
+        ensures { (q : ℕ) → stamp_at result q ≡ 0 }
+    {
+        Stamps {
+            near: Page::new(alloc),
+            far: Pages::new(alloc),
+        }
+    }
+
+    /// The stamp at a place. Takes constant time.
+    #[inline]
+    pub fn get(&self, place: usize) -> u32
+        ensures { result ≡ stamp_at self.now place }
+    {
+        if place >= NEAR {
+            return self.far.get(place);
+        }
+        self.near.get(place)
+    }
+
+    /// Sets the stamp at a place. Takes constant time, amortized.
+    ///
+    /// # Errors
+    /// [`NoMemory`] where a growth was refused.
+    #[inline]
+    pub fn set(&mut self, place: usize, stamp: u32) -> Result<(), NoMemory>
+        ensures ok { OnOk result ((q : ℕ) → stamp_at self.new q
+            ≡ (if q == place then stamp else stamp_at self.old q)) }
+        ensures err { OnErr result ((q : ℕ) → stamp_at self.new q ≡ stamp_at self.old q) }
+    {
+        if place >= NEAR {
+            return self.far.set(place, stamp);
+        }
+        self.near.set(place, stamp, room_for(place))
+    }
+
+    /// Sets the stamp at a place to 0. Takes constant time.
+    #[inline]
+    pub fn erase(&mut self, place: usize)
+        ensures { (q : ℕ) → stamp_at self.new q ≡ (if q == place then 0 else stamp_at self.old q) }
+    {
+        if place >= NEAR {
+            self.far.erase(place);
+        } else {
+            self.near.erase(place);
+        }
+    }
+
+    /// Clears every stamp.
+    #[cold]
+    pub fn clear(&mut self)
+        ensures { (q : ℕ) → stamp_at self.new q ≡ 0 }
+    {
+        self.near.clear();
+        self.far.clear();
+    }
+}
+
+/// How many places the list takes for this one: twice as many, so that it seldom grows.
+#[inline]
+fn room_for(place: usize) -> usize
+    requires { place < NEAR }
+    ensures { place < result }
+{
+    (2 * place + SPARE).min(NEAR)
+}
