@@ -157,9 +157,17 @@ impl Book {
     pub fn into_steps(self) -> Result<Vec<Step>, NoMemory>
         ensures steps { IfOk result (λ steps. steps.items ≡ steps_of self.history) }
     {
-        let alloc = *self.history.allocator();
-        let steps = self.history.into_iter().filter_map(|entry| entry.step);
+        let history = self.into_history();
+        let alloc = *history.allocator();
+        let steps = history.into_iter().filter_map(|entry| entry.step);
         Ok(steps.collect(alloc)?)
+    }
+
+    /// The history alone: the tables and the live clauses are let go of.
+    fn into_history(self) -> Vec<Entry>
+        ensures { result.items ≡ self.history }
+    {
+        self.history
     }
 
     /// An addition under the seat's numbers as a case in joint numbers, with the clauses that they name. It can be

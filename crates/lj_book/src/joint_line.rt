@@ -57,7 +57,7 @@ fn joints_of(
 ) -> Result<Vec<u64>, Refusal>
     ensures { IsReplyBy (λ v. v.items) result (joints_in (joint_of tables.now seat) numbers.now) }
 {
-    let mut joints = Vec::new(alloc);
+    let mut joints = Vec::with_capacity(alloc, numbers.len())?;
     for own in numbers.iter() {
         let Some(joint) = tables.joint(seat, own) else {
             return Err(Refusal::UnknownNumber(own));
@@ -79,7 +79,7 @@ fn joint_groups_of(
 ) -> Result<Vec<JointGroup>, Refusal>
     ensures { IsReplyBy (λ v. v.items) result (joint_groups_in (joint_of tables.now seat) groups.now) }
 {
-    let mut joints = Vec::new(alloc);
+    let mut joints = Vec::with_capacity(alloc, groups.len())?;
     for group in groups {
         let Some(candidate) = tables.joint(seat, group.candidate) else {
             return Err(Refusal::UnknownNumber(group.candidate));
