@@ -153,8 +153,6 @@ class Sources:
     def contracts(self):
         """Each public contract: the file, and the text of its clauses or of its ghost member."""
         for path, text in self.files.items():
-            if path.parts[0] in ("main.rt",):
-                continue
             for item, body, owner, trait in items(text):
                 if owner is None:
                     if item in self.exported:
@@ -246,13 +244,15 @@ class Repository:
         """The files of a crate's specs/, in the order in which its lists of modules name them."""
         result = []
 
-        def visit(prefix):
-            for path in (self.modules.get(prefix + ".Lib") if prefix.count(".") == 2 else self.modules.get(prefix),):
-                for name in path.submodules if path else []:
-                    result.append(self.modules[f"{prefix}.{name}"])
-                    visit(f"{prefix}.{name}")
+        def visit(prefix, names):
+            for name in names:
+                module = self.modules[f"{prefix}.{name}"]
+                result.append(module)
+                visit(module.name, module.submodules)
 
-        visit(f"Rattle.{crate}.specs")
+        root = f"Rattle.{crate}.specs"
+        if f"{root}.Lib" in self.modules:
+            visit(root, self.modules[f"{root}.Lib"].submodules)
         return result
 
     def mentions(self, text, names, aliases, own=None):
@@ -270,7 +270,7 @@ class Repository:
         if inside.startswith("declared"):
             parts = inside.split(".")
             for part in (name, *parts):
-                if part in self.sources.get(crate, Sources.__new__(Sources)).types:
+                if part in self.sources[crate].types:
                     yield crate, part
                     return
         elif (module, name) in self.by_name:
@@ -290,7 +290,7 @@ class Repository:
         if public and kind["kind"] == "struct":
             body = "\n".join(re.findall(r"^\s*pub [^\n]*|\(pub [^)]*\)", body, flags=re.M))
         for word in set(re.findall(r"\b[A-Z]\w*", body)):
-            for other in self.crates:
+            for other in (crate, *self.crates):
                 if word in self.sources[other].types and (other == crate or word in self.sources[other].exported):
                     yield other, word
                     break
