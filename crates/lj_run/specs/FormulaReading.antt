@@ -1,33 +1,22 @@
 -- How a formula is read from its source.
-use Rattle.std.specs.Prelude.{◌≡◌, ◌⊎◌, ℕ, true, false, List, Some, ◌++◌}
+use Rattle.std.specs.Prelude.{◌≡◌, ℕ, List, ◌++◌}
 use Rattle.lj_clause.specs.ClauseMap.{FormulaValue}
 use Rattle.lj_text.specs.declared.cnf.fault.CnfFault.{CnfFault}
 use Rattle.lj_text.specs.Cnf.{Spells, HasFault}
-use Rattle.lj_text.specs.CnfRead.{CnfRead, CnfReaderStandsAt}
-use Rattle.lj_text.specs.CnfReading.{is_cnf_no_memory}
+use Rattle.lj_text.specs.CnfRead.{CnfRead}
 use Rattle.lj_text.specs.Streams.{SourceState, HasGiven, HasEnded}
 use Rattle.lj_run.specs.declared.outcome.RunFault.{RunFault}
 use Rattle.lj_run.specs.declared.outcome.RunFault.TheVariants.{Formula, FormulaRead, NoMemory, Unconfirmed}
 
--- The reader keeps a fault: that of what it was fed, whatever follows, unless memory ran out.
-pub record KeepsFault (fed : List ℕ) (reader : CnfRead) : Type 0 where
-  pub fault : CnfFault
-  pub keeps : reader.fault ≡ Some fault
-  pub is : is_cnf_no_memory fault.kind ≡ false → (more : List ℕ) → HasFault reader.max (fed ++ more) fault
-
--- a reader that was fed these bytes
-abbrev pub IsReadingFormula : List ℕ → CnfRead → Type 0
-IsReadingFormula fed reader = CnfReaderStandsAt reader fed ⊎ KeepsFault fed reader
-
 -- The source gave a piece, and the reader was fed it too.
-pub record FormulaReadOn (fed : List ℕ) (reader : CnfRead) (before after : SourceState) : Type 0 where
+pub record FormulaReadOn (old new : CnfRead) (before after : SourceState) : Type 0 where
   pub piece : List ℕ
   pub gave : HasGiven before after piece
-  pub reading : IsReadingFormula (fed ++ piece) reader
+  pub fed : new.fed ≡ old.fed ++ piece
 
 -- the fault that is told once the source has ended is that of what was fed
 abbrev pub IsFaultAtEnd : CnfRead → RunFault → Type 0
-IsFaultAtEnd reader (Formula fault) = (fed : List ℕ) → IsReadingFormula fed reader → HasFault reader.max fed fault
+IsFaultAtEnd reader (Formula fault) = HasFault reader.max reader.fed fault
 IsFaultAtEnd reader FormulaRead = ⊥
 IsFaultAtEnd reader (NoMemory _) = Unit {0}
 IsFaultAtEnd reader Unconfirmed = ⊥

@@ -3,7 +3,7 @@ ghost use Rattle.std.specs.Prelude.{◌≡◌, ◌<◌, ℕ, List, [], length, t
 ghost use Rattle.lj_text.specs.Cnf.{Spells};
 ghost use Rattle.lj_text.specs.LinesRead.{LineReaderStandsAt};
 ghost use Rattle.lj_text.specs.Streams.{source_state, HasEnded};
-ghost use Rattle.lj_run.specs.FormulaReading.{IsReadingFormula, FormulaReadOn, GaveFormula, IsFormulaFault, IsFaultAtEnd};
+ghost use Rattle.lj_run.specs.FormulaReading.{FormulaReadOn, GaveFormula, IsFormulaFault, IsFaultAtEnd};
 ghost use Rattle.lj_run.specs.Reading.{MayRead, PieceRead, LineRead, LineMissed, PieceMissed, reads_failed};
 
 use crate::outcome::RunFault;
@@ -48,7 +48,7 @@ fn pull_formula<F: Source>(
     requires room { 0 < length room.old }
     requires unfailed { F.failures source.old ≡ 0 }
 
-    ensures onward { OnOk result ((fed : List ℕ) → IsReadingFormula fed reader.old → FormulaReadOn fed reader.new
+    ensures onward { OnOk result (FormulaReadOn reader.old reader.new
         (source_state F.given F.ended F.rest F.failures source.old)
         (source_state F.given F.ended F.rest F.failures source.new)) }
     ensures ended { IfOk result (λ ended. ended ≡ true
@@ -68,7 +68,7 @@ fn pull_formula<F: Source>(
 
 /// The formula that a reader was fed, once its source has ended.
 fn finish_formula(reader: CnfReader) -> Result<Formula, RunFault>
-    ensures formula { IfOk result (λ formula. (fed : List ℕ) → IsReadingFormula fed reader → Spells reader.max fed formula) }
+    ensures formula { IfOk result (λ formula. Spells reader.max reader.fed formula) }
     ensures fault { IfErr result (IsFaultAtEnd reader) }
 {
     match reader.finish() {

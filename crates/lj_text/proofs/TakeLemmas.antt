@@ -2,7 +2,7 @@
 use Rattle.std.proofs.Common.{◌≡◌, ℕ, ◌+◌, ◌-◌, ◌^◌, ◌<◌, min, true, false, List, [], ◌∷◌, ◌++◌, length, length-append, Result, Ok, Err, refl, sym, ap, ◌∙◌, subst, append_assoc, arith}
 use Rattle.std.proofs.lemmas.List.{append-nil}
 use Rattle.std.proofs.lemmas.List.Splits.{slice_split_at, slice_split_none}
-use Rattle.std.specs.Prelude.{IfSome, MatchResult}
+use Rattle.std.specs.Prelude.{IfErr, IfSome, MatchResult}
 use Rattle.std.specs.List.{AllByRecursion}
 use Rattle.std.proofs.lemmas.List.Elements.{All-append}
 use Rattle.lj_clause.specs.ClauseMap.{FormulaValue}
@@ -12,12 +12,14 @@ use Rattle.lj_text.specs.declared.cnf.fault.CnfFaultKind.TheVariants.{NoHeader, 
 use Rattle.lj_text.specs.declared.cnf.state.State.{State}
 use Rattle.lj_text.specs.declared.cnf.state.State.TheVariants.{Header, Clauses, Ended, Faulty}
 use Rattle.lj_text.specs.Bytes.{is_line_end, line_number, lines_of, tokens_of}
-use Rattle.lj_text.specs.LinesRead.{HasNoLineEnd, joined}
-use Rattle.lj_text.proofs.StandLemmas.{all_more, joined_more, next_number, both, joined_both}
+use Rattle.lj_text.specs.Lines.{all_but_last}
+use Rattle.lj_text.specs.LinesRead.{HasNoLineEnd, joined, last_number}
+use Rattle.lj_text.proofs.StandLemmas.{all_more, joined_more, next_number, both, joined_both, cut-joined, cut-none}
 use Rattle.lj_text.specs.CnfReading.{IsCnfTold, is_cnf_no_memory}
 use Rattle.lj_text.specs.CnfResuming.{resumed, Reads, asks_room, kept_fault}
 use Rattle.lj_clause.specs.Memory.{no_memory}
-use Rattle.lj_text.specs.CnfRead.{CnfRead, CnfReaderStandsAt, IsAnswer, NeedsRoomFrom, Taken}
+use Rattle.lj_text.specs.CnfRead.{IsAnswer, HasFaultAlready, IsLeftOpen, BeginsByNumber, NeedsRoom, EndsByNumber}
+use Rattle.lj_text.specs.CnfHeld.{CnfStandsAt, Leads, NeedsRoomFrom, Taken}
 use Rattle.lj_text.specs.Cnf.{read_cnf, HasFault}
 use Rattle.std.specs.Prelude.{Option, Some, None, ◌⊎◌}
 use Rattle.std.proofs.Common.{inl, inr}
@@ -31,7 +33,7 @@ pub record Going (max first : ℕ) (old : State) (held piece : List ℕ) (state 
   pub whole : AllByRecursion HasNoLineEnd lines
   pub text_is : held ++ piece ≡ joined lines ++ (left ++ rest)
   pub line_is : (n : ℕ) → first ≡ line_number n → number ≡ line_number (n + length lines)
-  pub reads : (n : ℕ) → first ≡ line_number n → (more : List ℕ) → resumed max n old (lines_of (held ++ (piece ++ more))) ≡ resumed max (n + length lines) state (lines_of (left ++ (rest ++ more)))
+  pub reads : (n : ℕ) → first ≡ line_number n → Leads max n old lines state
   pub held_is : (left ≡ []) ⊎ ((lines ≡ []) × (left ≡ held))
 
 pub going-none : (max first : ℕ) (old : State) (held piece : List ℕ) → Going max first old held piece old first held piece
@@ -40,9 +42,16 @@ going-none max first old held piece = record {
   whole = tt;
   text_is = refl;
   line_is = λ n e. e ∙ ap line_number (omega arith);
-  reads = λ n e more. ap (λ k. resumed max k old (lines_of (held ++ (piece ++ more)))) (omega arith);
+  reads = λ n e more. ap (λ k. resumed max k old (lines_of more)) (omega arith);
   held_is = inr (refl, refl);
 }
+
+-- what was fed, and what follows it
+behind : (max first number : ℕ) (old state : State) (held piece left rest : List ℕ) (g : Going max first old held piece state number left rest)
+    → (n : ℕ) → first ≡ line_number n → (more : List ℕ) → resumed max n old (lines_of (held ++ (piece ++ more))) ≡ resumed max (n + length g.lines) state (lines_of (left ++ (rest ++ more)))
+behind max first number old state held piece left rest g n first_is more =
+    ap (λ t. resumed max n old (lines_of t)) (sym (append_assoc held piece more) ∙ ap (λ t. t ++ more) g.text_is ∙ append_assoc (joined g.lines) (left ++ rest) more ∙ ap (λ t. joined g.lines ++ t) (append_assoc left rest more))
+    ∙ g.reads n first_is (left ++ (rest ++ more))
 
 -- the line that the held bytes and the front make
 cut : (held rest front after more : List ℕ) → rest ≡ front ++ 10 ∷ after → HasNoLineEnd (held ++ front) → lines_of (held ++ (rest ++ more)) ≡ (held ++ front) ∷ lines_of (after ++ more)
@@ -68,11 +77,21 @@ going-more max first number old state new held piece left rest front after g e h
   whole = all_more g.lines (left ++ front) g.whole h;
   text_is = g.text_is ∙ ap (λ r. joined g.lines ++ (left ++ r)) e ∙ ap (λ r. joined g.lines ++ r) (sym (append_assoc left front (10 ∷ after))) ∙ sym (joined_more g.lines (left ++ front) after);
   line_is = λ n first_is. next_number (n + length g.lines) number (g.line_is n first_is) ∙ ap line_number (omega (arith, length-append g.lines ((left ++ front) ∷ [])));
-  reads = λ n first_is more. g.reads n first_is more ∙ ap (resumed max (n + length g.lines) state) (cut left rest front after more e h)
-      ∙ reads_of max (n + length g.lines + 1) (lines_of (after ++ more)) new _ sound (line (n + length g.lines) (g.line_is n first_is) (lines_of (after ++ more)))
-      ∙ ap (λ k. resumed max k new (lines_of (after ++ more))) (omega (arith, length-append g.lines ((left ++ front) ∷ [])));
+  reads = λ n first_is more. ap (λ t. resumed max n old (lines_of t)) (joined_more g.lines (left ++ front) more) ∙ g.reads n first_is ((left ++ front) ++ 10 ∷ more)
+      ∙ ap (resumed max (n + length g.lines) state) (slice_split_at is_line_end (left ++ front) 10 more h refl)
+      ∙ reads_of max (n + length g.lines + 1) (lines_of more) new _ sound (line (n + length g.lines) (g.line_is n first_is) (lines_of more))
+      ∙ ap (λ k. resumed max k new (lines_of more)) (omega (arith, length-append g.lines ((left ++ front) ∷ [])));
   held_is = inl refl;
 }
+
+told-err : {Y : Type 0} (kind : CnfFaultKind) (line : ℕ) (read : Result Y CnfFault) → is_cnf_no_memory kind ≡ false → IsCnfTold kind line read → read ≡ Err (record { kind = kind; line = line })
+told-err NoHeader line read m h = h
+told-err BadHeader line read m h = h
+told-err BadNumber line read m h = h
+told-err VariableRange line read m h = h
+told-err ClauseCount line read m h = h
+told-err Truncated line read m h = h
+told-err (NoMemory e) line read m h = cc
 
 -- a fault in that line
 pub taken-fault : (max first number : ℕ) (old state : State) (fault : CnfFault) (held piece left rest front after now : List ℕ) → Going max first old held piece state number left rest
@@ -83,36 +102,34 @@ taken-fault max first number old state fault held piece left rest front after no
   none = none;
   lines = g.lines;
   whole = g.whole;
-  text_is = λ sound. cc;
   line_is = g.line_is;
-  reads = λ n first_is more.
-      let P : Result FormulaValue CnfFault → Type 0 = λ read. IsCnfTold fault.kind fault.line read in
-      subst P (sym (g.reads n first_is more ∙ ap (resumed max (n + length g.lines) state) (cut left rest front after more e h))) (line (n + length g.lines) (g.line_is n first_is) (lines_of (after ++ more)));
+  text_is = λ sound. cc;
+  reads = λ sound. cc;
+  told = λ kept is memory n first_is more.
+      let same : fault ≡ kept = cc in
+      subst (λ (f : CnfFault). resumed max n old (lines_of (held ++ (piece ++ more))) ≡ Err f) same
+      (behind max first number old state held piece left rest g n first_is more ∙ ap (resumed max (n + length g.lines) state) (cut left rest front after more e h)
+      ∙ told-err fault.kind fault.line _ (subst (λ (f : CnfFault). is_cnf_no_memory f.kind ≡ false) (sym same) memory) (line (n + length g.lines) (g.line_is n first_is) (lines_of (after ++ more))));
 }
 
 -- memory ran out
-pub memory_reads : (max k : ℕ) (lines : List (List ℕ)) (new : State) (line : ℕ) (read : Result FormulaValue CnfFault) → kept_fault new ≡ Some (record { kind = NoMemory no_memory; line = line }) → Reads max k lines new read
-memory_reads max k lines Header line read e = cc
-memory_reads max k lines (Clauses b) line read e = cc
-memory_reads max k lines (Ended b) line read e = cc
-memory_reads max k lines (Faulty fault) line read e =
-    let same : fault ≡ record { kind = NoMemory no_memory; line = line } = cc in
-    let P : CnfFault → Type 0 = λ f. IsCnfTold f.kind f.line read in
-    subst P (sym same) tt
-
 pub taken-memory : (max first number line : ℕ) (old state new : State) (held piece left rest now : List ℕ) → Going max first old held piece state number left rest → HasNoLineEnd now
     → kept_fault new ≡ Some (record { kind = NoMemory no_memory; line = line }) → Taken max first old held piece new number now
 taken-memory max first number line old state new held piece left rest now g h e = record {
   none = h;
   lines = g.lines;
   whole = g.whole;
-  text_is = λ sound. absurd (not_kept (kept_fault new) _ e sound);
   line_is = g.line_is;
-  reads = λ n first_is more. memory_reads max (n + length g.lines) (lines_of (now ++ more)) new line _ e;
+  text_is = λ sound. absurd (not_kept (kept_fault new) _ e sound);
+  reads = λ sound. absurd (not_kept (kept_fault new) _ e sound);
+  told = λ kept is memory. absurd (not_told kept (sym e ∙ is) memory);
 }
   where
     not_kept : (o : Option CnfFault) (f : CnfFault) → o ≡ Some f → o ≡ None → ⊥
     not_kept o f e n = cc
+
+    not_told : (f : CnfFault) → ◌≡◌ {A = Option CnfFault} (Some (record { kind = NoMemory no_memory; line = line })) (Some f) → is_cnf_no_memory f.kind ≡ false → ⊥
+    not_told f same memory = let kind : NoMemory no_memory ≡ f.kind = cc in let yes : is_cnf_no_memory f.kind ≡ true = ap is_cnf_no_memory (sym kind) in cc
 
 -- a line for which room was asked and refused
 pub room-line : (max first number line : ℕ) (old state : State) (held piece left rest front after : List ℕ) → Going max first old held piece state number left rest → rest ≡ front ++ 10 ∷ after → line ≡ number
@@ -123,8 +140,8 @@ room-line max first number line old state held piece left rest front after g e h
   left = left ++ rest;
   cut = g.text_is;
   line_is = λ n first_is. here ∙ g.line_is n first_is;
-  progress = state;
-  reads = λ n first_is more. g.reads n first_is more ∙ ap (λ t. resumed max (n + length g.lines) state (lines_of t)) (sym (append_assoc left rest more));
+  state = state;
+  reads = g.reads;
   room = elim asked [
     | inl some ↦ elim g.held_is [
       | inl none ↦ absurd (omega (arith, ap length none))
@@ -143,8 +160,8 @@ room-rest max first number line old state held piece left rest g none unended so
   left = left ++ rest;
   cut = g.text_is;
   line_is = λ n first_is. here ∙ g.line_is n first_is;
-  progress = state;
-  reads = λ n first_is more. g.reads n first_is more ∙ ap (λ t. resumed max (n + length g.lines) state (lines_of t)) (sym (append_assoc left rest more));
+  state = state;
+  reads = g.reads;
   room = inr (inl (omega (arith, length-append left rest), no_line_end-both left rest none unended));
 }
 
@@ -162,20 +179,11 @@ sound_state (Clauses b) h = refl
 sound_state (Ended b) h = refl
 sound_state (Faulty fault) h = absurd (h fault refl)
 
-told_itself : (kind : CnfFaultKind) (line : ℕ) → IsCnfTold {Y = FormulaValue} kind line (Err (record { kind = kind; line = line }))
-told_itself NoHeader line = refl
-told_itself BadHeader line = refl
-told_itself BadNumber line = refl
-told_itself VariableRange line = refl
-told_itself ClauseCount line = refl
-told_itself Truncated line = refl
-told_itself (NoMemory e) line = tt
-
-reads_any : (max k : ℕ) (lines : List (List ℕ)) (state : State) (read : Result FormulaValue CnfFault) → read ≡ resumed max k state lines → Reads max k lines state read
-reads_any max k lines Header read e = e
-reads_any max k lines (Clauses b) read e = e
-reads_any max k lines (Ended b) read e = e
-reads_any max k lines (Faulty fault) read e = let P : Result FormulaValue CnfFault → Type 0 = λ r. IsCnfTold fault.kind fault.line r in subst P (sym e) (told_itself fault.kind fault.line)
+resumed_fault : (max n : ℕ) (lines : List (List ℕ)) (state : State) (fault : CnfFault) → kept_fault state ≡ Some fault → resumed max n state lines ≡ Err fault
+resumed_fault max n lines Header fault is = cc
+resumed_fault max n lines (Clauses b) fault is = cc
+resumed_fault max n lines (Ended b) fault is = cc
+resumed_fault max n lines (Faulty kept) fault is = let same : kept ≡ fault = cc in ap (λ (f : CnfFault). Err f) same
 
 -- the rest is held
 pub taken-rest : (max first number : ℕ) (old state : State) (held piece left rest : List ℕ) → Going max first old held piece state number left rest → HasNoLineEnd (left ++ rest)
@@ -184,61 +192,74 @@ taken-rest max first number old state held piece left rest g h = record {
   none = h;
   lines = g.lines;
   whole = g.whole;
-  text_is = λ sound. g.text_is;
   line_is = g.line_is;
-  reads = λ n first_is more. reads_any max (n + length g.lines) (lines_of (left ++ rest ++ more)) state _
-      (g.reads n first_is more ∙ ap (λ r. resumed max (n + length g.lines) state (lines_of r)) (sym (append_assoc left rest more)));
+  text_is = λ sound. g.text_is;
+  reads = λ sound. g.reads;
+  told = λ fault is memory n first_is more. behind max first number old state held piece left rest g n first_is more
+      ∙ resumed_fault max (n + length g.lines) (lines_of (left ++ (rest ++ more))) state fault is;
 }
-
-not_faulty : (new : State) → kept_fault new ≡ None → (fault : CnfFault) → new ≡ Faulty fault → ⊥
-not_faulty new is fault e = let kept : kept_fault new ≡ Some fault = ap kept_fault e in cc
 
 -- the reader goes on behind the piece
-pub stands-fed : (r : CnfRead) (text piece : List ℕ) (s : CnfReaderStandsAt r text) (new : State) (line : ℕ) (left : List ℕ) → Taken r.max r.line r.progress r.ahead piece new line left → kept_fault new ≡ None
-    → CnfReaderStandsAt (record { max = r.max; ahead = left; line = line; fault = kept_fault new; progress = new }) (text ++ piece)
-stands-fed r text piece s new line left t sound = record {
+pub stands-fed : (max line : ℕ) (held : List ℕ) (old : State) (text piece : List ℕ) → CnfStandsAt max line held old text → (new : State) (number : ℕ) (left : List ℕ) → Taken max line old held piece new number left → kept_fault new ≡ None
+    → CnfStandsAt max number left new (text ++ piece)
+stands-fed max line held old text piece s new number left t sound = record {
   lines = s.lines ++ t.lines;
   whole = both s.lines t.lines s.whole t.whole;
-  text_is = ap (λ x. x ++ piece) s.text_is ∙ append_assoc (joined s.lines) r.ahead piece ∙ ap (λ x. joined s.lines ++ x) (t.text_is sound) ∙ sym (joined_both s.lines t.lines left);
+  text_is = ap (λ x. x ++ piece) s.text_is ∙ append_assoc (joined s.lines) held piece ∙ ap (λ x. joined s.lines ++ x) (t.text_is sound) ∙ sym (joined_both s.lines t.lines left);
   line_is = t.line_is (length s.lines) s.line_is ∙ ap line_number (sym (length-append s.lines t.lines));
-  reads = λ more. ap (read_cnf r.max) (append_assoc text piece more) ∙ s.reads (piece ++ more)
-      ∙ reads_of r.max (length s.lines + length t.lines) (lines_of (left ++ more)) new _ (not_faulty new sound) (t.reads (length s.lines) s.line_is more)
-      ∙ ap (λ k. resumed r.max k new (lines_of (left ++ more))) (sym (length-append s.lines t.lines));
+  reads = λ more. ap (read_cnf max) (joined_both s.lines t.lines more) ∙ s.reads (joined t.lines ++ more)
+      ∙ t.reads sound (length s.lines) s.line_is more
+      ∙ ap (λ k. resumed max k new (lines_of more)) (sym (length-append s.lines t.lines));
 }
 
-told-err : {Y : Type 0} (kind : CnfFaultKind) (line : ℕ) (read : Result Y CnfFault) → is_cnf_no_memory kind ≡ false → IsCnfTold kind line read → read ≡ Err (record { kind = kind; line = line })
-told-err NoHeader line read m h = h
-told-err BadHeader line read m h = h
-told-err BadNumber line read m h = h
-told-err VariableRange line read m h = h
-told-err ClauseCount line read m h = h
-told-err Truncated line read m h = h
-told-err (NoMemory e) line read m h = cc
-
-fault_at : (max n : ℕ) (lines : List (List ℕ)) (new : State) (read : Result FormulaValue CnfFault) (fault : CnfFault) → kept_fault new ≡ Some fault → is_cnf_no_memory fault.kind ≡ false → Reads max n lines new read → read ≡ Err fault
-fault_at max n lines Header read fault is m h = cc
-fault_at max n lines (Clauses b) read fault is m h = cc
-fault_at max n lines (Ended b) read fault is m h = cc
-fault_at max n lines (Faulty kept) read fault is m h =
-    let same : fault ≡ kept = cc in
-    let P : CnfFault → Type 0 = λ f. IsCnfTold f.kind f.line read in
-    told-err fault.kind fault.line read m (subst P (sym same) h)
+-- whatever follows what was fed
+read_on : (max line : ℕ) (held : List ℕ) (state : State) (text : List ℕ) (s : CnfStandsAt max line held state text) (more : List ℕ) → read_cnf max (text ++ more) ≡ resumed max (length s.lines) state (lines_of (held ++ more))
+read_on max line held state text s more =
+    ap (λ t. read_cnf max (t ++ more)) s.text_is ∙ ap (read_cnf max) (append_assoc (joined s.lines) held more) ∙ s.reads (held ++ more)
 
 -- a fault in the piece
-pub fault-fed : (r : CnfRead) (text piece : List ℕ) (s : CnfReaderStandsAt r text) (new : State) (line : ℕ) (left : List ℕ) (fault : CnfFault) → Taken r.max r.line r.progress r.ahead piece new line left
-    → kept_fault new ≡ Some fault → is_cnf_no_memory fault.kind ≡ false → (more : List ℕ) → HasFault r.max (text ++ (piece ++ more)) fault
-fault-fed r text piece s new line left fault t is m more =
-    s.reads (piece ++ more) ∙ fault_at r.max (length s.lines + length t.lines) (lines_of (left ++ more)) new _ fault is m (t.reads (length s.lines) s.line_is more)
+pub fault-fed : (max line : ℕ) (held : List ℕ) (old : State) (text piece : List ℕ) → CnfStandsAt max line held old text → (new : State) (number : ℕ) (left : List ℕ) → Taken max line old held piece new number left
+    → (fault : CnfFault) → kept_fault new ≡ Some fault → is_cnf_no_memory fault.kind ≡ false → HasFaultAlready max (text ++ piece) fault
+fault-fed max line held old text piece s new number left t fault is memory more =
+    ap (read_cnf max) (append_assoc text piece more) ∙ read_on max line held old text s (piece ++ more)
+    ∙ t.told fault is memory (length s.lines) s.line_is more
 
-resumed_fault : (max n : ℕ) (lines : List (List ℕ)) (state : State) (fault : CnfFault) → kept_fault state ≡ Some fault → resumed max n state lines ≡ Err fault
-resumed_fault max n lines Header fault is = cc
-resumed_fault max n lines (Clauses b) fault is = cc
-resumed_fault max n lines (Ended b) fault is = cc
-resumed_fault max n lines (Faulty kept) fault is = let same : kept ≡ fault = cc in ap (λ (f : CnfFault). Err f) same
+-- the state that keeps what a line says is among the clauses
+begins_by : (max : ℕ) (lines : List (List ℕ)) (state : State) (line : List ℕ) → ((more : List ℕ) → read_cnf max (joined lines ++ more) ≡ resumed max (length lines) state (lines_of more))
+    → asks_room state (tokens_of line) ≡ true → BeginsByNumber max lines line
+begins_by max lines Header line reads asks = cc
+begins_by max lines (Clauses begun) line reads asks = record { begun = begun; reads = reads; number = asks }
+begins_by max lines (Ended begun) line reads asks = cc
+begins_by max lines (Faulty fault) line reads asks = cc
 
--- a fault that was told before
-pub fault-again : (r : CnfRead) (text : List ℕ) (s : CnfReaderStandsAt r text) (fault : CnfFault) → kept_fault r.progress ≡ Some fault → (more : List ℕ) → HasFault r.max (text ++ more) fault
-fault-again r text s fault is more = s.reads more ∙ resumed_fault r.max (length s.lines) (lines_of (r.ahead ++ more)) r.progress fault is
+-- the whole lines of a text that ends within a line
+whole_lines : (text : List ℕ) (lines : List (List ℕ)) (held : List ℕ) → AllByRecursion HasNoLineEnd lines → text ≡ joined lines ++ held → HasNoLineEnd held → all_but_last (lines_of text) ≡ lines
+whole_lines text lines held whole e none =
+    ap (λ t. all_but_last (lines_of t)) e ∙ cut-joined lines held whole ∙ ap (λ ls. lines ++ all_but_last ls) (cut-none held none) ∙ append-nil lines
+
+-- a line needs room behind what was fed
+pub room-fed : (max first : ℕ) (held : List ℕ) (old : State) (text piece : List ℕ) → CnfStandsAt max first held old text → HasNoLineEnd held → (line : ℕ) → NeedsRoomFrom max first old held piece line → NeedsRoom max text piece line
+room-fed max first held old text piece s none line r =
+    let lines = s.lines ++ r.lines in
+    let reads : (more : List ℕ) → read_cnf max (joined lines ++ more) ≡ resumed max (length lines) r.state (lines_of more) = λ more.
+    ap (read_cnf max) (joined_both s.lines r.lines more) ∙ s.reads (joined r.lines ++ more)
+    ∙ r.reads (length s.lines) s.line_is more
+    ∙ ap (λ k. resumed max k r.state (lines_of more)) (sym (length-append s.lines r.lines)) in
+    record {
+      lines = lines;
+      whole = both s.lines r.lines s.whole r.whole;
+      left = r.left;
+      cut = ap (λ x. x ++ piece) s.text_is ∙ append_assoc (joined s.lines) held piece ∙ ap (λ x. joined s.lines ++ x) r.cut ∙ sym (joined_both s.lines r.lines r.left);
+      line_is = r.line_is (length s.lines) s.line_is ∙ ap line_number (sym (length-append s.lines r.lines));
+      behind = omega (arith, ap length (whole_lines text s.lines held s.whole s.text_is none), length-append s.lines r.lines);
+      room = elim r.room [
+        | inl some ↦ inl (held, s.text_is ∙ ap (λ ls. joined ls ++ held) (sym (ap (λ ls. s.lines ++ ls) some.0 ∙ append-nil s.lines)), (some.1, none))
+        | inr more ↦ inr (elim more [
+          | inl unended ↦ inl unended
+          | inr number ↦ inr (number.0, number.1, number.2, begins_by max lines r.state number.0 reads number.3)
+        ])
+      ];
+    }
 
 -- the end of the text
 closed_fault : (max n : ℕ) (new : State) (read : Result FormulaValue CnfFault) (fault : CnfFault) → Reads max n [] new read → IsCnfTold fault.kind fault.line (resumed max n new []) → is_cnf_no_memory fault.kind ≡ false → read ≡ Err fault
@@ -257,21 +278,55 @@ closed_ok max n (Clauses b) read formula e h = e ∙ h
 closed_ok max n (Ended b) read formula e h = e ∙ h
 closed_ok max n (Faulty kept) read formula e h = cc
 
-whole : (r : CnfRead) (text : List ℕ) (s : CnfReaderStandsAt r text) → HasNoLineEnd r.ahead → read_cnf r.max text ≡ resumed r.max (length s.lines) r.progress (r.ahead ∷ [])
-whole r text s none =
-    ap (read_cnf r.max) (sym (append-nil text)) ∙ s.reads []
-    ∙ ap (λ a. resumed r.max (length s.lines) r.progress (lines_of a)) (append-nil r.ahead)
-    ∙ ap (resumed r.max (length s.lines) r.progress) (slice_split_none is_line_end r.ahead none)
+whole : (max line : ℕ) (held : List ℕ) (state : State) (text : List ℕ) (s : CnfStandsAt max line held state text) → HasNoLineEnd held → read_cnf max text ≡ resumed max (length s.lines) state (held ∷ [])
+whole max line held state text s none = ap (read_cnf max) s.text_is ∙ s.reads held ∙ ap (resumed max (length s.lines) state) (slice_split_none is_line_end held none)
 
-pub answered : (r : CnfRead) (text : List ℕ) (s : CnfReaderStandsAt r text) (new : State) (result : Result FormulaValue CnfFault) → HasNoLineEnd r.ahead
-    → Reads r.max (length s.lines + 1) [] new (resumed r.max (length s.lines) r.progress (r.ahead ∷ []))
-    → MatchResult result (λ formula. resumed r.max (length s.lines + 1) new [] ≡ Ok formula) (λ fault. IsCnfTold fault.kind fault.line (resumed r.max (length s.lines + 1) new []))
-    → IsAnswer r.max text result
-answered r text s new (Ok formula) none reads end = whole r text s none ∙ closed_ok r.max (length s.lines + 1) new _ formula reads end
-answered r text s new (Err fault) none reads end = λ m. whole r text s none ∙ closed_fault r.max (length s.lines + 1) new _ fault reads end m
+pub answered : (max line : ℕ) (held : List ℕ) (state : State) (text : List ℕ) (s : CnfStandsAt max line held state text) (new : State) (result : Result FormulaValue CnfFault) → HasNoLineEnd held
+    → Reads max (length s.lines + 1) [] new (resumed max (length s.lines) state (held ∷ []))
+    → MatchResult result (λ formula. resumed max (length s.lines + 1) new [] ≡ Ok formula) (λ fault. IsCnfTold fault.kind fault.line (resumed max (length s.lines + 1) new []))
+    → IsAnswer max text result
+answered max line held state text s new (Ok formula) none reads end = whole max line held state text s none ∙ closed_ok max (length s.lines + 1) new _ formula reads end
+answered max line held state text s new (Err fault) none reads end = λ m. whole max line held state text s none ∙ closed_fault max (length s.lines + 1) new _ fault reads end m
 
-pub fault-again_end : (r : CnfRead) (text : List ℕ) (s : CnfReaderStandsAt r text) (fault : CnfFault) → kept_fault r.progress ≡ Some fault → HasFault r.max text fault
-fault-again_end r text s fault is = ap (read_cnf r.max) (sym (append-nil text)) ∙ fault-again r text s fault is []
+pub ends_at : (max line : ℕ) (held : List ℕ) (state : State) (text : List ℕ) → CnfStandsAt max line held state text → HasNoLineEnd held → line ≡ last_number text
+ends_at max line held state text s none = s.line_is ∙ ap (λ ls. line_number (length ls)) (sym (whole_lines text s.lines held s.whole s.text_is none))
+
+pub ends_by : (max line : ℕ) (held : List ℕ) (state : State) (text : List ℕ) → CnfStandsAt max line held state text → HasNoLineEnd held → asks_room state (tokens_of held) ≡ true → EndsByNumber max text
+ends_by max line held state text s none asks = record {
+  lines = s.lines;
+  whole = s.whole;
+  last = held;
+  cut = s.text_is;
+  none = none;
+  begins = begins_by max s.lines state held s.reads asks;
+}
+
+pub fault-at_end : (max : ℕ) (text : List ℕ) (fault : CnfFault) → HasFaultAlready max text fault → HasFault max text fault
+fault-at_end max text fault h = ap (read_cnf max) (sym (append-nil text)) ∙ h []
+
+-- no fault is kept where none is found
+pub none_kept : (o : Option CnfFault) → ((fault : CnfFault) → o ≡ Some fault → ⊥) → o ≡ None
+none_kept None h = refl
+none_kept (Some fault) h = absurd (h fault refl)
+
+-- what is told at the end, of the state behind the last line
+pub told_line : (o : Option CnfFault) (r : Result FormulaValue CnfFault) (line last : ℕ) (A B : CnfFault → Type 0) → line ≡ last → IfSome o (λ fault. (fault.line ≡ line) × A fault) → IfSome o (λ fault. r ≡ Err fault)
+    → (o ≡ None → IfErr r (λ fault. (fault.line ≡ line) × B fault)) → IfErr r (λ fault. fault.line ≡ last)
+told_line None (Ok formula) line last A B e some again none = tt
+told_line None (Err fault) line last A B e some again none = (none refl).0 ∙ e
+told_line (Some kept) (Ok formula) line last A B e some again none = tt
+told_line (Some kept) (Err fault) line last A B e some again none = let same : fault ≡ kept = cc in ap (λ (f : CnfFault). f.line) same ∙ some.0 ∙ e
+
+pub told_room : (o : Option CnfFault) (r : Result FormulaValue CnfFault) (line : ℕ) (P : Type 0) → IfSome o (λ fault. (fault.line ≡ line) × (is_cnf_no_memory fault.kind ≡ true → P)) → IfSome o (λ fault. r ≡ Err fault)
+    → (o ≡ None → IfErr r (λ fault. (fault.line ≡ line) × (is_cnf_no_memory fault.kind ≡ false))) → IfErr r (λ fault. is_cnf_no_memory fault.kind ≡ true → P)
+told_room None (Ok formula) line P some again none = tt
+told_room None (Err fault) line P some again none = λ memory. let other : is_cnf_no_memory fault.kind ≡ false = (none refl).1 in cc
+told_room (Some kept) (Ok formula) line P some again none = tt
+told_room (Some kept) (Err fault) line P some again none = λ memory. let same : fault ≡ kept = cc in some.1 (subst (λ (f : CnfFault). is_cnf_no_memory f.kind ≡ true) same memory)
+
+pub asks_at_end : {A B : Type 0} (r : Result FormulaValue CnfFault) → (A → B) → IfErr r (λ fault. is_cnf_no_memory fault.kind ≡ true → A) → IfErr r (λ fault. is_cnf_no_memory fault.kind ≡ true → B)
+asks_at_end (Ok formula) f h = tt
+asks_at_end (Err fault) f h = λ memory. f (h memory)
 
 -- a reading is a formula or a fault
 pub either : (read : Result FormulaValue CnfFault) → ((formula : FormulaValue) × (read ≡ Ok formula)) ⊎ ((fault : CnfFault) × (read ≡ Err fault))

@@ -2,14 +2,15 @@
 ghost use Rattle.std.specs.Prelude.{◌≡◌, ◌<◌, ◌≤◌, ◌+◌, ◌∷◌, ◌++◌, ◌⊎◌, ℕ, List, [], length, true, false, Ok, Err, None, Some, IfErr, IfSome, OnOk};
 ghost use Rattle.lj_clause.specs.Memory.{no_memory};
 ghost use Rattle.lj_text.specs.Bytes.{line_number, tokens_of};
-ghost use Rattle.lj_text.specs.Cnf.{HasFault};
-ghost use Rattle.lj_text.specs.LinesRead.{HasNoLineEnd};
-ghost use Rattle.lj_text.specs.CnfRead.{IsAnswer, CnfReaderStandsAt, EndsByNumber, NeedsRoom, NeedsRoomFrom, Taken};
+ghost use Rattle.lj_text.specs.LinesRead.{HasNoLineEnd, last_number};
+ghost use Rattle.lj_text.specs.CnfRead.{IsAnswer, HasFaultAlready, EndsByNumber, NeedsRoom, cnf_fault_of};
+ghost use Rattle.lj_text.specs.CnfHeld.{NeedsRoomFrom, Taken};
 ghost use Rattle.lj_text.specs.CnfReading.{is_cnf_no_memory};
 ghost use Rattle.lj_text.specs.CnfResuming.{Reads, asks_room, kept_fault, resumed};
 
 use super::fault::{CnfFault, CnfFaultKind};
 use super::state::{State, after_line, close};
+use crate::bytes_so_far::BytesSoFar;
 use crate::lines::first_line;
 use lj_clause::Formula;
 use std::alloc::{AllocError, Global};
@@ -28,30 +29,26 @@ pub struct CnfReader {
     /// Its number.
     line: u64,
     state: State,
+    fed: BytesSoFar,
 }
 
 impl Model for CnfReader {
-    ghost use Rattle.std.specs.Coded.{codes};
-    ghost use Rattle.lj_clause.specs.LiteralSet.{literal_set_code};
-    ghost use Rattle.lj_text.specs.CnfRead.{CnfRead, IsCnfHeld};
+    ghost use Rattle.lj_text.specs.CnfRead.{CnfRead};
+    ghost use Rattle.lj_text.specs.CnfHeld.{IsCnfHeld};
     ghost use Rattle.lj_text.specs.CnfResuming.{kept_fault};
 
     ghost Value = { CnfRead };
 
-    ghost coded = { Prim.hlevel (codes, literal_set_code) };
+    ghost view = { λ r. record { max = r.max; fed = r.fed.bytes; fault = kept_fault r.state } };
 
-    ghost view = { λ r. record { max = r.max; ahead = r.held.items; line = r.line; fault = kept_fault r.state; progress = r.state } };
-
-    ghost invariant = { λ r. IsCnfHeld r.max r.line r.held.items };
+    ghost invariant = { λ r. IsCnfHeld r.max r.line r.held.items r.state r.fed.bytes };
 }
 
 impl CnfReader {
     /// A reader at the beginning of a text, for formulas of variables up to `max`.
     pub fn new(alloc: Global, max: u32) -> CnfReader
         requires { max ≤ 134217727 }
-        ensures max { result.max ≡ max }
-        ensures stands { CnfReaderStandsAt result [] }
-        ensures fresh { result.fault ≡ None }
+        ensures { result ≡ record { max = max; fed = []; fault = None } }
     {
         CnfReader {
             alloc,
@@ -59,6 +56,7 @@ impl CnfReader {
             held: Vec::new(alloc),
             line: 1,
             state: State::Header,
+            fed: BytesSoFar::new(),
         }
     }
 
@@ -67,17 +65,17 @@ impl CnfReader {
     /// # Errors
     /// The fault of every text that begins with what was fed, or `NoMemory`; and from then on that fault again.
     pub fn feed(&mut self, piece: &[u8]) -> Result<(), CnfFault>
-        ensures told_again { IfSome self.old.fault (λ fault. (result ≡ Err fault) × (self.new ≡ self.old)) }
-        ensures stands { OnOk result ((text : List ℕ) → CnfReaderStandsAt self.old text → CnfReaderStandsAt self.new (text ++ piece.now)) }
-        ensures fault { IfErr result (λ fault. is_cnf_no_memory fault.kind ≡ false → (text : List ℕ) → CnfReaderStandsAt self.old text → (more : List ℕ) → HasFault self.old.max (text ++ (piece.now ++ more)) fault) }
+        ensures told_again { IfSome self.old.fault (λ fault. result ≡ Err fault) }
+        ensures fed { self.new.fed ≡ self.old.fed ++ piece.now }
+        ensures kept { self.new.fault ≡ cnf_fault_of result }
+        ensures fault { IfErr result (λ fault. is_cnf_no_memory fault.kind ≡ false → HasFaultAlready self.new.max self.new.fed fault) }
 
         // Want of memory comes only where a line needs room, and is told at that line.
-        ensures room { self.old.fault ≡ None → IfErr result (λ fault. is_cnf_no_memory fault.kind ≡ true → NeedsRoom self.old piece.now fault.line) }
+        ensures room { self.old.fault ≡ None → IfErr result (λ fault. is_cnf_no_memory fault.kind ≡ true → NeedsRoom self.old.max self.old.fed piece.now fault.line) }
 
-        ensures sound { OnOk result (self.new.fault ≡ None) }
-        ensures kept { IfErr result (λ fault. self.new.fault ≡ Some fault) }
         ensures max { self.new.max ≡ self.old.max }
     {
+        self.fed = self.fed.and(piece);
         if let Some(fault) = fault_of(&self.state) {
             return Err(fault);
         }
@@ -106,11 +104,11 @@ impl CnfReader {
     /// The text's fault, or `NoMemory`; a fault that was told before is told again.
     pub fn finish(self) -> Result<Formula, CnfFault>
         ensures told_again { IfSome self.fault (λ fault. result ≡ Err fault) }
-        ensures answer { (text : List ℕ) → CnfReaderStandsAt self text → IsAnswer self.max text result }
+        ensures answer { IsAnswer self.max self.fed result }
 
         // Each fault is told at the last line, and want of memory only where that one needs room.
-        ensures line { self.fault ≡ None → IfErr result (λ fault. fault.line ≡ self.line) }
-        ensures room { self.fault ≡ None → IfErr result (λ fault. is_cnf_no_memory fault.kind ≡ true → EndsByNumber self) }
+        ensures line { self.fault ≡ None → IfErr result (λ fault. fault.line ≡ last_number self.fed) }
+        ensures room { self.fault ≡ None → IfErr result (λ fault. is_cnf_no_memory fault.kind ≡ true → EndsByNumber self.max self.fed) }
     {
         if let Some(fault) = fault_of(&self.state) {
             return Err(fault);

@@ -4,7 +4,6 @@ use Rattle.lj_clause.specs.declared.memory.NoMemory.{NoMemory}
 use Rattle.lj_text.specs.declared.cnf.fault.CnfFaultKind.{CnfFaultKind}
 use Rattle.lj_text.specs.declared.cnf.fault.CnfFaultKind.TheVariants as kinds
 use Rattle.lj_text.specs.CnfReading.{is_cnf_no_memory}
-use Rattle.lj_run.proofs.FormulaLemmas.{answered_fault}
 use Rattle.lj_run.proofs.reading.finish_formula.Goals as goal
 
 is_another : (kind : CnfFaultKind) → ((e : NoMemory) → kind ≡ kinds.NoMemory e → ⊥) → is_cnf_no_memory kind ≡ false
@@ -19,6 +18,5 @@ is_another (kinds.NoMemory e) other = absurd (other e refl)
 pub returns-in_default : goal.returns-in_default
 returns-in_default c = record {
   formula = record {};
-  fault = λ fed reading. answered_fault fed c.args.reader c.in-Err.fault reading c.in-Err.ensures.told_again
-      (λ t at memory. c.in-Err.ensures.answer t at memory) (is_another c.in-Err.fault.kind c.in_default.not-NoMemory);
+  fault = c.in-Err.ensures.answer (is_another c.in-Err.fault.kind c.in_default.not-NoMemory);
 }

@@ -9,9 +9,9 @@ returns-in-Ok-true-clause-formula g c =
     let start = seen c.args.source.now in
     let after = seen c.pull_formula.new.source in
     let reader = c.pull_formula.new.reader in
-    let read = read_further c.loop.reader reader start (seen c.loop.source) after c.loop.invariant.onward c.in-Ok-true.ensures.onward in
-    let all = all_given reader start after read (c.in-Ok-true.ensures.ended c.in-Ok-true.field-0-test) c.in-Ok-true.ensures.unfailed in
-    formula_told c.finish_formula.result reader start after (c.in-Ok-true.ensures.max ∙ c.loop.invariant.max) read all c.finish_formula.ensures.formula
+    let gave = read_further c.loop.reader reader start (seen c.loop.source) after c.loop.invariant.gave c.in-Ok-true.ensures.onward in
+    let all = all_given reader start after gave (c.in-Ok-true.ensures.ended c.in-Ok-true.field-0-test) c.in-Ok-true.ensures.unfailed in
+    formula_told c.finish_formula.result reader start after (c.in-Ok-true.ensures.max ∙ c.loop.invariant.max) all c.finish_formula.ensures.formula
 
 pub returns-in-Ok-true-clause-fault : goal.returns-in-Ok-true-clause-fault
 returns-in-Ok-true-clause-fault g c =
@@ -19,9 +19,9 @@ returns-in-Ok-true-clause-fault g c =
     let start = seen c.args.source.now in
     let after = seen c.pull_formula.new.source in
     let reader = c.pull_formula.new.reader in
-    let read = read_further c.loop.reader reader start (seen c.loop.source) after c.loop.invariant.onward c.in-Ok-true.ensures.onward in
-    let all = all_given reader start after read (c.in-Ok-true.ensures.ended c.in-Ok-true.field-0-test) c.in-Ok-true.ensures.unfailed in
-    fault_told c.finish_formula.result reader start after (c.in-Ok-true.ensures.max ∙ c.loop.invariant.max) read all c.finish_formula.ensures.fault
+    let gave = read_further c.loop.reader reader start (seen c.loop.source) after c.loop.invariant.gave c.in-Ok-true.ensures.onward in
+    let all = all_given reader start after gave (c.in-Ok-true.ensures.ended c.in-Ok-true.field-0-test) c.in-Ok-true.ensures.unfailed in
+    fault_told c.finish_formula.result reader start after (c.in-Ok-true.ensures.max ∙ c.loop.invariant.max) all c.finish_formula.ensures.fault
 
 pub loop-preserved : goal.loop-preserved
 loop-preserved g c =
@@ -32,5 +32,5 @@ loop-preserved g c =
       unfailed = search rules;
       max = search rules;
       room = search rules;
-      onward = read_further c.loop.reader c.pull_formula.new.reader (seen c.args.source.now) (seen c.loop.source) (seen c.pull_formula.new.source) c.loop.invariant.onward c.in-Ok-false.ensures.onward;
+      gave = read_further c.loop.reader c.pull_formula.new.reader (seen c.args.source.now) (seen c.loop.source) (seen c.pull_formula.new.source) c.loop.invariant.gave c.in-Ok-false.ensures.onward;
     }

@@ -1,6 +1,5 @@
-use Rattle.std.proofs.Common.{◌≡◌, List, length, []}
-use Rattle.lj_text.specs.Streams.{source_state}
-use Rattle.lj_run.specs.FormulaReading.{FormulaReadOn}
+use Rattle.std.proofs.Common.{◌≡◌, length}
+use Rattle.lj_text.specs.Streams.{source_state, HasGiven}
 use Rattle.lj_run.proofs.reading.read_formula.Given as goal
 
 abbrev pub invariant-loop : goal.invariant-loop
@@ -12,5 +11,5 @@ invariant-loop g l =
       unfailed : g.F.Source.failures l.source ≡ 0;
       max : l.reader.max ≡ 134217727;
       room : length l.room ≡ 65536;
-      onward : FormulaReadOn [] l.reader (seen l.fn.source) (seen l.source);
+      gave : HasGiven (seen l.fn.source) (seen l.source) l.reader.fed;
     }
