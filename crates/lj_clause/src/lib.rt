@@ -8,8 +8,6 @@ pub mod laws;
 mod lemma;
 mod lit;
 mod memory;
-#[cfg(test)]
-mod tests;
 
 pub use clause::Clause;
 pub use formula::{Formula, MAX_CLAUSES};

@@ -17,8 +17,6 @@ mod rat_refusal;
 mod receipt;
 mod stamps;
 mod tested;
-#[cfg(test)]
-mod tests;
 mod trail;
 mod true_lits;
 mod walk;

@@ -1,6 +1,4 @@
 //! The working room of walks.
-ghost use Rattle.std.specs.Prelude.{◌<◌};
-
 use crate::true_lits::TrueLits;
 use std::alloc::Global;
 use std::marker::Model;
@@ -20,15 +18,13 @@ impl Model for Marks {
 impl Marks {
     /// Room without a literal. Takes no memory.
     pub fn new(alloc: Global) -> Marks {
-        Marks::starting_at(alloc, 1)
+        Marks::after(alloc, 0)
     }
 
-    /// The same, where the first walk takes the stamp after this one, for tests of the greatest.
-    pub(crate) fn starting_at(alloc: Global, stamp: u32) -> Marks
-        requires { 0 < stamp }
-    {
+    /// Room that has served so many walks, so that a test reaches the last walk that is counted. Takes no memory.
+    pub fn after(alloc: Global, walks: u32) -> Marks {
         Marks {
-            lits: TrueLits::starting_at(alloc, stamp),
+            lits: TrueLits::starting_at(alloc, walks % u32::MAX + 1),
         }
     }
 }

@@ -5,4 +5,12 @@
 #[cfg(test)]
 mod book;
 #[cfg(test)]
+mod clauses;
+#[cfg(test)]
 mod sizes;
+#[cfg(test)]
+mod tables;
+#[cfg(test)]
+mod trimming;
+#[cfg(test)]
+mod walks;

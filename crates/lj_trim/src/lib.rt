@@ -11,5 +11,3 @@ pub use kept::Kept;
 pub use needed::up_to_empty_clause;
 pub use trimming::{TrimRefusal, trim};
 
-#[cfg(test)]
-mod tests;

@@ -1,5 +1,6 @@
 //! Calls by themselves, each with memory at hand.
-use crate::book::{BINARY, Line, addition, clause, opened};
+use crate::book::opened;
+use crate::tables::{BINARY, Line, addition, clause};
 use lj_book::{Added, Book, Dropped, Imported, Refusal};
 use lj_clause::{Clause, Lit, NoMemory};
 use lj_hint::{Live, Marks, Tested, rat_test};

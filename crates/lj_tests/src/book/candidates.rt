@@ -1,5 +1,6 @@
 //! Additions by candidates, in lists of events.
-use crate::book::{BINARY, Line, Listed, ListedStep, assert_entries, assert_plays, opened};
+use crate::book::{Listed, assert_plays, opened};
+use crate::tables::{BINARY, Line, ListedStep, assert_entries};
 use lj_book::{Added, Dropped, Refusal, Reply};
 use std::test::Fail;
 

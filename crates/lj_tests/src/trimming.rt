@@ -1,24 +1,17 @@
 //! Worked examples of trimming. Each outcome is computed by hand.
-use crate::{TrimRefusal, trim};
-use lj_clause::Formula;
-use lj_text::{CnfReader, Line, LineReader, MemorySink, Step, write_proof};
+use crate::tables::formula_of;
+use lj_clause::MAX_VARIABLE;
+use lj_text::{Line, LineReader, MemorySink, Step, write_proof};
+use lj_trim::{TrimRefusal, trim};
 use std::alloc::Global;
 use std::test::Fail;
-
-const MAX: u32 = 134_217_727;
 
 /// The four binary clauses over variables 1 and 2, with a third variable.
 const FOUR: &str = "p cnf 3 4\n1 2 0\n-1 2 0\n1 -2 0\n-1 -2 0\n";
 
-fn formula_of(alloc: Global, text: &str) -> Result<Formula, Fail> {
-    let mut reader = CnfReader::new(alloc, MAX);
-    reader.feed(text.as_bytes())?;
-    Ok(reader.finish()?)
-}
-
 /// The additions and deletions that lines spell, as steps.
 fn steps_of(alloc: Global, lines: &str) -> Result<Vec<Step>, Fail> {
-    let mut reader = LineReader::new(alloc, MAX);
+    let mut reader = LineReader::new(alloc, MAX_VARIABLE);
     reader.feed(lines.as_bytes())?;
     let mut steps = Vec::new(alloc);
     for _ in 0..lines.len() {
