@@ -1,2 +1,3 @@
 mod Confirming
 mod Refusing
+mod Opened

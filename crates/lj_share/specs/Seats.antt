@@ -31,10 +31,16 @@ abbrev pub entries_made : List SeatValue → ℕ
 entries_made [] = 0
 entries_made (s ∷ ss) = s.count + entries_made ss
 
--- What the lock keeps: the book is of the opening's formula, the total of its ledger is the number of entries, and all
--- of the ledger is with the seats.
-pub record IsDesk (formula : FormulaValue) (book : State) (total parts amount : ℕ) : Type 0 where
+-- The book is of this formula, has so many seats, and takes so many additions.
+pub record IsOpenedAs (formula : FormulaValue) (seats max_steps : ℕ) (book : State) : Type 0 where
   pub formula_is : book.formula ≡ formula
+  pub seats_are : length book.tables ≡ seats
+  pub limit_is : book.max_steps ≡ max_steps
+
+-- What the lock keeps: the book is that of the opening, the total of its ledger is the number of entries, and all
+-- of the ledger is with the seats.
+pub record IsDesk (formula : FormulaValue) (seats max_steps : ℕ) (book : State) (total parts amount : ℕ) : Type 0 where
+  pub opened : IsOpenedAs formula seats max_steps book
   pub counted : length book.history ≡ total
   pub no_part : parts ≡ 0
   pub no_amount : amount ≡ 0

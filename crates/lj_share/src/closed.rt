@@ -1,6 +1,7 @@
 //! Closed books.
 ghost use Rattle.std.specs.Prelude.{◌≡◌, ◌↔◌, IsTrue};
 ghost use Rattle.lj_share.specs.Entries.{entries_of};
+ghost use Rattle.lj_share.specs.Seats.{IsOpenedAs};
 
 use crate::opening::Opening;
 use crate::same::same_entry;
@@ -8,7 +9,7 @@ use crate::told::Told;
 use lj_book::Book;
 use std::marker::{Model, PhantomData};
 
-/// A book that was shared, and whose seats were all handed in. Its formula is the opening's.
+/// A book that was shared, and whose seats were all handed in. Its formula, its seats' number and its limit are the opening's.
 #[derive(Drop)]
 pub struct Closed<L: Opening> {
     book: Book,
@@ -16,8 +17,8 @@ pub struct Closed<L: Opening> {
 }
 
 impl<L: Opening> Model for Closed<L> {
-    ghost use Rattle.std.specs.Prelude.{◌≡◌};
     ghost use Rattle.lj_book.specs.State.{State, state_code};
+    ghost use Rattle.lj_share.specs.Seats.{IsOpenedAs};
 
     ghost Value = { State };
 
@@ -25,13 +26,13 @@ impl<L: Opening> Model for Closed<L> {
 
     ghost view = { λ c. c.book };
 
-    ghost invariant = { λ c. c.book.formula ≡ L.formula };
+    ghost invariant = { λ c. IsOpenedAs L.formula L.seats L.max_steps c.book };
 }
 
 impl<L: Opening> Closed<L> {
     /// The closed book of this one.
     pub(crate) fn new(book: Book) -> Closed<L>
-        requires { book.formula ≡ L.formula }
+        requires { IsOpenedAs L.formula L.seats L.max_steps book }
         ensures { result ≡ book }
     {
         Closed {
@@ -43,7 +44,7 @@ impl<L: Opening> Closed<L> {
     /// The book.
     pub fn book(&self) -> &Book
         ensures book { result.now ≡ self.now }
-        ensures formula { self.now.formula ≡ L.formula }
+        ensures opened { IsOpenedAs L.formula L.seats L.max_steps self.now }
     {
         &self.book
     }
@@ -51,7 +52,7 @@ impl<L: Opening> Closed<L> {
     /// The book, by value.
     pub fn into_book(self) -> Book
         ensures book { result ≡ self }
-        ensures formula { self.formula ≡ L.formula }
+        ensures opened { IsOpenedAs L.formula L.seats L.max_steps self }
     {
         self.book
     }

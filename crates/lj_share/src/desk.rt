@@ -32,13 +32,13 @@ impl<L: Opening> Model for Desk<L> {
 
     ghost view = { λ d. tt };
 
-    ghost invariant = { λ d. IsDesk L.formula d.book d.entries.total d.rest.parts d.rest.amount };
+    ghost invariant = { λ d. IsDesk L.formula L.seats L.max_steps d.book d.entries.total d.rest.parts d.rest.amount };
 }
 
 impl<L: Opening> Desk<L> {
     /// A new book under a ledger all of whose parts the seats have.
     pub fn new(book: Book, entries: Tally<L>, rest: Share<L>) -> Desk<L>
-        requires { IsDesk L.formula book entries.total rest.parts rest.amount }
+        requires { IsDesk L.formula L.seats L.max_steps book entries.total rest.parts rest.amount }
     {
         Desk {
             book,
@@ -54,7 +54,7 @@ impl<L: Opening> Desk<L> {
 
     /// The book, the ledger, and what no seat has of it.
     pub fn into_parts(self) -> (Book, Tally<L>, Share<L>)
-        ensures { IsDesk L.formula result.0 result.1.total result.2.parts result.2.amount }
+        ensures { IsDesk L.formula L.seats L.max_steps result.0 result.1.total result.2.parts result.2.amount }
     {
         let Desk {
             book,

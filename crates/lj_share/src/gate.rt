@@ -10,7 +10,8 @@ pub trait Gate {
 }
 
 /// The gate that does nothing.
-pub(crate) struct NoGate;
+#[derive(Clone, Copy, Debug)]
+pub struct NoGate;
 
 impl Gate for NoGate {
     fn pass(&self, _seat: u32, _line: u64) {}

@@ -13,7 +13,7 @@ mod tests;
 mod told;
 
 pub use closed::Closed;
-pub use gate::Gate;
+pub use gate::{Gate, NoGate};
 pub use opening::Opening;
 pub use seat::Seat;
 pub use shared::{SeatsOut, Shared};

@@ -2,9 +2,9 @@
 use std::marker::Brand;
 use std::sync::ledger::Ledger;
 
-/// One opening of a shared book: its formula, and how many seats it has. The shared book, its seats and the closed book
-/// name it by their type, so what belongs to different openings doesn't mix. Whoever opens is generic over it, and is
-/// called with [`Brand`].
+/// One opening of a shared book: its formula, how many seats it has, and how many additions it takes. The shared book, its
+/// seats and the closed book name it by their type, so what belongs to different openings doesn't mix. Whoever opens is
+/// generic over it, and is called with [`Brand`].
 pub trait Opening: Ledger {
     ghost use Rattle.std.specs.Prelude.{ℕ};
     ghost use Rattle.lj_clause.specs.ClauseMap.{FormulaValue};
@@ -12,6 +12,8 @@ pub trait Opening: Ledger {
     ghost formula: { FormulaValue };
 
     ghost seats: { ℕ };
+
+    ghost max_steps: { ℕ };
 }
 
 impl Opening for Brand {
@@ -20,4 +22,6 @@ impl Opening for Brand {
     ghost formula = { record { variables = 0; clauses = [] } };
 
     ghost seats = { 0 };
+
+    ghost max_steps = { 0 };
 }

@@ -53,6 +53,7 @@ impl<L: Opening> Shared<L> {
         requires parts { (blank.parts ≡ L.parts) × (blank.parts ≡ seats) }
         requires formula { formula ≡ L.formula }
         requires seats { (0 < seats) × (seats ≡ L.seats) }
+        requires limit { max_steps ≡ L.max_steps }
         ensures seats { IfOk result (λ opened. opened.1.items ≡ new_seats seats) }
     {
         let book = Book::open(alloc, formula, seats, max_steps)?;
@@ -223,7 +224,8 @@ impl<L: Opening> Shared<L> {
         &told.entry
     }
 
-    /// The place of the first entry that adds the empty clause, if there is one by now.
+    /// The place of the first entry that adds the empty clause, if there is one by now. It has no clause: nothing learnt of
+    /// what lies under a plain lock outlives the guard. What it told is seen once the book is closed.
     pub fn verdict_now<R: Wait>(&self, rt: &R) -> Option<u64> {
         self.desk.lock(rt).book().verdict()
     }

@@ -69,6 +69,7 @@ fn close_with_one<L: Opening, R: Abort>(
     requires parts { (blank.parts ≡ L.parts) × (blank.parts ≡ 2) }
     requires formula { formula ≡ L.formula }
     requires seats { L.seats ≡ 2 }
+    requires limit { L.max_steps ≡ 9 }
 {
     let (shared, mut seats) = Shared::<L>::open(alloc, blank, formula, 2, 9)?;
     let Some(second) = seats.pop() else {
@@ -99,6 +100,7 @@ fn refute<L: Opening + Send + Sync, R: Threads + Wait + Abort + Sync>(
     requires parts { (blank.parts ≡ L.parts) × (blank.parts ≡ 3) }
     requires formula { formula ≡ L.formula }
     requires seats { L.seats ≡ 3 }
+    requires limit { L.max_steps ≡ 9 }
 {
     let (shared, mut seats) = Shared::<L>::open(alloc, blank, formula, 3, 9)?;
     let Some(mut third) = seats.pop() else {
