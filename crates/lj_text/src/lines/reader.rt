@@ -106,6 +106,9 @@ impl LineReader {
         // Its number, or that of the line being read.
         ensures at { (text : List ℕ) (given : ℕ) → LineReaderStandsAt self.old text given → self.old.fault ≡ None → wants_memory result ≡ false → self.new.at ≡ line_number_of (slice_get (whole_said self.old.max text) given) (last_number text) }
 
+        // Where no whole line is left, the line being read begins what it holds.
+        ensures none_left { self.old.fault ≡ None → result ≡ Ok None → self.new.line ≡ self.new.at }
+
         ensures fault { self.old.fault ≡ None → wants_memory result ≡ false → self.new.fault ≡ fault_of result }
         ensures unchanged { wants_memory result ≡ true → self.new ≡ self.old }
         ensures same { (self.new.max ≡ self.old.max) × (self.new.finished ≡ self.old.finished) }

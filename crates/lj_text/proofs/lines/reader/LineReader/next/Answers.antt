@@ -1,6 +1,9 @@
-use Rattle.std.proofs.Common.{length, Option, Ok, sym, ap, ◌∙◌, subst}
+use Rattle.std.proofs.Common.{length, ◌≡◌, ℕ, List, Option, Some, None, Result, Ok, sym, ap, ◌∙◌, subst}
+use Rattle.std.specs.Prelude.{MatchOption}
+use Rattle.lj_text.specs.declared.line.Line.{Line}
+use Rattle.lj_text.specs.declared.lines.fault.LineFault.{LineFault}
 use Rattle.lj_text.specs.Lines.{Said}
-use Rattle.lj_text.specs.LinesRead.{LinesRead, IsSaidAt, IsSaidRight, line_answer, line_number_of, last_number}
+use Rattle.lj_text.specs.LinesRead.{HasNoLineEnd, LinesRead, IsSaidAt, IsSaidRight, line_answer, line_number_of, last_number}
 use Rattle.lj_text.specs.LinesHeld.{passed}
 use Rattle.lj_text.proofs.ReaderLemmas.{whole-at, whole-found, answers, stands-passed, place-whole, ahead-found, within-of, stands-of, kept-at}
 use Rattle.lj_text.proofs.lines.reader.LineReader.next.Goals as goal
@@ -31,6 +34,20 @@ returns-in-Ok-clause-at c text given stands none memory =
     let s = within-of r text given (sym (ap (λ (v : LinesRead). v.finished) c.self.view_is) ∙ c.if-self.false) stands in
     let p = c.in-Ok.ensures.found (length s.lines) s.line_is in
     ap (λ (v : LinesRead). v.at) c.pass.ensures.passed ∙ place-whole r text given c.in-Ok.found s p
+
+pub returns-in-Ok-clause-none_left : goal.returns-in-Ok-clause-none_left
+returns-in-Ok-clause-none_left c none left =
+    let counted = c.look_ahead.ensures.counted in
+    let p = c.in-Ok.ensures.found counted.0 counted.1 in
+    ap (λ (v : LinesRead). v.line) c.pass.ensures.passed ∙ sym (none-at c.in-Ok.found.line c.in-Ok.found.at c.in-Ok.found.number _ p.none_is (found-none c.pass.result c.in-Ok.found.line c.pass.ensures.line left)) ∙ sym (ap (λ (v : LinesRead). v.at) c.pass.ensures.passed)
+  where
+    none-at : (line : Option Line) (at number : ℕ) (after : List ℕ) → MatchOption line (HasNoLineEnd after × (at ≡ number)) (λ l. Unit {0}) → line ≡ None → at ≡ number
+    none-at None at number after h e = h.1
+    none-at (Some l) at number after h e = cc
+
+    found-none : (given line : Option Line) → given ≡ line → ◌≡◌ {A = Result (Option Line) LineFault} (Ok given) (Ok None) → line ≡ None
+    found-none None line is e = sym is
+    found-none (Some l) line is e = cc
 
 pub returns-in-Err-clause-answer : goal.returns-in-Err-clause-answer
 returns-in-Err-clause-answer c text given stands none memory =
