@@ -1,19 +1,19 @@
 -- The steps of reading a stream's lines.
-use Rattle.std.proofs.Common.{◌≡◌, ℕ, ◌+◌, Bool, true, false, List, [], ◌∷◌, ◌++◌, length, take, Option, None, Some, Result, Ok, Err, refl, sym, ap, ◌∙◌, subst, append_assoc, add-zero}
-use Rattle.std.specs.Prelude.{slice_get, MatchBool, IfErr, IsErrAnd}
+use Rattle.std.proofs.Common.{◌≡◌, ℕ, ◌+◌, Bool, true, false, List, [], ◌∷◌, ◌++◌, length, take, Option, None, Some, Result, Ok, Err, refl, sym, ap, ◌∙◌, subst, append_assoc, add-zero, inl, inr}
+use Rattle.std.specs.Prelude.{◌⊎◌, slice_get, MatchBool, IfErr, IsErrAnd, IsOk}
 use Rattle.std.proofs.lemmas.List.{append-nil}
 use Rattle.std.proofs.lemmas.Bool.{false≢true}
 use Rattle.lj_text.specs.declared.line.Line.{Line}
 use Rattle.lj_text.specs.declared.lines.fault.LineFault.{LineFault}
 use Rattle.lj_text.specs.declared.lines.fault.LineFaultKind.{LineFaultKind}
 use Rattle.lj_text.specs.Lines.{Said, said_from, whole_said_from, whole_said, all_said_from, all_said}
-use Rattle.lj_text.specs.LinesRead.{LinesRead, LineReaderStandsAt, StandsWithin, StandsBehind, line_answer, told, line_number_of, last_number, handed_out, joined, is_line_no_memory}
+use Rattle.lj_text.specs.LinesRead.{LinesRead, LineReaderStandsAt, StandsWithin, StandsBehind, IsSaidAt, IsSaidRight, line_answer, told, line_number_of, last_number, handed_out, joined, is_line_no_memory}
 use Rattle.lj_text.specs.Streams.{SourceState, HasGiven, HasEnded}
 use Rattle.lj_text.proofs.Fronts.{said_in_front}
 use Rattle.lj_text.proofs.StandLemmas.{whole-joined, all-joined, get-behind}
 use Rattle.lj_run.specs.declared.reading.Miss.{Miss}
 use Rattle.lj_run.specs.declared.reading.Miss.TheVariants.{Failed, AtFault}
-use Rattle.lj_run.specs.Reading.{PieceRead, IsNext, LineRead, IsMiss, LineMissed, IsPieceOf, PieceMissed, FailsAt, with_handed}
+use Rattle.lj_run.specs.Reading.{PieceRead, IsNext, LineRead, IsMiss, IfOutOfRoom, IsRightLine, IsRoomRefused, LineMissed, IsPieceOf, PieceMissed, FailsAt, with_handed}
 use Rattle.lj_run.proofs.GivenLemmas.{given_none, given_on}
 
 told_line : (n : ℕ) (r : Result Line LineFaultKind) (line : Line) → Ok (Some line) ≡ told n r → r ≡ Ok line
@@ -48,6 +48,15 @@ pub faulted : (o : Option Said) (fault : LineFault) → Err fault ≡ line_answe
 faulted None fault e = cc
 faulted (Some said) fault e = let parts = told_fault said.line said.says fault e in λ i. Some (record { line = parts.0 i; says = parts.1 i })
 
+-- want of memory at the line that stands there, which is right
+right_line : (o : Option Said) (n : ℕ) → IsSaidAt o n → IsSaidRight o → (line : Line) × (o ≡ Some (record { line = n; says = Ok line }))
+right_line None n at right = absurd at
+right_line (Some said) n at right = let r = right_says said.says right in (r.0, λ i. Some (record { line = at i; says = r.1 i }))
+  where
+    right_says : (r : Result Line LineFaultKind) → IsOk r → (line : Line) × (r ≡ Ok line)
+    right_says (Ok line) ok = (line, refl)
+    right_says (Err kind) ok = absurd (false≢true ok)
+
 -- what the answers of a reader mean for what it was fed, with whole lines looked at
 pub line_of_text : (max : ℕ) (text : List ℕ) (handed at last : ℕ) (line : Line)
     → Ok (Some line) ≡ line_answer (slice_get (whole_said max text) handed) → at ≡ line_number_of (slice_get (whole_said max text) handed) last → slice_get (all_said max text) handed ≡ Some (record { line = at; says = Ok line })
@@ -61,7 +70,18 @@ fault_of_text max text handed fault e =
     subst (λ t. slice_get (all_said max t) handed ≡ Some (record { line = fault.line; says = Err fault.kind })) (append-nil text)
     (said_in_front max text [] handed (record { line = fault.line; says = Err fault.kind }) (faulted (slice_get (whole_said max text) handed) fault e))
 
+pub right_of_text : (max : ℕ) (text : List ℕ) (handed n : ℕ) → IsSaidAt (slice_get (whole_said max text) handed) n → IsSaidRight (slice_get (whole_said max text) handed)
+    → IsRightLine max text handed n
+right_of_text max text handed n at right =
+    let r = right_line (slice_get (whole_said max text) handed) n at right in
+    let said : Said = record { line = n; says = Ok r.0 } in
+    record { line = r.0; next = subst (λ t. slice_get (all_said max t) handed ≡ Some said) (append-nil text) (said_in_front max text [] handed said r.1) }
+
 -- and with all of them
+pub right_at_end : (max : ℕ) (text : List ℕ) (handed n : ℕ) → IsSaidAt (slice_get (all_said max text) handed) n → IsSaidRight (slice_get (all_said max text) handed)
+    → IsRightLine max text handed n
+right_at_end max text handed n at right = let r = right_line (slice_get (all_said max text) handed) n at right in record { line = r.0; next = r.1 }
+
 pub last_of_text : (max : ℕ) (text : List ℕ) (handed at last : ℕ) (line : Option Line)
     → Ok line ≡ line_answer (slice_get (all_said max text) handed) → at ≡ line_number_of (slice_get (all_said max text) handed) last → IsNext (all_said max text) handed at line
 last_of_text max text handed at last None e n = none_answered (slice_get (all_said max text) handed) e
@@ -165,17 +185,19 @@ line_read max fed handed old new start after line f next stands ended = record {
   ended = ended;
 }
 
--- its fault
+-- its fault, or the want of memory in a line that is right
 pub line_faulty : (max : ℕ) (fed : List ℕ) (handed at : ℕ) (old : LinesRead) (start after : SourceState) (fault : LineFault) (f : FedSince max fed handed old start after)
-    → (is_line_no_memory fault.kind ≡ false → slice_get (all_said max (fed ++ f.piece)) handed ≡ Some (record { line = fault.line; says = Err fault.kind })) → LineMissed max fed handed at start after (AtFault fault)
-line_faulty max fed handed at old start after fault f is = record { piece = f.piece; gave = f.gave; same = f.same; is = is }
+    → (is_line_no_memory fault.kind ≡ false → slice_get (all_said max (fed ++ f.piece)) handed ≡ Some (record { line = fault.line; says = Err fault.kind }))
+    → (is_line_no_memory fault.kind ≡ true → IsRightLine max (fed ++ f.piece) handed fault.line) → LineMissed max fed handed at start after (AtFault fault)
+line_faulty max fed handed at old start after fault f is right =
+    record { piece = f.piece; gave = f.gave; same = f.same; is = is; no_room = λ memory. inl (right memory) }
 
 -- the miss of a piece is one of the line
 pub piece_missed : (max : ℕ) (fed : List ℕ) (handed : ℕ) (old mid new : LinesRead) (start before after : SourceState) (miss : Miss) → old.max ≡ max → old.finished ≡ false → mid.max ≡ max → mid.finished ≡ false
     → (f : FedSince max fed handed old start before) → Ok None ≡ line_answer (slice_get (whole_said old.max (fed ++ f.piece)) handed)
-    → mid.at ≡ line_number_of (slice_get (whole_said old.max (fed ++ f.piece)) handed) (last_number (fed ++ f.piece)) → LineReaderStandsAt mid (fed ++ f.piece) (handed + 0)
-    → PieceMissed mid new before after miss → LineMissed max fed handed new.at start after miss
-piece_missed max fed handed old mid new start before after miss max_is goes mid_max mid_goes f answer place passed p =
+    → mid.at ≡ line_number_of (slice_get (whole_said old.max (fed ++ f.piece)) handed) (last_number (fed ++ f.piece)) → mid.line ≡ mid.at
+    → LineReaderStandsAt mid (fed ++ f.piece) (handed + 0) → PieceMissed mid new before after miss → LineMissed max fed handed new.at start after miss
+piece_missed max fed handed old mid new start before after miss max_is goes mid_max mid_goes f answer place line_at passed p =
     let here = subst (λ n. LineReaderStandsAt mid (fed ++ f.piece) n) (add-zero handed) passed in
     let on = subst (λ m. take handed (all_said m ((fed ++ f.piece) ++ p.piece)) ≡ take handed (all_said m (fed ++ f.piece))) mid_max (same_handed mid (fed ++ f.piece) p.piece handed mid_goes here) in
     record {
@@ -183,14 +205,27 @@ piece_missed max fed handed old mid new start before after miss max_is goes mid_
       gave = given_on start before after f.piece p.piece f.gave p.gave;
       same = ap (λ t. take handed (all_said max t)) (sym (append_assoc fed f.piece p.piece)) ∙ on ∙ f.same;
       is = missed miss p.is;
+      no_room = out_of_room miss p.is;
     }
   where
+    stops : FailsAt max (fed ++ f.piece) handed mid.at
+    stops = subst (λ m. FailsAt m (fed ++ f.piece) handed mid.at) max_is (read_failed (fed ++ f.piece) handed mid.at old goes f.stands answer place)
+
     failed : (piece : List ℕ) → piece ≡ [] → FailsAt max (fed ++ (f.piece ++ piece)) handed new.at
     failed piece none =
-        let at = subst (λ m. FailsAt m (fed ++ f.piece) handed mid.at) max_is (read_failed (fed ++ f.piece) handed mid.at old goes f.stands answer place) in
         let same_text : fed ++ f.piece ≡ fed ++ (f.piece ++ piece) = ap (λ xs. fed ++ xs) (sym (append-nil f.piece) ∙ ap (λ xs. f.piece ++ xs) (sym none)) in
-        subst (λ t. FailsAt max t handed new.at) same_text (subst (λ n. FailsAt max (fed ++ f.piece) handed n) (ap (λ (r : LinesRead). r.at) (sym p.same)) at)
+        subst (λ t. FailsAt max t handed new.at) same_text (subst (λ n. FailsAt max (fed ++ f.piece) handed n) (ap (λ (r : LinesRead). r.at) (sym p.same)) stops)
 
-    missed : (m : Miss) → IsPieceOf m p.piece → IsMiss max (fed ++ (f.piece ++ p.piece)) handed new.at m
+    missed : (m : Miss) → IsPieceOf mid.line after.ended m p.piece → IsMiss max (fed ++ (f.piece ++ p.piece)) handed new.at m
     missed Failed is = failed p.piece is
-    missed (AtFault fault) is = λ memory. absurd (false≢true (sym memory ∙ is))
+    missed (AtFault fault) is = λ memory. absurd (false≢true (sym memory ∙ is.0))
+
+    out_of_room : (m : Miss) → IsPieceOf mid.line after.ended m p.piece → IfOutOfRoom m (IsRoomRefused max (fed ++ (f.piece ++ p.piece)) after.ended handed)
+    out_of_room Failed is = tt
+    out_of_room (AtFault fault) is = λ memory. inr (record {
+      front = fed ++ f.piece;
+      piece = p.piece;
+      text_is = sym (append_assoc fed f.piece p.piece);
+      stops = subst (λ n. FailsAt max (fed ++ f.piece) handed n) (sym (is.1 ∙ line_at)) stops;
+      goes_on = is.2;
+    })

@@ -23,12 +23,12 @@ use Rattle.lj_text.specs.Lines.{whole_said, all_said}
 use Rattle.lj_text.proofs.Fronts.{all_said-front}
 use Rattle.lj_text.specs.LinesRead.{LinesRead, LineReaderStandsAt, is_line_no_memory}
 use Rattle.lj_text.specs.Streams.{SourceState, HasGiven}
-use Rattle.lj_run.specs.Reading.{LineRead, LineMissed, IsMiss, reads_failed}
+use Rattle.lj_run.specs.Reading.{LineRead, LineMissed, IsMiss, IfOutOfRoom, IsRoomRefused, reads_failed}
 use Rattle.lj_run.specs.declared.reading.Miss.{Miss}
 use Rattle.lj_run.specs.declared.reading.Miss.TheVariants.{Failed, AtFault}
 use Rattle.lj_run.specs.declared.stream.Tally.{Tally}
 use Rattle.lj_run.specs.Tally.{with_count, missed_at}
-use Rattle.lj_run.specs.Run.{if_accepted, reply_to_line, Progress, progress_of, with_line, has_verdict, if_line_entered, said_entered, all_entered, IsCounted, IsLineEnd, MeetsFault, MeetsRefused, MeetsRefusal, EndsAtLine, EndsWith, IsRunOfLines, IsStreamRun, IfReadFailed, IsFailedRead, failed_reads}
+use Rattle.lj_run.specs.Run.{if_accepted, reply_to_line, Progress, progress_of, with_line, has_verdict, if_line_entered, said_entered, all_entered, IsCounted, IsLineEnd, MeetsFault, MeetsRefused, MeetsRefusal, EndsAtLine, EndsWith, IsRunOfLines, IsStreamRun, IfReadFailed, IfRoomRefused, IsFailedRead, failed_reads}
 use Rattle.lj_run.proofs.GivenLemmas.{given_none, given_on}
 
 -- ---- an entered line makes one entry
@@ -148,6 +148,7 @@ run_stopped seat before after start now reader r v unfailed = record {
   gave = r.gave;
   runs = record { count = r.handed; enters = r.enters; ends = v };
   failed_read = tt;
+  no_room = tt;
   ended = λ e. cc;
   failures = unfailed;
 }
@@ -161,6 +162,7 @@ run_ended seat first before after start now reader new r read v unfailed =
       gave = given_on first before after r.text read.piece r.gave read.gave;
       runs = record { count = r.handed; enters = enters_since seat start now r.text read.piece r.handed read.same r.enters; ends = (none_left lines r.handed read.next, v) };
       failed_read = tt;
+      no_room = tt;
       ended = λ e. read.ended refl;
       failures = unfailed;
     }
@@ -175,6 +177,18 @@ meets_fault kinds.Truncated n lines given h = first_left lines given ∙ h refl
 at_miss : (seat : ℕ) (s : State) (at : ℕ) (text : List ℕ) (handed : ℕ) (miss : Miss) → has_verdict s ≡ false → IsMiss 134217727 text handed at miss → EndsWith seat s (drop handed (all_said 134217727 text)) (missed_at at miss)
 at_miss seat s at text handed Failed v h = (v, tt)
 at_miss seat s at text handed (AtFault fault) v h = (v, meets_fault fault.kind fault.line (all_said 134217727 text) handed h)
+
+-- want of memory while the next line was read
+room_missed : (at : ℕ) (miss : Miss) (P : ℕ → Type 0) → IfOutOfRoom miss P → IfRoomRefused (missed_at at miss) P
+room_missed at Failed P h = tt
+room_missed at (AtFault fault) P h = by_kind fault.kind fault.line h
+  where
+    by_kind : (kind : LineFaultKind) (n : ℕ) → (is_line_no_memory kind ≡ true → P n) → IfRoomRefused (AtLine n (Fault kind)) P
+    by_kind (kinds.NoMemory e) n h = h refl
+    by_kind kinds.BadNumber n h = tt
+    by_kind kinds.NumberRange n h = tt
+    by_kind kinds.Syntax n h = tt
+    by_kind kinds.Truncated n h = tt
 
 take_front : {X : Type 0} (xs ys : List X) → take (length xs) (xs ++ ys) ≡ xs
 take_front [] ys = refl
@@ -207,6 +221,7 @@ run_missed seat first before after start now reader r at miss m v failures =
       text = r.text ++ m.piece;
       gave = given_on first before after r.text m.piece r.gave m.gave;
       runs = record { count = r.handed; enters = enters; ends = at_miss seat now.state at (r.text ++ m.piece) r.handed miss v m.is };
+      no_room = room_missed at miss (IsRoomRefused 134217727 (r.text ++ m.piece) after.ended r.handed) m.no_room;
       failed_read = failed_line seat (r.text ++ m.piece) start now r.handed at miss enters m.is;
       ended = λ e. absurd (no_end_missed at miss e);
       failures = failures ∙ sym (reads_missed at miss);
@@ -267,6 +282,11 @@ no_read_line s seat line at (Fault kind) P is = tt
 no_read_line s seat line at (Refused refusal) P is = tt
 no_read_line s seat line at ReadFailed P is = absurd (no_read_entered s seat line is)
 
+no_fault_line : (s : State) (seat : ℕ) (line : Line) (at : ℕ) (end : LineEnd) (P : ℕ → Type 0) → IsLineEnd end (reply_to_line s seat line) → IfRoomRefused (AtLine at end) P
+no_fault_line s seat line at (Fault kind) P is = absurd (no_fault_entered s seat line kind is)
+no_fault_line s seat line at (Refused refusal) P is = tt
+no_fault_line s seat line at ReadFailed P is = tt
+
 pub run_refused : (seat : ℕ) (first before after : SourceState) (start now : Progress) (reader new : LinesRead) (r : RunsTo seat first before start now reader) (line : Line) (end : LineEnd) → LineRead 134217727 r.text r.handed new before after (Some line)
     → has_verdict now.state ≡ false → after.failures ≡ 0 → IsLineEnd end (reply_to_line now.state seat line) → IsStreamRun seat first after start now (AtLine new.at end)
 run_refused seat first before after start now reader new r line end read v unfailed is =
@@ -276,6 +296,7 @@ run_refused seat first before after start now reader new r line end read v unfai
       gave = given_on first before after r.text read.piece r.gave read.gave;
       runs = record { count = r.handed; enters = enters_since seat start now r.text read.piece r.handed read.same r.enters; ends = (v, at_refusal seat now.state new.at (all_said 134217727 text) r.handed line end read.next is) };
       failed_read = no_read_line now.state seat line new.at end (IsFailedRead seat text start now) is;
+      no_room = no_fault_line now.state seat line new.at end (IsRoomRefused 134217727 text after.ended r.handed) is;
       ended = λ e. cc;
       failures = unfailed ∙ sym (no_read_refused now.state seat line new.at end is);
     }

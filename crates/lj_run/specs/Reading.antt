@@ -1,5 +1,5 @@
 -- How the lines of a stream are read from its source.
-use Rattle.std.specs.Prelude.{◌≡◌, ℕ, ◌+◌, Bool, true, false, List, [], ◌++◌, length, take, Option, None, Some, Ok, Err, slice_get}
+use Rattle.std.specs.Prelude.{◌≡◌, ◌⊎◌, ℕ, ◌+◌, Bool, true, false, List, [], ◌++◌, length, take, Option, None, Some, Ok, Err, slice_get}
 use Rattle.lj_text.specs.declared.line.Line.{Line}
 use Rattle.lj_text.specs.Lines.{Said, whole_said, all_said}
 use Rattle.lj_text.specs.LinesRead.{LinesRead, LineReaderStandsAt, is_line_no_memory, last_number}
@@ -38,15 +38,37 @@ pub record LineRead (max : ℕ) (fed : List ℕ) (handed : ℕ) (reader : LinesR
   pub stands : LineReaderStandsAt reader (fed ++ piece) (with_handed handed line)
   pub ended : line ≡ None → HasEnded after
 
--- A read failed in the last line of a text: the lines handed out are those that its whole lines say.
+-- Reading stops in the last line of a text: the lines handed out are those that its whole lines say.
 pub record FailsAt (max : ℕ) (text : List ℕ) (handed at : ℕ) : Type 0 where
   pub at_is : at ≡ last_number text
   pub handed_is : handed ≡ length (whole_said max text)
 
--- the next line of a text is at fault, or a read failed; nothing is said of the want of memory
+-- The next line of a text is this one, and it is right.
+pub record IsRightLine (max : ℕ) (text : List ℕ) (handed n : ℕ) : Type 0 where
+  pub line : Line
+  pub next : slice_get (all_said max text) handed ≡ Some (record { line = n; says = Ok line })
+
+-- The last piece of a text was given, and not taken: reading stops in the last line of what stands before it, and the source goes on.
+pub record IsPieceRefused (max : ℕ) (text : List ℕ) (ended : Bool) (handed n : ℕ) : Type 0 where
+  pub front : List ℕ
+  pub piece : List ℕ
+  pub text_is : text ≡ front ++ piece
+  pub stops : FailsAt max front handed n
+  pub goes_on : ended ≡ false
+
+-- memory was refused in this line: it is the next one and right, or a piece behind its beginning wasn't taken
+abbrev pub IsRoomRefused : ℕ → List ℕ → Bool → ℕ → ℕ → Type 0
+IsRoomRefused max text ended handed n = IsRightLine max text handed n ⊎ IsPieceRefused max text ended handed n
+
+-- the next line of a text is at fault, or a read failed; of the want of memory see IsRoomRefused
 abbrev pub IsMiss : ℕ → List ℕ → ℕ → ℕ → Miss → Type 0
 IsMiss max text handed at Failed = FailsAt max text handed at
 IsMiss max text handed at (AtFault fault) = is_line_no_memory fault.kind ≡ false → slice_get (all_said max text) handed ≡ Some (record { line = fault.line; says = Err fault.kind })
+
+-- what holds of its line where memory was refused
+abbrev pub IfOutOfRoom : Miss → (ℕ → Type 0) → Type 0
+IfOutOfRoom Failed P = Unit {0}
+IfOutOfRoom (AtFault fault) P = is_line_no_memory fault.kind ≡ true → P fault.line
 
 -- The source gave a piece behind what the reader was fed. In all of that the lines handed out before are the same, and the next
 -- one is missed.
@@ -55,20 +77,21 @@ pub record LineMissed (max : ℕ) (fed : List ℕ) (handed at : ℕ) (before aft
   pub gave : HasGiven before after piece
   pub same : take handed (all_said max (fed ++ piece)) ≡ take handed (all_said max fed)
   pub is : IsMiss max (fed ++ piece) handed at miss
+  pub no_room : IfOutOfRoom miss (IsRoomRefused max (fed ++ piece) after.ended handed)
 
 -- how many reads failed
 abbrev pub reads_failed : Miss → ℕ
 reads_failed Failed = 1
 reads_failed (AtFault fault) = 0
 
--- a read that failed gave nothing; only the want of memory is told of a piece
-abbrev pub IsPieceOf : Miss → List ℕ → Type 0
-IsPieceOf Failed piece = piece ≡ []
-IsPieceOf (AtFault fault) piece = is_line_no_memory fault.kind ≡ true
+-- a read that failed gave nothing; of a piece, which a source gave that goes on, only the want of memory is told, at this line
+abbrev pub IsPieceOf : ℕ → Bool → Miss → List ℕ → Type 0
+IsPieceOf line ended Failed piece = piece ≡ []
+IsPieceOf line ended (AtFault fault) piece = (is_line_no_memory fault.kind ≡ true) × (fault.line ≡ line) × (ended ≡ false)
 
 -- A piece was missed, and the reader is as it was.
 pub record PieceMissed (old new : LinesRead) (before after : SourceState) (miss : Miss) : Type 0 where
   pub piece : List ℕ
   pub gave : HasGiven before after piece
-  pub is : IsPieceOf miss piece
+  pub is : IsPieceOf old.line after.ended miss piece
   pub same : new ≡ old

@@ -13,6 +13,7 @@ use Rattle.lj_book.specs.State.{State, verdict}
 use Rattle.lj_book.specs.History.{after_entry}
 use Rattle.lj_book.specs.Calls.{drop_reply, drop_entry, import_reply, import_entry}
 use Rattle.lj_book.specs.Inside.{inside_reply, inside_entry}
+use Rattle.lj_run.specs.Reading.{IsRoomRefused}
 use Rattle.lj_run.specs.declared.stream.Count.{Count}
 use Rattle.lj_run.specs.declared.stream.Count.TheVariants.{Addition, Deletion, Importing}
 use Rattle.lj_run.specs.declared.outcome.End.{End}
@@ -81,7 +82,7 @@ all_entered seat p (said ∷ more) = if has_verdict p.state then None else optio
 
 -- ---- how a stream ends
 
--- the first of the lines is this one, and its text has this fault; nothing is said of the want of memory
+-- the first of the lines is this one, and its text has this fault; of the want of memory see IsRoomRefused
 abbrev pub MeetsFault : ℕ → LineFaultKind → List Said → Type 0
 MeetsFault n (kinds.NoMemory _) rest = Unit {0}
 MeetsFault n kind rest = slice_get rest 0 ≡ Some (record { line = n; says = Err kind })
@@ -142,6 +143,13 @@ failed_reads Stopped = 0
 failed_reads (AtLine n ReadFailed) = 1
 failed_reads (AtLine n end) = 0
 
+-- what holds where a stream ended for want of memory while its next line was read
+abbrev pub IfRoomRefused : End → (ℕ → Type 0) → Type 0
+IfRoomRefused Ended P = Unit {0}
+IfRoomRefused Stopped P = Unit {0}
+IfRoomRefused (AtLine n (Fault (kinds.NoMemory _))) P = P n
+IfRoomRefused (AtLine n end) P = Unit {0}
+
 -- A stream under this seat led from one progress to the other, and ended so. What its source gave meanwhile are its lines: all of
 -- them where it ended, as the source has then, and the first ones else. A read failed exactly where that is how it ended.
 pub record IsStreamRun (seat : ℕ) (before after : SourceState) (start final : Progress) (end : End) : Type 0 where
@@ -149,5 +157,6 @@ pub record IsStreamRun (seat : ℕ) (before after : SourceState) (start final : 
   pub gave : HasGiven before after text
   pub runs : IsRunOfLines seat (all_said 134217727 text) start final end
   pub failed_read : IfReadFailed end (IsFailedRead seat text start final)
+  pub no_room : IfRoomRefused end (IsRoomRefused 134217727 text after.ended runs.count)
   pub ended : end ≡ Ended → HasEnded after
   pub failures : after.failures ≡ failed_reads end
