@@ -8,11 +8,13 @@ use Rattle.std.proofs.lemmas.List.Elements.{All-cons, All-nil, Contains-append_l
 use Rattle.lj_text.specs.Streams.{SourceState}
 use Rattle.lj_run.specs.Checking.{IsCheckFault, IsCutText}
 use Rattle.lj_run.specs.FormulaReading.{GaveAll}
-use Rattle.lj_run.specs.Program.{HasInputs, IfRun, IsAnOpenFault, IsAnswerTo, IsAskedFor, IsCreated, IsFaultOf, IsLostAt, IsOpened, IsRunAnswered, SpellsUnsatisfiable, failed_outputs, fault_at, is_told_late, proof_status, status_code, verdict_status}
+use Rattle.lj_run.specs.Program.{HasInputs, IfRun, IsAnOpenFault, IsAnswerTo, IsAskedFor, IsCreated, IsCreateFault, IsFaultOf, IsLostAt, IsOpened, IsOpenFault, IsRunAnswered, IsRunPrinted, RunInputs, SpellsUnsatisfiable, failed_outputs, fault_at, is_told_late, proof_status, status_code, verdict_status}
 use Rattle.lj_run.specs.Proof.{SinkState, IsProof}
 use Rattle.lj_run.specs.declared.outcome.ProofEnd.{ProofEnd}
 use Rattle.lj_run.specs.declared.outcome.ProofEnd.TheVariants.{NotAsked, Written, Failed}
 use Rattle.lj_clause.specs.ClauseMap.{FormulaValue}
+use Rattle.lj_text.specs.Cnf.{HasFault}
+use Rattle.lj_run.specs.declared.checking.Checked.{Checked}
 use Rattle.lj_text.specs.declared.step.Step.{Step}
 use Rattle.lj_run.specs.InTurn.{streams_by_seat}
 use Rattle.lj_run.specs.Words.{Asked, AskedRun, a_run, paths_by_seat, the_help, the_version, the_usage}
@@ -118,18 +120,44 @@ few_streams seen content items path streams some few h =
     (omega (arith, n, one.0, one.1, all), omega (arith, n, one.0, one.1, all))
 
 -- the file at one of a run's paths, of which this was told after the others were opened, can't be opened
-pub open_fault : (run : AskedRun) (before content : List ℕ → Option (List ℕ)) (paths : List (List ℕ)) (fault : Fault)
-    → ((path : List ℕ) → Contains paths path → Contains (paths_by_seat run) path) → ((other : List ℕ) → content other ≡ before other)
-    → IsAnOpenFault content paths fault → IsFaultOf (a_run run) before fault
-open_fault run before content paths (faults.Formula path f) among same h = absurd h
-open_fault run before content paths (faults.CannotRead path) among same h = inr (among path.now h.0, sym (same path.now) ∙ h.1)
-open_fault run before content paths faults.CannotWrite among same h = absurd h
-open_fault run before content paths (faults.CannotCreate path) among same h = absurd h
-open_fault run before content paths (faults.ProofLost path f) among same h = absurd h
-open_fault run before content paths (faults.NoMemory e) among same h = tt
-open_fault run before content paths faults.OutOfMemory among same h = tt
-open_fault run before content paths faults.Unconfirmed among same h = absurd h
-open_fault run before content paths (faults.Usage text) among same h = absurd h
+pub open_fault : {I W : Type 0} (seen : I → SourceState) (sink : W → SinkState) (run : AskedRun) (before content : List ℕ → Option (List ℕ)) (paths : List (List ℕ)) (fault : Fault)
+    → ((path : List ℕ) → Contains paths path → (path ≡ run.formula) ⊎ Contains (paths_by_seat run) path) → ((other : List ℕ) → content other ≡ before other)
+    → IsAnOpenFault content paths fault → IsFaultOf seen sink (a_run run) before fault
+open_fault seen sink run before content paths (faults.Formula path f) among same h = absurd h
+open_fault seen sink run before content paths (faults.CannotRead path) among same h = inl (among path.now h.0, sym (same path.now) ∙ h.1)
+open_fault seen sink run before content paths faults.CannotWrite among same h = absurd h
+open_fault seen sink run before content paths (faults.CannotCreate path) among same h = absurd h
+open_fault seen sink run before content paths (faults.ProofLost path f) among same h = absurd h
+open_fault seen sink run before content paths (faults.NoMemory e) among same h = tt
+open_fault seen sink run before content paths faults.OutOfMemory among same h = tt
+open_fault seen sink run before content paths faults.Unconfirmed among same h = absurd h
+open_fault seen sink run before content paths (faults.Usage text) among same h = absurd h
+
+-- FORMULA's file can't be opened
+pub formula_unopened : {I W : Type 0} (seen : I → SourceState) (sink : W → SinkState) (run : AskedRun) (before : List ℕ → Option (List ℕ)) (fault : Fault)
+    → IsOpenFault run.formula (before run.formula) fault → IsFaultOf seen sink (a_run run) before fault
+formula_unopened seen sink run before (faults.Formula path f) h = absurd h
+formula_unopened seen sink run before (faults.CannotRead path) h = inl (inl h.0, ap before h.0 ∙ h.1)
+formula_unopened seen sink run before faults.CannotWrite h = absurd h
+formula_unopened seen sink run before (faults.CannotCreate path) h = absurd h
+formula_unopened seen sink run before (faults.ProofLost path f) h = absurd h
+formula_unopened seen sink run before (faults.NoMemory e) h = tt
+formula_unopened seen sink run before faults.OutOfMemory h = tt
+formula_unopened seen sink run before faults.Unconfirmed h = absurd h
+formula_unopened seen sink run before (faults.Usage text) h = absurd h
+
+-- OUT can't be created
+pub create_fault : {I W : Type 0} (seen : I → SourceState) (sink : W → SinkState) (run : AskedRun) (before : List ℕ → Option (List ℕ)) (fault : Fault)
+    → IsCreateFault run.proof fault → IsFaultOf seen sink (a_run run) before fault
+create_fault seen sink run before (faults.Formula path f) h = absurd h
+create_fault seen sink run before (faults.CannotRead path) h = absurd h
+create_fault seen sink run before faults.CannotWrite h = absurd h
+create_fault seen sink run before (faults.CannotCreate path) h = h
+create_fault seen sink run before (faults.ProofLost path f) h = absurd h
+create_fault seen sink run before (faults.NoMemory e) h = tt
+create_fault seen sink run before faults.OutOfMemory h = tt
+create_fault seen sink run before faults.Unconfirmed h = absurd h
+create_fault seen sink run before (faults.Usage text) h = absurd h
 
 -- the paths of the streams, and that of the closing one, are the run's
 pub among_streams : (given items : List (Bor (List ℕ))) (closing : Option (List ℕ)) (path : List ℕ) → given ≡ items → Contains (map (λ p. p.now) given) path
@@ -165,6 +193,17 @@ of_content : (P : List ℕ → Type 0) (content : Option (List ℕ)) (before aft
     → P text → IfSome content P
 of_content P content before after text opened all h =
     if_same P content text (given_all content before.rest after.rest text opened.bytes all.gave.rest all.ended.rest) h
+
+-- what is told of a check that has no answer
+pub check_fault : {I W : Type 0} (seen : I → SourceState) (sink : W → SinkState) (run : AskedRun) (content : List ℕ → Option (List ℕ)) (path : Bor (List ℕ)) (inputs : RunInputs seen content run)
+    (old new : List ℕ) (fault : CheckFault) → path.now ≡ run.formula → IsCheckFault (seen inputs.opened) (seen inputs.after) seen run.max_steps inputs.streams old new fault
+    → IsFaultOf seen sink (a_run run) content (fault_at path fault)
+check_fault seen sink run content path inputs old new (check_faults.Run (run_faults.Formula fault)) is h =
+    (is, of_content (λ text. HasFault 134217727 text fault) (content run.formula) (seen inputs.opened) (seen inputs.after) h.0.text inputs.formula_is h.0.all h.0.has, record { inputs = inputs; fault_is = h.0 })
+check_fault seen sink run content path inputs old new (check_faults.Run run_faults.FormulaRead) is h = inr (is, record { inputs = inputs; fault_is = h.0 })
+check_fault seen sink run content path inputs old new (check_faults.Run (run_faults.NoMemory e)) is h = tt
+check_fault seen sink run content path inputs old new (check_faults.Run run_faults.Unconfirmed) is h = absurd h.0
+check_fault seen sink run content path inputs old new check_faults.CannotWrite is h = λ e. cc
 
 -- the check whose output failed
 pub check_cut : {I : Type 0} (seen : I → SourceState) (formula : Bor (List ℕ)) (before after : SourceState) (max : ℕ) (streams : List I) (old new : List ℕ) (fault : CheckFault)
@@ -229,24 +268,25 @@ err_more P Q (Ok t) f h = tt
 err_more P Q (Err e) f h = f e h
 
 -- what is known of the fault of a proof that couldn't be written
-pub lost_fault : (run : AskedRun) (content : List ℕ → Option (List ℕ)) (fault : Fault) → IsLostAt run.proof fault → IsFaultOf (a_run run) content fault
-lost_fault run content (faults.Formula path f) h = absurd h
-lost_fault run content (faults.CannotRead path) h = absurd h
-lost_fault run content faults.CannotWrite h = absurd h
-lost_fault run content (faults.CannotCreate path) h = absurd h
-lost_fault run content (faults.ProofLost path f) h = h
-lost_fault run content (faults.NoMemory e) h = absurd h
-lost_fault run content faults.OutOfMemory h = absurd h
-lost_fault run content faults.Unconfirmed h = absurd h
-lost_fault run content (faults.Usage text) h = absurd h
+pub lost_fault : {I W : Type 0} (seen : I → SourceState) (sink : W → SinkState) (run : AskedRun) (content : List ℕ → Option (List ℕ)) (checked : Checked) (text : List ℕ) (fault : Fault)
+    → IsRunPrinted seen sink content run checked text → IsLostAt run.proof checked.proof fault → IsFaultOf seen sink (a_run run) content fault
+lost_fault seen sink run content checked text (faults.Formula path f) printed h = absurd h
+lost_fault seen sink run content checked text (faults.CannotRead path) printed h = absurd h
+lost_fault seen sink run content checked text faults.CannotWrite printed h = absurd h
+lost_fault seen sink run content checked text (faults.CannotCreate path) printed h = absurd h
+lost_fault seen sink run content checked text (faults.ProofLost path f) printed h = (h.0, record { checked = checked; text = text; printed = printed; failed = h.1 })
+lost_fault seen sink run content checked text (faults.NoMemory e) printed h = absurd h
+lost_fault seen sink run content checked text faults.OutOfMemory printed h = absurd h
+lost_fault seen sink run content checked text faults.Unconfirmed printed h = absurd h
+lost_fault seen sink run content checked text (faults.Usage text') printed h = absurd h
 
-pub lost_late : (path : Option (List ℕ)) (fault : Fault) → IsLostAt path fault → (is_told_late fault ≡ true) × (fault ≡ faults.CannotWrite → ⊥) × (failed_outputs fault ≡ 0)
-lost_late path (faults.Formula p f) h = absurd h
-lost_late path (faults.CannotRead p) h = absurd h
-lost_late path faults.CannotWrite h = absurd h
-lost_late path (faults.CannotCreate p) h = absurd h
-lost_late path (faults.ProofLost p f) h = (refl, λ e. cc, refl)
-lost_late path (faults.NoMemory e) h = absurd h
-lost_late path faults.OutOfMemory h = absurd h
-lost_late path faults.Unconfirmed h = absurd h
-lost_late path (faults.Usage text) h = absurd h
+pub lost_late : (path : Option (List ℕ)) (end : ProofEnd) (fault : Fault) → IsLostAt path end fault → (is_told_late fault ≡ true) × (fault ≡ faults.CannotWrite → ⊥) × (failed_outputs fault ≡ 0)
+lost_late path end (faults.Formula p f) h = absurd h
+lost_late path end (faults.CannotRead p) h = absurd h
+lost_late path end faults.CannotWrite h = absurd h
+lost_late path end (faults.CannotCreate p) h = absurd h
+lost_late path end (faults.ProofLost p f) h = (refl, λ e. cc, refl)
+lost_late path end (faults.NoMemory e) h = absurd h
+lost_late path end faults.OutOfMemory h = absurd h
+lost_late path end faults.Unconfirmed h = absurd h
+lost_late path end (faults.Usage text) h = absurd h

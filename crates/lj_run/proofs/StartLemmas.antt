@@ -25,7 +25,7 @@ pub program_ends : {I W : Type 0} (seen : I → SourceState) (sink : W → SinkS
     → (status ≡ 0 → IfRun (asked_by given) (λ run. IfSome (before run.formula) SpellsUnsatisfiable))
     → (status < 2 → failures ≡ 0) → (status < 2 → err_new ≡ err_old) → (2 ≤ status → failures ≡ 0 → (out_new ≡ out_old) ⊎ IsProofLost seen sink before (asked_by given) out_old out_new)
     → (failures ≢ 0 → IfRun (asked_by given) (λ run. IsRunCut seen before run out_old out_new))
-    → (2 ≤ status → errors ≡ 0 → IsFaultTold (asked_by given) before failures err_old err_new status)
+    → (2 ≤ status → errors ≡ 0 → IsFaultTold seen sink (asked_by given) before failures err_old err_new status)
     → ((path : List ℕ) → IsOther (asked_by given) path → after path ≡ before path)
     → ProgramEnds seen sink before after (asked_by words) out_old out_new failures err_old err_new errors code
 program_ends seen sink before after given words out_old out_new failures err_old err_new errors status code same code_is may_end printed refuted told quiet untouched cut fault files =

@@ -9,6 +9,7 @@ use Rattle.lj_text.specs.FaultNames.{cnf_fault_name}
 use Rattle.lj_text.specs.Streams.{SourceState}
 use Rattle.lj_book.specs.State.{IsUnsatisfiable}
 use Rattle.lj_run.specs.Checking.{IsChecked, IsCutText}
+use Rattle.lj_run.specs.FormulaReading.{IsFormulaFault}
 use Rattle.lj_run.specs.Proof.{SinkState}
 use Rattle.lj_run.specs.declared.checking.Checked.{Checked}
 use Rattle.lj_run.specs.declared.outcome.ProofEnd.{ProofEnd}
@@ -22,6 +23,7 @@ use Rattle.lj_run.specs.declared.checking.Verdict.{Verdict}
 use Rattle.lj_run.specs.declared.checking.Verdict.TheVariants.{Verified, NotVerified}
 use Rattle.lj_run.specs.declared.fault.Fault.{Fault}
 use Rattle.lj_run.specs.declared.fault.Fault.TheVariants as faults
+use Rattle.lj_run.specs.declared.outcome.RunFault.{RunFault}
 use Rattle.lj_run.specs.declared.outcome.RunFault.TheVariants as run_faults
 use Rattle.lj_run.specs.declared.status.Status.{Status}
 use Rattle.lj_run.specs.declared.status.Status.TheVariants as statuses
@@ -163,6 +165,18 @@ pub record IsRunAnswered {I W : Type 0} (seen : I → SourceState) (sink : W →
   pub took : new ≡ old ++ text
   pub status_is : status ≡ status_code (checked_status checked)
 
+-- The run that was asked for has no outcome for this reason, once all of its files that are read were opened.
+pub record HasNoOutcome {I : Type 0} (seen : I → SourceState) (content : List ℕ → Option (List ℕ)) (run : AskedRun) (fault : RunFault) : Type 0 where
+  pub inputs : RunInputs seen content run
+  pub fault_is : IsFormulaFault (seen inputs.opened) (seen inputs.after) fault
+
+-- What is printed of a run that was asked for so was made, and its proof failed for this reason.
+pub record HasLostProof {I W : Type 0} (seen : I → SourceState) (sink : W → SinkState) (content : List ℕ → Option (List ℕ)) (run : AskedRun) (fault : ProofFault) : Type 0 where
+  pub checked : Checked
+  pub text : List ℕ
+  pub printed : IsRunPrinted seen sink content run checked text
+  pub failed : checked.proof ≡ Failed fault
+
 -- this text spells a formula that no assignment satisfies
 pub record SpellsUnsatisfiable (text : List ℕ) : Type 0 where
   pub formula : FormulaValue
@@ -214,10 +228,10 @@ abbrev pub is_lost : Fault → Bool
 is_lost (faults.ProofLost path fault) = true
 is_lost fault = false
 
--- the fault is that of a proof that was asked for at this path
-abbrev pub IsLostAt : Option (List ℕ) → Fault → Type 0
-IsLostAt path (faults.ProofLost p fault) = path ≡ Some p.now
-IsLostAt path fault = ⊥
+-- the fault is that of a proof that was asked for at this path, of which this became
+abbrev pub IsLostAt : Option (List ℕ) → ProofEnd → Fault → Type 0
+IsLostAt path end (faults.ProofLost p fault) = (path ≡ Some p.now) × (end ≡ Failed fault)
+IsLostAt path end fault = ⊥
 
 -- a proof that couldn't be written was asked for
 abbrev pub IsAskedFor : {A : Type 0} → ProofEnd → Option A → Type 0
@@ -230,22 +244,26 @@ IsAskedFor (Failed fault) None = ⊥
 abbrev pub IsOther : Asked → List ℕ → Type 0
 IsOther asked path = IfRun asked (λ run. run.proof ≢ Some path)
 
--- The fault is right of what words ask for, where this is told of files: a fault of the text of FORMULA; a path that can't be opened,
--- or FORMULA whose read failed; an output that failed, where there is something to print; OUT that can't be created
--- or written; usage. Want of memory may stand in place of
--- each that memory is taken for. A run in turn has nothing to confirm.
-abbrev pub IsFaultOf : Asked → (List ℕ → Option (List ℕ)) → Fault → Type 0
-IsFaultOf asked content (faults.Formula path fault) =
-    IsRunAnd asked (λ run. (path.now ≡ run.formula) × IfSome (content run.formula) (λ text. HasFault 134217727 text fault))
-IsFaultOf asked content (faults.CannotRead path) =
-    IsRunAnd asked (λ run. (path.now ≡ run.formula) ⊎ (Contains (paths_by_seat run) path.now × (content path.now ≡ None)))
-IsFaultOf asked content faults.CannotWrite = asked ≢ the_usage
-IsFaultOf asked content (faults.CannotCreate path) = IsRunAnd asked (λ run. run.proof ≡ Some path.now)
-IsFaultOf asked content (faults.ProofLost path fault) = IsRunAnd asked (λ run. run.proof ≡ Some path.now)
-IsFaultOf asked content (faults.NoMemory e) = Unit {0}
-IsFaultOf asked content faults.OutOfMemory = Unit {0}
-IsFaultOf asked content faults.Unconfirmed = ⊥
-IsFaultOf asked content (faults.Usage text) = asked ≡ the_usage
+-- the file at this path is to be read, and isn't told; one that is told can be opened
+abbrev pub IsUnopened : (List ℕ → Option (List ℕ)) → AskedRun → List ℕ → Type 0
+IsUnopened content run path = ((path ≡ run.formula) ⊎ Contains (paths_by_seat run) path) × (content path ≡ None)
+
+-- The fault is right of what words ask for, where this is told of files: the fault of the text that FORMULA's file gave; a path that can't
+-- be opened, or FORMULA, of which a read failed; an output that failed, where there is something to print; OUT that can't be created, or
+-- that failed; a run that isn't confirmed; usage. Want of memory may stand in place of each that memory is taken for.
+abbrev pub IsFaultOf : {I W : Type 0} → (I → SourceState) → (W → SinkState) → Asked → (List ℕ → Option (List ℕ)) → Fault → Type 0
+IsFaultOf seen sink asked content (faults.Formula path fault) = IsRunAnd asked (λ run. (path.now ≡ run.formula)
+    × IfSome (content run.formula) (λ text. HasFault 134217727 text fault) × HasNoOutcome seen content run (run_faults.Formula fault))
+IsFaultOf seen sink asked content (faults.CannotRead path) =
+    IsRunAnd asked (λ run. IsUnopened content run path.now ⊎ ((path.now ≡ run.formula) × HasNoOutcome seen content run run_faults.FormulaRead))
+IsFaultOf seen sink asked content faults.CannotWrite = asked ≢ the_usage
+IsFaultOf seen sink asked content (faults.CannotCreate path) = IsRunAnd asked (λ run. run.proof ≡ Some path.now)
+IsFaultOf seen sink asked content (faults.ProofLost path fault) =
+    IsRunAnd asked (λ run. (run.proof ≡ Some path.now) × HasLostProof seen sink content run fault)
+IsFaultOf seen sink asked content (faults.NoMemory e) = Unit {0}
+IsFaultOf seen sink asked content faults.OutOfMemory = Unit {0}
+IsFaultOf seen sink asked content faults.Unconfirmed = IsRunAnd asked (λ run. HasNoOutcome seen content run run_faults.Unconfirmed)
+IsFaultOf seen sink asked content (faults.Usage text) = asked ≡ the_usage
 
 -- how often the output has failed where this fault is told: an output that failed is told, and nothing else then
 abbrev pub failed_outputs : Fault → ℕ
@@ -253,9 +271,9 @@ failed_outputs faults.CannotWrite = 1
 failed_outputs fault = 0
 
 -- A right fault was told, and this is its status.
-pub record IsFaultTold (asked : Asked) (content : List ℕ → Option (List ℕ)) (failures : ℕ) (old new : List ℕ) (status : ℕ) : Type 0 where
+pub record IsFaultTold {I W : Type 0} (seen : I → SourceState) (sink : W → SinkState) (asked : Asked) (content : List ℕ → Option (List ℕ)) (failures : ℕ) (old new : List ℕ) (status : ℕ) : Type 0 where
   pub fault : Fault
-  pub right : IsFaultOf asked content fault
+  pub right : IsFaultOf seen sink asked content fault
   pub output : failures ≡ failed_outputs fault
   pub took : new ≡ old ++ fault_text fault
   pub status_is : status ≡ status_code (status_of_fault fault)

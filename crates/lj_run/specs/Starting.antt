@@ -18,7 +18,7 @@ pub record ProgramEnds {I W : Type 0} (seen : I → SourceState) (sink : W → S
   pub quiet : status < 2 → err_new ≡ err_old
   pub untouched : 2 ≤ status → failures ≡ 0 → (out_new ≡ out_old) ⊎ IsProofLost seen sink before asked out_old out_new
   pub cut : failures ≢ 0 → IfRun asked (λ run. IsRunCut seen before run out_old out_new)
-  pub fault : 2 ≤ status → errors ≡ 0 → IsFaultTold asked before failures err_old err_new status
+  pub fault : 2 ≤ status → errors ≡ 0 → IsFaultTold seen sink asked before failures err_old err_new status
   pub same_files : (path : List ℕ) → IsOther asked path → after path ≡ before path
 
 -- the status where the arguments can't be read

@@ -53,7 +53,8 @@ pub fn program<R: Wait, S: AsStr, F: Files, O: Sink, E: Sink>(
         (source_state F.Input.given F.Input.ended F.Input.rest F.Input.failures)
         (λ path. F.content files.old path) run (O.taken out.old) (O.taken out.new)) }
     ensures fault { 2 ≤ result → E.failures err.new ≡ 0
-        → IsFaultTold (asked_by (map S.text words.now))
+        → IsFaultTold (source_state F.Input.given F.Input.ended F.Input.rest F.Input.failures)
+        (sink_state F.Output.taken F.Output.failures) (asked_by (map S.text words.now))
         (λ path. F.content files.old path) (O.failures out.new) (E.taken err.old) (E.taken err.new)
         result }
 
@@ -85,7 +86,9 @@ fn answer<'a, R: Wait, S: AsStr, F: Files, O: Sink>(
         (asked_by (map S.text words.entry.now)) (O.taken out.old) (O.taken out.new)) }
     ensures ok { OnOk result (O.failures out.new ≡ 0) }
     ensures ended { IfOk result (λ status. status_code status < 2) }
-    ensures fault { IfErr result (IsFaultOf (asked_by (map S.text words.entry.now))
+    ensures fault { IfErr result (IsFaultOf
+        (source_state F.Input.given F.Input.ended F.Input.rest F.Input.failures)
+        (sink_state F.Output.taken F.Output.failures) (asked_by (map S.text words.entry.now))
         (λ path. F.content files.old path)) }
     ensures output { IfErr result (λ fault. O.failures out.new ≡ failed_outputs fault) }
     ensures untouched { IfErr result (λ fault. is_told_late fault ≡ false → out.new ≡ out.old) }
@@ -136,7 +139,9 @@ fn run<'a, R: Wait, F: Files, O: Sink>(
         (a_run (line_asked line.now)) (O.taken out.old) (O.taken out.new)) }
     ensures ok { OnOk result (O.failures out.new ≡ 0) }
     ensures ended { IfOk result (λ status. status_code status < 2) }
-    ensures fault { IfErr result (IsFaultOf (a_run (line_asked line.now))
+    ensures fault { IfErr result (IsFaultOf
+        (source_state F.Input.given F.Input.ended F.Input.rest F.Input.failures)
+        (sink_state F.Output.taken F.Output.failures) (a_run (line_asked line.now))
         (λ path. F.content files.old path)) }
     ensures output { IfErr result (λ fault. O.failures out.new ≡ failed_outputs fault) }
     ensures untouched { IfErr result (λ fault. is_told_late fault ≡ false → out.new ≡ out.old) }
@@ -179,7 +184,7 @@ fn ended<'a>(checked: Checked, path: Option<&'a str>) -> Result<Status, Fault<'a
     requires { IsAskedFor checked.proof path }
     ensures ok { IfOk result (λ status. (status ≡ checked_status checked)
         × (status_code status < 2)) }
-    ensures fault { IfErr result (λ fault. IsLostAt (option_map (λ path. path.now) path.entry) fault
+    ensures fault { IfErr result (λ fault. IsLostAt (option_map (λ path. path.now) path.entry) checked.proof fault
         × (checked_status checked ≡ statuses.Fault)) }
 {
     match (checked.proof, path) {

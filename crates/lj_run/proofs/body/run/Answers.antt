@@ -1,10 +1,11 @@
-use Rattle.std.proofs.Common.{◌∙◌, ap, sym, subst, arith}
+use Rattle.std.proofs.Common.{◌∙◌, ap, sym, subst, refl, inl, inr, arith}
+use Rattle.lj_text.specs.Streams.{source_state}
 use Rattle.lj_run.specs.InTurn.{streams_by_seat}
 use Rattle.std.proofs.lemmas.Bool.{both_ways}
 use Rattle.lj_run.specs.Program.{IsAskedFor, is_told_late, status_code}
 use Rattle.lj_run.specs.Proof.{sink_state}
 use Rattle.lj_run.specs.Words.{line_asked}
-use Rattle.lj_run.proofs.ProgramLemmas.{among_closing, among_streams, asked_proof, check_cut, created_unfailed, err_more, lost_fault, lost_late, ok_more, few_streams, inputs_unfailed, open_fault, passed_on, streams_before}
+use Rattle.lj_run.proofs.ProgramLemmas.{among_closing, among_streams, asked_proof, check_cut, check_fault, create_fault, created_unfailed, err_more, formula_unopened, lost_fault, lost_late, ok_more, few_streams, inputs_unfailed, open_fault, passed_on, streams_before}
 use Rattle.lj_run.proofs.body.run.Goals as goal
 
 pub check-requires-clause-some : goal.check-requires-clause-some
@@ -83,16 +84,30 @@ returns-in-Ok-clause-lost g c =
     }) c.ended.ensures.fault
 
 pub returns-in-Ok-clause-fault : goal.returns-in-Ok-clause-fault
-returns-in-Ok-clause-fault g c = err_more _ _ c.ended.result (λ fault is. lost_fault (line_asked c.args.line.now) (λ path. g.F.Files.content c.args.files.now path) fault is.0) c.ended.ensures.fault
+returns-in-Ok-clause-fault g c =
+    err_more _ _ c.ended.result (λ fault is. lost_fault _ _ (line_asked c.args.line.now) _ c.in-Ok.checked c.in-Ok.ensures.printed.0 fault (record {
+      inputs = record {
+        opened = c.in_ok-formula.formula;
+        after = c.check.new.formula;
+        streams = streams_by_seat c.in_ok-streams.streams.items c.in_ok-closing.closing;
+        formula_is = c.in_ok-formula.ensures.opened;
+        streams_are = streams_before _ _ _ _ _ _ c.args.line.now.closing _ c.in_ok-closing.closing c.deref.ensures.value c.in_ok-formula.ensures.same c.in_ok-streams.ensures.same
+            c.in_ok-streams.ensures.opened c.in_ok-closing.ensures.opened;
+      };
+      created = c.in_ok-proof.proof;
+      written = c.check.new.proof;
+      created_is = c.in_ok-proof.ensures.created;
+      printed = c.in-Ok.ensures.printed.2;
+    }) is.0) c.ended.ensures.fault
 
 pub returns-in-Ok-clause-output : goal.returns-in-Ok-clause-output
-returns-in-Ok-clause-output g c = err_more _ _ c.ended.result (λ fault is. c.in-Ok.ensures.ok ∙ sym (lost_late _ fault is.0).2) c.ended.ensures.fault
+returns-in-Ok-clause-output g c = err_more _ _ c.ended.result (λ fault is. c.in-Ok.ensures.ok ∙ sym (lost_late _ _ fault is.0).2) c.ended.ensures.fault
 
 pub returns-in-Ok-clause-untouched : goal.returns-in-Ok-clause-untouched
-returns-in-Ok-clause-untouched g c = err_more _ _ c.ended.result (λ fault is early. absurd (both_ways (is_told_late fault) early (lost_late _ fault is.0).0)) c.ended.ensures.fault
+returns-in-Ok-clause-untouched g c = err_more _ _ c.ended.result (λ fault is early. absurd (both_ways (is_told_late fault) early (lost_late _ _ fault is.0).0)) c.ended.ensures.fault
 
 pub returns-in-Ok-clause-cut : goal.returns-in-Ok-clause-cut
-returns-in-Ok-clause-cut g c = err_more _ _ c.ended.result (λ fault is e. absurd ((lost_late _ fault is.0).1 e)) c.ended.ensures.fault
+returns-in-Ok-clause-cut g c = err_more _ _ c.ended.result (λ fault is e. absurd ((lost_late _ _ fault is.0).1 e)) c.ended.ensures.fault
 
 pub returns-clause-cut : goal.returns-clause-cut
 returns-clause-cut g c = λ e. record {
@@ -107,12 +122,35 @@ returns-clause-cut g c = λ e. record {
   cut = check_cut _ _ _ _ _ _ _ _ c.in-Err.fault c.in-Err.ensures.fault (sym c.fault_of.ensures ∙ e);
 }
 
+pub returns-clause-fault : goal.returns-clause-fault
+returns-clause-fault g c =
+    rw c.fault_of.ensures (check_fault _ _ (line_asked c.args.line.now) _ c.args.line.now.formula (record {
+      opened = c.in_ok-formula.formula;
+      after = c.check.new.formula;
+      streams = streams_by_seat c.in_ok-streams.streams.items c.in_ok-closing.closing;
+      formula_is = c.in_ok-formula.ensures.opened;
+      streams_are = streams_before _ _ _ _ _ _ c.args.line.now.closing _ c.in_ok-closing.closing c.deref.ensures.value c.in_ok-formula.ensures.same c.in_ok-streams.ensures.same
+          c.in_ok-streams.ensures.opened c.in_ok-closing.ensures.opened;
+    }) _ _ c.in-Err.fault refl c.in-Err.ensures.fault)
+
+pub returns-in_err-formula-clause-fault : goal.returns-in_err-formula-clause-fault
+returns-in_err-formula-clause-fault g c = passed_on _ c.from_residual.result _ c.from_residual.ensures.1
+    (formula_unopened (source_state g.F.Input.Source.given g.F.Input.Source.ended g.F.Input.Source.rest g.F.Input.Source.failures)
+    (sink_state g.F.Output.Sink.taken g.F.Output.Sink.failures) (line_asked c.args.line.now) (λ path. g.F.Files.content c.args.files.now path) c.in_err-formula.field-0.0
+    c.in_err-formula.ensures.fault)
+
+pub returns-in_err-proof-clause-fault : goal.returns-in_err-proof-clause-fault
+returns-in_err-proof-clause-fault g c = passed_on _ c.from_residual-in_err-proof.result _ c.from_residual-in_err-proof.ensures.1
+    (create_fault (source_state g.F.Input.Source.given g.F.Input.Source.ended g.F.Input.Source.rest g.F.Input.Source.failures)
+    (sink_state g.F.Output.Sink.taken g.F.Output.Sink.failures) (line_asked c.args.line.now) (λ path. g.F.Files.content c.args.files.now path) c.in_err-proof.field-0.0
+    c.in_err-proof.ensures.fault)
+
 pub returns-in_err-streams-clause-fault : goal.returns-in_err-streams-clause-fault
 returns-in_err-streams-clause-fault g c = passed_on _ c.from_residual-in_err-streams.result _ c.from_residual-in_err-streams.ensures.1
-    (open_fault (line_asked c.args.line.now) _ _ _ _
-    (λ path. among_streams _ c.args.line.now.proofs.items (line_asked c.args.line.now).closing path c.deref.ensures.value) c.in_ok-formula.ensures.same c.in_err-streams.ensures.fault)
+    (open_fault _ _ (line_asked c.args.line.now) _ _ _ _
+    (λ path h. inr (among_streams _ c.args.line.now.proofs.items (line_asked c.args.line.now).closing path c.deref.ensures.value h)) c.in_ok-formula.ensures.same c.in_err-streams.ensures.fault)
 
 pub returns-in_err-closing-clause-fault : goal.returns-in_err-closing-clause-fault
 returns-in_err-closing-clause-fault g c = passed_on _ c.from_residual-in_err-closing.result _ c.from_residual-in_err-closing.ensures.1
-    (open_fault (line_asked c.args.line.now) _ _ _ _
-    (λ path. among_closing (line_asked c.args.line.now).proofs c.args.line.now.closing path) (λ other. c.in_ok-streams.ensures.same other ∙ c.in_ok-formula.ensures.same other) c.in_err-closing.ensures.fault)
+    (open_fault _ _ (line_asked c.args.line.now) _ _ _ _
+    (λ path h. inr (among_closing (line_asked c.args.line.now).proofs c.args.line.now.closing path h)) (λ other. c.in_ok-streams.ensures.same other ∙ c.in_ok-formula.ensures.same other) c.in_err-closing.ensures.fault)
