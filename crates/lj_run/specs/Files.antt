@@ -1,5 +1,5 @@
--- What files in memory tell.
-use Rattle.std.specs.Prelude.{ℕ, Option, Bool, List, option_map, is_some, ◌||◌}
+-- What files in memory tell, and what a call leaves of what files tell.
+use Rattle.std.specs.Prelude.{◌≡◌, ◌≢◌, ℕ, Option, Bool, List, option_map, is_some, ◌||◌}
 use Rattle.std.specs.BTreeMap.{get_by_text}
 use Rattle.lj_run.specs.declared.files.MemoryFiles.{MemoryFiles}
 
@@ -10,3 +10,11 @@ bytes_at files path = option_map (λ bytes. bytes.items) (get_by_text files.adde
 -- a file was added or created at a path
 abbrev pub is_file : MemoryFiles → List ℕ → Bool
 is_file files path = is_some (get_by_text files.added path) || is_some (get_by_text files.created path)
+
+-- what is told of each path stays
+abbrev pub AllStay : {V : Type 0} → (List ℕ → V) → (List ℕ → V) → Type 0
+AllStay before after = (any : List ℕ) → after any ≡ before any
+
+-- what is told of each path but this one stays
+abbrev pub OthersStay : {V : Type 0} → List ℕ → (List ℕ → V) → (List ℕ → V) → Type 0
+OthersStay path before after = (other : List ℕ) → other ≢ path → after other ≡ before other

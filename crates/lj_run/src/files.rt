@@ -1,6 +1,7 @@
 //! Files by their paths: those of the machine, and those of a map in memory.
 ghost use Rattle.std.specs.Prelude.{◌≡◌, ◌≢◌, ℕ, Option, List, [], None, Err, false, IsTrue, IsSome, IfOk, OnSome, OnOk, OnErr};
 ghost use Rattle.std.specs.Io.KnownBytes.{Keeps};
+ghost use Rattle.lj_run.specs.Files.{AllStay, OthersStay};
 ghost use Rattle.lj_run.specs.declared.files.FileFault.TheVariants as file_faults;
 
 use lj_clause::NoMemory;
@@ -55,13 +56,13 @@ pub trait Files {
         ensures fresh { IfOk result (λ input. Self.Input.given input ≡ []) }
         ensures bytes { IfOk result (λ input. Keeps (content self.old path.now) (Self.Input.rest input)) }
         ensures there { IsSome (content self.old path.now) → result ≢ Err file_faults.CannotOpen }
-        ensures same { (other : List ℕ) → content self.new other ≡ content self.old other };
+        ensures same { AllStay (content self.old) (content self.new) };
 
     /// An empty file at a path, in place of one that stood there. The others stay as they are.
     fn create(&mut self, path: &str) -> Result<Self::Output, FileFault>
         ensures unfailed { IfOk result (λ output. Self.Output.failures output ≡ 0) }
         ensures fresh { IfOk result (λ output. Self.Output.taken output ≡ []) }
-        ensures others { (other : List ℕ) → other ≢ path.now → content self.new other ≡ content self.old other };
+        ensures others { OthersStay path.now (content self.old) (content self.new) };
 }
 
 /// The files of the machine that the runtime reaches. It tells no bytes.
@@ -152,10 +153,10 @@ impl MemoryFiles {
     /// Puts a file with these bytes at a path.
     pub fn add(&mut self, path: &str, bytes: &[u8]) -> Result<(), AllocError>
         ensures added { OnOk result (bytes_at self.new path.now ≡ Some bytes.now) }
-        ensures others { (other : List ℕ) → other ≢ path.now → bytes_at self.new other ≡ bytes_at self.old other }
-        ensures known { (other : List ℕ) → other ≢ path.now → is_file self.new other ≡ is_file self.old other }
-        ensures err { OnErr result ((any : List ℕ) → bytes_at self.new any ≡ bytes_at self.old any) }
-        ensures err_known { OnErr result ((any : List ℕ) → is_file self.new any ≡ is_file self.old any) }
+        ensures others { OthersStay path.now (bytes_at self.old) (bytes_at self.new) }
+        ensures known { OthersStay path.now (is_file self.old) (is_file self.new) }
+        ensures err { OnErr result (AllStay (bytes_at self.old) (bytes_at self.new)) }
+        ensures err_known { OnErr result (AllStay (is_file self.old) (is_file self.new)) }
     {
         let bytes = bytes.to_vec(self.alloc)?;
         let path = String::from_str(self.alloc, path)?;
@@ -194,7 +195,7 @@ impl Files for MemoryFiles {
         ensures bytes { IfOk result (λ input. Keeps (bytes_at self.old path.now) (Some input.rest)) }
         ensures there { IsSome (bytes_at self.old path.now) → result ≢ Err file_faults.CannotOpen }
         ensures missing { is_file self.old path.now ≡ false → result ≡ Err file_faults.CannotOpen }
-        ensures same { (other : List ℕ) → bytes_at self.new other ≡ bytes_at self.old other }
+        ensures same { AllStay (bytes_at self.old) (bytes_at self.new) }
         ensures unchanged { self.new ≡ self.old }
     {
         let bytes = match self.added.get(path) {
@@ -210,8 +211,8 @@ impl Files for MemoryFiles {
     fn create(&mut self, path: &str) -> Result<MemoryFile, FileFault>
         ensures unfailed { IfOk result (λ output. output.1 ≡ 0) }
         ensures fresh { IfOk result (λ output. output.0 ≡ []) }
-        ensures others { (other : List ℕ) → other ≢ path.now → bytes_at self.new other ≡ bytes_at self.old other }
-        ensures others_known { (other : List ℕ) → other ≢ path.now → is_file self.new other ≡ is_file self.old other }
+        ensures others { OthersStay path.now (bytes_at self.old) (bytes_at self.new) }
+        ensures others_known { OthersStay path.now (is_file self.old) (is_file self.new) }
         ensures untold { OnOk result (bytes_at self.new path.now ≡ None) }
         ensures known { OnOk result (IsTrue (is_file self.new path.now)) }
     {
