@@ -18,7 +18,7 @@ use Rattle.lj_text.proofs.StandLemmas.{all_more, joined_more, next_number, both,
 use Rattle.lj_text.specs.CnfReading.{IsCnfTold, is_cnf_no_memory}
 use Rattle.lj_text.specs.CnfResuming.{resumed, Reads, asks_room, kept_fault}
 use Rattle.lj_clause.specs.Memory.{no_memory}
-use Rattle.lj_text.specs.CnfRead.{IsAnswer, HasFaultAlready, IsLeftOpen, BeginsByNumber, NeedsRoom, EndsByNumber}
+use Rattle.lj_text.specs.CnfRead.{IsAnswer, HasFaultAlready, BeginsByNumber, NeedsRoom, EndsByNumber}
 use Rattle.lj_text.specs.CnfHeld.{CnfStandsAt, Leads, NeedsRoomFrom, Taken}
 use Rattle.lj_text.specs.Cnf.{read_cnf, HasFault}
 use Rattle.std.specs.Prelude.{Option, Some, None, ◌⊎◌}

@@ -1,9 +1,9 @@
 -- What is true of the fields of a reader of lines, and its steps.
-use Rattle.std.specs.Prelude.{◌≡◌, ℕ, ◌-◌, ◌<◌, ◌≤◌, List, length, take, drop, max, get_or, Some, if◌then◌else◌}
+use Rattle.std.specs.Prelude.{◌≡◌, ℕ, ◌-◌, ◌<◌, ◌≤◌, List, length, take, drop, get_or, Some, if◌then◌else◌}
 use Rattle.lj_text.specs.declared.lines.fault.LineFault.{LineFault}
 use Rattle.lj_text.specs.declared.lines.look.Found.{Found}
 use Rattle.lj_text.specs.Bytes.{line_number}
-use Rattle.lj_text.specs.LinesRead.{LinesRead, HasNoLineEnd, is_line_no_memory}
+use Rattle.lj_text.specs.LinesRead.{LinesRead, HasNoLineEnd, is_line_no_memory, most_done}
 
 -- the last byte is a line feed
 abbrev pub EndsLine : List ℕ → Type 0
@@ -14,8 +14,8 @@ pub record IsParted (start : ℕ) (front back : List ℕ) : Type 0 where
   pub begun : start ≤ length front
   pub unread : 0 < length front → start < length front
   pub parted : 0 < length back → EndsLine front
-  -- what is done stays no longer than as much follows it, but for a piece of the usual size
-  pub few : start ≤ max 65536 (length front - start)
+  -- what is done is at most a piece of the usual size, or a quarter of what follows it there
+  pub few : start ≤ most_done (length front - start)
 
 -- Bytes are held, and no line ends among the first that were searched; their first line has a number.
 pub record IsHeld (max searched line : ℕ) (ahead : List ℕ) : Type 0 where

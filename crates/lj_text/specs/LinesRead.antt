@@ -1,5 +1,5 @@
 -- What a reader of lines holds of what was fed, and what it answers.
-use Rattle.std.specs.Prelude.{◌≡◌, ℕ, Bool, true, false, List, [], ◌∷◌, ◌++◌, length, Option, None, Some, Result, Ok, Err, All, IsOk, MatchBool}
+use Rattle.std.specs.Prelude.{◌≡◌, ℕ, ◌/◌, max, Bool, true, false, List, [], ◌∷◌, ◌++◌, length, Option, None, Some, Result, Ok, Err, All, IsOk, MatchBool}
 use Rattle.std.specs.List.{AllByRecursion}
 use Rattle.lj_text.specs.declared.lines.fault.LineFault.{LineFault}
 use Rattle.lj_text.specs.declared.lines.fault.LineFaultKind.{LineFaultKind}
@@ -22,6 +22,10 @@ pub record LinesRead : Type 0 where
   pub finished : Bool
   -- the fault that is told from now on
   pub fault : Option LineFault
+
+-- how many bytes that are done may stay beside so many that aren't: a piece of the usual size, or a quarter of those
+abbrev pub most_done : ℕ → ℕ
+most_done left = max 65536 (left / 4)
 
 abbrev pub HasNoLineEnd : List ℕ → Type 0
 HasNoLineEnd bytes = All (λ b. is_line_end b ≡ false) bytes

@@ -1,5 +1,5 @@
 //! The reader of formulas.
-ghost use Rattle.std.specs.Prelude.{◌≡◌, ◌<◌, ◌≤◌, ◌+◌, ◌∷◌, ◌++◌, ◌⊎◌, ℕ, List, [], length, true, false, Ok, Err, None, Some, IfErr, IfSome, OnOk};
+ghost use Rattle.std.specs.Prelude.{◌≡◌, ◌<◌, ◌≤◌, ◌+◌, ◌∷◌, ◌++◌, ◌⊎◌, ℕ, List, [], length, true, false, Ok, Err, None, Some, IfErr, IfSome};
 ghost use Rattle.lj_clause.specs.Memory.{no_memory};
 ghost use Rattle.lj_text.specs.Bytes.{line_number, tokens_of};
 ghost use Rattle.lj_text.specs.LinesRead.{HasNoLineEnd, last_number};

@@ -1,6 +1,6 @@
 //! What a reader of lines holds of what was fed.
-ghost use Rattle.std.specs.Prelude.{◌≡◌, ◌-◌, ◌<◌, ◌≤◌, ◌∷◌, ◌++◌, ℕ, List, [], length, take, drop, max, IfNone, IfSome, OnOk, OnErr};
-ghost use Rattle.lj_text.specs.LinesRead.{HasNoLineEnd};
+ghost use Rattle.std.specs.Prelude.{◌≡◌, ◌+◌, ◌-◌, ◌<◌, ◌≤◌, ◌∷◌, ◌++◌, ℕ, List, [], length, take, drop, IfNone, IfSome, OnOk, OnErr};
+ghost use Rattle.lj_text.specs.LinesRead.{HasNoLineEnd, most_done};
 ghost use Rattle.lj_text.specs.LinesHeld.{EndsLine, IsParted};
 
 use super::cut::first_line;
@@ -9,13 +9,16 @@ use std::alloc::{AllocError, Global};
 use std::marker::Model;
 use std::mem::swap;
 
-/// How many bytes that are done may stay, where no more than they follow.
-const MOST_BEHIND: usize = 65536;
+/// How many bytes that are done may stay, however few follow.
+const MOST_BEHIND: usize = 65_536;
+
+/// Beyond that, what is done stays where as many times its bytes follow: so many are moved for each that goes.
+const MOST_MOVED: usize = 4;
 
 /// The bytes that were fed and aren't done, in the order in which they were fed.
 ///
-/// Each was copied into one of two buffers, and no line stands in both. What is done stays in the room no longer than
-/// there is as much behind it, but for a piece of the usual size.
+/// Each was copied into one of two buffers, and no line stands in both. What is done stays in the room up to a piece of
+/// the usual size, or a quarter of what follows it.
 #[derive(Debug, Drop)]
 pub(super) struct Held {
     /// The lines being read.
@@ -59,6 +62,14 @@ impl Held {
             return Err(error);
         }
         Ok(())
+    }
+
+    /// How many bytes are there, with those that are done.
+    pub fn room(&self) -> usize
+        ensures all { length self.now ≤ result }
+        ensures few { result ≤ length self.now + most_done (length self.now) }
+    {
+        self.front.len() + self.back.len()
     }
 
     /// What is held.
@@ -107,17 +118,17 @@ impl Held {
     }
 }
 
-/// Lets go of the bytes before `start`, where they are many and more than those behind them; where they begin then.
+/// Lets go of the bytes before `start`, where they are many beside those behind them, and tells where these begin then.
 ///
 /// Takes constant time for each byte that it lets go of.
 fn let_go(bytes: &mut Vec<u8>, start: usize) -> usize
     requires { start ≤ length bytes.old.items }
     ensures rest { drop result bytes.new.items ≡ drop start bytes.old.items }
     ensures within { result ≤ length bytes.new.items }
-    ensures few { result ≤ max MOST_BEHIND (length bytes.new.items - result) }
+    ensures few { result ≤ most_done (length bytes.new.items - result) }
 {
     let left = bytes.len() - start;
-    if start <= MOST_BEHIND || start <= left {
+    if start <= MOST_BEHIND || start <= left / MOST_MOVED {
         return start;
     }
     bytes.copy_within(start.., 0);

@@ -2,7 +2,7 @@
 ghost use Rattle.std.specs.Prelude.{◌≡◌, ◌+◌, ◌≤◌, ◌++◌, ◌⊎◌, ℕ, Bool, true, false, List, [], length, Option, Some, None, Ok, Err, IfSome, IfErr, IsSome, OnOk, OnErr, MatchBool, MatchResult, slice_get};
 ghost use Rattle.lj_text.specs.Bytes.{line_number};
 ghost use Rattle.lj_text.specs.Lines.{whole_said, all_said};
-ghost use Rattle.lj_text.specs.LinesRead.{LineReaderStandsAt, IsSaidAt, IsSaidRight, wants_memory, line_answer, handed_out, fault_of, line_number_of, last_number};
+ghost use Rattle.lj_text.specs.LinesRead.{LineReaderStandsAt, IsSaidAt, IsSaidRight, wants_memory, line_answer, handed_out, fault_of, line_number_of, last_number, most_done};
 ghost use Rattle.lj_text.specs.LinesHeld.{IsAhead, passed, kept};
 ghost use Rattle.lj_text.specs.Looking.{Looked, LookedBehind, Fails, FailsToEnd};
 
@@ -179,6 +179,15 @@ impl LineReader {
         ensures { result ≡ self.now.at }
     {
         self.at
+    }
+
+    /// How many bytes it holds of what was fed: those not yet handed out, and beside them at most 65,536 or a quarter
+    /// of them. Takes constant time.
+    pub fn held(&self) -> usize
+        ensures all { length self.now.ahead ≤ result }
+        ensures few { result ≤ length self.now.ahead + most_done (length self.now.ahead) }
+    {
+        self.held.room()
     }
 
     /// The next whole line that says something.
