@@ -11,6 +11,8 @@ mod sizes;
 #[cfg(test)]
 mod tables;
 #[cfg(test)]
+mod text;
+#[cfg(test)]
 mod trimming;
 #[cfg(test)]
 mod walks;

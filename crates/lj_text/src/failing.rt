@@ -128,6 +128,3 @@ impl<S: Sink> Sink for FailingSink<S> {
         Ok(count)
     }
 }
-
-#[cfg(test)]
-mod tests;

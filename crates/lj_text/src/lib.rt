@@ -26,6 +26,3 @@ pub use sink::{MemorySink, Sink, SinkFault, WriterSink, write_all};
 pub use source::{MemorySource, ReaderSource, Source, SourceFault};
 pub use step::Step;
 pub use writer::{ProofWriter, WriteFault, write_proof};
-
-#[cfg(test)]
-mod tests;

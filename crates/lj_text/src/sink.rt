@@ -192,6 +192,3 @@ impl<W: Write> Sink for WriterSink<W> {
         }
     }
 }
-
-#[cfg(test)]
-mod tests;

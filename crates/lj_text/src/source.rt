@@ -190,6 +190,3 @@ impl<R: Read> Source for ReaderSource<R> {
         }
     }
 }
-
-#[cfg(test)]
-pub(crate) mod tests;

@@ -1,9 +1,9 @@
 //! Lines at worked examples, fed in every cut.
-use crate::{Line, LineReader};
+use super::cut_at;
+use lj_clause::MAX_VARIABLE;
+use lj_text::{Line, LineReader};
 use std::alloc::Global;
 use std::test::*;
-
-const MAX: u32 = 134_217_727;
 
 /// Inputs, and what is told of them: each line with its number, and the fault that ends them.
 const INPUTS: [(&str, &str); 34] = [
@@ -84,7 +84,7 @@ fn describe(alloc: Global, line: &Line, at: u64) -> Result<String, Fail> {
 /// What is told of an input that comes in these pieces.
 fn told(alloc: Global, pieces: &[&[u8]]) -> Result<String, Fail> {
     let mut told = String::new(alloc);
-    let mut reader = LineReader::new(alloc, MAX);
+    let mut reader = LineReader::new(alloc, MAX_VARIABLE);
     for piece in pieces {
         if let Err(fault) = reader.feed(piece) {
             told.push_str(&format!(in alloc; "feed: {fault}")?)?;
@@ -117,39 +117,30 @@ fn told(alloc: Global, pieces: &[&[u8]]) -> Result<String, Fail> {
 }
 
 #[test]
-fn every_cut(rt: HostRuntime) -> Result<(), Fail> {
+fn lines_in_every_cut(rt: HostRuntime) -> Result<(), Fail> {
     let alloc = rt.alloc();
     for (text, want) in &INPUTS {
         let bytes = text.as_bytes();
-        let mut bytewise = Vec::new(alloc);
-        for byte in bytes.chunks(1) {
-            bytewise.push(byte)?;
-        }
-        assert_eq!(rt;
-            told(alloc, &bytewise)?.as_str(),
-            *want,
-            "byte by byte: {text}"
-        );
-        for at in 0..bytes.len() {
-            let (front, back) = bytes.split_at(at);
+        for place in 0..=bytes.len() + 1 {
+            let pieces = cut_at(alloc, bytes, place)?;
             assert_eq!(rt;
-                told(alloc, &[front, back])?.as_str(),
+                told(alloc, &pieces)?.as_str(),
                 *want,
-                "cut at {at}: {text}"
+                "cut at {place}: {text}"
             );
         }
-        assert_eq!(rt; told(alloc, &[bytes])?.as_str(), *want, "{text}");
     }
     Ok(())
 }
 
 #[test]
-fn pieces(rt: HostRuntime) -> Result<(), Fail> {
+fn a_line_in_two_pieces(rt: HostRuntime) -> Result<(), Fail> {
     let alloc = rt.alloc();
-    let mut reader = LineReader::new(alloc, MAX);
+    let mut reader = LineReader::new(alloc, MAX_VARIABLE);
     assert!(rt; reader.feed(b"5 2 0 1").is_ok());
     assert!(rt; matches!(reader.next(), Ok(None)));
     assert_eq!(rt; reader.at(), 1);
+    assert_eq!(rt; reader.held(), 7);
     assert!(rt; reader.feed(b"2 0\n").is_ok());
     match reader.next() {
         Ok(Some(line)) => {
@@ -171,9 +162,9 @@ fn pieces(rt: HostRuntime) -> Result<(), Fail> {
 
 /// A fault is told again by every call.
 #[test]
-fn fault_stays(rt: HostRuntime) {
+fn a_fault_of_a_line_stays(rt: HostRuntime) {
     let alloc = rt.alloc();
-    let mut reader = LineReader::new(alloc, MAX);
+    let mut reader = LineReader::new(alloc, MAX_VARIABLE);
     assert!(rt; reader.feed(b"5 d 1 0\n5 x\n5 d 1 0\n").is_ok());
     assert!(rt; matches!(reader.next(), Ok(Some(_))));
     let fault = reader.next().err();

@@ -1,5 +1,5 @@
 //! Lists of numbers of both widths.
-use crate::{Line, LineReader, NumberRoom, Numbers};
+use lj_text::{Line, LineReader, NumberRoom, Numbers};
 use std::test::*;
 
 /// The least number that takes eight bytes.

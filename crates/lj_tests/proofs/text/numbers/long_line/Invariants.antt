@@ -1,5 +1,5 @@
 use Rattle.std.proofs.Common.{◌≡◌, false}
-use Rattle.lj_text.proofs.tests.numbers.long_line.Given as goal
+use Rattle.lj_tests.proofs.text.numbers.long_line.Given as goal
 
 abbrev pub invariant-loop-piece : goal.invariant-loop-piece
 invariant-loop-piece g l = l.reader.finished ≡ false

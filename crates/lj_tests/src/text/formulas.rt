@@ -1,10 +1,9 @@
 //! Formulas at worked examples, fed in every cut.
-use crate::CnfReader;
-use lj_clause::Formula;
+use super::cut_at;
+use lj_clause::{Formula, MAX_VARIABLE};
+use lj_text::CnfReader;
 use std::alloc::Global;
 use std::test::*;
-
-const MAX: u32 = 134_217_727;
 
 /// Texts, and what is told of them: the formula, or the fault and its line.
 const TEXTS: [(&str, &str); 27] = [
@@ -54,7 +53,7 @@ fn describe(alloc: Global, formula: &Formula) -> Result<String, Fail> {
 
 /// What is told of a text that comes in these pieces.
 fn told(alloc: Global, pieces: &[&[u8]]) -> Result<String, Fail> {
-    let mut reader = CnfReader::new(alloc, MAX);
+    let mut reader = CnfReader::new(alloc, MAX_VARIABLE);
     for piece in pieces {
         if let Err(fault) = reader.feed(piece) {
             let line = fault.line;
@@ -71,34 +70,24 @@ fn told(alloc: Global, pieces: &[&[u8]]) -> Result<String, Fail> {
 }
 
 #[test]
-fn every_cut(rt: HostRuntime) -> Result<(), Fail> {
+fn formulas_in_every_cut(rt: HostRuntime) -> Result<(), Fail> {
     let alloc = rt.alloc();
     for (text, want) in &TEXTS {
         let bytes = text.as_bytes();
-        let mut bytewise = Vec::new(alloc);
-        for byte in bytes.chunks(1) {
-            bytewise.push(byte)?;
-        }
-        assert_eq!(rt;
-            told(alloc, &bytewise)?.as_str(),
-            *want,
-            "byte by byte: {text}"
-        );
-        for at in 0..bytes.len() {
-            let (front, back) = bytes.split_at(at);
+        for place in 0..=bytes.len() + 1 {
+            let pieces = cut_at(alloc, bytes, place)?;
             assert_eq!(rt;
-                told(alloc, &[front, back])?.as_str(),
+                told(alloc, &pieces)?.as_str(),
                 *want,
-                "cut at {at}: {text}"
+                "cut at {place}: {text}"
             );
         }
-        assert_eq!(rt; told(alloc, &[bytes])?.as_str(), *want, "{text}");
     }
     Ok(())
 }
 
 #[test]
-fn pieces(rt: HostRuntime) -> Result<(), Fail> {
+fn a_formula_in_three_pieces(rt: HostRuntime) -> Result<(), Fail> {
     let alloc = rt.alloc();
     assert_eq!(rt;
         told(alloc, &[b"p cnf 2 1\n1 -", b"", b"2 0"])?.as_str(),
@@ -109,8 +98,8 @@ fn pieces(rt: HostRuntime) -> Result<(), Fail> {
 
 /// A fault is told again.
 #[test]
-fn fault_stays(rt: HostRuntime) {
-    let mut reader = CnfReader::new(rt.alloc(), MAX);
+fn a_fault_of_a_formula_stays(rt: HostRuntime) {
+    let mut reader = CnfReader::new(rt.alloc(), MAX_VARIABLE);
     let fault = reader.feed(b"p cnf 2 1\n1 x\n").err();
     assert_eq!(rt; fault.map(|f| f.line), Some(2));
     assert_eq!(rt; reader.feed(b"").err(), fault);

@@ -1,0 +1,161 @@
+//! Joint proofs as text.
+ghost use Rattle.std.specs.Prelude.{◌≡◌, [], false};
+
+use lj_clause::MAX_VARIABLE;
+use lj_run::{Options, ProofEnd, ProofFault, run_in_turn};
+use lj_text::{
+    FailingSink, Line, LineReader, MemorySink, MemorySource, ProofWriter, Sink, SinkFault, Step,
+    WriteFault, write_proof,
+};
+use std::alloc::Global;
+use std::sync::Wait;
+use std::test::Fail;
+
+/// The four binary clauses over two variables.
+const FOUR: &str = "p cnf 2 4\n1 2 0\n-1 2 0\n1 -2 0\n-1 -2 0\n";
+
+/// A proof of them, of 24 bytes.
+const TWO_STEPS: &str = "5 2 0 1 2 0\n6 0 5 3 4 0\n";
+
+/// The additions and deletions that lines spell, as steps.
+fn steps_of(alloc: Global, lines: &str) -> Result<Vec<Step>, Fail> {
+    let mut reader = LineReader::new(alloc, MAX_VARIABLE);
+    reader.feed(lines.as_bytes())?;
+    let mut steps = Vec::new(alloc);
+    for _ in 0..lines.len() {
+        match reader.next()? {
+            Some(Line::Add(addition)) => steps.push(Step::Add(addition))?,
+            Some(Line::Delete(numbers)) => steps.push(Step::Delete { numbers })?,
+            _ => break,
+        }
+    }
+    Ok(steps)
+}
+
+#[test]
+fn steps_are_written_as_lines(rt: HostRuntime) -> Result<(), Fail> {
+    let cases = [
+        (4, "", ""),
+        (4, TWO_STEPS, TWO_STEPS),
+        (
+            1,
+            "2 3 -1 -2 0 0\n3 -3 1 0 -2 0\n4 -3 2 0 -2 0\n",
+            "2 3 -1 -2 0 0\n3 -3 1 0 -2 0\n4 -3 2 0 -2 0\n",
+        ),
+        (4, "1 d 1 0\n5 1 -1 0 0\n", "4 d 1 0\n5 1 -1 0 0\n"),
+        (
+            4,
+            "7 -2 3 -1 0 1 -2 3 4 -5 0\n9 d 3 5 0\n6 1 0 7 0\n1 d 6 0\n",
+            "7 -2 -1 3 0 1 -2 3 4 -5 0\n7 d 3 5 0\n6 1 0 7 0\n7 d 6 0\n",
+        ),
+    ];
+    for (clauses, lines, text) in cases {
+        let steps = steps_of(rt.alloc(), lines)?;
+        let mut sink = MemorySink::new(rt.alloc());
+        write_proof(&mut sink, clauses, &steps)?;
+        assert_eq!(rt; sink.bytes(), text.as_bytes(), "{lines}");
+    }
+    Ok(())
+}
+
+/// A sink that takes no more than so many bytes a call, and one at least.
+#[derive(Debug, Drop)]
+struct NarrowSink<S> {
+    sink: S,
+    most: usize,
+}
+
+impl<S: Sink> Sink for NarrowSink<S> {
+    ghost taken = { λ narrow. S.taken narrow.sink };
+
+    ghost contents = { λ narrow. S.contents narrow.sink };
+
+    ghost failures = { λ narrow. S.failures narrow.sink };
+
+    fn put(&mut self, piece: &[u8]) -> Result<usize, SinkFault> {
+        let count = piece.len().min(self.most.max(1));
+        self.sink.put(&piece[..count])
+    }
+}
+
+/// A sink over memory that takes so many bytes in all, no more than `most` of them a call.
+fn small_sink(alloc: Global, room: usize, most: usize) -> NarrowSink<FailingSink<MemorySink>>
+    ensures room { result.sink ≡ record { sink = ([], 0); room = room; failed = false } }
+{
+    let sink = FailingSink::new(MemorySink::new(alloc), room);
+    NarrowSink { sink, most }
+}
+
+/// How many bytes a sink takes a call: one, a part of a line, and as many as there are.
+const WIDTHS: [usize; 3] = [1, 5, 24];
+
+#[test]
+fn a_writer_fails_where_its_sink_is_full(rt: HostRuntime) -> Result<(), Fail> {
+    let steps = steps_of(rt.alloc(), TWO_STEPS)?;
+    for most in WIDTHS {
+        for room in 0..=24 {
+            let mut writer = ProofWriter::new(small_sink(rt.alloc(), room, most), 4);
+            for step in &steps {
+                assert!(rt; writer.step(step).is_ok(), "with room for {room}");
+            }
+            let (first, again) = match room {
+                24 => (Ok(()), Ok(())),
+                _ => (Err(WriteFault::Device), Err(WriteFault::Failed)),
+            };
+            assert_eq!(rt;
+                writer.finish(),
+                first,
+                "with room for {room}, {most} a call"
+            );
+            assert_eq!(rt;
+                writer.finish(),
+                again,
+                "with room for {room}, {most} a call"
+            );
+            let bytes = &TWO_STEPS.as_bytes()[..room];
+            assert_eq!(rt; writer.into_sink().sink.sink.bytes(), bytes);
+        }
+    }
+    Ok(())
+}
+
+/// What became of the proof of a run that verifies, and the sink that it was written to.
+fn proof_into(
+    rt: &impl Wait,
+    alloc: Global,
+    sink: NarrowSink<FailingSink<MemorySink>>,
+) -> Result<(bool, ProofEnd, Vec<u8>), Fail>
+    requires { (sink.sink.sink.1 ≡ 0) × (sink.sink.failed ≡ false) }
+{
+    let mut formula = MemorySource::new(FOUR.as_bytes().to_vec(alloc)?);
+    let mut streams = Vec::new(alloc);
+    streams.push(MemorySource::new(TWO_STEPS.as_bytes().to_vec(alloc)?))?;
+    let options = Options {
+        max_steps: u32::MAX,
+        trim: false,
+    };
+    let mut out = Some(sink);
+    let outcome = run_in_turn(rt, alloc, &mut formula, streams, None, &options, &mut out)?;
+    let sink = out.ok_or("the sink")?;
+    let bytes = sink.sink.sink.into_bytes();
+    Ok((outcome.verified.is_some(), outcome.proof, bytes))
+}
+
+/// The verdict is that of a run without a proof, whatever the sink takes.
+#[test]
+fn a_run_into_a_small_sink_is_verified(rt: HostRuntime) -> Result<(), Fail> {
+    for most in WIDTHS {
+        for room in 0..=24 {
+            let sink = small_sink(rt.alloc(), room, most);
+            let (verified, end, bytes) = proof_into(&rt, rt.alloc(), sink)?;
+            let wanted = match room {
+                24 => ProofEnd::Written,
+                _ => ProofEnd::Failed(ProofFault::Device),
+            };
+            assert!(rt; verified, "with room for {room}, {most} a call");
+            assert_eq!(rt; end, wanted, "with room for {room}, {most} a call");
+            assert_eq!(rt; bytes.as_slice(), &TWO_STEPS.as_bytes()[..room]);
+        }
+    }
+    Ok(())
+}

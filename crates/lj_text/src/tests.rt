@@ -1,4 +1,0 @@
-mod cnf;
-mod lines;
-mod numbers;
-mod writer;
