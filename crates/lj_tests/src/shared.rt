@@ -1,0 +1,80 @@
+//! Examples by the calls of the shared book: each entry is told by its token, and each refusal is the right one.
+mod entered;
+
+use crate::tables::{Line, ListedStep, addition, assert_numbers, assert_step, clause};
+use lj_book::{Call, Entry, Refusal};
+use lj_share::{Opening, Seat, Shared, Told};
+use lj_text::{Line as ProofLine, Numbers};
+use std::alloc::Global;
+use std::process::Abort;
+use std::sync::Wait;
+use std::test::Fail;
+
+/// A call as a table lists it. The first three are submitted as lines.
+#[derive(Clone, Copy)]
+enum Called<'a> {
+    Add(Line<'a>),
+    Drop(&'a [u64]),
+    Import(u64, &'a [i32]),
+    Adopt(u64, u64),
+    Leave,
+}
+
+/// A seat's call, and the step of its entry or its refusal.
+type Row<'a> = (u32, Called<'a>, Result<ListedStep<'a>, Refusal>);
+
+/// Makes the call for the seat.
+fn call<L: Opening, R: Wait>(
+    rt: &R,
+    alloc: Global,
+    shared: &Shared<L>,
+    seat: &mut Seat<L>,
+    called: &Called,
+) -> Result<Told, Refusal> {
+    let line = match called {
+        Called::Add(line) => ProofLine::Add(addition(alloc, line)?),
+        Called::Drop(numbers) => ProofLine::Delete(Numbers::from_slice(alloc, numbers)?),
+        Called::Import(number, lits) => ProofLine::Import {
+            number: *number,
+            clause: clause(alloc, lits)?,
+        },
+        Called::Adopt(own, joint) => return shared.adopt(rt, seat, *own, *joint),
+        Called::Leave => return shared.leave(rt, seat),
+    };
+    shared.submit(rt, seat, &line)
+}
+
+/// Asserts that the entry is of this seat, this call and this step.
+fn assert_entry(
+    rt: &impl Abort,
+    alloc: Global,
+    entry: &Entry,
+    seat: u32,
+    called: &Called,
+    step: &ListedStep,
+) -> Result<(), Fail> {
+    assert!(rt; entry.seat == seat);
+    assert_call(rt, alloc, &entry.call, called)?;
+    assert_step(rt, entry.step.as_ref(), step);
+    Ok(())
+}
+
+fn assert_call(rt: &impl Abort, alloc: Global, call: &Call, called: &Called) -> Result<(), Fail> {
+    match (call, called) {
+        (Call::Add { own, lemma }, Called::Add(line)) => {
+            let wanted = addition(alloc, line)?;
+            assert!(rt; *own == wanted.number && lemma.pivot() == wanted.lemma.pivot());
+            assert!(rt; lemma.clause().same(wanted.lemma.clause()));
+        }
+        (Call::Drop { numbers }, Called::Drop(wanted)) => assert_numbers(rt, numbers, wanted),
+        (Call::Import { own, clause: made }, Called::Import(number, lits)) => {
+            assert!(rt; own == number && made.same(&clause(alloc, lits)?));
+        }
+        (Call::Adopt { own, joint }, Called::Adopt(number, of)) => {
+            assert!(rt; own == number && joint == of);
+        }
+        (Call::Leave, Called::Leave) => {}
+        _ => panic!(rt; "another call"),
+    }
+    Ok(())
+}

@@ -1,0 +1,286 @@
+//! Lists of calls on a shared book.
+ghost use Rattle.std.specs.Prelude.{◌≡◌, ◌<◌};
+
+use crate::shared::{Called, Row, assert_entry, call};
+use crate::tables::{BINARY, Line, ListedStep, formula};
+use lj_book::{Book, Refusal};
+use lj_clause::Formula;
+use lj_share::{Closed, Opening, Seat, Shared, Told};
+use std::alloc::Global;
+use std::marker::Brand;
+use std::process::Abort;
+use std::sync::Wait;
+use std::sync::ledger::Blank;
+use std::test::Fail;
+
+/// The formula's clauses, the number of seats, what they call, and the place of the verdict.
+type Example<'a> = (&'a [&'a [i32]], u32, &'a [Row<'a>], Option<u64>);
+
+const GONE: Result<ListedStep, Refusal> = Err(Refusal::SeatGone);
+
+const NO_STEP: Result<ListedStep, Refusal> = Ok(ListedStep::None);
+
+/// The addition of 2 by the first two of the four binary clauses, for a seat's number 5.
+const FIRST: Called = Called::Add(Line(5, &[2], &[1, 2], &[]));
+
+/// Its step.
+const FIRST_STEP: Result<ListedStep, Refusal> = Ok(ListedStep::Add(5, 1, &[1, 2], &[]));
+
+/// Two units.
+const UNIT_PAIR: [Row; 1] = [(
+    0,
+    Called::Add(Line(3, &[], &[1, 2], &[])),
+    Ok(ListedStep::Add(3, 0, &[1, 2], &[])),
+)];
+
+/// One prover over the four binary clauses.
+const TWO_STEPS: [Row; 2] = [
+    (0, FIRST, FIRST_STEP),
+    (
+        0,
+        Called::Add(Line(6, &[], &[5, 3, 4], &[])),
+        Ok(ListedStep::Add(6, 0, &[5, 3, 4], &[])),
+    ),
+];
+
+/// Two provers over the four binary clauses, and the seat that puts together what they found.
+const CLOSING: [Row; 5] = [
+    (0, FIRST, FIRST_STEP),
+    (
+        1,
+        Called::Add(Line(5, &[-2], &[3, 4], &[])),
+        Ok(ListedStep::Add(6, 1, &[3, 4], &[])),
+    ),
+    (2, Called::Import(7, &[2]), NO_STEP),
+    (2, Called::Import(8, &[-2]), NO_STEP),
+    (
+        2,
+        Called::Add(Line(9, &[], &[7, 8], &[])),
+        Ok(ListedStep::Add(7, 0, &[5, 6], &[])),
+    ),
+];
+
+/// What one seat gives up lives on for another.
+const NEIGHBOUR_KEEPS: [Row; 2] = [(0, Called::Drop(&[1]), NO_STEP), (1, FIRST, FIRST_STEP)];
+
+/// Over `1 2`: 3 is defined to be 1 and 2, and a second seat can't define it once more.
+const DEFINITION: [Row; 4] = [
+    (
+        0,
+        Called::Add(Line(2, &[3, -1, -2], &[], &[])),
+        Ok(ListedStep::Add(2, 3, &[], &[])),
+    ),
+    (
+        0,
+        Called::Add(Line(3, &[-3, 1], &[], &[&[2]])),
+        Ok(ListedStep::Add(3, 2, &[], &[&[2]])),
+    ),
+    (
+        0,
+        Called::Add(Line(4, &[-3, 2], &[], &[])),
+        Ok(ListedStep::Add(4, 2, &[], &[&[2]])),
+    ),
+    (
+        1,
+        Called::Add(Line(2, &[3, 1], &[], &[])),
+        Err(Refusal::MissingGroup(3)),
+    ),
+];
+
+/// A number that was given up is free, and what was deleted is gone.
+const GIVEN_UP: [Row; 4] = [
+    (0, Called::Drop(&[1, 1, 9]), Ok(ListedStep::Delete(&[1]))),
+    (0, Called::Import(6, &[1, 2]), Err(Refusal::NoSuchClause)),
+    (
+        0,
+        Called::Add(Line(5, &[2], &[3, 1], &[])),
+        Err(Refusal::UnknownNumber(1)),
+    ),
+    (
+        0,
+        Called::Add(Line(1, &[-2], &[3, 4], &[])),
+        Ok(ListedStep::Add(5, 1, &[3, 4], &[])),
+    ),
+];
+
+/// The last seat takes all clauses with it.
+const LAST_LEAVES: [Row; 6] = [
+    (0, Called::Leave, Ok(ListedStep::Delete(&[1, 2, 3, 4]))),
+    (0, Called::Leave, GONE),
+    (0, Called::Adopt(9, 1), GONE),
+    (0, Called::Drop(&[1]), GONE),
+    (0, Called::Import(9, &[1, 2]), GONE),
+    (0, FIRST, GONE),
+];
+
+/// Over `1 2` and `1 -2`: the clause of seat 0 is a candidate of seat 1's lemma, which has to adopt it.
+const ADOPTED: [Row; 4] = [
+    (
+        0,
+        Called::Add(Line(3, &[-3, 1, 2], &[1], &[])),
+        Ok(ListedStep::Add(3, 3, &[1], &[])),
+    ),
+    (
+        1,
+        Called::Add(Line(3, &[3, 1], &[], &[])),
+        Err(Refusal::MissingGroup(3)),
+    ),
+    (1, Called::Adopt(7, 3), NO_STEP),
+    (
+        1,
+        Called::Add(Line(3, &[3, 1], &[], &[&[7, 1]])),
+        Ok(ListedStep::Add(4, 2, &[], &[&[3, 1]])),
+    ),
+];
+
+/// A refused line changes nothing: the next one is answered as if it had not been.
+const REFUSED: [Row; 5] = [
+    (
+        0,
+        Called::Add(Line(5, &[2], &[3, 1], &[])),
+        Err(Refusal::HintNotUnit(1)),
+    ),
+    (
+        0,
+        Called::Add(Line(4, &[2], &[1, 2], &[])),
+        Err(Refusal::NumberTaken),
+    ),
+    (
+        0,
+        Called::Add(Line(5, &[], &[], &[])),
+        Err(Refusal::EmptyOpen),
+    ),
+    (0, Called::Adopt(5, 5), Err(Refusal::NoSuchClause)),
+    (0, FIRST, FIRST_STEP),
+];
+
+const EXAMPLES: [Example; 9] = [
+    (&[&[1], &[-1]], 1, &UNIT_PAIR, Some(0)),
+    (&BINARY, 1, &TWO_STEPS, Some(1)),
+    (&BINARY, 3, &CLOSING, Some(4)),
+    (&BINARY, 2, &NEIGHBOUR_KEEPS, None),
+    (&[&[1, 2]], 2, &DEFINITION, None),
+    (&BINARY, 1, &GIVEN_UP, None),
+    (&BINARY, 1, &LAST_LEAVES, None),
+    (&[&[1, 2], &[1, -2]], 2, &ADOPTED, None),
+    (&BINARY, 1, &REFUSED, None),
+];
+
+#[test]
+fn entered(rt: HostRuntime) -> Result<(), Fail> {
+    for example in &EXAMPLES {
+        let (clauses, seats, script, verdict) = example;
+        let alloc = rt.alloc();
+        let formula = formula(&rt, alloc, clauses)?;
+        assert!(&rt; *seats > 0);
+        let blank = Blank::new(u64::from(*seats));
+        enter::<Brand, _>(&rt, alloc, blank, formula, *seats, script, *verdict)?;
+    }
+    Ok(())
+}
+
+/// Opens a book for the seats, makes the calls in their order, closes the book and looks at it.
+fn enter<L: Opening, R: Wait + Abort>(
+    rt: &R,
+    alloc: Global,
+    blank: Blank,
+    formula: Formula,
+    number: u32,
+    script: &[Row],
+    verdict: Option<u64>,
+) -> Result<(), Fail>
+    requires name { blank.name ≡ L.name }
+    requires parts { (blank.parts ≡ L.parts) × (blank.parts ≡ number) }
+    requires formula { formula ≡ L.formula }
+    requires seats { (0 < number) × (number ≡ L.seats) }
+    requires limit { L.max_steps ≡ 9 }
+{
+    let (shared, mut seats) = Shared::<L>::open(alloc, blank, formula, number, 9)?;
+    let mut tokens = Vec::new(alloc);
+    for _ in 0..number {
+        tokens.push(Vec::new(alloc))?;
+    }
+    for row in script {
+        make(rt, alloc, &shared, &mut seats, &mut tokens, row)?;
+    }
+    for (seat, of_seat) in seats.iter().zip(&tokens) {
+        assert!(rt; seat.count() == of_seat.len() as u64);
+    }
+    assert!(rt; shared.verdict_now(rt) == verdict);
+    let Ok(closed) = shared.close(seats) else {
+        panic!(rt; "not closed");
+    };
+    assert_history(rt, alloc, closed.book(), script)?;
+    for seat in 0..number {
+        assert_confirmed(rt, &closed, seat, &mut tokens);
+    }
+    Ok(())
+}
+
+/// Makes a row's call, sees that its token shows its entry, or that it is refused, and keeps the token.
+fn make<L: Opening, R: Wait + Abort>(
+    rt: &R,
+    alloc: Global,
+    shared: &Shared<L>,
+    seats: &mut [Seat<L>],
+    tokens: &mut [Vec<Told>],
+    row: &Row,
+) -> Result<(), Fail> {
+    let (number, called, wanted) = row;
+    let Some(seat) = seats.get_mut(*number as usize) else {
+        panic!(rt; "no seat");
+    };
+    let Some(of_seat) = tokens.get_mut(*number as usize) else {
+        panic!(rt; "no tokens");
+    };
+    match (call(rt, alloc, shared, seat, called), wanted) {
+        (Ok(told), Ok(step)) => {
+            assert_entry(rt, alloc, shared.told(&told), *number, called, step)?;
+            of_seat.push(told)?;
+        }
+        (Err(refusal), Err(wanted)) => assert!(rt; refusal == *wanted),
+        _ => panic!(rt; "another answer"),
+    }
+    Ok(())
+}
+
+/// Asserts that the history holds the entries of the rows that aren't refused, and no more.
+fn assert_history(rt: &impl Abort, alloc: Global, book: &Book, script: &[Row]) -> Result<(), Fail> {
+    let mut entries = Vec::new(alloc);
+    for (seat, called, wanted) in script {
+        if let Ok(step) = wanted {
+            entries.push((*seat, called, step))?;
+        }
+    }
+    assert!(rt; book.history_len() == entries.len() as u64);
+    for (place, (seat, called, step)) in entries.iter().enumerate() {
+        let Some(entry) = book.entry(place as u64) else {
+            panic!(rt; "no entry");
+        };
+        assert_entry(rt, alloc, entry, *seat, called, step)?;
+    }
+    Ok(())
+}
+
+/// Asserts that the seat's tokens are confirmed, and neither with one left out nor with two exchanged.
+fn assert_confirmed<L: Opening>(
+    rt: &impl Abort,
+    closed: &Closed<L>,
+    seat: u32,
+    tokens: &mut [Vec<Told>],
+) {
+    let Some(of_seat) = tokens.get_mut(seat as usize) else {
+        panic!(rt; "no tokens");
+    };
+    assert!(rt; closed.confirm(seat, of_seat));
+    if let Some((_, rest)) = of_seat.split_first() {
+        assert!(rt; !closed.confirm(seat, rest));
+    }
+    if let Some((_, rest)) = of_seat.split_last() {
+        assert!(rt; !closed.confirm(seat, rest));
+    }
+    if of_seat.len() > 1 {
+        of_seat.swap(0, 1);
+        assert!(rt; !closed.confirm(seat, of_seat));
+    }
+}
