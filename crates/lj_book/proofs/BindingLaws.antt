@@ -12,7 +12,7 @@ use Rattle.lj_book.specs.Tables.{Tables, is_here, is_bound, is_held, with_bindin
 use Rattle.lj_book.specs.State.{State, steps_of, live}
 use Rattle.lj_book.specs.History.{after_entry, tables_after, IsLegalCall}
 use Rattle.lj_book.specs.Calls.{free_refusal, binding_entry}
-use Rattle.lj_book.specs.Kept.{IsKept}
+use Rattle.lj_book.specs.inner.Kept.{IsKept}
 use Rattle.lj_book.proofs.HistoryLaws.{IsSound-reached, IsReached-after, live-same, held-found, steps_of-push, additions-append}
 use Rattle.lj_book.proofs.BookLaws.{same_state, verdict-same}
 

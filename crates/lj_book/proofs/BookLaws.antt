@@ -13,10 +13,11 @@ use Rattle.lj_text.specs.Needed.{additions, if_some}
 use Rattle.lj_book.specs.declared.entry.Call.TheVariants as calls
 use Rattle.lj_book.specs.declared.entry.Entry.{Entry}
 use Rattle.lj_book.specs.Tables.{Tables, is_here, joint_of, is_held, is_among, with_table, without_keys}
-use Rattle.lj_book.specs.State.{State, steps_of, live, opening, is_refutation, verdict_from, verdict, IsUnsatisfiable}
-use Rattle.lj_book.specs.History.{died, after_entry, IsReached}
+use Rattle.lj_book.specs.State.{State, steps_of, live, opening, is_refutation, verdict_from, verdict}
+use Rattle.lj_clause.specs.Truth.{IsUnsatisfiable}
+use Rattle.lj_book.specs.History.{dead_numbers, after_entry, IsReached}
 use Rattle.lj_book.specs.Calls.{drop_entry}
-use Rattle.lj_book.specs.Kept.{IsKept}
+use Rattle.lj_book.specs.inner.Kept.{IsKept}
 use Rattle.lj_book.proofs.HistoryLaws.{IsSound, IsSound-reached, IsReached-opening, IsReached-after, live-opening, live-drop, steps_of-push, additions-append, none_added, has_table}
 use Rattle.lj_book.proofs.DropLaws.{died_are}
 
@@ -82,9 +83,9 @@ deletion_is_none (n ∷ ns) = refl
 
 -- ---- a drop
 
-pub IsKept-drop : (s : State) (m n : ClauseMap) (count : ℕ) (refuted : Option ℕ) (seat : ℕ) (numbers : List ℕ) → IsKept s m count refuted → is_here s.tables seat ≡ true → n ≡ without m (died s (with_table (without_keys numbers) s.tables seat)) → IsKept (after_entry s (drop_entry s seat numbers)) n count refuted
+pub IsKept-drop : (s : State) (m n : ClauseMap) (count : ℕ) (refuted : Option ℕ) (seat : ℕ) (numbers : List ℕ) → IsKept s m count refuted → is_here s.tables seat ≡ true → n ≡ without m (dead_numbers s (with_table (without_keys numbers) s.tables seat)) → IsKept (after_entry s (drop_entry s seat numbers)) n count refuted
 IsKept-drop s m n count refuted seat numbers kept here is =
-    let dead = died s (with_table (without_keys numbers) s.tables seat) in
+    let dead = dead_numbers s (with_table (without_keys numbers) s.tables seat) in
     let e = drop_entry s seat numbers in
     let more = ap (λ ss. length (additions ss)) (steps_of-push s.history e) ∙ additions-append (steps_of s.history) (cons_option e.step []) in
     let nothing = ap length (none_added dead) in
@@ -97,12 +98,12 @@ IsKept-drop s m n count refuted seat numbers kept here is =
     }
 
 -- the numbers that the code finds are those that died
-pub found_dead : (s : State) (seat : ℕ) (numbers rising dead : List ℕ) (tables : Tables) → IsSound s → is_here s.tables seat ≡ true → tables ≡ with_table (without_keys numbers) s.tables seat → IsStrictlySortedBy nat_cmp rising → ((q : ℕ) → is_among rising q ≡ is_among (filter_map (joint_of s.tables seat) numbers) q) → dead ≡ filter (λ n. not (is_held tables n)) rising → dead ≡ died s (with_table (without_keys numbers) s.tables seat)
+pub found_dead : (s : State) (seat : ℕ) (numbers rising dead : List ℕ) (tables : Tables) → IsSound s → is_here s.tables seat ≡ true → tables ≡ with_table (without_keys numbers) s.tables seat → IsStrictlySortedBy nat_cmp rising → ((q : ℕ) → is_among rising q ≡ is_among (filter_map (joint_of s.tables seat) numbers) q) → dead ≡ filter (λ n. not (is_held tables n)) rising → dead ≡ dead_numbers s (with_table (without_keys numbers) s.tables seat)
 found_dead s seat numbers rising dead tables sound here is sorted same found =
     let t = has_table s.tables seat here in
     found ∙ ap (λ (ts : Tables). filter (λ n. not (is_held ts n)) rising) is ∙ died_are s seat t.0 numbers rising sound t.1 sorted same
 
-pub dropped_state : (s : State) (seat : ℕ) (numbers written dead : List ℕ) (tables : Tables) (step : Option Step) (history : List Entry) → tables ≡ with_table (without_keys numbers) s.tables seat → written ≡ numbers → dead ≡ died s (with_table (without_keys numbers) s.tables seat) → step ≡ if_some dead → history ≡ s.history ++ record { seat = seat; call = calls.Drop written; step = step } ∷ [] → ◌≡◌ {A = State} (record { formula = s.formula; max_steps = s.max_steps; tables = tables; history = history }) (after_entry s (drop_entry s seat numbers))
+pub dropped_state : (s : State) (seat : ℕ) (numbers written dead : List ℕ) (tables : Tables) (step : Option Step) (history : List Entry) → tables ≡ with_table (without_keys numbers) s.tables seat → written ≡ numbers → dead ≡ dead_numbers s (with_table (without_keys numbers) s.tables seat) → step ≡ if_some dead → history ≡ s.history ++ record { seat = seat; call = calls.Drop written; step = step } ∷ [] → ◌≡◌ {A = State} (record { formula = s.formula; max_steps = s.max_steps; tables = tables; history = history }) (after_entry s (drop_entry s seat numbers))
 dropped_state s seat numbers written dead tables step history is same found step_is pushed =
     same_state s.formula s.max_steps tables _ history _ is
     (pushed

@@ -18,16 +18,16 @@ use Rattle.lj_text.specs.declared.step.Step.TheVariants as steps
 use Rattle.lj_text.specs.Steps.{names_all, names, is_in_place, first_walk, is_rat_after, IsRecordedAfter}
 use Rattle.lj_text.specs.Needed.{additions}
 use Rattle.lj_hint.specs.declared.pair.Pair.{Pair}
-use Rattle.lj_hint.specs.Hints.{named, numbers}
+use Rattle.lj_hint.specs.Hints.{named_hints, numbers}
 use Rattle.lj_hint.specs.Receipt.{ReceiptValue, IsReceipt}
 use Rattle.lj_book.specs.declared.entry.Entry.{Entry}
 use Rattle.lj_book.specs.Tables.{Table, Tables, is_here, is_bound, is_held, with_table}
-use Rattle.lj_book.specs.State.{State, steps_of, added, next, live, verdict}
+use Rattle.lj_book.specs.State.{State, steps_of, addition_count, next, live, verdict}
 use Rattle.lj_book.specs.History.{after_entry, IsLegal}
 use Rattle.lj_book.specs.Lookup.{is_same, is_clause}
 use Rattle.lj_book.specs.Calls.{is_live_as, first_stale, entry_with, commit_entry, stale_or, commit_refusal}
 use Rattle.lj_book.specs.declared.refusal.Refusal.TheVariants.{SeatGone, NumberTaken, Full}
-use Rattle.lj_book.specs.Kept.{IsKept, refuted_after}
+use Rattle.lj_book.specs.inner.Kept.{IsKept, refuted_after}
 use Rattle.lj_book.proofs.HistoryLaws.{IsSound, IsSound-reached, IsReached-after, live-addition, live-held, steps_of-push, additions-append}
 use Rattle.lj_book.proofs.BookLaws.{same_state, verdict-same, verdict-first, verdict-stays}
 
@@ -79,7 +79,7 @@ live_as p pair h = go (fin.get p pair.joint) h
 -- ---- the listed clauses, where none is stale
 
 record AllLive (p : ClauseMap) (pairs : List Pair) : Type 0 where
-  hints : hints_in p (numbers pairs) ≡ named pairs
+  hints : hints_in p (numbers pairs) ≡ named_hints pairs
   names : names_all p (numbers pairs) ≡ true
 
 all_live : (p : ClauseMap) (pairs : List Pair) → first_stale p pairs ≡ None → AllLive p pairs
@@ -101,20 +101,20 @@ pub record CanCommit (s : State) (r : ReceiptValue) : Type 0 where
   pub here : is_here s.tables r.seat ≡ true
   pub unbound : is_bound s.tables r.seat r.own ≡ false
   pub fresh : first_stale (live s) r.listed ≡ None
-  pub room : added s.history < s.max_steps
+  pub room : addition_count s.history < s.max_steps
 
 pub can_commit : (s : State) (r : ReceiptValue) → commit_refusal s r ≡ None → CanCommit s r
-can_commit s r h = go (is_here s.tables r.seat) (is_bound s.tables r.seat r.own) (first_stale (live s) r.listed) (nat_lt (added s.history) s.max_steps) refl refl refl refl h
+can_commit s r h = go (is_here s.tables r.seat) (is_bound s.tables r.seat r.own) (first_stale (live s) r.listed) (nat_lt (addition_count s.history) s.max_steps) refl refl refl refl h
   where
     room : (a m : ℕ) → nat_lt a m ≡ true → a < m
     room a m e = grind (arith, nat_tests)
 
-    go : (a b : Bool) (o : Option ℕ) (c : Bool) → is_here s.tables r.seat ≡ a → is_bound s.tables r.seat r.own ≡ b → first_stale (live s) r.listed ≡ o → nat_lt (added s.history) s.max_steps ≡ c → (if a then (if b then Some NumberTaken else stale_or o (if c then None else Some Full)) else Some SeatGone) ≡ None → CanCommit s r
+    go : (a b : Bool) (o : Option ℕ) (c : Bool) → is_here s.tables r.seat ≡ a → is_bound s.tables r.seat r.own ≡ b → first_stale (live s) r.listed ≡ o → nat_lt (addition_count s.history) s.max_steps ≡ c → (if a then (if b then Some NumberTaken else stale_or o (if c then None else Some Full)) else Some SeatGone) ≡ None → CanCommit s r
     go false b o c p q u v h = absurd (false≢true (sym (ap is_some h)))
     go true true o c p q u v h = absurd (false≢true (sym (ap is_some h)))
     go true false (Some j) c p q u v h = absurd (false≢true (sym (ap is_some h)))
     go true false None false p q u v h = absurd (false≢true (sym (ap is_some h)))
-    go true false None true p q u v h = record { here = p; unbound = q; fresh = u; room = room (added s.history) s.max_steps v }
+    go true false None true p q u v h = record { here = p; unbound = q; fresh = u; room = room (addition_count s.history) s.max_steps v }
 
 -- ---- the entry of a commit is legal
 

@@ -14,8 +14,8 @@ use Rattle.std.specs.FinMap.{nat_cmp-IsAntisymmetric}
 use Rattle.std.specs.FinMap.Entries.{find, is_sorted, below_all, where_key, same_entries, is_sorted-where_key}
 use Rattle.lj_book.specs.Tables.{Table, Tables, table_of, joint_of, is_held, is_among, with_table, without_keys}
 use Rattle.lj_book.specs.State.{State, live}
-use Rattle.lj_book.specs.History.{died}
-use Rattle.lj_book.specs.Holders.{holders_of, count_in, occurrences}
+use Rattle.lj_book.specs.History.{dead_numbers}
+use Rattle.lj_book.specs.inner.Holders.{holders_of, count_in, occurrences}
 use Rattle.lj_book.proofs.NumberMaps.{entries-retain_keys}
 use Rattle.lj_book.proofs.TableLaws.{held_counts, among_occurs, count-remove, counts_split, holders-with_table, holders_at_least, self_counts, joint_in_table}
 use Rattle.lj_book.proofs.HistoryLaws.{IsSound, live-held, among-filter, among_tied, among-died}
@@ -200,11 +200,11 @@ lost_was_picked ts seat joint t ns at held gone =
     more n h = grind (arith, nat_tests)
 
 -- the numbers that died are those that were bound to one of the numbers and aren't held any more
-pub died_are : (s : State) (seat : ℕ) (t : Table) (ns rising : List ℕ) → IsSound s → table_of s.tables seat ≡ Some t → IsStrictlySortedBy nat_cmp rising → ((q : ℕ) → is_among rising q ≡ is_among (filter_map (joint_of s.tables seat) ns) q) → filter (λ n. not (is_held (with_table (without_keys ns) s.tables seat) n)) rising ≡ died s (with_table (without_keys ns) s.tables seat)
+pub died_are : (s : State) (seat : ℕ) (t : Table) (ns rising : List ℕ) → IsSound s → table_of s.tables seat ≡ Some t → IsStrictlySortedBy nat_cmp rising → ((q : ℕ) → is_among rising q ≡ is_among (filter_map (joint_of s.tables seat) ns) q) → filter (λ n. not (is_held (with_table (without_keys ns) s.tables seat) n)) rising ≡ dead_numbers s (with_table (without_keys ns) s.tables seat)
 died_are s seat t ns rising sound at sorted same =
     let ts = with_table (without_keys ns) s.tables seat in
     let p = λ (n : ℕ). not (is_held ts n) in
-    same_rising (filter p rising) (died s ts) (Rises-filter p rising (Rises-sorted rising sorted)) (Rises-filter p (fin.keys (live s)) (Rises-keys (live s))) (λ q.
+    same_rising (filter p rising) (dead_numbers s ts) (Rises-filter p rising (Rises-sorted rising sorted)) (Rises-filter p (fin.keys (live s)) (Rises-keys (live s))) (λ q.
     among-filter p rising q
     ∙ ap (λ b. p q && b) (same q)
     ∙ agree (is_held ts q) (is_among (filter_map (joint_of s.tables seat) ns) q) (is_held s.tables q) (picked_is_held s.tables seat q t ns at) (λ held gone. lost_was_picked s.tables seat q t ns at held gone)

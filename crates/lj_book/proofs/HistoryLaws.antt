@@ -27,7 +27,7 @@ use Rattle.lj_book.specs.declared.entry.Entry.{Entry}
 use Rattle.lj_book.specs.Tables.{Table, Tables, table_of, is_here, is_bound, is_held, holds_joint, is_among, with_table, with_binding, without_keys, without_seat, up_to}
 use Rattle.lj_book.specs.Lookup.{least_number}
 use Rattle.lj_book.specs.State.{State, steps_of, next, with_additions, given_out, live, opening}
-use Rattle.lj_book.specs.History.{died, with_found, some_lives, after_entry, after_entries, IsLegalCall, IsLegal, AreLegal, IsReached}
+use Rattle.lj_book.specs.History.{dead_numbers, with_found, some_lives, after_entry, after_entries, IsLegalCall, IsLegal, AreLegal, IsReached}
 use Rattle.lj_book.proofs.NumberMaps.{same_map}
 use Rattle.lj_book.proofs.TableLaws.{held_counts, count-insert, count-up_to, count-without_keys, holders-with_table, holders-replicate, free_in_table}
 
@@ -222,7 +222,7 @@ pub among-keys : {X : Type 0} (m : fin.FinMap nat_cmp X) (q : ℕ) → is_among 
 among-keys m q = sym (among_tied (fin.keys m) q) ∙ sym (fin.contains_key-keys m q)
 
 -- what died is what was live and isn't held any more
-pub among-died : (s : State) (tables : Tables) (q : ℕ) → is_among (died s tables) q ≡ (not (is_held tables q) && fin.contains_key (live s) q)
+pub among-died : (s : State) (tables : Tables) (q : ℕ) → is_among (dead_numbers s tables) q ≡ (not (is_held tables q) && fin.contains_key (live s) q)
 among-died s tables q = among-filter (λ n. not (is_held tables n)) (fin.keys (live s)) q ∙ ap (λ b. not (is_held tables q) && b) (among-keys (live s) q)
 
 all_named : (p : ClauseMap) (test : ℕ → Bool) (ns : List ℕ) → ((q : ℕ) → is_among ns q ≡ true → fin.contains_key p q ≡ true) → names_all p ns ≡ true
@@ -257,14 +257,14 @@ next-same s ts e none =
     omega arith
 
 -- the clauses that are left where nothing more is held than before
-pub live-fewer : (s : State) (ts : Tables) (e : Entry) → IsSound s → ((q : ℕ) → is_held ts q ≡ true → is_held s.tables q ≡ true) → additions (cons_option e.step []) ≡ [] → live (with_entry s ts e) ≡ without (live s) (died s ts)
+pub live-fewer : (s : State) (ts : Tables) (e : Entry) → IsSound s → ((q : ℕ) → is_held ts q ≡ true → is_held s.tables q ≡ true) → additions (cons_option e.step []) ≡ [] → live (with_entry s ts e) ≡ without (live s) (dead_numbers s ts)
 live-fewer s ts e sound fewer none = same_map _ _ (λ q.
     get-live (with_entry s ts e) q
     ∙ ap (λ (m : ClauseMap). cond (is_held ts q) (fin.get m q) None) (given-same s ts e none)
     ∙ held_after (is_held ts q) (is_held s.tables q) (fewer q) (fin.contains_key (live s) q) (live-held s sound q) (fin.get (given_out s) q)
     ∙ ap (λ o. cond (not (is_held ts q) && fin.contains_key (live s) q) None o) (sym (get-live s q))
     ∙ ap (λ b. cond b None (fin.get (live s) q)) (sym (among-died s ts q))
-    ∙ sym (get-without (live s) (died s ts) q))
+    ∙ sym (get-without (live s) (dead_numbers s ts) q))
   where
     held_after : {X : Type 0} (h before : Bool) → (h ≡ true → before ≡ true) → (lives : Bool) → lives ≡ before → (o : Option X) → cond h o None ≡ cond (not h && lives) None (cond before o None)
     held_after true true imp lives e o = refl
@@ -286,9 +286,9 @@ none_added (n ∷ ns) = refl
 pub none_added_by : (step : Option Step) (ns : List ℕ) → step ≡ if_some ns → additions (cons_option step []) ≡ []
 none_added_by step ns is = ap (λ o. additions (cons_option o [])) is ∙ none_added ns
 
-sound-fewer : (s : State) (ts : Tables) (e : Entry) → IsSound s → ((q : ℕ) → is_held ts q ≡ true → is_held s.tables q ≡ true) → e.step ≡ if_some (died s ts) → IsSound (with_entry s ts e)
+sound-fewer : (s : State) (ts : Tables) (e : Entry) → IsSound s → ((q : ℕ) → is_held ts q ≡ true → is_held s.tables q ≡ true) → e.step ≡ if_some (dead_numbers s ts) → IsSound (with_entry s ts e)
 sound-fewer s ts e sound fewer is =
-    let none = none_added_by e.step (died s ts) is in
+    let none = none_added_by e.step (dead_numbers s ts) is in
     let given = given-same s ts e none in
     let upto = next-same s ts e none in
     record {
@@ -296,7 +296,7 @@ sound-fewer s ts e sound fewer is =
       given_below = λ q h. let low = sound.given_below q (sym (ap (λ (m : ClauseMap). fin.contains_key m q) given) ∙ h) in omega arith;
       replayed =
           ap (replay (formula_map s.formula)) (steps_of-push s.history e ∙ ap (λ o. steps_of s.history ++ cons_option o []) is)
-          ∙ replay-died (formula_map s.formula) (live s) (steps_of s.history) (died s ts) sound.replayed (all_named (live s) (λ n. true) (died s ts) (λ q h. (and_parts (not (is_held ts q)) (fin.contains_key (live s) q) (sym (among-died s ts q) ∙ h)).1))
+          ∙ replay-died (formula_map s.formula) (live s) (steps_of s.history) (dead_numbers s ts) sound.replayed (all_named (live s) (λ n. true) (dead_numbers s ts) (λ q h. (and_parts (not (is_held ts q)) (fin.contains_key (live s) q) (sym (among-died s ts q) ∙ h)).1))
           ∙ ap Some (sym (live-fewer s ts e sound fewer none));
     }
 
@@ -324,7 +324,7 @@ sound-same s ts e sound same is =
 
 -- ---- a drop
 
-pub live-drop : (s : State) (seat : ℕ) (numbers : List ℕ) (step : Option Step) → IsSound s → is_here s.tables seat ≡ true → additions (cons_option step []) ≡ [] → live (after_entry s (record { seat = seat; call = calls.Drop numbers; step = step })) ≡ without (live s) (died s (with_table (without_keys numbers) s.tables seat))
+pub live-drop : (s : State) (seat : ℕ) (numbers : List ℕ) (step : Option Step) → IsSound s → is_here s.tables seat ≡ true → additions (cons_option step []) ≡ [] → live (after_entry s (record { seat = seat; call = calls.Drop numbers; step = step })) ≡ without (live s) (dead_numbers s (with_table (without_keys numbers) s.tables seat))
 live-drop s seat numbers step sound here none =
     let t = has_table s.tables seat here in
     live-fewer s (with_table (without_keys numbers) s.tables seat) (record { seat = seat; call = calls.Drop numbers; step = step }) sound (λ q. held-drop s.tables seat q numbers t.0 t.1) none
@@ -339,7 +339,7 @@ held-leave (t ∷ ts) (suc seat) q h = elim (or_cases (holds_joint q t) (is_held
   | inr e ↦ or_right (holds_joint q t) (is_held ts q) (held-leave ts seat q e)
 ]
 
-pub live-leave : (s : State) (seat : ℕ) (step : Option Step) → IsSound s → additions (cons_option step []) ≡ [] → live (after_entry s (record { seat = seat; call = calls.Leave; step = step })) ≡ without (live s) (died s (without_seat s.tables seat))
+pub live-leave : (s : State) (seat : ℕ) (step : Option Step) → IsSound s → additions (cons_option step []) ≡ [] → live (after_entry s (record { seat = seat; call = calls.Leave; step = step })) ≡ without (live s) (dead_numbers s (without_seat s.tables seat))
 live-leave s seat step sound none = live-fewer s (without_seat s.tables seat) (record { seat = seat; call = calls.Leave; step = step }) sound (held-leave s.tables seat) none
 
 -- ---- a binding of a live number

@@ -10,7 +10,7 @@ use Rattle.lj_book.specs.declared.entry.Call.{Call}
 use Rattle.lj_book.specs.declared.entry.Call.TheVariants as calls
 use Rattle.lj_book.specs.declared.entry.Entry.{Entry}
 use Rattle.lj_book.specs.Tables.{Table, Tables, table_of, is_here, is_bound, with_table, with_binding, without_keys, without_seat, up_to}
-use Rattle.lj_book.specs.Holders.{count_in, holders_of}
+use Rattle.lj_book.specs.inner.Holders.{count_in, holders_of}
 use Rattle.lj_book.specs.Lookup.{least_number}
 use Rattle.lj_book.specs.State.{State, next, live, opening}
 use Rattle.lj_book.specs.History.{tables_after, with_found, after_entry, after_entries, IsLegalCall, IsLegal, AreLegal, IsReached}

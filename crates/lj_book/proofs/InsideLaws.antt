@@ -15,7 +15,7 @@ use Rattle.lj_clause.specs.Rat.{HintGroup, rat}
 use Rattle.lj_text.specs.declared.line.Addition.{Addition}
 use Rattle.lj_text.specs.declared.step.Step.{Step}
 use Rattle.lj_text.specs.declared.step.Step.TheVariants as steps
-use Rattle.lj_text.specs.Steps.{is_accepted, IsRecorded, with_covered, is_in_place, is_rat_on, is_rat_after, names, names_all, are_distinct, first_walk, recorded, recorded_after, recorded_on}
+use Rattle.lj_text.specs.Steps.{is_accepted, IsRecorded, with_covered, is_in_place, is_rat_on, is_rat_after, names, names_all, are_distinct, first_walk, recorded_form, recorded_after, recorded_on}
 use Rattle.lj_text.specs.Needed.{additions}
 use Rattle.lj_text.proofs.StepLaws.{recorded_keeps}
 use Rattle.lj_hint.specs.declared.pair.Pair.{Pair}
@@ -27,12 +27,12 @@ use Rattle.lj_hint.specs.Case.{CaseValue}
 use Rattle.lj_book.specs.declared.refusal.Refusal.{Refusal}
 use Rattle.lj_book.specs.declared.refusal.Refusal.TheVariants as refusals
 use Rattle.lj_book.specs.Tables.{Table, Tables, is_here, is_bound, is_among, joint_of, with_table}
-use Rattle.lj_book.specs.State.{State, steps_of, added, next, live, verdict}
+use Rattle.lj_book.specs.State.{State, steps_of, addition_count, next, live, verdict}
 use Rattle.lj_book.specs.History.{after_entry, IsLegal}
 use Rattle.lj_book.specs.Calls.{IsRefusal, unless_refused, pair_in, if_held, with_pair, pairs_of, with_group_pair, group_pairs_of, repeated_after, is_seen, with_seen, case_with, free_refusal, if_free, take_reply, commit_told}
 use Rattle.lj_book.specs.Inside.{joint_addition, walk_refusal, open_refusal, rat_refusal, or_full, test_refusal, inside_after, inside_reply, inside_step, inside_entry}
-use Rattle.lj_book.specs.JointLines.{LineParts, if_bound, with_joint, joints_in, with_joint_group, joint_groups_in, parts_with, joint_parts, addition_of_parts, tested_line, line_by, inside_line, line_entry}
-use Rattle.lj_book.specs.Kept.{IsKept, refuted_after}
+use Rattle.lj_book.specs.inner.JointLines.{LineParts, if_bound, with_joint, joints_in, with_joint_group, joint_groups_in, parts_with, joint_parts, addition_of_parts, tested_line, line_by, inside_line, line_entry}
+use Rattle.lj_book.specs.inner.Kept.{IsKept, refuted_after}
 use Rattle.lj_book.proofs.HistoryLaws.{IsSound, IsSound-reached, IsReached-after, live-addition, live-held, steps_of-push, additions-append}
 use Rattle.lj_book.proofs.BookLaws.{same_state, verdict-same, verdict-first, verdict-stays}
 use Rattle.lj_book.proofs.BindingLaws.{CanBind, can_bind}
@@ -105,7 +105,7 @@ told_by s lemma (Ok parts) = unless_refused (test_refusal s (addition_of_parts (
 
 abbrev step_by : State → LemmaValue → Result LineParts Refusal → Option Step
 step_by s lemma (Err e) = None
-step_by s lemma (Ok parts) = Some (steps.Add (recorded (live s) (addition_of_parts (next s) lemma parts)))
+step_by s lemma (Ok parts) = Some (steps.Add (recorded_form (live s) (addition_of_parts (next s) lemma parts)))
 
 after_case : (s : State) (seat : ℕ) (a : Addition) (rep : Option ℕ) (hs : Result (List Pair) Refusal) (gs : Result (List (Pair × List Pair)) Refusal) → inside_after s (case_with seat a rep hs gs) ≡ told_by s a.lemma (parts_with rep (numbers_of hs) (joint_groups gs))
 after_case s seat a rep (Err e) gs = refl
@@ -156,7 +156,7 @@ refused_by : (s : State) (lemma : LemmaValue) (r : Result LineParts Refusal) (e 
 refused_by s lemma (Err x) e h = let same : x ≡ e = cc in ap Err same
 refused_by s lemma (Ok parts) e h = go (test_refusal s (addition_of_parts (next s) lemma parts)) h
   where
-    go : (o : Option Refusal) → unless_refused o (recorded (live s) (addition_of_parts (next s) lemma parts)) ≡ Err e → unless_refused o (commit_told s) ≡ Err e
+    go : (o : Option Refusal) → unless_refused o (recorded_form (live s) (addition_of_parts (next s) lemma parts)) ≡ Err e → unless_refused o (commit_told s) ≡ Err e
     go None h = cc
     go (Some x) h = let same : x ≡ e = cc in ap Err same
 
@@ -173,13 +173,13 @@ pub record IsEntered (s : State) (seat : ℕ) (a step : Addition) (parts : LineP
   pub can : CanBind s seat a.number
   pub are : joint_parts (joint_of s.tables seat) a ≡ Ok parts
   pub passed : test_refusal s (addition_of_parts (next s) a.lemma parts) ≡ None
-  pub is : recorded (live s) (addition_of_parts (next s) a.lemma parts) ≡ step
+  pub is : recorded_form (live s) (addition_of_parts (next s) a.lemma parts) ≡ step
 
 pub entered : (s : State) (seat : ℕ) (a step : Addition) → inside_line s seat a ≡ Ok step → (parts : LineParts) × IsEntered s seat a step parts
 entered s seat a step h = go (free_refusal s seat a.number) refl (joint_parts (joint_of s.tables seat) a) refl h
   where
-    made : (can : CanBind s seat a.number) (parts : LineParts) → joint_parts (joint_of s.tables seat) a ≡ Ok parts → (o : Option Refusal) → test_refusal s (addition_of_parts (next s) a.lemma parts) ≡ o → unless_refused o (recorded (live s) (addition_of_parts (next s) a.lemma parts)) ≡ Ok step → (parts : LineParts) × IsEntered s seat a step parts
-    made can parts are None passed h = let same : recorded (live s) (addition_of_parts (next s) a.lemma parts) ≡ step = cc in (parts, record { can = can; are = are; passed = passed; is = same })
+    made : (can : CanBind s seat a.number) (parts : LineParts) → joint_parts (joint_of s.tables seat) a ≡ Ok parts → (o : Option Refusal) → test_refusal s (addition_of_parts (next s) a.lemma parts) ≡ o → unless_refused o (recorded_form (live s) (addition_of_parts (next s) a.lemma parts)) ≡ Ok step → (parts : LineParts) × IsEntered s seat a step parts
+    made can parts are None passed h = let same : recorded_form (live s) (addition_of_parts (next s) a.lemma parts) ≡ step = cc in (parts, record { can = can; are = are; passed = passed; is = same })
     made can parts are (Some x) passed h = absurd (not_ok x h)
       where
         not_ok : (x : Refusal) → ◌≡◌ {A = Result Addition Refusal} (Err x) (Ok step) → ⊥
@@ -256,11 +256,11 @@ line_refused s seat a parts x t h =
     line_taken s seat a parts t
     ∙ go (walk_refusal (live s) (addition_of_parts (next s) a.lemma parts) (first_walk (live s) (addition_of_parts (next s) a.lemma parts))) h
   where
-    go : (o : Option Refusal) → unless_refused o (recorded (live s) (addition_of_parts (next s) a.lemma parts)) ≡ Err x → unless_refused (or_full s o) (recorded (live s) (addition_of_parts (next s) a.lemma parts)) ≡ Err x
+    go : (o : Option Refusal) → unless_refused o (recorded_form (live s) (addition_of_parts (next s) a.lemma parts)) ≡ Err x → unless_refused (or_full s o) (recorded_form (live s) (addition_of_parts (next s) a.lemma parts)) ≡ Err x
     go None h = cc
     go (Some y) h = h
 
-line_room : (s : State) (seat : ℕ) (a : Addition) (parts : LineParts) (step : Addition) (b : Bool) → IsTaken s seat a parts → tested_line (live s) (addition_of_parts (next s) a.lemma parts) ≡ Ok step → nat_lt (added s.history) s.max_steps ≡ b → inside_line s seat a ≡ (if b then Ok step else Err refusals.Full)
+line_room : (s : State) (seat : ℕ) (a : Addition) (parts : LineParts) (step : Addition) (b : Bool) → IsTaken s seat a parts → tested_line (live s) (addition_of_parts (next s) a.lemma parts) ≡ Ok step → nat_lt (addition_count s.history) s.max_steps ≡ b → inside_line s seat a ≡ (if b then Ok step else Err refusals.Full)
 line_room s seat a parts step b t h room =
     line_taken s seat a parts t
     ∙ go (walk_refusal (live s) (addition_of_parts (next s) a.lemma parts) (first_walk (live s) (addition_of_parts (next s) a.lemma parts))) b h room
@@ -269,18 +269,18 @@ line_room s seat a parts step b t h room =
     full true x h = h
     full false x h = refl
 
-    go : (o : Option Refusal) (c : Bool) → unless_refused o (recorded (live s) (addition_of_parts (next s) a.lemma parts)) ≡ Ok step → nat_lt (added s.history) s.max_steps ≡ c → unless_refused (or_full s o) (recorded (live s) (addition_of_parts (next s) a.lemma parts)) ≡ (if c then Ok step else Err refusals.Full)
-    go None c h room = ap (λ k. unless_refused (if k then None else Some refusals.Full) (recorded (live s) (addition_of_parts (next s) a.lemma parts))) room ∙ full c (recorded (live s) (addition_of_parts (next s) a.lemma parts)) h
+    go : (o : Option Refusal) (c : Bool) → unless_refused o (recorded_form (live s) (addition_of_parts (next s) a.lemma parts)) ≡ Ok step → nat_lt (addition_count s.history) s.max_steps ≡ c → unless_refused (or_full s o) (recorded_form (live s) (addition_of_parts (next s) a.lemma parts)) ≡ (if c then Ok step else Err refusals.Full)
+    go None c h room = ap (λ k. unless_refused (if k then None else Some refusals.Full) (recorded_form (live s) (addition_of_parts (next s) a.lemma parts))) room ∙ full c (recorded_form (live s) (addition_of_parts (next s) a.lemma parts)) h
     go (Some y) c h room = cc
 
-pub line_full : (s : State) (seat : ℕ) (a : Addition) (parts : LineParts) (step : Addition) → IsTaken s seat a parts → tested_line (live s) (addition_of_parts (next s) a.lemma parts) ≡ Ok step → s.max_steps ≤ added s.history → inside_line s seat a ≡ Err refusals.Full
-line_full s seat a parts step t h le = line_room s seat a parts step false t h (above (added s.history) s.max_steps le)
+pub line_full : (s : State) (seat : ℕ) (a : Addition) (parts : LineParts) (step : Addition) → IsTaken s seat a parts → tested_line (live s) (addition_of_parts (next s) a.lemma parts) ≡ Ok step → s.max_steps ≤ addition_count s.history → inside_line s seat a ≡ Err refusals.Full
+line_full s seat a parts step t h le = line_room s seat a parts step false t h (above (addition_count s.history) s.max_steps le)
   where
     above : (n m : ℕ) → m ≤ n → nat_lt n m ≡ false
     above n m e = grind (arith, nat_tests)
 
-pub line_passed : (s : State) (seat : ℕ) (a : Addition) (parts : LineParts) (step : Addition) → IsTaken s seat a parts → tested_line (live s) (addition_of_parts (next s) a.lemma parts) ≡ Ok step → added s.history < s.max_steps → inside_line s seat a ≡ Ok step
-line_passed s seat a parts step t h lt = line_room s seat a parts step true t h (below (added s.history) s.max_steps lt)
+pub line_passed : (s : State) (seat : ℕ) (a : Addition) (parts : LineParts) (step : Addition) → IsTaken s seat a parts → tested_line (live s) (addition_of_parts (next s) a.lemma parts) ≡ Ok step → addition_count s.history < s.max_steps → inside_line s seat a ≡ Ok step
+line_passed s seat a parts step t h lt = line_room s seat a parts step true t h (below (addition_count s.history) s.max_steps lt)
   where
     below : (n m : ℕ) → n < m → nat_lt n m ≡ true
     below n m e = grind (arith, nat_tests)
@@ -390,25 +390,25 @@ accepted_by p a (Open t) pivot h = go a.lemma.pivot pivot.literal pivot.there h
 -- What passing says of the state.
 record IsPassed (s : State) (a : Addition) : Type 0 where
   walked : walk_refusal (live s) a (first_walk (live s) a) ≡ None
-  room : added s.history < s.max_steps
+  room : addition_count s.history < s.max_steps
 
 abbrev full_or : Bool → Option Refusal → Option Refusal
 full_or b None = if b then None else Some refusals.Full
 full_or b (Some e) = Some e
 
 passed_by : (s : State) (a : Addition) → test_refusal s a ≡ None → IsPassed s a
-passed_by s a h = go (walk_refusal (live s) a (first_walk (live s) a)) refl (nat_lt (added s.history) s.max_steps) refl h
+passed_by s a h = go (walk_refusal (live s) a (first_walk (live s) a)) refl (nat_lt (addition_count s.history) s.max_steps) refl h
   where
     fits : (n m : ℕ) → nat_lt n m ≡ true → n < m
     fits n m e = grind (arith, nat_tests)
 
-    go : (o : Option Refusal) → walk_refusal (live s) a (first_walk (live s) a) ≡ o → (b : Bool) → nat_lt (added s.history) s.max_steps ≡ b → full_or b o ≡ None → IsPassed s a
+    go : (o : Option Refusal) → walk_refusal (live s) a (first_walk (live s) a) ≡ o → (b : Bool) → nat_lt (addition_count s.history) s.max_steps ≡ b → full_or b o ≡ None → IsPassed s a
     go (Some e) is b f h = absurd (false≢true (sym (ap is_some h)))
     go None is false f h = absurd (false≢true (sym (ap is_some h)))
-    go None is true f h = record { walked = is; room = fits (added s.history) s.max_steps f }
+    go None is true f h = record { walked = is; room = fits (addition_count s.history) s.max_steps f }
 
 -- there is room for it
-pub entered_room : (s : State) (seat : ℕ) (a step : Addition) (parts : LineParts) → IsEntered s seat a step parts → added s.history < s.max_steps
+pub entered_room : (s : State) (seat : ℕ) (a step : Addition) (parts : LineParts) → IsEntered s seat a step parts → addition_count s.history < s.max_steps
 entered_room s seat a step parts e = (passed_by s (addition_of_parts (next s) a.lemma parts) e.passed).room
 
 -- the entry is legal

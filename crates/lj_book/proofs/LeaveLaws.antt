@@ -11,12 +11,13 @@ use Rattle.lj_text.specs.Steps.{without}
 use Rattle.lj_text.specs.Needed.{additions, if_some}
 use Rattle.lj_book.specs.declared.entry.Call.TheVariants as calls
 use Rattle.lj_book.specs.declared.entry.Entry.{Entry}
-use Rattle.lj_book.specs.Tables.{Table, Tables, table_of, is_here, joint_of, is_held, holds_joint, is_among, with_table, without_keys, without_seat, own_numbers}
-use Rattle.lj_book.specs.Holders.{AreHolders, holders_of}
+use Rattle.lj_book.specs.Tables.{Table, Tables, table_of, is_here, joint_of, is_held, holds_joint, is_among, with_table, without_keys, without_seat}
+use Rattle.lj_book.specs.inner.Tables.{own_numbers}
+use Rattle.lj_book.specs.inner.Holders.{AreHolders, holders_of}
 use Rattle.lj_book.specs.State.{State, steps_of, live}
-use Rattle.lj_book.specs.History.{died, after_entry}
+use Rattle.lj_book.specs.History.{dead_numbers, after_entry}
 use Rattle.lj_book.specs.Calls.{leave_entry}
-use Rattle.lj_book.specs.Kept.{IsKept}
+use Rattle.lj_book.specs.inner.Kept.{IsKept}
 use Rattle.lj_book.proofs.NumberMaps.{same_map}
 use Rattle.lj_book.proofs.TableLaws.{count-empty, entries-empty, get-without_keys, table_of-with_table}
 use Rattle.lj_book.proofs.HistoryLaws.{IsSound, IsSound-reached, IsReached-after, live-leave, steps_of-push, additions-append, none_added, among-keys, has_table}
@@ -89,7 +90,7 @@ filter-same p r [] e = refl
 filter-same p r (n ∷ ns) e = λ i. cond (e n i) (n ∷ filter-same p r ns e i) (filter-same p r ns e i)
 
 -- the numbers that the code finds are those that died
-pub left_dead : (s : State) (seat : ℕ) (numbers rising dead : List ℕ) (tables : Tables) → IsSound s → is_here s.tables seat ≡ true → numbers ≡ own_numbers (table_of s.tables seat) → tables ≡ without_seat s.tables seat → IsStrictlySortedBy nat_cmp rising → ((q : ℕ) → is_among rising q ≡ is_among (filter_map (joint_of s.tables seat) numbers) q) → dead ≡ filter (λ n. not (is_held tables n)) rising → dead ≡ died s (without_seat s.tables seat)
+pub left_dead : (s : State) (seat : ℕ) (numbers rising dead : List ℕ) (tables : Tables) → IsSound s → is_here s.tables seat ≡ true → numbers ≡ own_numbers (table_of s.tables seat) → tables ≡ without_seat s.tables seat → IsStrictlySortedBy nat_cmp rising → ((q : ℕ) → is_among rising q ≡ is_among (filter_map (joint_of s.tables seat) numbers) q) → dead ≡ filter (λ n. not (is_held tables n)) rising → dead ≡ dead_numbers s (without_seat s.tables seat)
 left_dead s seat numbers rising dead tables sound here all is sorted same found =
     let us : Tables = with_table (without_keys numbers) s.tables seat in
     let each : (n : ℕ) → not (is_held (without_seat s.tables seat) n) ≡ not (is_held us n) = λ n. ap not (held-left s.tables seat n numbers here all) in
@@ -99,9 +100,9 @@ left_dead s seat numbers rising dead tables sound here all is sorted same found 
 
 -- ---- the book
 
-pub IsKept-leave : (s : State) (m n : ClauseMap) (count : ℕ) (refuted : Option ℕ) (seat : ℕ) → IsKept s m count refuted → is_here s.tables seat ≡ true → n ≡ without m (died s (without_seat s.tables seat)) → IsKept (after_entry s (leave_entry s seat)) n count refuted
+pub IsKept-leave : (s : State) (m n : ClauseMap) (count : ℕ) (refuted : Option ℕ) (seat : ℕ) → IsKept s m count refuted → is_here s.tables seat ≡ true → n ≡ without m (dead_numbers s (without_seat s.tables seat)) → IsKept (after_entry s (leave_entry s seat)) n count refuted
 IsKept-leave s m n count refuted seat kept here is =
-    let dead = died s (without_seat s.tables seat) in
+    let dead = dead_numbers s (without_seat s.tables seat) in
     let e = leave_entry s seat in
     let more = ap (λ ss. length (additions ss)) (steps_of-push s.history e) ∙ additions-append (steps_of s.history) (cons_option e.step []) in
     let nothing = ap length (none_added dead) in
@@ -113,7 +114,7 @@ IsKept-leave s m n count refuted seat kept here is =
       first_empty = kept.first_empty ∙ sym (verdict-same s.history e (deletion_is_none dead));
     }
 
-pub left_state : (s : State) (seat : ℕ) (dead : List ℕ) (tables : Tables) (step : Option Step) (history : List Entry) → tables ≡ without_seat s.tables seat → dead ≡ died s (without_seat s.tables seat) → step ≡ if_some dead → history ≡ s.history ++ record { seat = seat; call = calls.Leave; step = step } ∷ [] → ◌≡◌ {A = State} (record { formula = s.formula; max_steps = s.max_steps; tables = tables; history = history }) (after_entry s (leave_entry s seat))
+pub left_state : (s : State) (seat : ℕ) (dead : List ℕ) (tables : Tables) (step : Option Step) (history : List Entry) → tables ≡ without_seat s.tables seat → dead ≡ dead_numbers s (without_seat s.tables seat) → step ≡ if_some dead → history ≡ s.history ++ record { seat = seat; call = calls.Leave; step = step } ∷ [] → ◌≡◌ {A = State} (record { formula = s.formula; max_steps = s.max_steps; tables = tables; history = history }) (after_entry s (leave_entry s seat))
 left_state s seat dead tables step history is found step_is pushed =
     same_state s.formula s.max_steps tables _ history _ is
     (pushed ∙ ap (λ (o : Option Step). s.history ++ record { seat = seat; call = calls.Leave; step = o } ∷ []) (step_is ∙ ap if_some found))

@@ -18,7 +18,7 @@ use Rattle.lj_hint.specs.LineTest.{covered_reply, line_reply}
 use Rattle.lj_book.specs.declared.refusal.Refusal.{Refusal}
 use Rattle.lj_book.specs.Calls.{unless_refused}
 use Rattle.lj_book.specs.Inside.{walk_refusal}
-use Rattle.lj_book.specs.JointLines.{tested_line}
+use Rattle.lj_book.specs.inner.JointLines.{tested_line}
 
 -- the addition with so many hints, and no groups
 abbrev pub cut : Addition → ℕ → Addition

@@ -19,7 +19,7 @@ use Rattle.lj_clause.specs.ClauseMap.{ClauseMap}
 use Rattle.lj_clause.proofs.LiteralSets.{holds-literals}
 use Rattle.lj_book.specs.Tables.{is_among}
 use Rattle.lj_book.specs.Lookup.{is_same, is_clause, numbers_where, numbers_holding, least_number}
-use Rattle.lj_book.specs.Occurrences.{Lists, places_of, list_or_empty, list_at, put_if, AreOccurrences, AreListed, AreIndexed}
+use Rattle.lj_book.specs.inner.Occurrences.{Lists, places_of, list_or_empty, list_at, put_if, AreOccurrences, AreListed, AreIndexed}
 use Rattle.lj_book.proofs.NumberMaps.{same_map}
 use Rattle.lj_book.proofs.TableLaws.{among_push}
 use Rattle.lj_book.proofs.HistoryLaws.{among-filter, among_tied}

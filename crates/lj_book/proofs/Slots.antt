@@ -10,7 +10,7 @@ use Rattle.std.specs.FinMap.Entries.{find}
 use Rattle.std.specs.List.{AllByRecursion}
 use Rattle.std.specs.List.Sorted.{IsStrictlySortedBy}
 use Rattle.std.specs.declared.cmp.Ordering.TheVariants.{Less}
-use Rattle.lj_book.specs.Slots.{slot_entries, slot_map, slot_numbers, joined_map, AreApart}
+use Rattle.lj_book.specs.inner.Slots.{slot_entries, slot_map, slot_numbers, joined_map, AreApart}
 use Rattle.lj_book.proofs.Scans.{numbers_in, entries_are}
 use Rattle.lj_book.specs.Tables.{is_among}
 use Rattle.lj_book.proofs.NumberMaps.{same_map}

@@ -17,7 +17,7 @@ use Rattle.lj_clause.specs.Walk.{Walk, Closed, Open, Stuck}
 use Rattle.lj_clause.specs.Rat.{RatAnswer, Covered, MissingGroup, GroupStuck, GroupOpen, rat}
 use Rattle.lj_text.specs.declared.line.Addition.{Addition}
 use Rattle.lj_text.specs.declared.step.Step.TheVariants as steps
-use Rattle.lj_text.specs.Steps.{first_walk, with_covered, recorded_on, recorded_after, recorded}
+use Rattle.lj_text.specs.Steps.{first_walk, with_covered, recorded_on, recorded_after, recorded_form}
 use Rattle.lj_text.specs.Needed.{additions}
 use Rattle.lj_hint.specs.Case.{CaseValue}
 use Rattle.lj_hint.specs.Receipt.{ReceiptValue}
@@ -28,7 +28,7 @@ use Rattle.lj_book.specs.declared.entry.Entry.{Entry}
 use Rattle.lj_book.specs.Tables.{Table, Tables, table_of, joint_of, is_held, with_table, with_binding, without_keys, without_seat}
 use Rattle.lj_book.specs.Lookup.{is_same, least_number}
 use Rattle.lj_book.specs.State.{State, next, given_out, live}
-use Rattle.lj_book.specs.History.{died, with_found, after_entry}
+use Rattle.lj_book.specs.History.{dead_numbers, with_found, after_entry}
 use Rattle.lj_book.specs.Inside.{joint_addition, inside_after, inside_step, inside_entry}
 use Rattle.lj_book.specs.Calls.{take_reply, commit_entry, drop_entry, adopt_entry, import_entry, leave_entry}
 use Rattle.lj_book.proofs.CommitLaws.{same_clauses}
@@ -69,7 +69,7 @@ moves_by k s e given none others seats bound =
 pub moves-drop : (s : State) (seat : ℕ) (numbers : List ℕ) → IsGiven s → Moves seat s (after_entry s (drop_entry s seat numbers))
 moves-drop s seat numbers given =
     moves_by seat s (drop_entry s seat numbers) given
-    (record { additions_same = nothing_added (died s (with_table (without_keys numbers) s.tables seat)) })
+    (record { additions_same = nothing_added (dead_numbers s (with_table (without_keys numbers) s.tables seat)) })
     (λ other apart. table_of-other (without_keys numbers) s.tables seat other apart)
     (length-with_table (without_keys numbers) s.tables seat)
     (λ other own joint is. inl (joint_of-dropped numbers s.tables seat other own joint is))
@@ -77,7 +77,7 @@ moves-drop s seat numbers given =
 pub moves-leave : (s : State) (seat : ℕ) → IsGiven s → Moves seat s (after_entry s (leave_entry s seat))
 moves-leave s seat given =
     moves_by seat s (leave_entry s seat) given
-    (record { additions_same = nothing_added (died s (without_seat s.tables seat)) })
+    (record { additions_same = nothing_added (dead_numbers s (without_seat s.tables seat)) })
     (λ other apart. table_of-left_other s.tables seat other apart)
     (length-without_seat s.tables seat)
     (λ other own joint is. inl (joint_of-left s.tables seat other own joint is))
@@ -173,7 +173,7 @@ recorded_keeps p a (Open s) = go a.lemma.pivot
 
 -- the addition that enters for a case
 abbrev entering : State → CaseValue → Addition
-entering s c = recorded (live s) (joint_addition (next s) c)
+entering s c = recorded_form (live s) (joint_addition (next s) c)
 
 inside_is : (s : State) (seat : ℕ) (a : Addition) (c : CaseValue) → take_reply s seat a ≡ Ok c → inside_entry s seat a ≡ addition_entry seat a.number a.lemma (entering s c)
 inside_is s seat a c is = ap (λ (r : Result CaseValue Refusal). record { seat = seat; call = calls.Add a.number a.lemma; step = inside_step s r }) is

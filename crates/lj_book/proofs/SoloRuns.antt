@@ -16,7 +16,8 @@ use Rattle.lj_book.specs.declared.event.Pending.TheVariants as pendings
 use Rattle.lj_book.specs.State.{State, given_out}
 use Rattle.lj_book.specs.Events.{seat_of, is_of, events_of, taken_after, taken_after_all, is_in_turn, is_tidy_after}
 use Rattle.lj_book.specs.Worlds.{World, nothing_pending, pending_at, IsAnswered, IsRun}
-use Rattle.lj_book.specs.Solo.{View, Solo, IsSoloAddition, IsSoloCommitOf, IsSoloCommit, IsSoloAnswer, IsSoloRun, view_of, solo_of, TidySeatsAreAlone, FreshReceiptsAreNotStale}
+use Rattle.lj_book.specs.Solo.{View, Solo, IsSoloAddition, IsSoloCommitOf, IsSoloCommit, IsSoloAnswer, IsSoloRun, view_of, TidySeatsAreAlone, FreshReceiptsAreNotStale}
+use Rattle.lj_book.specs.inner.Solo.{solo_of}
 use Rattle.lj_book.proofs.HistoryLaws.{IsSound-reached}
 use Rattle.lj_book.proofs.SoloStates.{IsGiven-sound, Extends, Extends-refl, Extends-trans}
 use Rattle.lj_book.proofs.SoloWorlds.{IsSettled, IsSettled-nothing, nothing_at, leaves}

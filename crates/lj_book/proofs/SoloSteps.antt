@@ -11,7 +11,7 @@ use Rattle.lj_clause.specs.Rat as rats
 use Rattle.lj_clause.specs.ClauseMap.{ClauseMap}
 use Rattle.lj_text.specs.declared.line.Addition.{Addition}
 use Rattle.lj_hint.specs.declared.pair.Pair.{Pair}
-use Rattle.lj_hint.specs.Hints.{named, numbers}
+use Rattle.lj_hint.specs.Hints.{named_hints, numbers}
 use Rattle.lj_hint.specs.Case.{CaseValue, walk_of}
 use Rattle.lj_hint.specs.Receipt.{ReceiptValue, receipt_of}
 use Rattle.lj_book.specs.declared.refusal.Refusal.{Refusal}
@@ -28,13 +28,14 @@ use Rattle.lj_book.specs.declared.event.Pending.{Pending}
 use Rattle.lj_book.specs.declared.event.Pending.TheVariants as pendings
 use Rattle.lj_book.specs.Tables.{Table, Tables, table_of, is_here, is_bound, joint_of, with_table, with_binding, without_keys, without_seat, keys_lost}
 use Rattle.lj_book.specs.Lookup.{is_same, is_clause, least_number}
-use Rattle.lj_book.specs.State.{State, added, next, given_out, live}
-use Rattle.lj_book.specs.History.{died, after_entry, with_found}
+use Rattle.lj_book.specs.State.{State, addition_count, next, given_out, live}
+use Rattle.lj_book.specs.History.{dead_numbers, after_entry, with_found}
 use Rattle.lj_book.specs.Inside.{joint_addition, rat_refusal, open_refusal, walk_refusal, or_full, inside_after, inside_reply, inside_entry}
 use Rattle.lj_book.specs.Calls.{IsReply, unless_refused, take_reply, is_live_as, first_stale, stale_or, commit_refusal, commit_told, commit_reply, commit_entry, drop_reply, drop_entry, free_refusal, if_free, adopt_reply, adopt_entry, imported_at, import_reply, import_entry, leave_reply, leave_entry}
 use Rattle.lj_book.specs.Events.{seat_of, is_in_turn, taken_after}
 use Rattle.lj_book.specs.Worlds.{World, pending_at, with_pending, reply_by, IsCalled, IsTried, case_taken, if_entered, pending_after_test, IsTested, IsNothing, IsTestOf, IsCommitOf, IsAnswered}
-use Rattle.lj_book.specs.Solo.{Holdings, View, Solo, solo_case, solo_refusal, solo_take, IsRefusedSolo, IsRefusedOrShort, IfHere, IfNotTaken, IfFree, with_clause, holdings_of, without_holdings, with_holding, IsSoloAddition, IsSoloCommitOf, IsSoloCommit, IsSoloOpen, IfPivot, IsSoloWalked, IsSoloInside, IsSoloDrop, IsSoloAdoption, IsSoloImport, IsSoloLeave, IsSoloAnswer, view_of, solo_of}
+use Rattle.lj_book.specs.Solo.{Holdings, View, Solo, solo_case, solo_refusal, solo_take, IsRefusedSolo, IsRefusedOrShort, IfHere, IfNotTaken, IfFree, with_clause, holdings_of, without_holdings, with_holding, IsSoloAddition, IsSoloCommitOf, IsSoloCommit, IsSoloOpen, IfPivot, IsSoloWalked, IsSoloInside, IsSoloDrop, IsSoloAdoption, IsSoloImport, IsSoloLeave, IsSoloAnswer, view_of}
+use Rattle.lj_book.specs.inner.Solo.{solo_of}
 use Rattle.lj_book.proofs.CommitLaws.{same_itself}
 use Rattle.lj_book.proofs.TableLaws.{table_of-with_table, here_in_range, none_from}
 use Rattle.lj_book.proofs.SoloTables.{table_of-left, get-holdings, contains-holdings, holdings-agree, holdings-insert, holdings-without, len-holdings}
@@ -59,7 +60,7 @@ view_dropped s seat numbers t at =
     view_is (after_entry s (drop_entry s seat numbers)) seat (Some (without_keys numbers t))
     (table_of-with_table (without_keys numbers) s.tables seat ∙ ap (option_map (without_keys numbers)) at)
     ∙ ap (λ (p : ClauseMap). Some (holdings_of p (without_keys numbers t)))
-    (given_out-same s (drop_entry s seat numbers) (record { additions_same = nothing_added (died s (with_table (without_keys numbers) s.tables seat)) }))
+    (given_out-same s (drop_entry s seat numbers) (record { additions_same = nothing_added (dead_numbers s (with_table (without_keys numbers) s.tables seat)) }))
     ∙ ap Some (holdings-without (given_out s) numbers t)
 
 bound_is : (s : State) (seat own : ℕ) (t : Table) → table_of s.tables seat ≡ Some t → is_bound s.tables seat own ≡ fin.contains_key (holdings_of (given_out s) t) own
@@ -285,7 +286,7 @@ held_lives : (s : State) (seat : ℕ) (t : Table) (p : Pair) → IsGiven s → t
 held_lives s seat t p given at holding = ap (is_clause p.clause) (lives_as s seat t p given at holding) ∙ same_itself p.clause
 
 -- the hints that are held, as the book and as the case itself name them
-held_named : (s : State) (seat : ℕ) (t : Table) (pairs : List Pair) → IsGiven s → table_of s.tables seat ≡ Some t → AllHeld (holdings_of (given_out s) t) pairs → hints_in (live s) (numbers pairs) ≡ named pairs
+held_named : (s : State) (seat : ℕ) (t : Table) (pairs : List Pair) → IsGiven s → table_of s.tables seat ≡ Some t → AllHeld (holdings_of (given_out s) t) pairs → hints_in (live s) (numbers pairs) ≡ named_hints pairs
 held_named s seat t [] given at held = refl
 held_named s seat t (p ∷ pairs) given at held = λ i. record { number = p.joint; clause = lives_as s seat t p given at held.0 i } ∷ held_named s seat t pairs given at held.1 i
 
@@ -296,7 +297,7 @@ none_stale s seat t (p ∷ pairs) given at held =
 
 -- the one refusal that is left to a commit of what is held
 abbrev pub full_or_not : State → Option Refusal
-full_or_not s = if nat_lt (added s.history) s.max_steps then None else Some Full
+full_or_not s = if nat_lt (addition_count s.history) s.max_steps then None else Some Full
 
 refusal_is : (s : State) (seat : ℕ) (r : ReceiptValue) (t : Table) → IsGiven s → r.seat ≡ seat → table_of s.tables seat ≡ Some t → IsFit (Some (holdings_of (given_out s) t)) r.own r.listed → commit_refusal s r ≡ full_or_not s
 refusal_is s seat r t given owner at fit = λ i. if here i then (if bound i then Some NumberTaken else stale_or (fresh i) (full_or_not s)) else Some SeatGone
@@ -325,9 +326,9 @@ addition_by clauses v w' seat own lemma t entry call reply given at moves bound 
     (λ q after. Extends (given_out after.state) clauses → IsSoloAddition clauses own lemma (solo_of v seat) h q (solo_of after seat))
     (λ x e ext.
     subst (λ (z : Added). IsSoloAddition clauses own lemma (solo_of v seat) h (replies.Added z) (solo_of (record v { state = s }) seat))
-    (told_is (nat_lt (added v.state.history) v.state.max_steps) (commit_told v.state) x (sym decided ∙ e))
+    (told_is (nat_lt (addition_count v.state.history) v.state.max_steps) (commit_told v.state) x (sym decided ∙ e))
     (ext.stays (next v.state) lemma.clause there, with_view v seat s _ (view_bound v.state s seat t own (next v.state) lemma.clause given moves.more at bound there)))
-    (λ y e ext. subst (λ (z : Refusal). IsSoloAddition clauses own lemma (solo_of v seat) h (replies.Refused z) (solo_of v seat)) (full_is (nat_lt (added v.state.history) v.state.max_steps) (commit_told v.state) y (sym decided ∙ e)) refl)
+    (λ y e ext. subst (λ (z : Refusal). IsSoloAddition clauses own lemma (solo_of v seat) h (replies.Refused z) (solo_of v seat)) (full_is (nat_lt (addition_count v.state.history) v.state.max_steps) (commit_told v.state) y (sym decided ∙ e)) refl)
     (λ ext. refl)
     called more
   where

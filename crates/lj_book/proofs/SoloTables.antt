@@ -13,7 +13,7 @@ use Rattle.lj_clause.specs.LiteralSet.{LiteralSet, no_literals}
 use Rattle.lj_clause.specs.ClauseMap.{ClauseMap}
 use Rattle.lj_hint.specs.declared.pair.Pair.{Pair}
 use Rattle.lj_book.specs.Tables.{Table, Tables, table_of, is_here, is_bound, joint_of, with_table, with_binding, without_seat, is_among, without_keys, is_held}
-use Rattle.lj_book.specs.Holders.{count_in}
+use Rattle.lj_book.specs.inner.Holders.{count_in}
 use Rattle.lj_book.specs.Solo.{Holdings, with_clause, holdings_of, without_holdings}
 use Rattle.lj_book.proofs.NumberMaps.{same_map}
 use Rattle.lj_book.proofs.TableLaws.{held_counts, count-remove, holders_at_least, self_counts, get-without_keys, joint_in_table}

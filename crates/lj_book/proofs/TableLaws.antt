@@ -14,7 +14,7 @@ use Rattle.lj_clause.specs.declared.memory.NoMemory.{NoMemory}
 use Rattle.std.specs.FinMap.Entries.{find, put, by_order}
 use Rattle.std.specs.FinMap.{nat_cmp-IsAntisymmetric}
 use Rattle.lj_book.specs.Tables.{Table, Tables, table_of, is_here, joint_of, is_bound, with_table, is_among, without_keys, holds_joint, is_held, up_to, keys_lost}
-use Rattle.lj_book.specs.Holders.{occurrences, count_in, holders_of, count_or_none, count_at, AreHolders, one_if_at, all_up_to}
+use Rattle.lj_book.specs.inner.Holders.{occurrences, count_in, holders_of, count_or_none, count_at, AreHolders, one_if_at, all_up_to}
 use Rattle.lj_book.proofs.NumberMaps.{same_map, entries-retain_keys}
 
 pub among_occurs : (ms : List ℕ) (n : ℕ) → is_among ms n ≡ nat_lt 0 (occurrences ms n)

@@ -23,17 +23,19 @@ use Rattle.lj_book.specs.declared.refusal.Refusal.{Refusal}
 use Rattle.lj_book.specs.declared.refusal.Refusal.TheVariants.{SeatGone, NumberTaken, UnknownNumber, GroupRepeated, Stale, NoSuchClause, Full, NoMemory}
 use Rattle.lj_book.specs.Tables.{Tables, table_of, is_here, is_bound, is_among, joint_of, with_table, without_keys, without_seat, keys_lost}
 use Rattle.lj_book.specs.Lookup.{is_clause, least_number}
-use Rattle.lj_book.specs.State.{State, added, next, live}
-use Rattle.lj_book.specs.History.{died}
+use Rattle.lj_book.specs.State.{State, addition_count, next, live}
+use Rattle.lj_book.specs.History.{dead_numbers}
 
 -- The answer of a call is the reply that it has here. NoMemory may stand in place of any reply.
 abbrev pub IsRefusal : {A : Type 0} → Refusal → Result A Refusal → Type 0
 IsRefusal (NoMemory _) reply = Unit {0}
 IsRefusal e reply = reply ≡ Err e
 
+-- the answer, seen so, is the reply
 abbrev pub IsReplyBy : {A B : Type 0} → (A → B) → Result A Refusal → Result B Refusal → Type 0
 IsReplyBy view answer reply = MatchResult answer (λ x. reply ≡ Ok (view x)) (λ e. IsRefusal e reply)
 
+-- the answer is the reply
 abbrev pub IsReply : {A : Type 0} → Result A Refusal → Result A Refusal → Type 0
 IsReply answer reply = IsReplyBy (λ x. x) answer reply
 
@@ -46,12 +48,16 @@ unless_refused (Some e) reply = Err e
 
 -- the joint number that the seat's own number is bound to, and the clause of that number
 abbrev pub pair_in : Tables → ClauseMap → ℕ → ℕ → Option Pair
-pair_in tables p seat own = option_and_then (λ joint. option_map (λ c. record { joint = joint; clause = c }) (fin.get p joint)) (joint_of tables seat own)
+pair_in tables p seat own = option_and_then
+    (λ joint. option_map (λ c. record { joint = joint; clause = c }) (fin.get p joint))
+    (joint_of tables seat own)
 
+-- the pairs and one in front, where none was refused
 abbrev pub with_pair : Pair → Result (List Pair) Refusal → Result (List Pair) Refusal
 with_pair pair (Ok pairs) = Ok (pair ∷ pairs)
 with_pair pair (Err e) = Err e
 
+-- what goes on from the pair of an own number, where the seat holds it
 abbrev pub if_held : {A : Type 0} → ℕ → Option Pair → (Pair → Result A Refusal) → Result A Refusal
 if_held own None onward = Err (UnknownNumber own)
 if_held own (Some pair) onward = onward pair
@@ -61,20 +67,26 @@ abbrev pub pairs_of : (ℕ → Option Pair) → List ℕ → Result (List Pair) 
 pairs_of pair [] = Ok []
 pairs_of pair (own ∷ owns) = if_held own (pair own) (λ p. with_pair p (pairs_of pair owns))
 
-abbrev pub with_group_pair : Pair → Result (List Pair) Refusal → Result (List (Pair × List Pair)) Refusal → Result (List (Pair × List Pair)) Refusal
+-- the groups and one in front, where none was refused
+abbrev pub with_group_pair : Pair → Result (List Pair) Refusal
+    → Result (List (Pair × List Pair)) Refusal → Result (List (Pair × List Pair)) Refusal
 with_group_pair candidate (Err e) later = Err e
 with_group_pair candidate (Ok hints) (Err e) = Err e
 with_group_pair candidate (Ok hints) (Ok groups) = Ok ((candidate, hints) ∷ groups)
 
 -- the groups, each candidate before its hints
-abbrev pub group_pairs_of : (ℕ → Option Pair) → List HintGroup → Result (List (Pair × List Pair)) Refusal
+abbrev pub group_pairs_of : (ℕ → Option Pair) → List HintGroup
+    → Result (List (Pair × List Pair)) Refusal
 group_pairs_of pair [] = Ok []
-group_pairs_of pair (g ∷ gs) = if_held g.candidate (pair g.candidate) (λ p. with_group_pair p (pairs_of pair g.hints) (group_pairs_of pair gs))
+group_pairs_of pair (g ∷ gs) = if_held g.candidate (pair g.candidate)
+    (λ p. with_group_pair p (pairs_of pair g.hints) (group_pairs_of pair gs))
 
+-- whether the joint number is among these
 abbrev pub is_seen : List ℕ → Option ℕ → Bool
 is_seen seen None = false
 is_seen seen (Some joint) = is_among seen joint
 
+-- these joint numbers and one more, if it is one
 abbrev pub with_seen : Option ℕ → List ℕ → List ℕ
 with_seen None seen = seen
 with_seen (Some joint) seen = joint ∷ seen
@@ -83,41 +95,60 @@ with_seen (Some joint) seen = joint ∷ seen
 abbrev pub repeated_after : (ℕ → Option ℕ) → List ℕ → List HintGroup → Option ℕ
 repeated_after joint seen [] = None
 repeated_after joint seen (g ∷ gs) =
-    if is_seen seen (joint g.candidate) then Some g.candidate else repeated_after joint (with_seen (joint g.candidate) seen) gs
+    if is_seen seen (joint g.candidate) then Some g.candidate
+    else repeated_after joint (with_seen (joint g.candidate) seen) gs
 
+-- the case, where no group is repeated
 abbrev pub case_unless : Option ℕ → CaseValue → Result CaseValue Refusal
 case_unless None c = Ok c
 case_unless (Some own) c = Err (GroupRepeated own)
 
-abbrev pub case_with : ℕ → Addition → Option ℕ → Result (List Pair) Refusal → Result (List (Pair × List Pair)) Refusal → Result CaseValue Refusal
+-- the case of these hints and groups, or the first refusal among them
+abbrev pub case_with : ℕ → Addition → Option ℕ → Result (List Pair) Refusal
+    → Result (List (Pair × List Pair)) Refusal → Result CaseValue Refusal
 case_with seat a repeated (Err e) groups = Err e
 case_with seat a repeated (Ok hints) (Err e) = Err e
-case_with seat a repeated (Ok hints) (Ok groups) = case_unless repeated (case_of seat a.number a.lemma hints groups)
+case_with seat a repeated (Ok hints) (Ok groups) = case_unless repeated
+    (case_of seat a.number a.lemma hints groups)
 
 -- the case in joint numbers, with the live clauses
 abbrev pub take_reply : State → ℕ → Addition → Result CaseValue Refusal
 take_reply s seat a =
     if is_here s.tables seat then
     (if is_bound s.tables seat a.number then Err NumberTaken
-    else case_with seat a (repeated_after (joint_of s.tables seat) [] a.groups) (pairs_of (pair_in s.tables (live s) seat) a.hints) (group_pairs_of (pair_in s.tables (live s) seat) a.groups))
+    else case_with seat a (repeated_after (joint_of s.tables seat) [] a.groups)
+    (pairs_of (pair_in s.tables (live s) seat) a.hints)
+    (group_pairs_of (pair_in s.tables (live s) seat) a.groups))
     else Err SeatGone
 
 -- ---- giving numbers up
 
 -- the entry of a drop: its step deletes what died
 abbrev pub drop_entry : State → ℕ → List ℕ → Entry
-drop_entry s seat numbers = record { seat = seat; call = calls.Drop numbers; step = if_some (died s (with_table (without_keys numbers) s.tables seat)) }
+drop_entry s seat numbers = record {
+  seat = seat;
+  call = calls.Drop numbers;
+  step = if_some
+      (dead_numbers s (with_table (without_keys numbers) s.tables seat));
+}
 
 -- the place of the entry, and the count of own numbers that were given up
 abbrev pub drop_reply : State → ℕ → List ℕ → Result Dropped Refusal
 drop_reply s seat numbers =
-    if is_here s.tables seat then Ok (record { place = length s.history; count = keys_lost numbers (table_of s.tables seat) }) else Err SeatGone
+    if is_here s.tables seat then
+    Ok (record { place = length s.history; count = keys_lost numbers (table_of s.tables seat) })
+    else Err SeatGone
 
 -- ---- leaving
 
 -- the entry of a leave: its step deletes what died
 abbrev pub leave_entry : State → ℕ → Entry
-leave_entry s seat = record { seat = seat; call = calls.Leave; step = if_some (died s (without_seat s.tables seat)) }
+leave_entry s seat = record {
+  seat = seat;
+  call = calls.Leave;
+  step = if_some
+      (dead_numbers s (without_seat s.tables seat));
+}
 
 -- the place of the entry
 abbrev pub leave_reply : State → ℕ → Result ℕ Refusal
@@ -128,7 +159,8 @@ leave_reply s seat = if is_here s.tables seat then Ok (length s.history) else Er
 -- the refusal of a binding of the seat's own number, whatever it is to be bound to
 abbrev pub free_refusal : State → ℕ → ℕ → Option Refusal
 free_refusal s seat own =
-    if is_here s.tables seat then (if is_bound s.tables seat own then Some NumberTaken else None) else Some SeatGone
+    if is_here s.tables seat then (if is_bound s.tables seat own then Some NumberTaken else None)
+    else Some SeatGone
 
 -- the reply that is left where nothing was refused before
 abbrev pub if_free : {A : Type 0} → Option Refusal → Result A Refusal → Result A Refusal
@@ -139,24 +171,29 @@ if_free (Some e) later = Err e
 abbrev pub binding_entry : ℕ → Call → Entry
 binding_entry seat call = record { seat = seat; call = call; step = None }
 
+-- the entry of an adoption, which has no step
 abbrev pub adopt_entry : ℕ → ℕ → ℕ → Entry
 adopt_entry seat own joint = binding_entry seat (calls.Adopt own joint)
 
 -- the place of the entry, where the joint number lives
 abbrev pub adopt_reply : State → ℕ → ℕ → ℕ → Result ℕ Refusal
 adopt_reply s seat own joint =
-    if_free (free_refusal s seat own) (if fin.contains_key (live s) joint then Ok (length s.history) else Err NoSuchClause)
+    if_free (free_refusal s seat own)
+    (if fin.contains_key (live s) joint then Ok (length s.history) else Err NoSuchClause)
 
+-- the entry of an import, which has no step
 abbrev pub import_entry : ℕ → ℕ → LiteralSet → Entry
 import_entry seat own clause = binding_entry seat (calls.Import own clause)
 
+-- the reply to an import by the number that it found, if there is one
 abbrev pub imported_at : ℕ → Option ℕ → Result Imported Refusal
 imported_at place None = Err NoSuchClause
 imported_at place (Some joint) = Ok (record { place = place; joint = joint })
 
 -- the place of the entry and the least live number with exactly this clause, where there is one
 abbrev pub import_reply : State → ℕ → ℕ → LiteralSet → Result Imported Refusal
-import_reply s seat own clause = if_free (free_refusal s seat own) (imported_at (length s.history) (least_number (live s) clause))
+import_reply s seat own clause = if_free (free_refusal s seat own)
+    (imported_at (length s.history) (least_number (live s) clause))
 
 -- ---- committing a receipt
 
@@ -181,6 +218,7 @@ entry_with number r = record {
 abbrev pub commit_entry : State → ReceiptValue → Entry
 commit_entry s r = entry_with (next s) r
 
+-- the refusal of a stale number, if there is one, or a later refusal
 abbrev pub stale_or : Option ℕ → Option Refusal → Option Refusal
 stale_or None later = later
 stale_or (Some joint) later = Some (Stale joint)
@@ -190,17 +228,19 @@ abbrev pub commit_refusal : State → ReceiptValue → Option Refusal
 commit_refusal s r =
     if is_here s.tables r.seat then
     (if is_bound s.tables r.seat r.own then Some NumberTaken
-    else stale_or (first_stale (live s) r.listed) (if nat_lt (added s.history) s.max_steps then None else Some Full))
+    else stale_or (first_stale (live s) r.listed)
+    (if nat_lt (addition_count s.history) s.max_steps then None else Some Full))
     else Some SeatGone
 
 -- the place of the entry, and the joint number of the lemma
 abbrev pub commit_told : State → Added
 commit_told s = record { place = length s.history; joint = next s }
 
+-- the first refusal of a commit, or the place of its entry and the joint number of its lemma
 abbrev pub commit_reply : State → ReceiptValue → Result Added Refusal
 commit_reply s r = unless_refused (commit_refusal s r) (commit_told s)
 
 -- the answer of a commit without the receipt that a refusal gives back
 abbrev pub answer_alone : Result Added (Refusal × ReceiptValue) → Result Added Refusal
-answer_alone (Ok added) = Ok added
+answer_alone (Ok addition_count) = Ok addition_count
 answer_alone (Err e) = Err e.0

@@ -23,7 +23,8 @@ is_of seat e = seat_of e == seat
 abbrev pub events_of : ℕ → List Event → List Reply → List (Event × Reply)
 events_of seat [] replies = []
 events_of seat (e ∷ es) [] = []
-events_of seat (e ∷ es) (r ∷ rs) = if is_of seat e then (e, r) ∷ events_of seat es rs else events_of seat es rs
+events_of seat (e ∷ es) (r ∷ rs) = if is_of seat e then (e, r) ∷ events_of seat es rs
+    else events_of seat es rs
 
 -- Whether the last event of a seat that isn't a test is a take, after this event of the seat, where `taken` says so of
 -- the events before.
@@ -40,7 +41,8 @@ taken_after taken (Leave seat) = false
 -- the same, after a list of events of all seats
 abbrev pub taken_after_all : Bool → ℕ → List Event → Bool
 taken_after_all taken seat [] = taken
-taken_after_all taken seat (e ∷ es) = taken_after_all (if is_of seat e then taken_after taken e else taken) seat es
+taken_after_all taken seat (e ∷ es) = taken_after_all
+    (if is_of seat e then taken_after taken e else taken) seat es
 
 -- whether, going back among the events of the seat from the end of the list, a take is met with only tests between
 abbrev pub ends_in_take : ℕ → List Event → Bool
@@ -57,10 +59,12 @@ is_in_turn taken (Adopt seat own joint) = true
 is_in_turn taken (Import seat own clause) = true
 is_in_turn taken (Leave seat) = true
 
+-- whether the events are tidy for the seat, where what it did last is a take or isn't
 abbrev pub is_tidy_after : Bool → ℕ → List Event → Bool
 is_tidy_after taken seat [] = true
 is_tidy_after taken seat (e ∷ es) =
-    if is_of seat e then is_in_turn taken e && is_tidy_after (taken_after taken e) seat es else is_tidy_after taken seat es
+    if is_of seat e then is_in_turn taken e && is_tidy_after (taken_after taken e) seat es
+    else is_tidy_after taken seat es
 
 -- Whether a list of events is tidy for a seat: going back among the events of the seat from each of its commits, a take
 -- is met with only tests between.

@@ -11,7 +11,7 @@ use Rattle.lj_book.specs.declared.entry.Call.TheVariants as calls
 use Rattle.lj_book.specs.declared.entry.Entry.{Entry}
 use Rattle.lj_book.specs.Tables.{Tables, is_here, is_bound, is_held, with_table, with_binding, without_keys, without_seat}
 use Rattle.lj_book.specs.Lookup.{least_number}
-use Rattle.lj_book.specs.State.{State, added, next, live, opening}
+use Rattle.lj_book.specs.State.{State, addition_count, next, live, opening}
 
 -- the tables where the seat's own number is bound to the joint number, if there is one
 abbrev pub with_found : Tables → ℕ → ℕ → Option ℕ → Tables
@@ -23,12 +23,13 @@ abbrev pub tables_after : State → ℕ → Call → Tables
 tables_after s seat (calls.Add own lemma) = with_binding s.tables seat own (next s)
 tables_after s seat (calls.Drop numbers) = with_table (without_keys numbers) s.tables seat
 tables_after s seat (calls.Adopt own joint) = with_binding s.tables seat own joint
-tables_after s seat (calls.Import own clause) = with_found s.tables seat own (least_number (live s) clause)
+tables_after s seat (calls.Import own clause) = with_found s.tables seat own
+    (least_number (live s) clause)
 tables_after s seat calls.Leave = without_seat s.tables seat
 
 -- the numbers that are live and no longer are with these tables, rising
-abbrev pub died : State → Tables → List ℕ
-died s tables = filter (λ n. not (is_held tables n)) (fin.keys (live s))
+abbrev pub dead_numbers : State → Tables → List ℕ
+dead_numbers s tables = filter (λ n. not (is_held tables n)) (fin.keys (live s))
 
 -- whether there is a number, and a clause lives under it
 abbrev pub some_lives : State → Option ℕ → Bool
@@ -49,19 +50,20 @@ abbrev pub IsAdditionOf : State → LemmaValue → Option Step → Type 0
 IsAdditionOf s lemma None = ⊥
 IsAdditionOf s lemma (Some (steps.Delete numbers)) = ⊥
 IsAdditionOf s lemma (Some (steps.Add a)) =
-    (a.number ≡ next s) × ((a.lemma ≡ lemma) × ((is_accepted (live s) (steps.Add a) ≡ true) × IsRecorded (live s) a))
+    (a.number ≡ next s) × ((a.lemma ≡ lemma)
+    × ((is_accepted (live s) (steps.Add a) ≡ true) × IsRecorded (live s) a))
 
 -- An addition is legal where the seat is there, its own number is unbound, and there is room for its step.
 pub record IsLegalAddition (s : State) (seat own : ℕ) (lemma : LemmaValue) (step : Option Step) : Type 0 where
   pub here : is_here s.tables seat ≡ true
   pub unbound : is_bound s.tables seat own ≡ false
-  pub room : added s.history < s.max_steps
+  pub room : addition_count s.history < s.max_steps
   pub addition : IsAdditionOf s lemma step
 
 -- A drop is legal where the seat is there and the step, if there is one, deletes what died.
 pub record IsLegalDrop (s : State) (seat : ℕ) (numbers : List ℕ) (step : Option Step) : Type 0 where
   pub here : is_here s.tables seat ≡ true
-  pub deletes : step ≡ if_some (died s (with_table (without_keys numbers) s.tables seat))
+  pub deletes : step ≡ if_some (dead_numbers s (with_table (without_keys numbers) s.tables seat))
 
 -- An own number is bound to a joint number legally where the seat is there, its own number is unbound, the joint
 -- number lives, and there is no step.
@@ -74,13 +76,15 @@ pub record IsLegalBinding (s : State) (seat own : ℕ) (joint : Option ℕ) (ste
 -- A leave is legal where the seat is there and the step, if there is one, deletes what died.
 pub record IsLegalLeave (s : State) (seat : ℕ) (step : Option Step) : Type 0 where
   pub here : is_here s.tables seat ≡ true
-  pub deletes : step ≡ if_some (died s (without_seat s.tables seat))
+  pub deletes : step ≡ if_some (dead_numbers s (without_seat s.tables seat))
 
+-- the call of a seat and its step are legal in the state
 abbrev pub IsLegalCall : State → ℕ → Call → Option Step → Type 0
 IsLegalCall s seat (calls.Add own lemma) step = IsLegalAddition s seat own lemma step
 IsLegalCall s seat (calls.Drop numbers) step = IsLegalDrop s seat numbers step
 IsLegalCall s seat (calls.Adopt own joint) step = IsLegalBinding s seat own (Some joint) step
-IsLegalCall s seat (calls.Import own clause) step = IsLegalBinding s seat own (least_number (live s) clause) step
+IsLegalCall s seat (calls.Import own clause) step = IsLegalBinding s seat own
+    (least_number (live s) clause) step
 IsLegalCall s seat calls.Leave step = IsLegalLeave s seat step
 
 -- The entry is legal in the state.

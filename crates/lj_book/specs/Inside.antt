@@ -7,7 +7,7 @@ use Rattle.lj_clause.specs.Rat as rats
 use Rattle.lj_text.specs.declared.line.Addition.{Addition}
 use Rattle.lj_text.specs.declared.step.Step.{Step}
 use Rattle.lj_text.specs.declared.step.Step.TheVariants as steps
-use Rattle.lj_text.specs.Steps.{first_walk, recorded}
+use Rattle.lj_text.specs.Steps.{first_walk, recorded_form}
 use Rattle.lj_hint.specs.Hints.{numbers}
 use Rattle.lj_hint.specs.Case.{CaseValue}
 use Rattle.lj_book.specs.declared.entry.Call.TheVariants as calls
@@ -15,7 +15,7 @@ use Rattle.lj_book.specs.declared.entry.Entry.{Entry}
 use Rattle.lj_book.specs.declared.entry.Added.{Added}
 use Rattle.lj_book.specs.declared.refusal.Refusal.{Refusal}
 use Rattle.lj_book.specs.declared.refusal.Refusal.TheVariants.{HintNotUnit, EmptyOpen, MissingGroup, GroupStuck, GroupOpen, Full}
-use Rattle.lj_book.specs.State.{State, added, next, live}
+use Rattle.lj_book.specs.State.{State, addition_count, next, live}
 use Rattle.lj_book.specs.Calls.{unless_refused, take_reply, commit_told}
 
 -- the addition of a case in joint numbers, under this number
@@ -47,13 +47,14 @@ walk_refusal p a (Stuck place) = Some (HintNotUnit place)
 
 -- the last refusal: the history holds as many additions as it may
 abbrev pub or_full : State → Option Refusal → Option Refusal
-or_full s None = if nat_lt (added s.history) s.max_steps then None else Some Full
+or_full s None = if nat_lt (addition_count s.history) s.max_steps then None else Some Full
 or_full s (Some e) = Some e
 
 -- the first refusal of an addition in joint numbers that holds
 abbrev pub test_refusal : State → Addition → Option Refusal
 test_refusal s a = or_full s (walk_refusal (live s) a (first_walk (live s) a))
 
+-- the reply to an addition by that to its take
 abbrev pub inside_after : State → Result CaseValue Refusal → Result Added Refusal
 inside_after s (Err e) = Err e
 inside_after s (Ok c) = unless_refused (test_refusal s (joint_addition (next s) c)) (commit_told s)
@@ -66,8 +67,9 @@ inside_reply s seat a = inside_after s (take_reply s seat a)
 -- the step adds the lemma under the next number, in recorded form
 abbrev pub inside_step : State → Result CaseValue Refusal → Option Step
 inside_step s (Err e) = None
-inside_step s (Ok c) = Some (steps.Add (recorded (live s) (joint_addition (next s) c)))
+inside_step s (Ok c) = Some (steps.Add (recorded_form (live s) (joint_addition (next s) c)))
 
 -- the entry of an addition that isn't refused
 abbrev pub inside_entry : State → ℕ → Addition → Entry
-inside_entry s seat a = record { seat = seat; call = calls.Add a.number a.lemma; step = inside_step s (take_reply s seat a) }
+inside_entry s seat a = record
+    { seat = seat; call = calls.Add a.number a.lemma; step = inside_step s (take_reply s seat a) }

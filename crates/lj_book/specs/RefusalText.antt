@@ -16,7 +16,8 @@ refusal_text (refusals.GroupRepeated number) = named_number (codes "GroupRepeate
 refusal_text (refusals.HintNotUnit place) = named_number (codes "HintNotUnit") place
 refusal_text refusals.EmptyOpen = codes "EmptyOpen"
 refusal_text (refusals.MissingGroup joint) = named_number (codes "MissingGroup") joint
-refusal_text (refusals.GroupStuck joint place) = codes "GroupStuck(" ++ (decimal joint ++ (codes ", " ++ (decimal place ++ codes ")")))
+refusal_text (refusals.GroupStuck joint place) = codes
+    "GroupStuck(" ++ (decimal joint ++ (codes ", " ++ (decimal place ++ codes ")")))
 refusal_text (refusals.GroupOpen joint) = named_number (codes "GroupOpen") joint
 refusal_text (refusals.Stale joint) = named_number (codes "Stale") joint
 refusal_text refusals.NoSuchClause = codes "NoSuchClause"

@@ -25,7 +25,7 @@ use Rattle.lj_book.specs.State.{State, given_out}
 use Rattle.lj_book.specs.History.{IsReached}
 use Rattle.lj_book.specs.Calls.{case_with, repeated_after, pairs_of, group_pairs_of}
 use Rattle.lj_book.specs.Events.{events_of, is_tidy, ends_in_take}
-use Rattle.lj_book.specs.Worlds.{World, pending_at, IsTried, case_taken, IsNothing, IsTestOf, IsRun, nothing_pending}
+use Rattle.lj_book.specs.Worlds.{World, IsTried, case_taken, IsNothing, IsTestOf, IsRun, nothing_pending}
 
 -- from own numbers to the joint numbers that they are bound to, with their clauses
 abbrev pub Holdings : Type 0
@@ -56,7 +56,8 @@ solo_refusal (Some h) own = if fin.contains_key h own then Some NumberTaken else
 -- what a seat with this view is answered to a take
 abbrev pub solo_take : View → ℕ → Addition → Result CaseValue Refusal
 solo_take None seat a = Err SeatGone
-solo_take (Some h) seat a = if fin.contains_key h a.number then Err NumberTaken else solo_case h seat a
+solo_take (Some h) seat a = if fin.contains_key h a.number then Err NumberTaken
+    else solo_case h seat a
 
 -- ---- refusals
 
@@ -66,13 +67,15 @@ IsRefusedSolo e before reply after = (reply ≡ replies.Refused e) × (after ≡
 
 -- The event is refused with this refusal, or for want of memory, and all stays as it was.
 abbrev pub IsRefusedOrShort : Refusal → Solo → Reply → Solo → Type 0
-IsRefusedOrShort e before reply after = ((reply ≡ replies.Refused e) ⊎ (reply ≡ replies.Refused (NoMemory no_memory))) × (after ≡ before)
+IsRefusedOrShort e before reply after = ((reply ≡ replies.Refused e)
+    ⊎ (reply ≡ replies.Refused (NoMemory no_memory))) × (after ≡ before)
 
 -- Where the seat is gone it is refused so; else the fact of its holdings.
 abbrev pub IfHere : View → Solo → Reply → Solo → (Holdings → Type 0) → Type 0
 IfHere None before reply after P = IsRefusedSolo SeatGone before reply after
 IfHere (Some h) before reply after P = P h
 
+-- where the own number is taken, that is refused; else this holds
 abbrev pub IfNotTaken : Bool → Solo → Reply → Solo → Type 0 → Type 0
 IfNotTaken true before reply after P = IsRefusedSolo NumberTaken before reply after
 IfNotTaken false before reply after P = P
@@ -80,13 +83,15 @@ IfNotTaken false before reply after P = P
 -- Where the seat is gone or its own number is bound it is refused so; else the fact of its holdings.
 abbrev pub IfFree : Solo → ℕ → Reply → Solo → (Holdings → Type 0) → Type 0
 IfFree before own reply after P =
-    IfHere before.view before reply after (λ h. IfNotTaken (fin.contains_key h own) before reply after (P h))
+    IfHere before.view before reply after
+    (λ h. IfNotTaken (fin.contains_key h own) before reply after (P h))
 
 -- ---- what is bound and given up
 
 -- the solo object where the own number is bound to the joint number and its clause
 abbrev pub with_holding : Solo → Holdings → ℕ → ℕ → LiteralSet → Solo
-with_holding o h own joint c = record o { view = Some (fin.insert h own (record { joint = joint; clause = c })) }
+with_holding o h own joint c = record o
+    { view = Some (fin.insert h own (record { joint = joint; clause = c })) }
 
 -- the holdings without these own numbers
 abbrev pub without_holdings : List ℕ → Holdings → Holdings
@@ -96,7 +101,8 @@ without_holdings numbers h = fin.retain_keys h (λ own. not (is_among numbers ow
 -- history is full or memory is short.
 abbrev pub IsSoloAddition : ClauseMap → ℕ → LemmaValue → Solo → Holdings → Reply → Solo → Type 0
 IsSoloAddition clauses own lemma o h (replies.Added added) after =
-    (fin.get clauses added.joint ≡ Some lemma.clause) × (after ≡ with_holding o h own added.joint lemma.clause)
+    (fin.get clauses added.joint ≡ Some lemma.clause)
+    × (after ≡ with_holding o h own added.joint lemma.clause)
 IsSoloAddition clauses own lemma o h (replies.Refused Full) after = after ≡ o
 IsSoloAddition clauses own lemma o h (replies.Refused (NoMemory _)) after = after ≡ o
 IsSoloAddition clauses own lemma o h reply after = ⊥
@@ -108,10 +114,12 @@ IsSoloCommitOf clauses None o r reply after = ⊥
 IsSoloCommitOf clauses (Some h) o r reply after =
     (fin.contains_key h r.own ≡ false) × IsSoloAddition clauses r.own r.lemma o h reply after
 
+-- a commit, as a seat alone sees it: of what is pending, if that is a receipt
 abbrev pub IsSoloCommit : ClauseMap → Pending → Solo → Reply → Solo → Type 0
 IsSoloCommit clauses pendings.Nothing o reply after = IsNothing o reply after
 IsSoloCommit clauses (pendings.Case c) o reply after = IsNothing o reply after
-IsSoloCommit clauses (pendings.Receipt r) o reply after = IsSoloCommitOf clauses o.view (record o { pending = pendings.Nothing }) r reply after
+IsSoloCommit clauses (pendings.Receipt r) o reply after = IsSoloCommitOf clauses o.view
+    (record o { pending = pendings.Nothing }) r reply after
 
 -- An addition that its first list of hints leaves open: others' clauses too decide whether it is added.
 abbrev pub IsSoloOpen : ClauseMap → ℕ → LemmaValue → Solo → Holdings → Reply → Solo → Type 0
@@ -123,23 +131,31 @@ IsSoloOpen clauses own lemma o h reply after = IsSoloAddition clauses own lemma 
 -- the same, where a lemma without a pivot is refused
 abbrev pub IfPivot : Option ℤ → ClauseMap → ℕ → LemmaValue → Solo → Holdings → Reply → Solo → Type 0
 IfPivot None clauses own lemma o h reply after = IsRefusedOrShort EmptyOpen o reply after
-IfPivot (Some pivot) clauses own lemma o h reply after = IsSoloOpen clauses own lemma o h reply after
+IfPivot (Some pivot) clauses own lemma o h reply after = IsSoloOpen clauses own lemma o h reply
+    after
 
 -- An addition whose walk over its first list of hints ends so: it is added where that closes.
-abbrev pub IsSoloWalked : Walk → ClauseMap → ℕ → LemmaValue → Solo → Holdings → Reply → Solo → Type 0
-IsSoloWalked (Closed used) clauses own lemma o h reply after = IsSoloAddition clauses own lemma o h reply after
-IsSoloWalked (Open a) clauses own lemma o h reply after = IfPivot lemma.pivot clauses own lemma o h reply after
-IsSoloWalked (Stuck place) clauses own lemma o h reply after = IsRefusedOrShort (HintNotUnit place) o reply after
+abbrev pub IsSoloWalked : Walk → ClauseMap → ℕ → LemmaValue → Solo → Holdings → Reply → Solo
+    → Type 0
+IsSoloWalked (Closed used) clauses own lemma o h reply after = IsSoloAddition clauses own lemma o h
+    reply after
+IsSoloWalked (Open a) clauses own lemma o h reply after = IfPivot lemma.pivot clauses own lemma o h
+    reply after
+IsSoloWalked (Stuck place) clauses own lemma o h reply after = IsRefusedOrShort (HintNotUnit place)
+    o reply after
 
 -- The refusals of the case's numbers, then what the walk over its hints leads to.
-abbrev pub IsSoloInside : Result CaseValue Refusal → ClauseMap → Solo → Holdings → Reply → Solo → Type 0
-IsSoloInside (Ok c) clauses o h reply after = IsSoloWalked (walk_of c) clauses c.own c.lemma o h reply after
+abbrev pub IsSoloInside : Result CaseValue Refusal → ClauseMap → Solo → Holdings → Reply → Solo
+    → Type 0
+IsSoloInside (Ok c) clauses o h reply after = IsSoloWalked (walk_of c) clauses c.own c.lemma o h
+    reply after
 IsSoloInside (Err e) clauses o h reply after = IsRefusedOrShort e o reply after
 
 -- The count of a drop is that of the seat's own numbers among these.
 abbrev pub IsSoloDrop : List ℕ → Solo → Holdings → Reply → Solo → Type 0
 IsSoloDrop numbers o h (replies.Dropped dropped) after =
-    (dropped.count ≡ fin.len h - fin.len (without_holdings numbers h)) × (after ≡ record o { view = Some (without_holdings numbers h) })
+    (dropped.count ≡ fin.len h - fin.len (without_holdings numbers h))
+    × (after ≡ record o { view = Some (without_holdings numbers h) })
 IsSoloDrop numbers o h (replies.Refused (NoMemory _)) after = after ≡ o
 IsSoloDrop numbers o h reply after = ⊥
 
@@ -159,6 +175,7 @@ IsSoloImport clauses own c o h (replies.Refused NoSuchClause) after = after ≡ 
 IsSoloImport clauses own c o h (replies.Refused (NoMemory _)) after = after ≡ o
 IsSoloImport clauses own c o h reply after = ⊥
 
+-- a leave, as a seat alone sees it
 abbrev pub IsSoloLeave : Solo → Reply → Solo → Type 0
 IsSoloLeave o (replies.Left place) after = after ≡ record o { view = None }
 IsSoloLeave o (replies.Refused (NoMemory _)) after = after ≡ o
@@ -170,29 +187,37 @@ IsSoloLeave o reply after = ⊥
 -- that each joint number ever stands for.
 abbrev pub IsSoloAnswer : ClauseMap → ℕ → Solo → Event → Reply → Solo → Type 0
 IsSoloAnswer clauses seat o (events.Take _ a) reply after =
-    IsTried (solo_refusal o.view a.number) (solo_take o.view seat a) (λ _. replies.Taken) (λ answer. record o { pending = case_taken answer }) reply after
-IsSoloAnswer clauses seat o (events.Test _) reply after = IsTestOf o.pending o (λ p. record o { pending = p }) reply after
-IsSoloAnswer clauses seat o (events.Commit _) reply after = IsSoloCommit clauses o.pending o reply after
+    IsTried (solo_refusal o.view a.number) (solo_take o.view seat a) (λ _. replies.Taken)
+    (λ answer. record o { pending = case_taken answer }) reply after
+IsSoloAnswer clauses seat o (events.Test _) reply after = IsTestOf o.pending o
+    (λ p. record o { pending = p }) reply after
+IsSoloAnswer clauses seat o (events.Commit _) reply after = IsSoloCommit clauses o.pending o reply
+    after
 IsSoloAnswer clauses seat o (events.Inside _ a) reply after =
     IfFree o a.number reply after (λ h. IsSoloInside (solo_case h seat a) clauses o h reply after)
-IsSoloAnswer clauses seat o (events.Drop _ numbers) reply after = IfHere o.view o reply after (λ h. IsSoloDrop numbers o h reply after)
+IsSoloAnswer clauses seat o (events.Drop _ numbers) reply after = IfHere o.view o reply after
+    (λ h. IsSoloDrop numbers o h reply after)
 IsSoloAnswer clauses seat o (events.Adopt _ own joint) reply after =
     IfFree o own reply after (λ h. IsSoloAdoption clauses own joint o h reply after)
 IsSoloAnswer clauses seat o (events.Import _ own c) reply after =
     IfFree o own reply after (λ h. IsSoloImport clauses own c o h reply after)
-IsSoloAnswer clauses seat o (events.Leave _) reply after = IfHere o.view o reply after (λ h. IsSoloLeave o reply after)
+IsSoloAnswer clauses seat o (events.Leave _) reply after = IfHere o.view o reply after
+    (λ h. IsSoloLeave o reply after)
 
 -- Each event of the seat has its reply where those before it lead, and the last leads to the end.
 abbrev pub IsSoloRun : ClauseMap → ℕ → Solo → List (Event × Reply) → Solo → Type 0
 IsSoloRun clauses seat o [] end = end ≡ o
-IsSoloRun clauses seat o (e ∷ es) end = (after : Solo) × (IsSoloAnswer clauses seat o e.0 e.1 after × IsSoloRun clauses seat after es end)
+IsSoloRun clauses seat o (e ∷ es) end = (after : Solo)
+    × (IsSoloAnswer clauses seat o e.0 e.1 after × IsSoloRun clauses seat after es end)
 
 -- ---- the view that a state gives a seat
 
 -- a joint number with its clause; each that is bound has one
 abbrev pub with_clause : ClauseMap → ℕ → Pair
-with_clause clauses joint = record { joint = joint; clause = unwrap_or (fin.get clauses joint) no_literals }
+with_clause clauses joint = record
+    { joint = joint; clause = unwrap_or (fin.get clauses joint) no_literals }
 
+-- the pairs of number and clause that a table binds
 abbrev pub holdings_of : ClauseMap → Table → Holdings
 holdings_of clauses t = fin.from_entries (map (λ e. (e.0, with_clause clauses e.1)) (fin.entries t))
 
@@ -200,23 +225,23 @@ holdings_of clauses t = fin.from_entries (map (λ e. (e.0, with_clause clauses e
 abbrev pub view_of : State → ℕ → View
 view_of s seat = option_map (holdings_of (given_out s)) (table_of s.tables seat)
 
-abbrev pub solo_of : World → ℕ → Solo
-solo_of w seat = record { view = view_of w.state seat; pending = pending_at w seat }
-
 -- ---- the theorem
 
 -- The events of the seat, with their replies, are a run of its solo object from its view of the first state, with
 -- nothing pending, to its view of the other.
 abbrev pub IsAlone : State → List Event → List Reply → State → ℕ → Type 0
 IsAlone s es rs end seat =
-    (pending : Pending) × IsSoloRun (given_out end) seat (record { view = view_of s seat; pending = pendings.Nothing }) (events_of seat es rs) (record { view = view_of end seat; pending = pending })
+    (pending : Pending) × IsSoloRun (given_out end) seat
+    (record { view = view_of s seat; pending = pendings.Nothing }) (events_of seat es rs)
+    (record { view = view_of end seat; pending = pending })
 
 -- A seat for which the list of events is tidy is undisturbed, whatever other seats do: its events are a run of its solo
 -- object.
 abbrev pub TidySeatsAreAlone : Type 0
 TidySeatsAreAlone =
     (s end : State) (es : List Event) (rs : List Reply) (pending : List Pending) (seat : ℕ)
-    → IsReached s → IsRun (nothing_pending s) es rs (record { state = end; pending = pending }) → is_tidy seat es ≡ true
+    → IsReached s → IsRun (nothing_pending s) es rs (record { state = end; pending = pending })
+    → is_tidy seat es ≡ true
     → IsAlone s es rs end seat
 
 -- A receipt that a seat commits right after its own test is never stale, whatever other seats do: no reply to a commit
@@ -224,5 +249,6 @@ TidySeatsAreAlone =
 abbrev pub FreshReceiptsAreNotStale : Type 0
 FreshReceiptsAreNotStale =
     (s : State) (end : World) (before after : List Event) (rs : List Reply) (seat joint : ℕ)
-    → IsReached s → IsRun (nothing_pending s) (before ++ events.Commit seat ∷ after) rs end → ends_in_take seat before ≡ true
+    → IsReached s → IsRun (nothing_pending s) (before ++ events.Commit seat ∷ after) rs end
+    → ends_in_take seat before ≡ true
     → slice_get rs (length before) ≡ Some (replies.Refused (Stale joint)) → ⊥

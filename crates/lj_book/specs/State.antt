@@ -1,16 +1,13 @@
 -- The state of a book, and what is read from it.
-use Rattle.std.specs.Prelude.{ℕ, ◌+◌, Bool, false, List, [], ◌∷◌, length, Option, Some, None, filter_map, if◌then◌else◌, replicate, refl}
-use Rattle.std.specs.Coded.{Coded, code_by, coded×, coded_list, coded_ℕ}
+use Rattle.std.specs.Prelude.{ℕ, ◌+◌, Bool, false, List, [], ◌∷◌, length, Option, Some, None, filter_map, if◌then◌else◌, replicate}
 use Rattle.std.specs.FinMap as fin
-use Rattle.lj_clause.specs.ClauseMap.{ClauseMap, FormulaValue, formula_code, formula_map}
-use Rattle.lj_clause.specs.Truth.{Assignment, SatisfiesAll}
+use Rattle.lj_clause.specs.ClauseMap.{ClauseMap, FormulaValue, formula_map}
 use Rattle.lj_text.specs.declared.step.Step.{Step}
 use Rattle.lj_text.specs.declared.step.Step.TheVariants.{Add, Delete}
 use Rattle.lj_text.specs.Steps.{adds_empty}
 use Rattle.lj_text.specs.Needed.{additions}
 use Rattle.lj_book.specs.declared.entry.Entry.{Entry}
-use Rattle.lj_book.specs.Codes.{entry_code}
-use Rattle.lj_book.specs.Tables.{Tables, tables_code, is_held, up_to}
+use Rattle.lj_book.specs.Tables.{Tables, is_held, up_to}
 
 -- The formula, the greatest number of additions, the tables of the seats, and the history, the oldest entry first.
 pub record State : Type 0 where
@@ -19,21 +16,17 @@ pub record State : Type 0 where
   pub tables : Tables
   pub history : List Entry
 
--- how a proof stores one
-abbrev pub state_code : Coded State
-state_code = code_by (FormulaValue × (ℕ × (Tables × List Entry))) (coded× formula_code (coded× coded_ℕ (coded× tables_code (coded_list entry_code)))) (λ s. (s.formula, (s.max_steps, (s.tables, s.history)))) (λ p. record { formula = p.0; max_steps = p.1.0; tables = p.1.1.0; history = p.1.1.1 }) (λ _. refl)
-
 -- the steps that a history took, in order
 abbrev pub steps_of : List Entry → List Step
 steps_of history = filter_map (λ e. e.step) history
 
 -- how many additions it has
-abbrev pub added : List Entry → ℕ
-added history = length (additions (steps_of history))
+abbrev pub addition_count : List Entry → ℕ
+addition_count history = length (additions (steps_of history))
 
 -- the joint number that the next addition takes
 abbrev pub next : State → ℕ
-next s = length s.formula.clauses + 1 + added s.history
+next s = length s.formula.clauses + 1 + addition_count s.history
 
 -- the map with the clause of each addition under its number
 abbrev pub with_additions : ClauseMap → List Step → ClauseMap
@@ -51,7 +44,13 @@ live s = fin.retain_keys (given_out s) (is_held s.tables)
 
 -- a new book with this many seats, each of which holds the clauses of the formula under their numbers
 abbrev pub opening : FormulaValue → ℕ → ℕ → State
-opening f seats max_steps = record { formula = f; max_steps = max_steps; tables = replicate seats (Some (up_to (length f.clauses))); history = [] }
+opening f seats max_steps = record {
+  formula = f;
+  max_steps = max_steps;
+  tables = replicate seats
+      (Some (up_to (length f.clauses)));
+  history = [];
+}
 
 -- whether the entry adds the empty clause
 abbrev pub is_refutation : Option Step → Bool
@@ -61,12 +60,9 @@ is_refutation (Some s) = adds_empty s
 -- the place, counted onward from this one, of the first entry that adds the empty clause
 abbrev pub verdict_from : ℕ → List Entry → Option ℕ
 verdict_from place [] = None
-verdict_from place (e ∷ es) = if is_refutation e.step then Some place else verdict_from (place + 1) es
+verdict_from place (e ∷ es) = if is_refutation e.step then Some place
+    else verdict_from (place + 1) es
 
 -- the place of the first entry that adds the empty clause
 abbrev pub verdict : List Entry → Option ℕ
 verdict history = verdict_from 0 history
-
--- no assignment satisfies each clause of the formula
-abbrev pub IsUnsatisfiable : FormulaValue → Type 0
-IsUnsatisfiable f = (a : Assignment) → SatisfiesAll a (formula_map f) → ⊥

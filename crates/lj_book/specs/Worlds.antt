@@ -75,6 +75,7 @@ if_entered w entry (Err e) = w
 
 -- ---- tests
 
+-- the reply to a test that was answered so
 abbrev pub reply_to_test : Tested → Reply
 reply_to_test (tests.Closed receipt) = replies.Closed
 reply_to_test (tests.Open c) = replies.Open
@@ -100,6 +101,7 @@ pub record IsTested {B : Type 0} (c : CaseValue) (left : Pending → B) (reply :
 abbrev pub IsNothing : {B : Type 0} → B → Reply → B → Type 0
 IsNothing before reply after = (reply ≡ replies.Nothing) × (after ≡ before)
 
+-- a test of what is pending, if that is a case
 abbrev pub IsTestOf : {B : Type 0} → Pending → B → (Pending → B) → Reply → B → Type 0
 IsTestOf pendings.Nothing before left reply after = IsNothing before reply after
 IsTestOf (pendings.Case c) before left reply after = IsTested c left reply after
@@ -112,26 +114,34 @@ abbrev pub IsCommitOf : Pending → World → ℕ → Reply → World → Type 0
 IsCommitOf pendings.Nothing w seat reply after = IsNothing w reply after
 IsCommitOf (pendings.Case c) w seat reply after = IsNothing w reply after
 IsCommitOf (pendings.Receipt r) w seat reply after =
-    IsCalled (commit_reply w.state r) replies.Added (if_entered (with_pending w seat pendings.Nothing) (commit_entry w.state r)) reply after
+    IsCalled (commit_reply w.state r) replies.Added
+    (if_entered (with_pending w seat pendings.Nothing) (commit_entry w.state r)) reply after
 
 -- ---- all events
 
 -- The event answers this reply in the world, and leaves the other.
 abbrev pub IsAnswered : World → Event → Reply → World → Type 0
 IsAnswered w (events.Take seat a) reply after =
-    IsTried (free_refusal w.state seat a.number) (take_reply w.state seat a) (λ _. replies.Taken) (λ answer. with_pending w seat (case_taken answer)) reply after
-IsAnswered w (events.Test seat) reply after = IsTestOf (pending_at w seat) w (with_pending w seat) reply after
+    IsTried (free_refusal w.state seat a.number) (take_reply w.state seat a) (λ _. replies.Taken)
+    (λ answer. with_pending w seat (case_taken answer)) reply after
+IsAnswered w (events.Test seat) reply after = IsTestOf (pending_at w seat) w (with_pending w seat)
+    reply after
 IsAnswered w (events.Commit seat) reply after = IsCommitOf (pending_at w seat) w seat reply after
 IsAnswered w (events.Inside seat a) reply after =
-    IsTried (free_refusal w.state seat a.number) (inside_reply w.state seat a) replies.Added (if_entered w (inside_entry w.state seat a)) reply after
+    IsTried (free_refusal w.state seat a.number) (inside_reply w.state seat a) replies.Added
+    (if_entered w (inside_entry w.state seat a)) reply after
 IsAnswered w (events.Drop seat numbers) reply after =
-    IsCalled (drop_reply w.state seat numbers) replies.Dropped (if_entered w (drop_entry w.state seat numbers)) reply after
+    IsCalled (drop_reply w.state seat numbers) replies.Dropped
+    (if_entered w (drop_entry w.state seat numbers)) reply after
 IsAnswered w (events.Adopt seat own joint) reply after =
-    IsCalled (adopt_reply w.state seat own joint) replies.Adopted (if_entered w (adopt_entry seat own joint)) reply after
+    IsCalled (adopt_reply w.state seat own joint) replies.Adopted
+    (if_entered w (adopt_entry seat own joint)) reply after
 IsAnswered w (events.Import seat own clause) reply after =
-    IsCalled (import_reply w.state seat own clause) replies.Imported (if_entered w (import_entry seat own clause)) reply after
+    IsCalled (import_reply w.state seat own clause) replies.Imported
+    (if_entered w (import_entry seat own clause)) reply after
 IsAnswered w (events.Leave seat) reply after =
-    IsCalled (leave_reply w.state seat) replies.Left (if_entered w (leave_entry w.state seat)) reply after
+    IsCalled (leave_reply w.state seat) replies.Left (if_entered w (leave_entry w.state seat)) reply
+    after
 
 -- Each event answers its reply in the world that those before it leave, and the last leaves the world at the end. There
 -- is one reply for each event.
@@ -143,4 +153,5 @@ IsRun w (e ∷ es) (r ∷ rs) end = (after : World) × (IsAnswered w e r after �
 
 -- The events, played from a state in which nothing is pending, answer these replies and lead to the other state.
 abbrev pub IsPlayed : State → List Event → List Reply → State → Type 0
-IsPlayed s es rs end = (pending : List Pending) × IsRun (nothing_pending s) es rs (record { state = end; pending = pending })
+IsPlayed s es rs end = (pending : List Pending)
+    × IsRun (nothing_pending s) es rs (record { state = end; pending = pending })

@@ -48,8 +48,9 @@ pub struct Book {
 }
 
 impl Model for Book {
-    ghost use Rattle.lj_book.specs.State.{State, state_code};
-    ghost use Rattle.lj_book.specs.Kept.{IsKept};
+    ghost use Rattle.lj_book.specs.State.{State};
+    ghost use Rattle.lj_book.specs.inner.Codes.{state_code};
+    ghost use Rattle.lj_book.specs.inner.Kept.{IsKept};
 
     ghost Value = { State };
 
@@ -140,9 +141,11 @@ impl Book {
     /// # Errors
     /// [`NoMemory`] where a growth was refused.
     pub fn verified(&self) -> Result<Option<Verified>, NoMemory>
-        ensures some { IfOk result (λ verified. is_some verified ≡ is_some (verdict self.now.history)) }
+        ensures some { IfOk result
+            (λ verified. is_some verified ≡ is_some (verdict self.now.history)) }
         ensures formula { IfOk result (λ verified. IfSome verified (λ f. f ≡ self.now.formula)) }
-        ensures refuted { IfOk result (λ verified. is_some verified ≡ refutes self.now.formula (steps_of self.now.history)) }
+        ensures refuted { IfOk result
+            (λ verified. is_some verified ≡ refutes self.now.formula (steps_of self.now.history)) }
     {
         if self.refuted.is_none() {
             return Ok(None);
@@ -178,7 +181,8 @@ impl Book {
     /// [`Refusal::NoMemory`] where a growth was refused.
     pub fn take(&self, seat: u32, addition: &Addition) -> Result<Case, Refusal>
         ensures reply { IsReply result (take_reply self.now seat addition.now) }
-        ensures refused { IfSome (free_refusal self.now seat addition.now.number) (λ e. result ≡ Err e) }
+        ensures refused { IfSome (free_refusal self.now seat addition.now.number)
+            (λ e. result ≡ Err e) }
     {
         if !self.tables.is_here(seat) {
             return Err(Refusal::SeatGone);
@@ -234,7 +238,8 @@ impl Book {
     fn enter(&mut self, receipt: &Receipt) -> Result<Added, NoMemory>
         requires { commit_refusal self.old receipt.now ≡ None }
         ensures told { IfOk result (λ added. added ≡ commit_told self.old) }
-        ensures ok { OnOk result (self.new ≡ after_entry self.old (commit_entry self.old receipt.now)) }
+        ensures ok { OnOk result
+            (self.new ≡ after_entry self.old (commit_entry self.old receipt.now)) }
         ensures err { OnErr result (self.new ≡ self.old) }
     {
         let joint = self.formula.len() as u64 + 1 + u64::from(self.added);
@@ -256,7 +261,8 @@ impl Book {
     pub fn drop_numbers(&mut self, seat: u32, numbers: &[u64]) -> Result<Dropped, Refusal>
         ensures reply { IsReply result (drop_reply self.old seat numbers.now) }
         ensures refused { IfErr (drop_reply self.old seat numbers.now) (λ e. result ≡ Err e) }
-        ensures ok { OnOk result (self.new ≡ after_entry self.old (drop_entry self.old seat numbers.now)) }
+        ensures ok { OnOk result
+            (self.new ≡ after_entry self.old (drop_entry self.old seat numbers.now)) }
         ensures err { OnErr result (self.new ≡ self.old) }
     {
         if !self.tables.is_here(seat) {

@@ -4,7 +4,7 @@ ghost use Rattle.std.specs.FinMap as fin;
 ghost use Rattle.lj_hint.specs.Hints.{numbers};
 ghost use Rattle.lj_book.specs.Tables.{is_here, is_bound, is_held, with_table};
 ghost use Rattle.lj_book.specs.Calls.{is_live_as, first_stale, entry_with};
-ghost use Rattle.lj_book.specs.Kept.{refuted_after};
+ghost use Rattle.lj_book.specs.inner.Kept.{refuted_after};
 
 use crate::entry::{Call, Entry};
 use crate::indexed_clauses::IndexedClauses;
@@ -80,7 +80,8 @@ pub fn enter_clause(
     requires unbound { is_bound tables.old receipt.now.seat receipt.now.own ≡ false }
     requires new { fin.get clauses.old joint ≡ None }
     requires unheld { is_held tables.old joint ≡ false }
-    ensures clauses { OnOk result (clauses.new ≡ fin.insert clauses.old joint receipt.now.lemma.clause) }
+    ensures clauses { OnOk result
+        (clauses.new ≡ fin.insert clauses.old joint receipt.now.lemma.clause) }
     ensures tables { OnOk result (tables.new
         ≡ with_table (λ t. fin.insert t receipt.now.own joint) tables.old receipt.now.seat) }
     ensures err { OnErr result ((clauses.new ≡ clauses.old) × (tables.new ≡ tables.old)) }
@@ -113,7 +114,8 @@ pub fn bind_clause(
     requires new { fin.get clauses.old joint ≡ None }
     requires unheld { is_held tables.old joint ≡ false }
     ensures clauses { OnOk result (clauses.new ≡ fin.insert clauses.old joint clause) }
-    ensures tables { OnOk result (tables.new ≡ with_table (λ t. fin.insert t own joint) tables.old seat) }
+    ensures tables { OnOk result
+        (tables.new ≡ with_table (λ t. fin.insert t own joint) tables.old seat) }
     ensures err { OnErr result ((clauses.new ≡ clauses.old) × (tables.new ≡ tables.old)) }
 {
     clauses.insert(joint, clause)?;

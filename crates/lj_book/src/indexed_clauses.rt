@@ -3,7 +3,7 @@ ghost use Rattle.std.specs.Prelude.{◌≡◌, ℕ, ◌+◌, ◌<◌, true, OnOk
 ghost use Rattle.std.specs.FinMap as fin;
 ghost use Rattle.lj_clause.specs.ClauseMap.{ClauseMap};
 ghost use Rattle.lj_book.specs.Lookup.{numbers_holding, least_number};
-ghost use Rattle.lj_book.specs.Occurrences.{AreOccurrences, AreListed};
+ghost use Rattle.lj_book.specs.inner.Occurrences.{AreOccurrences, AreListed};
 
 use crate::number_map::NumberMap;
 use crate::occurrence_lists::OccurrenceLists;
@@ -22,8 +22,9 @@ pub struct IndexedClauses {
 }
 
 impl Model for IndexedClauses {
-    ghost use Rattle.lj_clause.specs.ClauseMap.{ClauseMap, clause_map_code};
-    ghost use Rattle.lj_book.specs.Occurrences.{AreIndexed};
+    ghost use Rattle.lj_clause.specs.ClauseMap.{ClauseMap};
+    ghost use Rattle.lj_clause.specs.inner.Codes.{clause_map_code};
+    ghost use Rattle.lj_book.specs.inner.Occurrences.{AreIndexed};
 
     ghost Value = { ClauseMap };
 
@@ -134,7 +135,8 @@ fn with_clause(
     number: u64,
     clause: &Clause,
 ) -> Option<OccurrenceLists>
-    ensures { (p : ClauseMap) → AreListed lists p (last + 1) → AreListed result (fin.insert p number clause.now) (number + 1) }
+    ensures { (p : ClauseMap) → AreListed lists p (last + 1)
+        → AreListed result (fin.insert p number clause.now) (number + 1) }
 {
     let mut lists = lists?;
     if number <= last {

@@ -1,7 +1,7 @@
 //! An addition's hints and groups in joint numbers.
 ghost use Rattle.lj_book.specs.Tables.{joint_of};
 ghost use Rattle.lj_book.specs.Calls.{IsReplyBy};
-ghost use Rattle.lj_book.specs.JointLines.{joints_in, joint_groups_in, joint_parts};
+ghost use Rattle.lj_book.specs.inner.JointLines.{joints_in, joint_groups_in, joint_parts};
 
 use crate::refusal::Refusal;
 use crate::seat_tables::SeatTables;
@@ -77,7 +77,8 @@ fn joint_groups_of(
     seat: u32,
     groups: &[Group],
 ) -> Result<Vec<JointGroup>, Refusal>
-    ensures { IsReplyBy (λ v. v.items) result (joint_groups_in (joint_of tables.now seat) groups.now) }
+    ensures { IsReplyBy (λ v. v.items) result
+        (joint_groups_in (joint_of tables.now seat) groups.now) }
 {
     let mut joints = Vec::with_capacity(alloc, groups.len())?;
     for group in groups {

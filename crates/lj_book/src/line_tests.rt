@@ -5,7 +5,7 @@ ghost use Rattle.lj_clause.specs.Walk.{walk};
 ghost use Rattle.lj_hint.specs.declared.live_line.LineRefusal.TheVariants.{Rat};
 ghost use Rattle.lj_hint.specs.LineTest.{line_reply, IsLineReply};
 ghost use Rattle.lj_book.specs.Calls.{IsReply};
-ghost use Rattle.lj_book.specs.JointLines.{addition_of_parts, tested_line, refusal_of};
+ghost use Rattle.lj_book.specs.inner.JointLines.{addition_of_parts, tested_line, refusal_of};
 
 use crate::indexed_clauses::IndexedClauses;
 use crate::joint_line::JointLine;

@@ -63,7 +63,8 @@ impl NumberList {
     /// clause any more, so that a death takes constant time, amortized.
     pub fn one_died(&mut self, clauses: &NumberMap<Clause>)
         ensures rising { IsStrictlySortedBy nat_cmp self.old → IsStrictlySortedBy nat_cmp self.new }
-        ensures living { (n : ℕ) → fin.contains_key clauses.now n ≡ true → is_among self.new n ≡ is_among self.old n }
+        ensures living { (n : ℕ) → fin.contains_key clauses.now n ≡ true
+            → is_among self.new n ≡ is_among self.old n }
         ensures fewer { (n : ℕ) → is_among self.new n ≡ true → is_among self.old n ≡ true }
     {
         self.dead = self.dead.saturating_add(1);
@@ -78,7 +79,8 @@ impl NumberList {
     /// # Errors
     /// [`NoMemory`] where a growth was refused.
     pub fn living(&self, alloc: Global, clauses: &NumberMap<Clause>) -> Result<Vec<u64>, NoMemory>
-        ensures { IfOk result (λ v. v.items ≡ filter (λ n. fin.contains_key clauses.now n) self.now) }
+        ensures { IfOk result
+            (λ v. v.items ≡ filter (λ n. fin.contains_key clauses.now n) self.now) }
     {
         let mut living = Vec::new(alloc);
         for number in &self.numbers {
@@ -92,7 +94,8 @@ impl NumberList {
 
     /// The first number whose clause is this one.
     pub fn first_same(&self, clauses: &NumberMap<Clause>, wanted: &Clause) -> Option<u64>
-        ensures { result ≡ slice_get (filter (λ n. is_clause wanted.now (fin.get clauses.now n)) self.now) 0 }
+        ensures { result
+            ≡ slice_get (filter (λ n. is_clause wanted.now (fin.get clauses.now n)) self.now) 0 }
     {
         for number in &self.numbers {
             let number = u64::from(*number);

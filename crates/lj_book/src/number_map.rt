@@ -1,7 +1,7 @@
 //! Maps from numbers.
 ghost use Rattle.std.specs.Prelude.{◌≡◌, ◌<◌, ◌≤◌, OnOk, OnErr, option_copied, length, None};
 ghost use Rattle.std.specs.FinMap as fin;
-ghost use Rattle.lj_book.specs.Slots.{slot_map};
+ghost use Rattle.lj_book.specs.inner.Slots.{slot_map};
 
 mod scanning;
 
@@ -21,7 +21,7 @@ impl<V> Model for NumberMap<V> {
     ghost use Rattle.std.specs.Ordering.{nat_cmp};
     ghost use Rattle.std.specs.Coded.{coded_ℕ};
     ghost use Rattle.std.specs.FinMap as fin;
-    ghost use Rattle.lj_book.specs.Slots.{slot_map};
+    ghost use Rattle.lj_book.specs.inner.Slots.{slot_map};
 
     ghost Value = { fin.FinMap nat_cmp V };
 

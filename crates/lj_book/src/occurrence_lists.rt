@@ -3,7 +3,7 @@ ghost use Rattle.std.specs.Prelude.{◌≡◌, ℕ, [], ◌∷◌, ◌++◌, OnO
 ghost use Rattle.std.specs.FinMap as fin;
 ghost use Rattle.lj_book.specs.Tables.{is_among};
 ghost use Rattle.lj_book.specs.Lookup.{is_clause};
-ghost use Rattle.lj_book.specs.Occurrences.{AreOccurrences, list_at, places_of, put_if};
+ghost use Rattle.lj_book.specs.inner.Occurrences.{AreOccurrences, list_at, places_of, put_if};
 
 use crate::number_list::NumberList;
 use crate::number_map::NumberMap;
@@ -26,7 +26,7 @@ pub struct OccurrenceLists {
 impl Model for OccurrenceLists {
     ghost use Rattle.std.specs.Coded.{coded_ℕ, coded_list};
     ghost use Rattle.std.specs.FinMap as fin;
-    ghost use Rattle.lj_book.specs.Occurrences.{Lists};
+    ghost use Rattle.lj_book.specs.inner.Occurrences.{Lists};
 
     ghost Value = { Lists };
 
@@ -96,7 +96,8 @@ impl OccurrenceLists {
         place: u64,
         clauses: &NumberMap<Clause>,
     ) -> Result<Vec<u64>, NoMemory>
-        ensures { IfOk result (λ v. v.items ≡ filter (λ n. fin.contains_key clauses.now n) (list_at self.now place)) }
+        ensures { IfOk result
+            (λ v. v.items ≡ filter (λ n. fin.contains_key clauses.now n) (list_at self.now place)) }
     {
         match self.lists.get(place) {
             Some(list) => list.living(alloc, clauses),
@@ -111,7 +112,10 @@ impl OccurrenceLists {
         clauses: &NumberMap<Clause>,
         wanted: &Clause,
     ) -> Option<u64>
-        ensures { result ≡ slice_get (filter (λ n. is_clause wanted.now (fin.get clauses.now n)) (list_at self.now place)) 0 }
+        ensures { result
+            ≡ slice_get
+            (filter (λ n. is_clause wanted.now (fin.get clauses.now n)) (list_at self.now place))
+            0 }
     {
         match self.lists.get(place) {
             Some(list) => list.first_same(clauses, wanted),
@@ -155,7 +159,8 @@ impl OccurrenceLists {
     /// # Errors
     /// [`NoMemory`] where a growth was refused. The list is lost then.
     fn add(&mut self, place: u64, number: u32) -> Result<(), NoMemory>
-        ensures { OnOk result (self.new ≡ fin.insert self.old place (list_at self.old place ++ number ∷ [])) }
+        ensures { OnOk result
+            (self.new ≡ fin.insert self.old place (list_at self.old place ++ number ∷ [])) }
     {
         match self.lists.remove(place) {
             Some(mut list) => {

@@ -1,7 +1,7 @@
 //! Maps from a seat's own numbers.
 ghost use Rattle.std.specs.Prelude.{◌≡◌, OnOk, OnErr, IfOk, option_copied, None, true, false};
 ghost use Rattle.std.specs.FinMap as fin;
-ghost use Rattle.lj_book.specs.Slots.{AreApart};
+ghost use Rattle.lj_book.specs.inner.Slots.{AreApart};
 
 use crate::dying::rising;
 use crate::number_map::NumberMap;
@@ -29,7 +29,7 @@ impl<V> Model for OwnMap<V> {
     ghost use Rattle.std.specs.Ordering.{nat_cmp};
     ghost use Rattle.std.specs.Coded.{coded_ℕ};
     ghost use Rattle.std.specs.FinMap as fin;
-    ghost use Rattle.lj_book.specs.Slots.{joined_map, AreApart};
+    ghost use Rattle.lj_book.specs.inner.Slots.{joined_map, AreApart};
 
     ghost Value = { fin.FinMap nat_cmp V };
 

@@ -1,8 +1,9 @@
 //! The tables of the seats.
 ghost use Rattle.std.specs.Prelude.{◌≡◌, ℕ, ◌+◌, ◌^◌, ◌<◌, ◌≤◌, IsTrue, ◌↔◌, OnOk, OnErr, IfOk, is_some, option_copied, filter_map, Some, None, replicate, length, true, false};
 ghost use Rattle.std.specs.FinMap as fin;
-ghost use Rattle.lj_book.specs.Tables.{up_to, table_of, is_here, joint_of, is_bound, with_table, without_keys, without_seat, is_held, own_numbers, keys_lost};
-ghost use Rattle.lj_book.specs.Holders.{count_at, holders_of, one_if_at, all_up_to};
+ghost use Rattle.lj_book.specs.Tables.{up_to, table_of, is_here, joint_of, is_bound, with_table, without_keys, without_seat, is_held, keys_lost};
+ghost use Rattle.lj_book.specs.inner.Tables.{own_numbers};
+ghost use Rattle.lj_book.specs.inner.Holders.{count_at, holders_of, one_if_at, all_up_to};
 
 use crate::number_map::NumberMap;
 use crate::own_map::OwnMap;
@@ -19,8 +20,9 @@ pub struct SeatTables {
 }
 
 impl Model for SeatTables {
-    ghost use Rattle.lj_book.specs.Tables.{Tables, tables_code};
-    ghost use Rattle.lj_book.specs.Holders.{AreHolders};
+    ghost use Rattle.lj_book.specs.Tables.{Tables};
+    ghost use Rattle.lj_book.specs.inner.Codes.{tables_code};
+    ghost use Rattle.lj_book.specs.inner.Holders.{AreHolders};
 
     ghost Value = { Tables };
 
@@ -91,7 +93,8 @@ impl SeatTables {
         requires here { is_here self.old seat ≡ true }
         requires unbound { is_bound self.old seat own ≡ false }
         requires room { holders_of self.old joint < length self.old + 2 ^ 63 }
-        ensures ok { OnOk result (self.new ≡ with_table (λ t. fin.insert t own joint) self.old seat) }
+        ensures ok { OnOk result
+            (self.new ≡ with_table (λ t. fin.insert t own joint) self.old seat) }
         ensures err { OnErr result (self.new ≡ self.old) }
     {
         let at = seat as usize;
@@ -167,7 +170,8 @@ impl SeatTables {
     /// # Errors
     /// [`NoMemory`] where a growth was refused.
     pub fn joints(&self, alloc: Global, seat: u32, numbers: &[u64]) -> Result<Vec<u64>, NoMemory>
-        ensures { IfOk result (λ joints. joints.items ≡ filter_map (joint_of self.now seat) numbers.now) }
+        ensures { IfOk result
+            (λ joints. joints.items ≡ filter_map (joint_of self.now seat) numbers.now) }
     {
         let mut joints = Vec::new(alloc);
         for &own in numbers {

@@ -24,7 +24,8 @@ pub fn case_of(
     seat: u32,
     addition: &Addition,
 ) -> Result<Case, Refusal>
-    ensures { IsReply result (case_with seat addition.now (repeated_after (joint_of tables.now seat) [] addition.now.groups)
+    ensures { IsReply result (case_with seat addition.now
+        (repeated_after (joint_of tables.now seat) [] addition.now.groups)
         (pairs_of (pair_in tables.now clauses.now seat) addition.now.hints)
         (group_pairs_of (pair_in tables.now clauses.now seat) addition.now.groups)) }
 {
@@ -77,7 +78,8 @@ fn pairs_of(
     seat: u32,
     numbers: &Numbers,
 ) -> Result<Vec<Pair>, Refusal>
-    ensures { IsReplyBy (λ v. v.items) result (pairs_of (pair_in tables.now clauses.now seat) numbers.now) }
+    ensures { IsReplyBy (λ v. v.items) result
+        (pairs_of (pair_in tables.now clauses.now seat) numbers.now) }
 {
     let mut pairs = Vec::new(alloc);
     for own in numbers.iter() {

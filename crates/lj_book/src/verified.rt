@@ -1,6 +1,6 @@
 //! Formulas that are verified to be unsatisfiable.
 ghost use Rattle.std.specs.Prelude.{◌≡◌};
-ghost use Rattle.lj_book.specs.State.{IsUnsatisfiable};
+ghost use Rattle.lj_clause.specs.Truth.{IsUnsatisfiable};
 
 use lj_clause::Formula;
 use std::marker::Model;
@@ -12,8 +12,9 @@ pub struct Verified {
 }
 
 impl Model for Verified {
-    ghost use Rattle.lj_clause.specs.ClauseMap.{FormulaValue, formula_code};
-    ghost use Rattle.lj_book.specs.State.{IsUnsatisfiable};
+    ghost use Rattle.lj_clause.specs.ClauseMap.{FormulaValue};
+    ghost use Rattle.lj_clause.specs.inner.Codes.{formula_code};
+    ghost use Rattle.lj_clause.specs.Truth.{IsUnsatisfiable};
 
     ghost Value = { FormulaValue };
 

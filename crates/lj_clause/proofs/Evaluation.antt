@@ -8,7 +8,8 @@ use Rattle.std.specs.declared.cmp.Ordering.TheVariants.{Less, Equal, Greater}
 use Rattle.std.specs.Cmp.{nat_cmp_total}
 use Rattle.std.specs.FinMap as fin
 use Rattle.std.specs.FinMap.Entries.{put, find, by_order}
-use Rattle.lj_clause.specs.Literal.{lit_cmp, lit_cmp_total}
+use Rattle.lj_clause.specs.Literal.{lit_cmp}
+use Rattle.lj_clause.specs.inner.Literal.{lit_cmp_total}
 use Rattle.lj_clause.specs.LiteralSet.{LiteralSet, no_literals, holds, with_literal, literals, from_literals, with_negations, negations}
 use Rattle.lj_clause.specs.Listed.{ListedClause, clause_of, listed_clauses}
 use Rattle.lj_clause.specs.Walk.{Walk, Closed, Open, Stuck, Hint, rest, is_contradictory, by_rest, by_hint, walk_over, hints_in, walk}

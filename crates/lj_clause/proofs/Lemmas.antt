@@ -3,7 +3,7 @@ use Rattle.std.proofs.Common.{ap, refl, ◌∙◌}
 use Rattle.std.specs.Prelude.{ℤ, List, [], ◌∷◌, ◌||◌}
 use Rattle.std.specs.Ordering.{is_eq}
 use Rattle.std.specs.Cmp.{tied_itself}
-use Rattle.lj_clause.specs.Literal.{lit_cmp_total}
+use Rattle.lj_clause.specs.inner.Literal.{lit_cmp_total}
 use Rattle.lj_clause.specs.LiteralSet.{holds, from_literals}
 use Rattle.lj_clause.specs.Lemma.{lemma_of, IsLemma}
 use Rattle.lj_clause.proofs.LiteralSets.{holds-with_literal}

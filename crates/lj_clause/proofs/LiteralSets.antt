@@ -11,7 +11,8 @@ use Rattle.std.specs.declared.cmp.Ordering.{Ordering}
 use Rattle.std.specs.declared.cmp.Ordering.TheVariants.{Less}
 use Rattle.std.specs.FinMap as fin
 use Rattle.std.specs.FinMap.Entries.{same_entries, is_sorted, below_all, find}
-use Rattle.lj_clause.specs.Literal.{lit_cmp, lit_cmp_total}
+use Rattle.lj_clause.specs.Literal.{lit_cmp}
+use Rattle.lj_clause.specs.inner.Literal.{lit_cmp_total}
 use Rattle.lj_clause.specs.LiteralSet.{LiteralSet, no_literals, holds, with_literal, literals, from_literals}
 use Rattle.lj_clause.proofs.Literals.{lit_cmp-antisymmetric, same_literal}
 

@@ -10,7 +10,8 @@ use Rattle.std.proofs.lemmas.Bool.{cases_lt}
 use Rattle.std.proofs.lemmas.List.{get_or_default}
 use Rattle.std.proofs.lemmas.List.Folds.{list_any-from_Any, list_any_none}
 use Rattle.std.proofs.lemmas.List.Sorted.{searchable_from_sorted}
-use Rattle.lj_clause.specs.Literal.{lit_cmp, lit_cmp_total}
+use Rattle.lj_clause.specs.Literal.{lit_cmp}
+use Rattle.lj_clause.specs.inner.Literal.{lit_cmp_total}
 
 next_above : (ls : List ℤ) → IsStrictlySortedBy lit_cmp ls → (k : ℕ) (d : ℤ) → suc k < length ls → lit_cmp (get_or ls k d) (get_or ls (suc k) d) ≡ Less
 unfolding IsStrictlySortedBy

@@ -1,20 +1,16 @@
 -- Finite maps from numbers to clauses, and the map of a formula.
-use Rattle.std.specs.Prelude.{ℕ, ◌+◌, ◌≤◌, List, [], ◌∷◌, length, true, Bool, nat_le, ◌≡◌, refl}
+use Rattle.std.specs.Prelude.{ℕ, ◌+◌, ◌≤◌, List, [], ◌∷◌, length, true, Bool, nat_le, ◌≡◌}
 use Rattle.std.specs.List.{list_all}
 use Rattle.std.specs.Ordering.{nat_cmp}
-use Rattle.std.specs.Coded.{Coded, code_by, coded×, coded_list, coded_ℕ}
 use Rattle.std.specs.FinMap as map
 use Rattle.lj_clause.specs.declared.lit.TheConstants.{MAX_VARIABLE}
 use Rattle.lj_clause.specs.declared.formula.TheConstants.{MAX_CLAUSES}
 use Rattle.lj_clause.specs.Literal.{variable_of}
-use Rattle.lj_clause.specs.LiteralSet.{LiteralSet, literals, literal_set_code}
+use Rattle.lj_clause.specs.LiteralSet.{LiteralSet, literals}
 
+-- a finite map from numbers to clauses
 abbrev pub ClauseMap : Type 0
 ClauseMap = map.FinMap nat_cmp LiteralSet
-
--- how a proof stores one
-abbrev pub clause_map_code : Coded ClauseMap
-clause_map_code = map.code coded_ℕ literal_set_code
 
 -- clauses under numbers that rise from n
 abbrev pub numbered_from : ℕ → List LiteralSet → List (ℕ × LiteralSet)
@@ -29,10 +25,6 @@ pub record FormulaValue : Type 0 where
 -- the formula of these clauses
 abbrev pub formula_of : ℕ → List LiteralSet → FormulaValue
 formula_of variables clauses = record { variables = variables; clauses = clauses }
-
--- how a proof stores one
-abbrev pub formula_code : Coded FormulaValue
-formula_code = code_by (ℕ × List LiteralSet) (coded× coded_ℕ (coded_list literal_set_code)) (λ f. (f.variables, f.clauses)) (λ p. record { variables = p.0; clauses = p.1 }) (λ _. refl)
 
 -- the clauses of a formula under the numbers 1, 2 and so on
 abbrev pub formula_map : FormulaValue → ClauseMap

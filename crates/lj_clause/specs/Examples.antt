@@ -10,15 +10,18 @@ use Rattle.lj_clause.specs.Rat.{RatAnswer, Covered, MissingGroup, GroupStuck, Gr
 abbrev not1 : ℤ
 not1 = negsuc 0
 
+-- -2
 abbrev not2 : ℤ
 not2 = negsuc 1
 
+-- -3
 abbrev not3 : ℤ
 not3 = negsuc 2
 
 -- the four binary clauses over two variables, and 2 as clause 5
 abbrev pub four_binary : ClauseMap
-four_binary = listed_clauses ((1, pos 1 ∷ pos 2 ∷ []) ∷ (2, not1 ∷ pos 2 ∷ []) ∷ (3, pos 1 ∷ not2 ∷ []) ∷ (4, not1 ∷ not2 ∷ []) ∷ (5, pos 2 ∷ []) ∷ [])
+four_binary = listed_clauses ((1, pos 1 ∷ pos 2 ∷ []) ∷ (2, not1 ∷ pos 2 ∷ []) ∷
+    (3, pos 1 ∷ not2 ∷ []) ∷ (4, not1 ∷ not2 ∷ []) ∷ (5, pos 2 ∷ []) ∷ [])
 
 -- the walk of the negations of these literals over these hints
 abbrev pub walk_of_lemma : ClauseMap → List ℤ → List ℕ → Walk
@@ -35,7 +38,8 @@ pub record WalkExamples : Type 0 where
   -- clause 1 leaves 1, and clause 3 then has 1 and -2 left
   pub stuck_second : walk_of_lemma four_binary (pos 2 ∷ []) (1 ∷ 3 ∷ []) ≡ Stuck 2
   -- clause 1 leaves 1, and then 1 again, which is there already
-  pub unit_again : walk_of_lemma four_binary (pos 2 ∷ []) (1 ∷ 1 ∷ []) ≡ Open (from_literals (pos 1 ∷ not2 ∷ []))
+  pub unit_again : walk_of_lemma four_binary (pos 2 ∷ []) (1 ∷ 1 ∷ [])
+      ≡ Open (from_literals (pos 1 ∷ not2 ∷ []))
   -- a clause with a literal and its negation: closed before any hint is read
   pub tautology : walk_of_lemma four_binary (pos 1 ∷ not1 ∷ []) (1 ∷ []) ≡ Closed []
   pub empty_open : walk_of_lemma four_binary [] [] ≡ Open (from_literals [])
@@ -44,12 +48,14 @@ pub record WalkExamples : Type 0 where
 
 -- -1 2, 2 3 and -1 -3
 abbrev pub three_clauses : ClauseMap
-three_clauses = listed_clauses ((1, not1 ∷ pos 2 ∷ []) ∷ (2, pos 2 ∷ pos 3 ∷ []) ∷ (3, not1 ∷ not3 ∷ []) ∷ [])
+three_clauses = listed_clauses
+    ((1, not1 ∷ pos 2 ∷ []) ∷ (2, pos 2 ∷ pos 3 ∷ []) ∷ (3, not1 ∷ not3 ∷ []) ∷ [])
 
 -- the test of the lemma 1 3 with pivot 1 on these groups: the walk of its negations over no hints ends open
 abbrev pub rat_of : List HintGroup → RatAnswer
 rat_of groups = rat three_clauses (negations (from_literals (pos 1 ∷ pos 3 ∷ []))) (pos 1) groups
 
+-- a candidate and its hints
 abbrev pub group : ℕ → List ℕ → HintGroup
 group candidate hints = record { candidate = candidate; hints = hints }
 
@@ -60,4 +66,5 @@ pub record RatExamples : Type 0 where
   pub stuck : rat_of (group 1 (3 ∷ []) ∷ []) ≡ GroupStuck 1 1
   pub covered : rat_of (group 1 (2 ∷ []) ∷ []) ≡ Covered (group 1 (2 ∷ []) ∷ group 3 [] ∷ [])
   -- a group of clause 2, which is no candidate, isn't tested
-  pub not_tested : rat_of (group 1 (2 ∷ []) ∷ group 2 [] ∷ []) ≡ Covered (group 1 (2 ∷ []) ∷ group 3 [] ∷ [])
+  pub not_tested : rat_of (group 1 (2 ∷ []) ∷ group 2 [] ∷ [])
+      ≡ Covered (group 1 (2 ∷ []) ∷ group 3 [] ∷ [])

@@ -1,12 +1,12 @@
 pub mod Literal
-pub mod LitCode
 pub mod LiteralSet
 pub mod Lemma
-pub mod Truth
 pub mod ClauseMap
+pub mod Truth
 pub mod Walk
 pub mod Rat
 pub mod Listed
 pub mod Examples
 pub mod Laws
 pub mod Memory
+pub mod inner

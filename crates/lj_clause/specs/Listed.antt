@@ -8,6 +8,7 @@ use Rattle.lj_clause.specs.ClauseMap.{ClauseMap}
 abbrev pub ListedClause : Type 0
 ListedClause = ℕ × List ℤ
 
+-- the number, and the clause of these literals
 abbrev pub clause_of : ListedClause → ℕ × LiteralSet
 clause_of e = (e.0, from_literals e.1)
 

@@ -2,7 +2,6 @@
 use Rattle.std.specs.Prelude.{ℕ, ◌+◌, ◌*◌, ◌<◌, ◌≤◌, ℤ, pos, negsuc, suc}
 use Rattle.std.specs.declared.cmp.Ordering.{Ordering}
 use Rattle.std.specs.Ordering.{nat_cmp}
-use Rattle.std.specs.Cmp.{IsTotalOrder, on_total, nat_cmp_total}
 use Rattle.lj_clause.specs.declared.lit.TheConstants.{MAX_VARIABLE}
 
 -- the variable that a literal speaks of
@@ -22,6 +21,3 @@ place_of (negsuc n) = 2 * n + 3
 -- literals are ordered by variable, and for one variable the positive literal comes first
 abbrev pub lit_cmp : ℤ → ℤ → Ordering
 lit_cmp a b = nat_cmp (place_of a) (place_of b)
-
-pub lit_cmp_total : IsTotalOrder lit_cmp
-lit_cmp_total = on_total place_of nat_cmp_total

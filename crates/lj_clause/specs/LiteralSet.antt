@@ -1,16 +1,12 @@
 -- Finite sets of literals: what a clause is, and what a walk holds to be true.
 use Rattle.std.specs.Prelude.{Bool, List, [], ◌∷◌, ℤ, neg_ℤ}
-use Rattle.std.specs.FinSet.{FinSet, code}
-use Rattle.std.specs.Coded.{Coded, coded_ℤ}
+use Rattle.std.specs.FinSet.{FinSet}
 use Rattle.std.specs.FinMap as map
 use Rattle.lj_clause.specs.Literal.{lit_cmp}
 
+-- a finite set of literals
 abbrev pub LiteralSet : Type 0
 LiteralSet = FinSet lit_cmp
-
--- how a proof stores one
-abbrev pub literal_set_code : Coded LiteralSet
-literal_set_code = code coded_ℤ
 
 -- the set without a literal
 abbrev pub no_literals : LiteralSet

@@ -1,6 +1,5 @@
 -- Resolution asymmetric tautologies (Cruz-Filipe et al., CADE 2017): the test of each clause that holds the pivot's negation.
-use Rattle.std.specs.Prelude.{ℕ, Bool, true, false, not, List, [], ◌∷◌, map, ℤ, neg_ℤ, Option, Some, None, filter, is_some, unwrap_or, if◌then◌else◌, ◌==◌, refl}
-use Rattle.std.specs.Coded.{Coded, code_by, coded×, coded_list, coded_ℕ}
+use Rattle.std.specs.Prelude.{ℕ, Bool, true, false, not, List, [], ◌∷◌, map, ℤ, neg_ℤ, Option, Some, None, filter, is_some, unwrap_or, if◌then◌else◌, ◌==◌}
 use Rattle.std.specs.Ordering.{eq_by_cmp}
 use Rattle.std.specs.FinMap.{entries}
 use Rattle.lj_clause.specs.Literal.{lit_cmp}
@@ -13,10 +12,6 @@ pub record HintGroup : Type 0 where
   pub candidate : ℕ
   pub hints : List ℕ
 
--- how a proof stores one
-abbrev pub hint_group_code : Coded HintGroup
-hint_group_code = code_by (ℕ × List ℕ) (coded× coded_ℕ (coded_list coded_ℕ)) (λ g. (g.candidate, g.hints)) (λ p. record { candidate = p.0; hints = p.1 }) (λ _. refl)
-
 -- The same, with the clauses that the hints name.
 pub record NamedGroup : Type 0 where
   pub candidate : ℕ
@@ -24,7 +19,8 @@ pub record NamedGroup : Type 0 where
 
 -- the groups of these numbers in a clause map
 abbrev pub groups_in : ClauseMap → List HintGroup → List NamedGroup
-groups_in p groups = map (λ g. record { candidate = g.candidate; hints = hints_in p g.hints }) groups
+groups_in p groups = map (λ g. record { candidate = g.candidate; hints = hints_in p g.hints })
+    groups
 
 -- the hints of a candidate's group: those of the first, if it has one
 abbrev pub group_of : ℕ → List NamedGroup → Option (List Hint)
@@ -59,21 +55,25 @@ with_group n used (GroupOpen m) = GroupOpen m
 abbrev pub by_candidate : ℕ → Bool → Walk → RatAnswer → RatAnswer
 by_candidate n has_group (Closed used) later = with_group n used later
 by_candidate n has_group (Open a) later = if has_group then GroupOpen n else MissingGroup n
-by_candidate n has_group (Stuck place) later = if has_group then GroupStuck n place else MissingGroup n
+by_candidate n has_group (Stuck place) later = if has_group then GroupStuck n place
+    else MissingGroup n
 
 -- the walk of a with the negations of the candidate's literals other than the pivot's negation, over its group
 abbrev pub candidate_walk : LiteralSet → ℤ → LiteralSet → Option (List Hint) → Walk
-candidate_walk a pivot d group = walk_over (with_negations a (others d (neg_ℤ pivot))) (unwrap_or group [])
+candidate_walk a pivot d group = walk_over (with_negations a (others d (neg_ℤ pivot)))
+    (unwrap_or group [])
 
 -- the test of these candidates
 unfoldable pub rat_over : LiteralSet → ℤ → List NamedGroup → List (ℕ × LiteralSet) → RatAnswer
 rat_over a pivot groups [] = Covered []
-rat_over a pivot groups (e ∷ es) = by_candidate e.0 (is_some (group_of e.0 groups)) (candidate_walk a pivot e.1 (group_of e.0 groups)) (rat_over a pivot groups es)
+rat_over a pivot groups (e ∷ es) = by_candidate e.0 (is_some (group_of e.0 groups))
+    (candidate_walk a pivot e.1 (group_of e.0 groups)) (rat_over a pivot groups es)
 
 -- the test of all candidates of the pivot in a clause map, for a walk that ended open with a
 abbrev pub rat : ClauseMap → LiteralSet → ℤ → List HintGroup → RatAnswer
 rat p a pivot groups = rat_over a pivot (groups_in p groups) (candidates p pivot)
 
+-- whether each candidate's walk is closed
 abbrev pub is_covered : RatAnswer → Bool
 is_covered (Covered groups) = true
 is_covered (MissingGroup n) = false

@@ -3,7 +3,7 @@ use Rattle.std.specs.Prelude.{◌≡◌, ℕ, suc, zero, Bool, true, false, not,
 use Rattle.std.specs.List.{list_any}
 use Rattle.std.specs.FinMap.{get}
 use Rattle.lj_clause.specs.LiteralSet.{LiteralSet, literals}
-use Rattle.lj_clause.specs.ClauseMap.{ClauseMap}
+use Rattle.lj_clause.specs.ClauseMap.{ClauseMap, FormulaValue, formula_map}
 
 -- the set of the variables that are true, given as its test
 abbrev pub Assignment : Type 0
@@ -26,3 +26,7 @@ SatisfiesAll a p = (n : ℕ) (c : LiteralSet) → get p n ≡ Some c → satisfi
 -- some assignment satisfies each clause of the map
 abbrev pub IsSatisfiable : ClauseMap → Type 0
 IsSatisfiable p = (a : Assignment) × SatisfiesAll a p
+
+-- no assignment satisfies each clause of the formula
+abbrev pub IsUnsatisfiable : FormulaValue → Type 0
+IsUnsatisfiable f = (a : Assignment) → SatisfiesAll a (formula_map f) → ⊥

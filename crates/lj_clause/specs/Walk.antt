@@ -52,12 +52,14 @@ by_hint n (Some d) a onward = by_rest n (rest d a) onward
 -- the walk of a over the hints
 unfoldable pub walk_over : LiteralSet → List Hint → Walk
 walk_over a [] = if is_contradictory a then Closed [] else Open a
-walk_over a (h ∷ hs) = if is_contradictory a then Closed [] else by_hint h.number h.clause a (λ l. walk_over (with_literal a l) hs)
+walk_over a (h ∷ hs) = if is_contradictory a then Closed []
+    else by_hint h.number h.clause a (λ l. walk_over (with_literal a l) hs)
 
 -- the walk of a over the hints of these numbers in a clause map
 abbrev pub walk : ClauseMap → LiteralSet → List ℕ → Walk
 walk p a numbers = walk_over a (hints_in p numbers)
 
+-- whether the walk is closed
 abbrev pub is_closed : Walk → Bool
 is_closed (Closed used) = true
 is_closed (Open a) = false

@@ -21,7 +21,8 @@ impl Model for Clause {
     ghost use Rattle.std.specs.List.Sorted.{IsStrictlySortedBy};
     ghost use Rattle.std.specs.Arc.{arc_value};
     ghost use Rattle.lj_clause.specs.Literal.{lit_cmp};
-    ghost use Rattle.lj_clause.specs.LiteralSet.{LiteralSet, literal_set_code, from_literals};
+    ghost use Rattle.lj_clause.specs.LiteralSet.{LiteralSet, from_literals};
+    ghost use Rattle.lj_clause.specs.inner.Codes.{literal_set_code};
 
     ghost Value = { LiteralSet };
 

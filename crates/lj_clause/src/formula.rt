@@ -20,7 +20,8 @@ pub struct Formula {
 }
 
 impl Model for Formula {
-    ghost use Rattle.lj_clause.specs.ClauseMap.{FormulaValue, formula_code, IsFormula};
+    ghost use Rattle.lj_clause.specs.ClauseMap.{FormulaValue, IsFormula};
+    ghost use Rattle.lj_clause.specs.inner.Codes.{formula_code};
 
     ghost Value = { FormulaValue };
 
@@ -35,7 +36,8 @@ impl Formula {
     /// The formula of these clauses over the variables from 1 to `variables`: `None` where a clause names a
     /// variable above that number, or where it is above [`MAX_VARIABLE`] or the clauses are more than [`MAX_CLAUSES`].
     pub fn new(variables: u32, clauses: Vec<Clause>) -> Option<Formula>
-        ensures { SomeIff result (IsFormula (formula_of variables clauses.items)) (formula_of variables clauses.items) }
+        ensures { SomeIff result (IsFormula (formula_of variables clauses.items))
+            (formula_of variables clauses.items) }
     {
         let in_range = all_name_up_to(&clauses, variables);
         if variables <= MAX_VARIABLE && clauses.len() <= MAX_CLAUSES && in_range {

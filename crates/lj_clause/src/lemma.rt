@@ -16,7 +16,8 @@ pub struct Lemma {
 }
 
 impl Model for Lemma {
-    ghost use Rattle.lj_clause.specs.Lemma.{LemmaValue, lemma_code, IsLemma};
+    ghost use Rattle.lj_clause.specs.Lemma.{LemmaValue, IsLemma};
+    ghost use Rattle.lj_clause.specs.inner.Codes.{lemma_code};
 
     ghost Value = { LemmaValue };
 

@@ -27,7 +27,7 @@ impl Model for Lit {
 
     ghost coded = { coded_ℤ };
 
-    ghost use Rattle.lj_clause.specs.LitCode.{literal_of, IsCode, lit_code_of, literal_back};
+    ghost use Rattle.lj_clause.specs.inner.LitCode.{literal_of, IsCode, lit_code_of, literal_back};
 
     ghost view = { literal_of };
 
@@ -106,7 +106,8 @@ fn turned(code: u32) -> u32
 impl PartialEq for Lit {
     ghost use Rattle.std.specs.Ordering.{eq_by_cmp};
     ghost use Rattle.std.specs.Cmp.{partial_equiv_from_equiv, eq_by_cmp_equiv};
-    ghost use Rattle.lj_clause.specs.Literal.{lit_cmp, lit_cmp_total};
+    ghost use Rattle.lj_clause.specs.Literal.{lit_cmp};
+    ghost use Rattle.lj_clause.specs.inner.Literal.{lit_cmp_total};
 
     ghost eq = { eq_by_cmp lit_cmp };
 
@@ -119,7 +120,7 @@ impl PartialEq for Lit {
 
 impl Eq for Lit {
     ghost use Rattle.std.specs.Cmp.{eq_by_cmp_equiv};
-    ghost use Rattle.lj_clause.specs.Literal.{lit_cmp_total};
+    ghost use Rattle.lj_clause.specs.inner.Literal.{lit_cmp_total};
 
     ghost laws = { eq_by_cmp_equiv lit_cmp_total };
 }
@@ -128,7 +129,8 @@ impl PartialOrd for Lit {
     ghost use Rattle.std.proofs.Common.{rules};
     ghost use Rattle.std.specs.Cmp.Rules.{comparing};
     ghost use Rattle.std.specs.Ordering.{as_partial_cmp};
-    ghost use Rattle.lj_clause.specs.Literal.{lit_cmp, lit_cmp_total};
+    ghost use Rattle.lj_clause.specs.Literal.{lit_cmp};
+    ghost use Rattle.lj_clause.specs.inner.Literal.{lit_cmp_total};
 
     ghost partial_cmp = { as_partial_cmp lit_cmp };
 
@@ -142,7 +144,8 @@ impl PartialOrd for Lit {
 impl Ord for Lit {
     ghost use Rattle.std.proofs.Common.{rules};
     ghost use Rattle.std.specs.Cmp.Rules.{comparing};
-    ghost use Rattle.lj_clause.specs.Literal.{lit_cmp, lit_cmp_total};
+    ghost use Rattle.lj_clause.specs.Literal.{lit_cmp};
+    ghost use Rattle.lj_clause.specs.inner.Literal.{lit_cmp_total};
 
     ghost cmp = { lit_cmp };
 

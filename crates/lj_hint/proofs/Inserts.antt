@@ -6,7 +6,8 @@ use Rattle.std.specs.Prelude.{ℤ, neg_ℤ, Bool, true, false, cond, ◌||◌, L
 use Rattle.std.specs.List.{list_any}
 use Rattle.std.specs.Ordering.{eq_by_cmp}
 use Rattle.std.specs.Cmp.{eq_by_cmp_equiv}
-use Rattle.lj_clause.specs.Literal.{lit_cmp, lit_cmp_total}
+use Rattle.lj_clause.specs.Literal.{lit_cmp}
+use Rattle.lj_clause.specs.inner.Literal.{lit_cmp_total}
 use Rattle.lj_clause.specs.LiteralSet.{LiteralSet, holds, with_literal, with_negations, from_literals}
 use Rattle.lj_clause.proofs.LiteralSets.{same_set, holds-from_literals, holds-with_literal}
 

@@ -2,7 +2,7 @@
 use Rattle.std.proofs.Common.{◌≡◌, ap, refl, sym, ◌∙◌, ℕ, ◌<◌, ◌≤◌, true, false, arith}
 use Rattle.std.specs.Prelude.{◌==◌, nat_lt, slice_index, if◌then◌else◌}
 use Rattle.std.proofs.lemmas.Bool.Decides.{nat_tests}
-use Rattle.lj_hint.specs.Stamps.{Stamped, page_stamp, stamp_at}
+use Rattle.lj_hint.specs.inner.Stamps.{Stamped, page_stamp, stamp_at}
 
 below : (a b : ℕ) → nat_lt a b ≡ true → a < b
 below a b e = grind (arith, nat_tests)

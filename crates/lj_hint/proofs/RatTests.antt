@@ -14,7 +14,7 @@ use Rattle.lj_hint.specs.declared.rat.LentGroup.{LentGroup}
 use Rattle.lj_hint.specs.declared.rat_refusal.RatRefusal.TheVariants as refusals
 use Rattle.lj_hint.specs.declared.rat_refusal.RatRefusal.TheVariants.{EmptyOpen}
 use Rattle.lj_hint.specs.RatTest.{rat_told, IsRatRefusal}
-use Rattle.lj_hint.specs.Lent.{lent_groups, group_at, candidate_told, IsCandidateRefusal}
+use Rattle.lj_hint.specs.inner.Lent.{lent_groups, group_at, candidate_told, IsCandidateRefusal}
 
 -- ---- groups by their candidates
 

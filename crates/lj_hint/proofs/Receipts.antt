@@ -7,10 +7,10 @@ use Rattle.lj_clause.specs.ClauseMap.{ClauseMap}
 use Rattle.lj_clause.specs.Walk.{walk_over, is_closed, hints_in, Hint}
 use Rattle.lj_clause.proofs.WalkLaws.{satisfies-is_rup}
 use Rattle.lj_hint.specs.declared.pair.Pair.{Pair}
-use Rattle.lj_hint.specs.Hints.{named, numbers}
+use Rattle.lj_hint.specs.Hints.{named_hints, numbers}
 use Rattle.lj_hint.specs.Laws.{ReceiptIsRup, ReceiptImplies}
 
-hints_in-numbers : (p : ClauseMap) (ps : List Pair) → All (λ (h : Pair). get p h.joint ≡ Some h.clause) ps → hints_in p (numbers ps) ≡ named ps
+hints_in-numbers : (p : ClauseMap) (ps : List Pair) → All (λ (h : Pair). get p h.joint ≡ Some h.clause) ps → hints_in p (numbers ps) ≡ named_hints ps
 hints_in-numbers p [] has = refl
 hints_in-numbers p (q ∷ ps) has =
     λ i. (let h : Hint = record { number = q.joint; clause = has 0 q (omega arith) i } in h) ∷ hints_in-numbers p ps (λ k d lt. has (suc k) d (omega arith)) i

@@ -5,7 +5,7 @@ use Rattle.std.proofs.lemmas.Bool.Decides.{nat_tests}
 use Rattle.std.proofs.lemmas.List.{get_or-set_other, get_or_read, get_or_past, set-get_or, take_all}
 use Rattle.std.proofs.lemmas.Grind.{get_or-set_at}
 use Rattle.std.specs.Prelude.{Result, Ok, Err, OnErr}
-use Rattle.lj_hint.specs.Stamps.{page_at, page_stamp}
+use Rattle.lj_hint.specs.inner.Stamps.{page_at, page_stamp}
 
 zero_at : (m q : ℕ) → slice_index (replicate m 0) q ≡ 0
 zero_at zero q = refl

@@ -13,8 +13,8 @@ use Rattle.lj_clause.specs.Literal.{lit_cmp, place_of}
 use Rattle.lj_clause.specs.LiteralSet.{LiteralSet, holds, with_literal, from_literals}
 use Rattle.lj_clause.proofs.Literals.{same_literal}
 use Rattle.lj_clause.proofs.LiteralSets.{same_set, holds-from_literals, holds-with_literal, holds-no_literals}
-use Rattle.lj_hint.specs.Stamps.{Stamped, stamp_at, AreMarks}
-use Rattle.lj_hint.specs.Trail.{with_mark, Extends}
+use Rattle.lj_hint.specs.inner.Stamps.{Stamped, stamp_at, AreMarks}
+use Rattle.lj_hint.specs.inner.Trail.{with_mark, Extends}
 
 -- two literals are the same where their places are
 pub tied : (l m : ℤ) → eq_by_cmp lit_cmp l m ≡ (place_of l == place_of m)

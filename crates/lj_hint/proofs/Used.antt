@@ -8,32 +8,33 @@ use Rattle.lj_clause.specs.Walk.{Walk, Closed, Open, Stuck, Hint, walk_over}
 use Rattle.lj_clause.proofs.WalkLaws.{walk_over-used, used-numbers}
 use Rattle.lj_hint.specs.declared.pair.Pair.{Pair}
 use Rattle.lj_hint.specs.declared.walk.Ending.TheVariants.{ClosedAfter}
-use Rattle.lj_hint.specs.Hints.{named, numbers, hint_numbers}
-use Rattle.lj_hint.specs.Ending.{ending_of}
+use Rattle.lj_hint.specs.Hints.{named_hints, numbers}
+use Rattle.lj_hint.specs.inner.Hints.{hint_numbers}
+use Rattle.lj_hint.specs.inner.Ending.{ending_of}
 
 closed_walk : (w : Walk) (read : ℕ) → ClosedAfter read ≡ ending_of w → (used : List ℕ) × (w ≡ Closed used) × (length used ≡ read)
 closed_walk (Closed used) read e = let same : length used ≡ read = cc in (used, refl, same)
 closed_walk (Open a) read e = cc
 closed_walk (Stuck place) read e = cc
 
-numbers-named : (ps : List Pair) → map (λ (h : Hint). h.number) (named ps) ≡ numbers ps
+numbers-named : (ps : List Pair) → map (λ (h : Hint). h.number) (named_hints ps) ≡ numbers ps
 numbers-named [] = refl
 numbers-named (p ∷ ps) = ap (λ ns. p.joint ∷ ns) (numbers-named ps)
 
-take-named : (k : ℕ) (ps : List Pair) → take k (named ps) ≡ named (take k ps)
+take-named : (k : ℕ) (ps : List Pair) → take k (named_hints ps) ≡ named_hints (take k ps)
 take-named k ps = take-map (λ (p : Pair). record { number = p.joint; clause = Some p.clause }) k ps
 
-first_used : (a : LiteralSet) (ps : List Pair) (used : List ℕ) → walk_over a (named ps) ≡ Closed used → walk_over a (named (take (length used) ps)) ≡ Closed (numbers (take (length used) ps))
+first_used : (a : LiteralSet) (ps : List Pair) (used : List ℕ) → walk_over a (named_hints ps) ≡ Closed used → walk_over a (named_hints (take (length used) ps)) ≡ Closed (numbers (take (length used) ps))
 first_used a ps used e =
     ap (walk_over a) (sym (take-named (length used) ps))
-    ∙ walk_over-used a (named ps) used e
-    ∙ ap Closed (sym (used-numbers a (named ps) used e) ∙ ap (map (λ (h : Hint). h.number)) (take-named (length used) ps) ∙ numbers-named (take (length used) ps))
+    ∙ walk_over-used a (named_hints ps) used e
+    ∙ ap Closed (sym (used-numbers a (named_hints ps) used e) ∙ ap (map (λ (h : Hint). h.number)) (take-named (length used) ps) ∙ numbers-named (take (length used) ps))
 
 -- the first hints, as many as were read, close the walk, and it reads each of them
-pub closed_by_read : (a : LiteralSet) (ps : List Pair) (read : ℕ) → ClosedAfter read ≡ ending_of (walk_over a (named ps)) → walk_over a (named (take read ps)) ≡ Closed (numbers (take read ps))
+pub closed_by_read : (a : LiteralSet) (ps : List Pair) (read : ℕ) → ClosedAfter read ≡ ending_of (walk_over a (named_hints ps)) → walk_over a (named_hints (take read ps)) ≡ Closed (numbers (take read ps))
 closed_by_read a ps read e =
-    let w = closed_walk (walk_over a (named ps)) read e in
-    ap (λ k. walk_over a (named (take k ps))) (sym w.2) ∙ first_used a ps w.0 w.1 ∙ ap (λ k. Closed (numbers (take k ps))) w.2
+    let w = closed_walk (walk_over a (named_hints ps)) read e in
+    ap (λ k. walk_over a (named_hints (take k ps))) (sym w.2) ∙ first_used a ps w.0 w.1 ∙ ap (λ k. Closed (numbers (take k ps))) w.2
 
 -- a closed walk read the first hints, and there are so many
 pub closed_reads : (a : LiteralSet) (hs : List Hint) (read : ℕ) → ClosedAfter read ≡ ending_of (walk_over a hs) → (walk_over a hs ≡ Closed (hint_numbers (take read hs))) × (read ≤ length hs)

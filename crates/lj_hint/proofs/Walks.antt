@@ -6,9 +6,9 @@ use Rattle.lj_clause.specs.LiteralSet.{LiteralSet, with_literal}
 use Rattle.lj_clause.specs.Walk.{Walk, Closed, Open, Stuck, Hint, rest, is_contradictory, after_hint, by_rest, by_hint, walk_over}
 use Rattle.lj_hint.specs.declared.walk.Rest.TheVariants.{Nothing, One, More}
 use Rattle.lj_hint.specs.declared.walk.Ending.TheVariants.{ClosedAfter, StuckAt}
-use Rattle.lj_hint.specs.Hints.{no_hint, hint_number, clause_at, hint_numbers}
-use Rattle.lj_hint.specs.Rest.{seen}
-use Rattle.lj_hint.specs.Ending.{ending_of}
+use Rattle.lj_hint.specs.inner.Hints.{no_hint, hint_number, clause_at, hint_numbers}
+use Rattle.lj_hint.specs.inner.Rest.{rest_seen}
+use Rattle.lj_hint.specs.inner.Ending.{ending_of}
 
 -- the end of a walk that read the hints of these numbers first
 abbrev pub after_hints : List ℕ → Walk → Walk
@@ -88,23 +88,23 @@ numbers_more hs i lt =
     sym (map-append (λ (h : Hint). h.number) (take i hs) (get_or hs i no_hint ∷ []))
     ∙ ap hint_numbers (sym (take_more hs i no_hint lt))
 
-left_nothing : (ls : List ℤ) → Nothing ≡ seen ls → ls ≡ []
+left_nothing : (ls : List ℤ) → Nothing ≡ rest_seen ls → ls ≡ []
 left_nothing [] e = refl
 left_nothing (l ∷ []) e = cc
 left_nothing (l ∷ m ∷ ls) e = cc
 
-left_one : (ls : List ℤ) (l : ℤ) → One l ≡ seen ls → ls ≡ l ∷ []
+left_one : (ls : List ℤ) (l : ℤ) → One l ≡ rest_seen ls → ls ≡ l ∷ []
 left_one [] l e = cc
 left_one (k ∷ []) l e = let same : l ≡ k = cc in ap (λ m. m ∷ []) (sym same)
 left_one (k ∷ m ∷ ls) l e = cc
 
-left_more : (ls : List ℤ) (n : ℕ) (onward : ℤ → Walk) → More ≡ seen ls → by_rest n ls onward ≡ Stuck 1
+left_more : (ls : List ℤ) (n : ℕ) (onward : ℤ → Walk) → More ≡ rest_seen ls → by_rest n ls onward ≡ Stuck 1
 left_more [] n onward e = cc
 left_more (l ∷ []) n onward e = cc
 left_more (l ∷ m ∷ ls) n onward e = refl
 
 -- a false clause closes the walk at its hint
-pub ends_closed : (a : LiteralSet) (hs : List Hint) (i : ℕ) (d : LiteralSet) → Reads a hs i (Some d) → Nothing ≡ seen (rest d a) → ClosedAfter (i + 1) ≡ ending_of (walk_from a hs i)
+pub ends_closed : (a : LiteralSet) (hs : List Hint) (i : ℕ) (d : LiteralSet) → Reads a hs i (Some d) → Nothing ≡ rest_seen (rest d a) → ClosedAfter (i + 1) ≡ ending_of (walk_from a hs i)
 ends_closed a hs i d r e =
     sym
     (ap ending_of (at_index a hs i (Some d) r ∙ ap (λ ls. after_hints (hint_numbers (take i hs)) (by_rest (hint_number hs i) ls (onward a hs i))) (left_nothing (rest d a) e) ∙ after_hints-Closed (hint_numbers (take i hs)) (hint_number hs i ∷ []))
@@ -117,7 +117,7 @@ stuck_here a hs i lt e =
     ∙ ap StuckAt (let n : length (hint_numbers (take i hs)) ≡ i = count_read hs i (omega (arith, lt)) in omega arith))
 
 -- a clause with two literals left stops it there
-pub ends_stuck : (a : LiteralSet) (hs : List Hint) (i : ℕ) (d : LiteralSet) → Reads a hs i (Some d) → More ≡ seen (rest d a) → StuckAt (i + 1) ≡ ending_of (walk_from a hs i)
+pub ends_stuck : (a : LiteralSet) (hs : List Hint) (i : ℕ) (d : LiteralSet) → Reads a hs i (Some d) → More ≡ rest_seen (rest d a) → StuckAt (i + 1) ≡ ending_of (walk_from a hs i)
 ends_stuck a hs i d r e =
     stuck_here a hs i r.within (at_index a hs i (Some d) r ∙ ap (after_hints (hint_numbers (take i hs))) (left_more (rest d a) (hint_number hs i) (onward a hs i) e))
 
@@ -126,7 +126,7 @@ pub ends_nowhere : (a : LiteralSet) (hs : List Hint) (i : ℕ) → Reads a hs i 
 ends_nowhere a hs i r = stuck_here a hs i r.within (at_index a hs i None r)
 
 -- a unit clause makes its literal true, and the walk goes on
-pub goes_on : (a : LiteralSet) (hs : List Hint) (i : ℕ) (d : LiteralSet) (l : ℤ) → Reads a hs i (Some d) → One l ≡ seen (rest d a) → walk_from a hs i ≡ walk_from (with_literal a l) hs (i + 1)
+pub goes_on : (a : LiteralSet) (hs : List Hint) (i : ℕ) (d : LiteralSet) (l : ℤ) → Reads a hs i (Some d) → One l ≡ rest_seen (rest d a) → walk_from a hs i ≡ walk_from (with_literal a l) hs (i + 1)
 goes_on a hs i d l r e =
     at_index a hs i (Some d) r
     ∙ ap (λ ls. after_hints (hint_numbers (take i hs)) (by_rest (hint_number hs i) ls (onward a hs i))) (left_one (rest d a) l e)

@@ -1,13 +1,11 @@
 -- Cases: a seat's addition, with the clauses that its hints name.
-use Rattle.std.specs.Prelude.{ℕ, List, map, refl}
-use Rattle.std.specs.Coded.{Coded, code_by, coded×, coded_list, coded_ℕ}
-use Rattle.std.specs.Prelude.{Vec}
+use Rattle.std.specs.Prelude.{ℕ, List, map, Vec}
 use Rattle.std.specs.declared.alloc.Global.{Global}
 use Rattle.lj_clause.specs.LiteralSet.{negations}
-use Rattle.lj_clause.specs.Lemma.{LemmaValue, lemma_code}
+use Rattle.lj_clause.specs.Lemma.{LemmaValue}
 use Rattle.lj_clause.specs.Walk.{Walk, walk_over}
 use Rattle.lj_hint.specs.declared.pair.Pair.{Pair}
-use Rattle.lj_hint.specs.Hints.{pair_code, named}
+use Rattle.lj_hint.specs.Hints.{named_hints}
 
 -- A seat, the own number and the lemma of its addition, the first list of hints, and the groups: a candidate and its hints.
 pub record CaseValue : Type 0 where
@@ -17,22 +15,15 @@ pub record CaseValue : Type 0 where
   pub hints : List Pair
   pub groups : List (Pair × List Pair)
 
--- how a proof stores one
-abbrev pub case_code : Coded CaseValue
-case_code =
-    code_by (ℕ × (ℕ × (LemmaValue × (List Pair × List (Pair × List Pair)))))
-    (coded× coded_ℕ (coded× coded_ℕ (coded× lemma_code (coded× (coded_list pair_code) (coded_list (coded× pair_code (coded_list pair_code)))))))
-    (λ c. (c.seat, (c.own, (c.lemma, (c.hints, c.groups)))))
-    (λ p. record { seat = p.0; own = p.1.0; lemma = p.1.1.0; hints = p.1.1.1.0; groups = p.1.1.1.1 }) (λ _. refl)
-
 -- groups as their lists
 abbrev pub groups_of : List (Pair × Vec Pair Global) → List (Pair × List Pair)
 groups_of groups = map (λ g. (g.0, g.1.items)) groups
 
 -- the case of these parts
 abbrev pub case_of : ℕ → ℕ → LemmaValue → List Pair → List (Pair × List Pair) → CaseValue
-case_of seat own lemma hints groups = record { seat = seat; own = own; lemma = lemma; hints = hints; groups = groups }
+case_of seat own lemma hints groups = record
+    { seat = seat; own = own; lemma = lemma; hints = hints; groups = groups }
 
 -- the walk of the negations of the lemma's literals over the first list of hints
 abbrev pub walk_of : CaseValue → Walk
-walk_of c = walk_over (negations c.lemma.clause) (named c.hints)
+walk_of c = walk_over (negations c.lemma.clause) (named_hints c.hints)

@@ -14,8 +14,10 @@ HasListed p r = All (λ h. get p h.joint ≡ Some h.clause) r.listed
 
 -- in such a map the listed numbers close the walk of the lemma's negation, and each is read
 abbrev pub ReceiptIsRup : Type 0
-ReceiptIsRup = (r : ReceiptValue) (p : ClauseMap) → IsReceipt r → HasListed p r → walk p (negations r.lemma.clause) (numbers r.listed) ≡ Closed (numbers r.listed)
+ReceiptIsRup = (r : ReceiptValue) (p : ClauseMap) → IsReceipt r → HasListed p r
+    → walk p (negations r.lemma.clause) (numbers r.listed) ≡ Closed (numbers r.listed)
 
 -- in such a map every assignment that satisfies it satisfies the lemma
 abbrev pub ReceiptImplies : Type 0
-ReceiptImplies = (r : ReceiptValue) (p : ClauseMap) (a : Assignment) → IsReceipt r → HasListed p r → SatisfiesAll a p → satisfies a r.lemma.clause ≡ true
+ReceiptImplies = (r : ReceiptValue) (p : ClauseMap) (a : Assignment) → IsReceipt r → HasListed p r
+    → SatisfiesAll a p → satisfies a r.lemma.clause ≡ true

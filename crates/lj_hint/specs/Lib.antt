@@ -1,12 +1,8 @@
 pub mod Hints
-pub mod Rest
-pub mod Stamps
-pub mod Trail
-pub mod Ending
 pub mod Case
 pub mod Receipt
 pub mod Tested
 pub mod RatTest
-pub mod Lent
 pub mod Laws
 pub mod LineTest
+pub mod inner

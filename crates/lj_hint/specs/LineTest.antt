@@ -12,17 +12,21 @@ use Rattle.lj_hint.specs.declared.live_line.LineRefusal.{LineRefusal}
 use Rattle.lj_hint.specs.declared.live_line.LineRefusal.TheVariants.{Stuck, Rat}
 use Rattle.lj_hint.specs.RatTest.{rat_reply}
 
+-- a group of a line in joint numbers
 abbrev pub group_of_joints : ℕ → List ℕ → HintGroup
 group_of_joints candidate hints = record { candidate = candidate; hints = hints }
 
+-- the reply to a line by that to its candidates
 abbrev pub covered_reply : Result (List HintGroup) RatRefusal → Result Passed LineRefusal
 covered_reply (Ok groups) = Ok (Covered groups)
 covered_reply (Err e) = Err (Rat e)
 
 -- The reply to a lemma with this pivot and these groups, by the end of the walk over its first list of hints.
-abbrev pub line_reply : ClauseMap → Option ℤ → List HintGroup → walks.Walk → Result Passed LineRefusal
+abbrev pub line_reply : ClauseMap → Option ℤ → List HintGroup → walks.Walk
+    → Result Passed LineRefusal
 line_reply live pivot groups (walks.Closed used) = Ok (Closed (length used))
-line_reply live pivot groups (walks.Open a) = covered_reply (rat_reply live a pivot (groups_in live groups))
+line_reply live pivot groups (walks.Open a) = covered_reply
+    (rat_reply live a pivot (groups_in live groups))
 line_reply live pivot groups (walks.Stuck place) = Err (Stuck place)
 
 -- an answer is the reply, and NoMemory may stand in place of it
@@ -33,9 +37,12 @@ IsRatLine (refusals.MissingGroup n) reply = reply ≡ Err (Rat (refusals.Missing
 IsRatLine (refusals.GroupStuck n place) reply = reply ≡ Err (Rat (refusals.GroupStuck n place))
 IsRatLine (refusals.GroupOpen n) reply = reply ≡ Err (Rat (refusals.GroupOpen n))
 
+-- the refusal is the reply's, and NoMemory may stand in place of any
 abbrev pub IsLineRefusal : LineRefusal → Result Passed LineRefusal → Type 0
 IsLineRefusal (Stuck place) reply = reply ≡ Err (Stuck place)
 IsLineRefusal (Rat e) reply = IsRatLine e reply
 
+-- an answer is the reply, and NoMemory may stand in place of it
 abbrev pub IsLineReply : Result Passed LineRefusal → Result Passed LineRefusal → Type 0
-IsLineReply answer reply = MatchResult answer (λ passed. reply ≡ Ok passed) (λ e. IsLineRefusal e reply)
+IsLineReply answer reply = MatchResult answer (λ passed. reply ≡ Ok passed)
+    (λ e. IsLineRefusal e reply)

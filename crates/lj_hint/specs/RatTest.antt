@@ -9,12 +9,12 @@ use Rattle.lj_clause.specs.Rat.{HintGroup, NamedGroup, candidates, rat_over}
 use Rattle.lj_hint.specs.declared.pair.Pair.{Pair}
 use Rattle.lj_hint.specs.declared.rat_refusal.RatRefusal.{RatRefusal}
 use Rattle.lj_hint.specs.declared.rat_refusal.RatRefusal.TheVariants.{EmptyOpen, MissingGroup, GroupStuck, GroupOpen, NoMemory}
-use Rattle.lj_hint.specs.Hints.{named}
+use Rattle.lj_hint.specs.Hints.{named_hints}
 use Rattle.lj_hint.specs.Case.{CaseValue}
 
 -- the groups of a case: each hint names its own clause
 abbrev pub named_groups : List (Pair × List Pair) → List NamedGroup
-named_groups groups = map (λ g. record { candidate = g.0.joint; hints = named g.1 }) groups
+named_groups groups = map (λ g. record { candidate = g.0.joint; hints = named_hints g.1 }) groups
 
 -- the groups that cover the candidates, or the refusal of the first candidate that isn't covered
 abbrev pub rat_told : rats.RatAnswer → Result (List HintGroup) RatRefusal
@@ -25,7 +25,8 @@ rat_told (rats.GroupOpen n) = Err (GroupOpen n)
 
 -- The reply to a lemma with this pivot, whose walk ended open with a: the candidates are those among the live clauses.
 -- Without a pivot there are none to try.
-abbrev pub rat_reply : ClauseMap → LiteralSet → Option ℤ → List NamedGroup → Result (List HintGroup) RatRefusal
+abbrev pub rat_reply : ClauseMap → LiteralSet → Option ℤ → List NamedGroup
+    → Result (List HintGroup) RatRefusal
 rat_reply live a None groups = Err EmptyOpen
 rat_reply live a (Some q) groups = rat_told (rat_over a q groups (candidates live q))
 
@@ -37,5 +38,8 @@ IsRatRefusal (MissingGroup n) reply = reply ≡ Err (MissingGroup n)
 IsRatRefusal (GroupStuck n place) reply = reply ≡ Err (GroupStuck n place)
 IsRatRefusal (GroupOpen n) reply = reply ≡ Err (GroupOpen n)
 
-abbrev pub IsRatReply : Result (Vec HintGroup Global) RatRefusal → Result (List HintGroup) RatRefusal → Type 0
-IsRatReply answer reply = MatchResult answer (λ groups. reply ≡ Ok groups.items) (λ e. IsRatRefusal e reply)
+-- an answer is the reply, and NoMemory may stand in place of it
+abbrev pub IsRatReply : Result (Vec HintGroup Global) RatRefusal
+    → Result (List HintGroup) RatRefusal → Type 0
+IsRatReply answer reply = MatchResult answer (λ groups. reply ≡ Ok groups.items)
+    (λ e. IsRatRefusal e reply)

@@ -1,11 +1,10 @@
 -- Receipts: a lemma, and the hints that close the walk of its negation.
-use Rattle.std.specs.Prelude.{◌≡◌, ℕ, List, take, refl}
-use Rattle.std.specs.Coded.{Coded, code_by, coded×, coded_list, coded_ℕ}
+use Rattle.std.specs.Prelude.{◌≡◌, ℕ, List, take}
 use Rattle.lj_clause.specs.LiteralSet.{negations}
-use Rattle.lj_clause.specs.Lemma.{LemmaValue, lemma_code}
+use Rattle.lj_clause.specs.Lemma.{LemmaValue}
 use Rattle.lj_clause.specs.Walk.{Closed, walk_over}
 use Rattle.lj_hint.specs.declared.pair.Pair.{Pair}
-use Rattle.lj_hint.specs.Hints.{pair_code, named, numbers}
+use Rattle.lj_hint.specs.Hints.{named_hints, numbers}
 use Rattle.lj_hint.specs.Case.{CaseValue}
 
 -- A seat, the own number and the lemma of its addition, and the hints that its walk read.
@@ -15,21 +14,15 @@ pub record ReceiptValue : Type 0 where
   pub lemma : LemmaValue
   pub listed : List Pair
 
--- how a proof stores one
-abbrev pub receipt_code : Coded ReceiptValue
-receipt_code =
-    code_by (ℕ × (ℕ × (LemmaValue × List Pair)))
-    (coded× coded_ℕ (coded× coded_ℕ (coded× lemma_code (coded_list pair_code))))
-    (λ r. (r.seat, (r.own, (r.lemma, r.listed))))
-    (λ p. record { seat = p.0; own = p.1.0; lemma = p.1.1.0; listed = p.1.1.1 }) (λ _. refl)
-
 -- the walk of the lemma's negation over the listed hints is closed, and reads each of them
 abbrev pub IsReceipt : ReceiptValue → Type 0
-IsReceipt r = walk_over (negations r.lemma.clause) (named r.listed) ≡ Closed (numbers r.listed)
+IsReceipt r = walk_over (negations r.lemma.clause) (named_hints r.listed)
+    ≡ Closed (numbers r.listed)
 
 -- the receipt of these parts
 abbrev pub receipt_with : ℕ → ℕ → LemmaValue → List Pair → ReceiptValue
-receipt_with seat own lemma listed = record { seat = seat; own = own; lemma = lemma; listed = listed }
+receipt_with seat own lemma listed = record
+    { seat = seat; own = own; lemma = lemma; listed = listed }
 
 -- the receipt of a case whose walk read so many hints
 abbrev pub receipt_of : CaseValue → ℕ → ReceiptValue

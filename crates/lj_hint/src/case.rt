@@ -20,7 +20,8 @@ pub struct Case {
 }
 
 impl Model for Case {
-    ghost use Rattle.lj_hint.specs.Case.{CaseValue, case_code, case_of, groups_of};
+    ghost use Rattle.lj_hint.specs.Case.{CaseValue, case_of, groups_of};
+    ghost use Rattle.lj_hint.specs.inner.Codes.{case_code};
 
     ghost Value = { CaseValue };
 

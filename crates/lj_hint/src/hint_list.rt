@@ -1,7 +1,8 @@
 //! Lists of hints, wherever their clauses are kept.
 ghost use Rattle.std.specs.Prelude.{◌≡◌, List, length, option_copied};
 ghost use Rattle.lj_clause.specs.Walk.{Hint};
-ghost use Rattle.lj_hint.specs.Hints.{named, hint_number, clause_at};
+ghost use Rattle.lj_hint.specs.Hints.{named_hints};
+ghost use Rattle.lj_hint.specs.inner.Hints.{hint_number, clause_at};
 
 use crate::pair::Pair;
 use lj_clause::Clause;
@@ -30,7 +31,7 @@ pub struct PairHints<'a> {
 }
 
 impl HintList for PairHints<'_> {
-    ghost hints = { λ h. named h.pairs.now };
+    ghost hints = { λ h. named_hints h.pairs.now };
 
     #[inline]
     fn count(&self) -> usize {

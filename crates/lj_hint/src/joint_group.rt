@@ -12,7 +12,8 @@ pub struct JointGroup {
 }
 
 impl Model for JointGroup {
-    ghost use Rattle.lj_clause.specs.Rat.{HintGroup, hint_group_code};
+    ghost use Rattle.lj_clause.specs.Rat.{HintGroup};
+    ghost use Rattle.lj_clause.specs.inner.Codes.{hint_group_code};
 
     ghost Value = { HintGroup };
 

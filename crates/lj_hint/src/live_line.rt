@@ -3,7 +3,7 @@ ghost use Rattle.std.specs.Prelude.{◌≡◌, IfOk, false};
 ghost use Rattle.lj_clause.specs.LiteralSet.{from_literals, negations};
 ghost use Rattle.lj_clause.specs.Walk.{hints_in, walk, is_contradictory};
 ghost use Rattle.lj_clause.specs.Rat.{groups_in};
-ghost use Rattle.lj_hint.specs.Lent.{lent_groups};
+ghost use Rattle.lj_hint.specs.inner.Lent.{lent_groups};
 ghost use Rattle.lj_hint.specs.RatTest.{rat_reply, IsRatReply};
 ghost use Rattle.lj_hint.specs.LineTest.{line_reply, IsLineReply};
 
@@ -105,8 +105,8 @@ fn lent_numbers<'a, L: Live>(
     live: &'a L,
     groups: &'a [JointGroup],
 ) -> Result<Vec<LentGroup<LiveHints<'a, L>>>, NoMemory>
-    ensures { IfOk result (λ lent. lent_groups (λ h. hints_in (L.live h.live.now) h.numbers.now) lent.items
-        ≡ groups_in (L.live live.now) groups.now) }
+    ensures { IfOk result (λ lent. lent_groups (λ h. hints_in (L.live h.live.now) h.numbers.now)
+        lent.items ≡ groups_in (L.live live.now) groups.now) }
 {
     let mut lent = Vec::new(alloc);
     for group in groups {

@@ -2,9 +2,9 @@
 ghost use Rattle.std.specs.Prelude.{◌≡◌, IfOk, OnOk, Err, None, false};
 ghost use Rattle.lj_clause.specs.LiteralSet.{LiteralSet, from_literals};
 ghost use Rattle.lj_clause.specs.Walk.{Open, is_contradictory};
-ghost use Rattle.lj_hint.specs.Hints.{named};
+ghost use Rattle.lj_hint.specs.Hints.{named_hints};
 ghost use Rattle.lj_hint.specs.Case.{walk_of, groups_of};
-ghost use Rattle.lj_hint.specs.Lent.{lent_groups};
+ghost use Rattle.lj_hint.specs.inner.Lent.{lent_groups};
 ghost use Rattle.lj_hint.specs.RatTest.{named_groups, rat_reply, IsRatReply};
 ghost use Rattle.lj_hint.specs.declared.rat_refusal.RatRefusal.TheVariants.{EmptyOpen};
 
@@ -34,8 +34,8 @@ use std::alloc::Global;
 /// [`RatRefusal::NoMemory`] where a growth was refused.
 pub fn rat_test<L: Live>(live: &L, case: &Case, marks: &mut Marks) -> Result<Vec<Group>, RatRefusal>
     requires { (a : LiteralSet) × (walk_of case.now ≡ Open a) }
-    ensures reply { (a : LiteralSet) → walk_of case.now ≡ Open a
-        → IsRatReply result (rat_reply (L.live live.now) a case.now.lemma.pivot (named_groups case.now.groups)) }
+    ensures reply { (a : LiteralSet) → walk_of case.now ≡ Open a → IsRatReply result
+        (rat_reply (L.live live.now) a case.now.lemma.pivot (named_groups case.now.groups)) }
     ensures no_pivot { case.now.lemma.pivot ≡ None → result ≡ Err EmptyOpen }
 {
     let Some(pivot) = case.lemma().pivot() else {
@@ -73,7 +73,7 @@ fn lent_pairs<'a>(
     alloc: Global,
     groups: &'a [(Pair, Vec<Pair>)],
 ) -> Result<Vec<LentGroup<PairHints<'a>>>, NoMemory>
-    ensures { IfOk result (λ lent. lent_groups (λ h. named h.pairs.now) lent.items
+    ensures { IfOk result (λ lent. lent_groups (λ h. named_hints h.pairs.now) lent.items
         ≡ named_groups (groups_of groups.now)) }
 {
     let mut lent = Vec::new(alloc);

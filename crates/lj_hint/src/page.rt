@@ -63,7 +63,8 @@ impl Page {
     /// Sets the stamp at an index to 0.
     #[inline]
     pub fn erase(&mut self, at: usize)
-        ensures { (q : ℕ) → slice_index self.new q ≡ (if q == at then 0 else slice_index self.old q) }
+        ensures { (q : ℕ)
+            → slice_index self.new q ≡ (if q == at then 0 else slice_index self.old q) }
     {
         if at < self.stamps.len() {
             self.stamps[at] = 0;

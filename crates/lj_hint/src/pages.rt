@@ -1,6 +1,6 @@
 //! Stamps of literals, in pages that are made at first need.
 ghost use Rattle.std.specs.Prelude.{◌≡◌, ◌==◌, ◌<◌, ℕ, [], OnOk, OnErr, if◌then◌else◌, vec_len, slice_index_or};
-ghost use Rattle.lj_hint.specs.Stamps.{page_stamp};
+ghost use Rattle.lj_hint.specs.inner.Stamps.{page_stamp};
 
 use crate::page::Page;
 use lj_clause::NoMemory;
@@ -65,7 +65,8 @@ impl Pages {
     /// Sets the stamp at a place to 0. Takes constant time.
     #[inline]
     pub fn erase(&mut self, place: usize)
-        ensures { (q : ℕ) → page_stamp self.new q ≡ (if q == place then 0 else page_stamp self.old q) }
+        ensures { (q : ℕ)
+            → page_stamp self.new q ≡ (if q == place then 0 else page_stamp self.old q) }
     {
         let number = place / PAGE;
         if number < self.pages.len() {
@@ -90,7 +91,8 @@ impl Pages {
 /// [`NoMemory`] where a growth was refused.
 fn make_room(pages: &mut Vec<Page>, number: usize) -> Result<(), NoMemory>
     ensures room { OnOk result (number < vec_len pages.new) }
-    ensures same { (k : ℕ) → slice_index_or pages.new.items k [] ≡ slice_index_or pages.old.items k [] }
+    ensures same { (k : ℕ)
+        → slice_index_or pages.new.items k [] ≡ slice_index_or pages.old.items k [] }
 {
     let alloc = *pages.allocator();
     while pages.len() <= number {

@@ -5,11 +5,11 @@ ghost use Rattle.std.specs.Ordering.{nat_cmp};
 ghost use Rattle.lj_clause.specs.LiteralSet.{from_literals};
 ghost use Rattle.lj_clause.specs.Walk.{is_contradictory};
 ghost use Rattle.lj_clause.specs.Rat.{candidates, candidate_walk, rat_over, group_of};
-ghost use Rattle.lj_hint.specs.Hints.{hint_numbers};
-ghost use Rattle.lj_hint.specs.Trail.{Extends};
-ghost use Rattle.lj_hint.specs.Ending.{ending_of};
+ghost use Rattle.lj_hint.specs.inner.Hints.{hint_numbers};
+ghost use Rattle.lj_hint.specs.inner.Trail.{Extends};
+ghost use Rattle.lj_hint.specs.inner.Ending.{ending_of};
 ghost use Rattle.lj_hint.specs.RatTest.{rat_told, IsRatReply};
-ghost use Rattle.lj_hint.specs.Lent.{lent_groups, group_at, lent_hints, candidate_told, IsCandidateReply};
+ghost use Rattle.lj_hint.specs.inner.Lent.{lent_groups, group_at, lent_hints, candidate_told, IsCandidateReply};
 
 use crate::hint_list::HintList;
 use crate::live::Live;
@@ -84,8 +84,9 @@ fn test_candidate<H: HintList>(
     hints: Option<&H>,
 ) -> Result<Group, RatRefusal>
     requires { is_contradictory (from_literals held.old) ≡ false }
-    ensures reply { IsCandidateReply result (candidate_told number (is_some hints.entry)
-        (candidate_walk (from_literals held.old) pivot clause.now (option_map H.hints (option_copied hints.entry)))) }
+    ensures reply { IsCandidateReply result
+        (candidate_told number (is_some hints.entry) (candidate_walk (from_literals held.old) pivot
+        clause.now (option_map H.hints (option_copied hints.entry)))) }
     ensures back { OnOk result (held.new ≡ held.old) }
 {
     let len = held.len();
@@ -121,8 +122,9 @@ fn walk_candidate<H: HintList>(
     clause: &Clause,
     hints: Option<&H>,
 ) -> Result<Ending, NoMemory>
-    ensures ending { IfOk result (λ ending. ending ≡ ending_of
-        (candidate_walk (from_literals held.old) pivot clause.now (option_map H.hints (option_copied hints.entry)))) }
+    ensures ending { IfOk result
+        (λ ending. ending ≡ ending_of (candidate_walk (from_literals held.old) pivot clause.now
+        (option_map H.hints (option_copied hints.entry)))) }
     ensures extends { Extends held.old held.new }
 {
     held.insert_negations_but(clause.lits(), pivot.negated())?;
@@ -161,7 +163,8 @@ fn first_numbers<H: HintList>(
 /// [`NoMemory`] where a growth was refused.
 fn numbers_of<H: HintList>(alloc: Global, hints: &H, count: usize) -> Result<Vec<u64>, NoMemory>
     requires { count ≤ length (H.hints hints.now) }
-    ensures { IfOk result (λ numbers. numbers.items ≡ hint_numbers (take count (H.hints hints.now))) }
+    ensures { IfOk result
+        (λ numbers. numbers.items ≡ hint_numbers (take count (H.hints hints.now))) }
 {
     let mut numbers = Vec::with_capacity(alloc, count)?;
     for index in 0..count {

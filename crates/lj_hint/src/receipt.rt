@@ -16,7 +16,8 @@ pub struct Receipt {
 }
 
 impl Model for Receipt {
-    ghost use Rattle.lj_hint.specs.Receipt.{ReceiptValue, receipt_code, receipt_with, IsReceipt};
+    ghost use Rattle.lj_hint.specs.Receipt.{ReceiptValue, receipt_with, IsReceipt};
+    ghost use Rattle.lj_hint.specs.inner.Codes.{receipt_code};
 
     ghost Value = { ReceiptValue };
 

@@ -1,6 +1,6 @@
 //! Stamps of literals by their place.
 ghost use Rattle.std.specs.Prelude.{◌≡◌, ◌==◌, ◌<◌, ℕ, OnOk, OnErr, if◌then◌else◌};
-ghost use Rattle.lj_hint.specs.Stamps.{stamp_at};
+ghost use Rattle.lj_hint.specs.inner.Stamps.{stamp_at};
 
 use crate::page::Page;
 use crate::pages::Pages;
@@ -23,7 +23,7 @@ pub struct Stamps {
 }
 
 impl Model for Stamps {
-    ghost use Rattle.lj_hint.specs.Stamps.{Stamped};
+    ghost use Rattle.lj_hint.specs.inner.Stamps.{Stamped};
 
     ghost Value = { Stamped };
 

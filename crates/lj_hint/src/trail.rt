@@ -18,7 +18,7 @@ pub struct Trail {
 
 impl Model for Trail {
     ghost use Rattle.std.specs.Prelude.{List, ℤ};
-    ghost use Rattle.lj_hint.specs.Stamps.{AreMarks};
+    ghost use Rattle.lj_hint.specs.inner.Stamps.{AreMarks};
 
     ghost Value = { List ℤ };
 

@@ -4,7 +4,7 @@ ghost use Rattle.std.specs.Ordering.{eq_by_cmp};
 ghost use Rattle.lj_clause.specs.Literal.{lit_cmp};
 ghost use Rattle.lj_clause.specs.LiteralSet.{from_literals, holds, with_negations};
 ghost use Rattle.lj_clause.specs.Walk.{is_contradictory};
-ghost use Rattle.lj_hint.specs.Trail.{with_mark, Extends};
+ghost use Rattle.lj_hint.specs.inner.Trail.{with_mark, Extends};
 
 use crate::trail::Trail;
 use lj_clause::{Lit, NoMemory};
@@ -99,7 +99,8 @@ impl TrueLits {
     /// # Errors
     /// [`NoMemory`] where a growth was refused.
     pub fn insert_negations(&mut self, lits: &[Lit]) -> Result<(), NoMemory>
-        ensures ok { OnOk result (from_literals self.new ≡ with_negations (from_literals self.old) lits.now) }
+        ensures ok { OnOk result
+            (from_literals self.new ≡ with_negations (from_literals self.old) lits.now) }
         ensures extends { Extends self.old self.new }
     {
         for lit in lits {

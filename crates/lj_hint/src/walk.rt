@@ -2,9 +2,9 @@
 ghost use Rattle.std.specs.Prelude.{◌≡◌, IfOk, false};
 ghost use Rattle.lj_clause.specs.LiteralSet.{from_literals, negations};
 ghost use Rattle.lj_clause.specs.Walk.{rest, walk_over, is_contradictory, Open};
-ghost use Rattle.lj_hint.specs.Trail.{Extends};
-ghost use Rattle.lj_hint.specs.Rest.{seen};
-ghost use Rattle.lj_hint.specs.Ending.{ending_of};
+ghost use Rattle.lj_hint.specs.inner.Trail.{Extends};
+ghost use Rattle.lj_hint.specs.inner.Rest.{rest_seen};
+ghost use Rattle.lj_hint.specs.inner.Ending.{ending_of};
 
 use crate::hint_list::HintList;
 use crate::true_lits::TrueLits;
@@ -41,10 +41,12 @@ pub fn walk_negation<H: HintList>(
     clause: &Clause,
     hints: &H,
 ) -> Result<Ending, NoMemory>
-    ensures ending { IfOk result (λ ending. ending ≡ ending_of (walk_over (negations clause.now) (H.hints hints.now))) }
+    ensures ending { IfOk result
+        (λ ending. ending ≡ ending_of (walk_over (negations clause.now) (H.hints hints.now))) }
     ensures held { result ≡ Ok Ending.StaysOpen
         → walk_over (negations clause.now) (H.hints hints.now) ≡ Open (from_literals held.new) }
-    ensures consistent { result ≡ Ok Ending.StaysOpen → is_contradictory (from_literals held.new) ≡ false }
+    ensures consistent { result ≡ Ok Ending.StaysOpen
+        → is_contradictory (from_literals held.new) ≡ false }
 {
     held.clear();
     held.insert_negations(clause.lits())?;
@@ -57,10 +59,12 @@ pub fn walk_negation<H: HintList>(
 /// [`NoMemory`] where a growth was refused.
 #[inline(never)]
 pub fn walk<H: HintList>(held: &mut TrueLits, hints: &H) -> Result<Ending, NoMemory>
-    ensures ending { IfOk result (λ ending. ending ≡ ending_of (walk_over (from_literals held.old) (H.hints hints.now))) }
+    ensures ending { IfOk result
+        (λ ending. ending ≡ ending_of (walk_over (from_literals held.old) (H.hints hints.now))) }
     ensures held { result ≡ Ok Ending.StaysOpen
         → walk_over (from_literals held.old) (H.hints hints.now) ≡ Open (from_literals held.new) }
-    ensures consistent { result ≡ Ok Ending.StaysOpen → is_contradictory (from_literals held.new) ≡ false }
+    ensures consistent { result ≡ Ok Ending.StaysOpen
+        → is_contradictory (from_literals held.new) ≡ false }
     ensures extends { Extends held.old held.new }
 {
     let count = hints.count();
@@ -85,7 +89,7 @@ pub fn walk<H: HintList>(held: &mut TrueLits, hints: &H) -> Result<Ending, NoMem
 
 /// The literals of the clause whose negation isn't held.
 pub fn rest_of(held: &TrueLits, clause: &Clause) -> Rest
-    ensures { result ≡ seen (rest clause.now (from_literals held.now)) }
+    ensures { result ≡ rest_seen (rest clause.now (from_literals held.now)) }
 {
     let mut found = Rest::Nothing;
     let lits = clause.lits();

@@ -10,7 +10,8 @@ use Rattle.clap.specs.declared.error.Error.{Error}
 use Rattle.clap.specs.declared.error.kind.ErrorKind.{ErrorKind}
 use Rattle.clap.specs.declared.error.kind.ErrorKind.TheVariants.{OutOfMemory}
 use Rattle.clap.specs.declared.parser.matches.ArgMatches.{ArgMatches}
-use Rattle.lj_run.specs.Words.{Asked, request_asked, asked_by, asked_by_fault, asked_by_rows, kind_asked, program_app}
+use Rattle.lj_run.specs.CommandLine.{Asked, asked_by, asked_by_fault, asked_by_rows, kind_asked, program_app}
+use Rattle.lj_run.specs.inner.CommandLine.{request_asked}
 use Rattle.lj_run.specs.declared.command_line.Request.{Request}
 use Rattle.lj_run.proofs.FaultKinds.{IsSingle, level_single}
 

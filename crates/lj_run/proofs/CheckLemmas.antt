@@ -4,7 +4,7 @@ use Rattle.lj_clause.specs.ClauseMap.{FormulaValue}
 use Rattle.lj_text.proofs.StepLaws.{unsatisfiable-refutes}
 use Rattle.lj_text.specs.Steps.{refutes}
 use Rattle.lj_text.specs.Streams.{SourceState}
-use Rattle.lj_book.specs.State.{IsUnsatisfiable}
+use Rattle.lj_clause.specs.Truth.{IsUnsatisfiable}
 use Rattle.lj_run.specs.Checking.{verdict_of, IsPrinted, IsChecked}
 use Rattle.lj_run.specs.declared.checking.Checked.{Checked}
 use Rattle.lj_run.specs.InTurn.{IsOutcome, IsRunAnswer}

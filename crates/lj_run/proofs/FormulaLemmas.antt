@@ -7,8 +7,10 @@ use Rattle.lj_text.specs.CnfRead.{CnfRead}
 use Rattle.lj_text.specs.Streams.{SourceState, HasEnded, HasGiven}
 use Rattle.lj_run.specs.declared.outcome.RunFault.{RunFault}
 use Rattle.lj_run.specs.declared.outcome.RunFault.TheVariants.{Formula, FormulaRead, NoMemory, Unconfirmed}
-use Rattle.lj_run.specs.FormulaReading.{FormulaReadOn, IsFaultAtEnd, IsFormulaFault, GaveAll, GaveFormula, GaveFault}
+use Rattle.lj_run.specs.inner.FormulaReading.{FormulaReadOn, IsFaultAtEnd}
+use Rattle.lj_run.specs.FormulaReading.{IsFormulaFault, GaveAll, GaveFormula, GaveFault}
 use Rattle.lj_run.proofs.GivenLemmas.{given_none, given_on}
+use Rattle.lj_clause.specs.declared.lit.TheConstants.{MAX_VARIABLE}
 
 -- nothing is fed yet
 pub formula_begins : (reader : CnfRead) (before : SourceState) → reader.fed ≡ [] → HasGiven before before reader.fed
@@ -19,12 +21,12 @@ pub read_further : (reader new : CnfRead) (start before after : SourceState) →
 read_further reader new start before after gave more = subst (HasGiven start after) (sym more.fed) (given_on start before after reader.fed more.piece gave more.gave)
 
 -- what a reader tells at the end, of all that the source gave
-pub formula_told : (r : Result FormulaValue RunFault) (reader : CnfRead) (start after : SourceState) → reader.max ≡ 134217727 → GaveAll start after reader.fed
+pub formula_told : (r : Result FormulaValue RunFault) (reader : CnfRead) (start after : SourceState) → reader.max ≡ MAX_VARIABLE → GaveAll start after reader.fed
     → IfOk r (λ formula. Spells reader.max reader.fed formula) → IfOk r (GaveFormula start after)
 formula_told (Ok formula) reader start after max all told = record { text = reader.fed; all = all; spells = subst (λ m. Spells m reader.fed formula) max told }
 formula_told (Err fault) reader start after max all told = tt
 
-pub fault_told : (r : Result FormulaValue RunFault) (reader : CnfRead) (start after : SourceState) → reader.max ≡ 134217727 → GaveAll start after reader.fed
+pub fault_told : (r : Result FormulaValue RunFault) (reader : CnfRead) (start after : SourceState) → reader.max ≡ MAX_VARIABLE → GaveAll start after reader.fed
     → IfErr r (IsFaultAtEnd reader) → IfErr r (IsFormulaFault start after)
 fault_told (Ok formula) reader start after max all told = tt
 fault_told (Err (Formula fault)) reader start after max all told = record { text = reader.fed; all = all; has = subst (λ m. HasFault m reader.fed fault) max told }

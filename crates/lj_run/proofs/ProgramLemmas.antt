@@ -8,7 +8,8 @@ use Rattle.std.proofs.lemmas.List.Elements.{All-cons, All-nil, Contains-append_l
 use Rattle.lj_text.specs.Streams.{SourceState}
 use Rattle.lj_run.specs.Checking.{IsCheckFault, IsCutText}
 use Rattle.lj_run.specs.FormulaReading.{GaveAll}
-use Rattle.lj_run.specs.Program.{HasInputs, IfRun, IsAnOpenFault, IsAnswerTo, IsAskedFor, IsCreated, IsCreateFault, IsFaultOf, IsLostAt, IsOpened, IsOpenFault, IsRunAnswered, IsRunPrinted, RunInputs, SpellsUnsatisfiable, failed_outputs, fault_at, is_told_late, proof_status, status_code, verdict_status}
+use Rattle.lj_run.specs.Program.{HasInputs, IfRun, IsCreated, IsFaultOf, IsOpened, IsRunAnswered, IsRunPrinted, RunInputs, SpellsUnsatisfiable, failed_outputs, proof_status, status_code, verdict_status}
+use Rattle.lj_run.specs.inner.Program.{IsAnOpenFault, IsAnswerTo, IsAskedFor, IsCreateFault, IsLostAt, IsOpenFault, fault_at, is_told_late}
 use Rattle.lj_run.specs.Proof.{SinkState, IsProof}
 use Rattle.lj_run.specs.declared.outcome.ProofEnd.{ProofEnd}
 use Rattle.lj_run.specs.declared.outcome.ProofEnd.TheVariants.{NotAsked, Written, Failed}
@@ -17,7 +18,7 @@ use Rattle.lj_text.specs.Cnf.{HasFault}
 use Rattle.lj_run.specs.declared.checking.Checked.{Checked}
 use Rattle.lj_text.specs.declared.step.Step.{Step}
 use Rattle.lj_run.specs.InTurn.{streams_by_seat}
-use Rattle.lj_run.specs.Words.{Asked, AskedRun, a_run, paths_by_seat, the_help, the_version, the_usage}
+use Rattle.lj_run.specs.CommandLine.{Asked, AskedRun, a_run, paths_by_seat, the_help, the_version, the_usage}
 use Rattle.lj_run.specs.declared.checking.CheckFault.{CheckFault}
 use Rattle.lj_run.specs.declared.checking.CheckFault.TheVariants as check_faults
 use Rattle.lj_run.specs.declared.checking.Verdict.{Verdict}
@@ -26,6 +27,7 @@ use Rattle.lj_run.specs.declared.fault.Fault.{Fault}
 use Rattle.lj_run.specs.declared.fault.Fault.TheVariants as faults
 use Rattle.lj_run.specs.declared.outcome.RunFault.TheVariants as run_faults
 use Rattle.lj_run.specs.declared.status.Status.{Status}
+use Rattle.lj_clause.specs.declared.lit.TheConstants.{MAX_VARIABLE}
 
 -- ---- files
 
@@ -199,7 +201,7 @@ pub check_fault : {I W : Type 0} (seen : I → SourceState) (sink : W → SinkSt
     (old new : List ℕ) (fault : CheckFault) → path.now ≡ run.formula → IsCheckFault (seen inputs.opened) (seen inputs.after) seen run.max_steps inputs.streams old new fault
     → IsFaultOf seen sink (a_run run) content (fault_at path fault)
 check_fault seen sink run content path inputs old new (check_faults.Run (run_faults.Formula fault)) is h =
-    (is, of_content (λ text. HasFault 134217727 text fault) (content run.formula) (seen inputs.opened) (seen inputs.after) h.0.text inputs.formula_is h.0.all h.0.has, record { inputs = inputs; fault_is = h.0 })
+    (is, of_content (λ text. HasFault MAX_VARIABLE text fault) (content run.formula) (seen inputs.opened) (seen inputs.after) h.0.text inputs.formula_is h.0.all h.0.has, record { inputs = inputs; fault_is = h.0 })
 check_fault seen sink run content path inputs old new (check_faults.Run run_faults.FormulaRead) is h = inr (is, record { inputs = inputs; fault_is = h.0 })
 check_fault seen sink run content path inputs old new (check_faults.Run (run_faults.NoMemory e)) is h = tt
 check_fault seen sink run content path inputs old new (check_faults.Run run_faults.Unconfirmed) is h = absurd h.0

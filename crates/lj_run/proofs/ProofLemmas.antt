@@ -5,7 +5,7 @@ use Rattle.std.proofs.lemmas.List.{map-id}
 use Rattle.lj_clause.specs.ClauseMap.{FormulaValue}
 use Rattle.lj_text.specs.declared.step.Step.{Step}
 use Rattle.lj_text.specs.Steps.{adds_empty}
-use Rattle.lj_text.specs.Needed.{up_to_empty, trimmed}
+use Rattle.lj_text.specs.Needed.{up_to_empty, trimmed_steps}
 use Rattle.lj_text.specs.StepText.{proof_text}
 use Rattle.lj_text.specs.declared.step.Step.TheVariants as steps
 use Rattle.lj_text.specs.Steps.{refutes}
@@ -33,7 +33,7 @@ written-untrimmed f steps = by_test (list_any adds_empty steps) refl
 
 -- and where no step adds the empty clause
 pub written-none : (f : FormulaValue) (trims : Bool) (steps : List Step) → list_any adds_empty steps ≡ false → written_steps f trims steps ≡ up_to_empty steps
-written-none f trims steps e = ap (λ b. cond b (cond trims (trimmed f steps) (up_to_empty steps)) steps) e ∙ sym (up_to-none steps e)
+written-none f trims steps e = ap (λ b. cond b (cond trims (trimmed_steps f steps) (up_to_empty steps)) steps) e ∙ sym (up_to-none steps e)
 
 proof_end : (f : FormulaValue) (trims : Bool) (steps : List Step) (before after : SinkState) (text : List ℕ) (end : ProofEnd) → proof_text (length f.clauses) (written_steps f trims steps) ≡ text
     → IsTextEnd text before after end → IsProofEnd f trims steps before after end
@@ -79,7 +79,7 @@ written_refutes s f trims ss reached same are e =
     let above : AreAbove (length f.clauses) ss = subst (λ (g : FormulaValue). AreAbove (length g.clauses) ss) same (subst (AreAbove (length s.formula.clauses)) (sym are) (history_above _ s.history reached.legal)) in
     by_tests (list_any adds_empty ss) trims (trimmed_refutes f ss e above) (front_refutes f ss e) e
   where
-    by_tests : (b t : Bool) → refutes f (trimmed f ss) ≡ true → refutes f (up_to_empty ss) ≡ true → refutes f ss ≡ true → refutes f (cond b (cond t (trimmed f ss) (up_to_empty ss)) ss) ≡ true
+    by_tests : (b t : Bool) → refutes f (trimmed_steps f ss) ≡ true → refutes f (up_to_empty ss) ≡ true → refutes f ss ≡ true → refutes f (cond b (cond t (trimmed_steps f ss) (up_to_empty ss)) ss) ≡ true
     by_tests true true x y z = x
     by_tests true false x y z = y
     by_tests false t x y z = z

@@ -7,27 +7,28 @@ use Rattle.lj_text.specs.declared.line.Line.{Line}
 use Rattle.lj_text.specs.declared.lines.fault.LineFault.{LineFault}
 use Rattle.lj_text.specs.declared.lines.fault.LineFaultKind.{LineFaultKind}
 use Rattle.lj_text.specs.Lines.{Said, said_from, whole_said_from, whole_said, all_said_from, all_said}
-use Rattle.lj_text.specs.LinesRead.{LinesRead, LineReaderStandsAt, StandsWithin, StandsBehind, IsSaidAt, IsSaidRight, line_answer, told, line_number_of, last_number, handed_out, joined, is_line_no_memory}
+use Rattle.lj_text.specs.LinesRead.{LinesRead, LineReaderStandsAt, StandsWithin, StandsBehind, IsSaidAt, IsSaidRight, line_answer, answer_of_line, line_number_of, last_number, handed_out, text_of_lines, is_line_no_memory}
 use Rattle.lj_text.specs.Streams.{SourceState, HasGiven, HasEnded}
 use Rattle.lj_text.proofs.Fronts.{said_in_front}
 use Rattle.lj_text.proofs.StandLemmas.{whole-joined, all-joined, get-behind}
 use Rattle.lj_run.specs.declared.reading.Miss.{Miss}
 use Rattle.lj_run.specs.declared.reading.Miss.TheVariants.{Failed, AtFault}
-use Rattle.lj_run.specs.Reading.{PieceRead, IsNext, LineRead, IsMiss, IfOutOfRoom, IsRightLine, IsRoomRefused, LineMissed, IsPieceOf, PieceMissed, FailsAt, with_handed}
+use Rattle.lj_run.specs.inner.Reading.{PieceRead, IsNext, LineRead, IsMiss, IfOutOfRoom, LineMissed, IsPieceOf, PieceMissed, with_handed}
+use Rattle.lj_run.specs.Reading.{IsRightLine, IsRoomRefused, FailsAt}
 use Rattle.lj_run.proofs.GivenLemmas.{given_none, given_on}
 
-told_line : (n : ℕ) (r : Result Line LineFaultKind) (line : Line) → Ok (Some line) ≡ told n r → r ≡ Ok line
+told_line : (n : ℕ) (r : Result Line LineFaultKind) (line : Line) → Ok (Some line) ≡ answer_of_line n r → r ≡ Ok line
 told_line n (Ok other) line e = cc
 told_line n (Err kind) line e = cc
 
-told_none : (n : ℕ) (r : Result Line LineFaultKind) → Ok None ≡ told n r → ⊥
+told_none : (n : ℕ) (r : Result Line LineFaultKind) → Ok None ≡ answer_of_line n r → ⊥
 told_none n (Ok other) e = cc
 told_none n (Err kind) e = cc
 
 same_fault : (f g : LineFault) → ◌≡◌ {A = Result (Option Line) LineFault} (Err f) (Err g) → f ≡ g
 same_fault f g e = cc
 
-told_fault : (n : ℕ) (r : Result Line LineFaultKind) (fault : LineFault) → Err fault ≡ told n r → (n ≡ fault.line) × (r ≡ Err fault.kind)
+told_fault : (n : ℕ) (r : Result Line LineFaultKind) (fault : LineFault) → Err fault ≡ answer_of_line n r → (n ≡ fault.line) × (r ≡ Err fault.kind)
 told_fault n (Ok other) fault e = cc
 told_fault n (Err kind) fault e =
     let same = same_fault fault (record { kind = kind; line = n }) e in
@@ -118,7 +119,7 @@ handed_first reader text more handed s =
     let done = said_from reader.max 0 s.lines in
     let later = all_said_from reader.max (0 + length s.lines) (reader.ahead ++ more) in
     let is : all_said reader.max (text ++ more) ≡ done ++ later =
-    ap (λ t. all_said reader.max (t ++ more)) s.text_is ∙ ap (all_said reader.max) (append_assoc (joined s.lines) reader.ahead more) ∙ all-joined reader.max 0 s.lines (reader.ahead ++ more) s.whole in
+    ap (λ t. all_said reader.max (t ++ more)) s.text_is ∙ ap (all_said reader.max) (append_assoc (text_of_lines s.lines) reader.ahead more) ∙ all-joined reader.max 0 s.lines (reader.ahead ++ more) s.whole in
     ap (take handed) is ∙ ap (λ n. take n (done ++ later)) s.given_is ∙ take_front done later
 
 pub same_handed : (reader : LinesRead) (text more : List ℕ) (handed : ℕ) → reader.finished ≡ false → LineReaderStandsAt reader text handed

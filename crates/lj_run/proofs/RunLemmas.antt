@@ -6,7 +6,7 @@ use Rattle.lj_text.specs.declared.line.Line.{Line}
 use Rattle.lj_text.specs.declared.line.Line.TheVariants.{Add, Delete, Import}
 use Rattle.lj_text.specs.declared.lines.fault.LineFaultKind.{LineFaultKind}
 use Rattle.lj_text.specs.declared.lines.fault.LineFaultKind.TheVariants as kinds
-use Rattle.lj_text.specs.Lines.{Said}
+use Rattle.lj_text.specs.Lines.{Said, whole_said, all_said}
 use Rattle.lj_book.specs.declared.refusal.Refusal.{Refusal}
 use Rattle.lj_book.specs.declared.refusal.Refusal.TheVariants as refusals
 use Rattle.lj_book.specs.State.{State}
@@ -19,17 +19,19 @@ use Rattle.lj_run.specs.declared.outcome.LineEnd.{LineEnd}
 use Rattle.lj_run.specs.declared.outcome.LineEnd.TheVariants.{Fault, Refused, ReadFailed}
 use Rattle.lj_run.specs.declared.stream.Count.{Count}
 use Rattle.lj_run.specs.declared.stream.Count.TheVariants.{Addition, Deletion, Importing}
-use Rattle.lj_text.specs.Lines.{whole_said, all_said}
 use Rattle.lj_text.proofs.Fronts.{all_said-front}
 use Rattle.lj_text.specs.LinesRead.{LinesRead, LineReaderStandsAt, is_line_no_memory}
 use Rattle.lj_text.specs.Streams.{SourceState, HasGiven}
-use Rattle.lj_run.specs.Reading.{LineRead, LineMissed, IsMiss, IfOutOfRoom, IsRoomRefused, reads_failed}
+use Rattle.lj_run.specs.inner.Reading.{LineRead, LineMissed, IsMiss, IfOutOfRoom, reads_failed}
+use Rattle.lj_run.specs.Reading.{IsRoomRefused}
 use Rattle.lj_run.specs.declared.reading.Miss.{Miss}
 use Rattle.lj_run.specs.declared.reading.Miss.TheVariants.{Failed, AtFault}
 use Rattle.lj_run.specs.declared.stream.Tally.{Tally}
-use Rattle.lj_run.specs.Tally.{with_count, missed_at}
-use Rattle.lj_run.specs.Run.{if_accepted, reply_to_line, Progress, progress_of, with_line, has_verdict, if_line_entered, said_entered, all_entered, IsCounted, IsLineEnd, MeetsFault, MeetsRefused, MeetsRefusal, EndsAtLine, EndsWith, IsRunOfLines, IsStreamRun, IfReadFailed, IfRoomRefused, IsFailedRead, failed_reads}
+use Rattle.lj_run.specs.inner.Tally.{with_count, missed_at}
+use Rattle.lj_run.specs.Run.{if_accepted, reply_to_line, Progress, progress_of, with_line, has_verdict, progress_if_entered, progress_after_line, progress_after_lines, MeetsFault, MeetsRefused, MeetsRefusal, EndsAtLine, EndsWith, IsRunOfLines, IsStreamRun, IfReadFailed, IfRoomRefused, IsFailedRead, failed_reads}
+use Rattle.lj_run.specs.inner.Run.{IsCounted, IsLineEnd}
 use Rattle.lj_run.proofs.GivenLemmas.{given_none, given_on}
+use Rattle.lj_clause.specs.declared.lit.TheConstants.{MAX_VARIABLE}
 
 -- ---- an entered line makes one entry
 
@@ -59,13 +61,13 @@ entered_formula s t seat line is = ap (λ (u : State). u.formula) (sym (one_ente
 -- ---- one line more
 
 -- lines and one line more
-more_entered : (seat : ℕ) (p q : Progress) (xs : List Said) (said : Said) → all_entered seat p xs ≡ Some q → all_entered seat p (xs ++ said ∷ []) ≡ all_entered seat q (said ∷ [])
-more_entered seat p q [] said e = let same : p ≡ q = cc in ap (λ r. all_entered seat r (said ∷ [])) same
+more_entered : (seat : ℕ) (p q : Progress) (xs : List Said) (said : Said) → progress_after_lines seat p xs ≡ Some q → progress_after_lines seat p (xs ++ said ∷ []) ≡ progress_after_lines seat q (said ∷ [])
+more_entered seat p q [] said e = let same : p ≡ q = cc in ap (λ r. progress_after_lines seat r (said ∷ [])) same
 more_entered seat p q (x ∷ xs) said e =
-    elim (has_verdict p.state) as (λ b. cond b None (option_and_then (λ r. all_entered seat r xs) (said_entered seat p x.says)) ≡ Some q
-    → cond b None (option_and_then (λ r. all_entered seat r (xs ++ said ∷ [])) (said_entered seat p x.says)) ≡ all_entered seat q (said ∷ [])) [
+    elim (has_verdict p.state) as (λ b. cond b None (option_and_then (λ r. progress_after_lines seat r xs) (progress_after_line seat p x.says)) ≡ Some q
+    → cond b None (option_and_then (λ r. progress_after_lines seat r (xs ++ said ∷ [])) (progress_after_line seat p x.says)) ≡ progress_after_lines seat q (said ∷ [])) [
       | true ↦ λ is. cc
-      | false ↦ λ is. elim (said_entered seat p x.says) as (λ o. option_and_then (λ r. all_entered seat r xs) o ≡ Some q → option_and_then (λ r. all_entered seat r (xs ++ said ∷ [])) o ≡ all_entered seat q (said ∷ [])) [
+      | false ↦ λ is. elim (progress_after_line seat p x.says) as (λ o. option_and_then (λ r. progress_after_lines seat r xs) o ≡ Some q → option_and_then (λ r. progress_after_lines seat r (xs ++ said ∷ [])) o ≡ progress_after_lines seat q (said ∷ [])) [
         | None ↦ λ none. cc
         | Some r ↦ λ later. more_entered seat r q xs said later
       ] is
@@ -97,9 +99,9 @@ counted_is s t tally (Delete numbers) count is = ap (λ c. progress_of t (with_c
 counted_is s t tally (Import number clause) count is = ap (λ c. progress_of t (with_count tally c).added (with_count tally c).deleted (with_count tally c).imported) (sym is)
 
 one_line : (seat : ℕ) (s t : State) (tally : Tally) (n : ℕ) (line : Line) (count : Count) → has_verdict s ≡ false → reply_to_line s seat line ≡ Ok t → IsCounted line count
-    → all_entered seat (progress_of s tally.added tally.deleted tally.imported) (record { line = n; says = Ok line } ∷ []) ≡ Some (progress_of t (with_count tally count).added (with_count tally count).deleted (with_count tally count).imported)
+    → progress_after_lines seat (progress_of s tally.added tally.deleted tally.imported) (record { line = n; says = Ok line } ∷ []) ≡ Some (progress_of t (with_count tally count).added (with_count tally count).deleted (with_count tally count).imported)
 one_line seat s t tally n line count open_state is count_is =
-    (λ i. cond (open_state i) None (option_and_then (λ q. all_entered seat q []) (if_line_entered (progress_of s tally.added tally.deleted tally.imported) line (is i))))
+    (λ i. cond (open_state i) None (option_and_then (λ q. progress_after_lines seat q []) (progress_if_entered (progress_of s tally.added tally.deleted tally.imported) line (is i))))
     ∙ ap Some (counted_is s t tally line count count_is)
 
 -- ---- the run so far
@@ -110,31 +112,31 @@ pub record RunsTo (seat : ℕ) (before after : SourceState) (start now : Progres
   pub gave : HasGiven before after text
   pub handed : ℕ
   pub stands : LineReaderStandsAt reader text handed
-  pub enters : all_entered seat start (take handed (all_said 134217727 text)) ≡ Some now
+  pub enters : progress_after_lines seat start (take handed (all_said MAX_VARIABLE text)) ≡ Some now
 
 pub runs_begin : (seat : ℕ) (before : SourceState) (s : State) (reader : LinesRead) → LineReaderStandsAt reader [] 0 → RunsTo seat before before (progress_of s 0 0 0) (progress_of s 0 0 0) reader
 runs_begin seat before s reader stands = record { text = []; gave = given_none before; handed = 0; stands = stands; enters = refl }
 
 -- the lines entered are the first ones of what the source gave since, too
-enters_since : (seat : ℕ) (start now : Progress) (text piece : List ℕ) (handed : ℕ) → take handed (all_said 134217727 (text ++ piece)) ≡ take handed (all_said 134217727 text)
-    → all_entered seat start (take handed (all_said 134217727 text)) ≡ Some now → all_entered seat start (take handed (all_said 134217727 (text ++ piece))) ≡ Some now
-enters_since seat start now text piece handed same enters = ap (all_entered seat start) same ∙ enters
+enters_since : (seat : ℕ) (start now : Progress) (text piece : List ℕ) (handed : ℕ) → take handed (all_said MAX_VARIABLE (text ++ piece)) ≡ take handed (all_said MAX_VARIABLE text)
+    → progress_after_lines seat start (take handed (all_said MAX_VARIABLE text)) ≡ Some now → progress_after_lines seat start (take handed (all_said MAX_VARIABLE (text ++ piece))) ≡ Some now
+enters_since seat start now text piece handed same enters = ap (progress_after_lines seat start) same ∙ enters
 
 -- a line was read and entered
 pub runs_on : (seat : ℕ) (start : Progress) (s t : State) (tally : Tally) (line : Line) (count : Count) (reader new : LinesRead) (first before after : SourceState)
-    → (r : RunsTo seat first before start (progress_of s tally.added tally.deleted tally.imported) reader) → LineRead 134217727 r.text r.handed new before after (Some line)
+    → (r : RunsTo seat first before start (progress_of s tally.added tally.deleted tally.imported) reader) → LineRead MAX_VARIABLE r.text r.handed new before after (Some line)
     → has_verdict s ≡ false → reply_to_line s seat line ≡ Ok t → IsCounted line count
     → RunsTo seat first after start (progress_of t (with_count tally count).added (with_count tally count).deleted (with_count tally count).imported) new
 runs_on seat start s t tally line count reader new first before after r read open_state is count_is =
     let now = progress_of s tally.added tally.deleted tally.imported in
     let said : Said = record { line = new.at; says = Ok line } in
-    let lines = all_said 134217727 (r.text ++ read.piece) in
+    let lines = all_said MAX_VARIABLE (r.text ++ read.piece) in
     record {
       text = r.text ++ read.piece;
       gave = given_on first before after r.text read.piece r.gave read.gave;
       handed = r.handed + 1;
       stands = read.stands;
-      enters = ap (all_entered seat start) (rw add-one (take_next lines r.handed said read.next))
+      enters = ap (progress_after_lines seat start) (rw add-one (take_next lines r.handed said read.next))
           ∙ more_entered seat start now (take r.handed lines) said (enters_since seat start now r.text read.piece r.handed read.same r.enters)
           ∙ one_line seat s t tally new.at line count open_state is count_is;
     }
@@ -153,10 +155,10 @@ run_stopped seat before after start now reader r v unfailed = record {
   failures = unfailed;
 }
 
-pub run_ended : (seat : ℕ) (first before after : SourceState) (start now : Progress) (reader new : LinesRead) (r : RunsTo seat first before start now reader) → LineRead 134217727 r.text r.handed new before after None → has_verdict now.state ≡ false → after.failures ≡ 0
+pub run_ended : (seat : ℕ) (first before after : SourceState) (start now : Progress) (reader new : LinesRead) (r : RunsTo seat first before start now reader) → LineRead MAX_VARIABLE r.text r.handed new before after None → has_verdict now.state ≡ false → after.failures ≡ 0
     → IsStreamRun seat first after start now Ended
 run_ended seat first before after start now reader new r read v unfailed =
-    let lines = all_said 134217727 (r.text ++ read.piece) in
+    let lines = all_said MAX_VARIABLE (r.text ++ read.piece) in
     record {
       text = r.text ++ read.piece;
       gave = given_on first before after r.text read.piece r.gave read.gave;
@@ -174,9 +176,9 @@ meets_fault kinds.NumberRange n lines given h = first_left lines given ∙ h ref
 meets_fault kinds.Syntax n lines given h = first_left lines given ∙ h refl
 meets_fault kinds.Truncated n lines given h = first_left lines given ∙ h refl
 
-at_miss : (seat : ℕ) (s : State) (at : ℕ) (text : List ℕ) (handed : ℕ) (miss : Miss) → has_verdict s ≡ false → IsMiss 134217727 text handed at miss → EndsWith seat s (drop handed (all_said 134217727 text)) (missed_at at miss)
+at_miss : (seat : ℕ) (s : State) (at : ℕ) (text : List ℕ) (handed : ℕ) (miss : Miss) → has_verdict s ≡ false → IsMiss MAX_VARIABLE text handed at miss → EndsWith seat s (drop handed (all_said MAX_VARIABLE text)) (missed_at at miss)
 at_miss seat s at text handed Failed v h = (v, tt)
-at_miss seat s at text handed (AtFault fault) v h = (v, meets_fault fault.kind fault.line (all_said 134217727 text) handed h)
+at_miss seat s at text handed (AtFault fault) v h = (v, meets_fault fault.kind fault.line (all_said MAX_VARIABLE text) handed h)
 
 -- want of memory while the next line was read
 room_missed : (at : ℕ) (miss : Miss) (P : ℕ → Type 0) → IfOutOfRoom miss P → IfRoomRefused (missed_at at miss) P
@@ -195,15 +197,15 @@ take_front [] ys = refl
 take_front (x ∷ xs) ys = ap (λ zs. x ∷ zs) (take_front xs ys)
 
 -- a read that failed: what the whole lines delivered say was entered
-failed_line : (seat : ℕ) (text : List ℕ) (start now : Progress) (handed at : ℕ) (miss : Miss) → all_entered seat start (take handed (all_said 134217727 text)) ≡ Some now → IsMiss 134217727 text handed at miss
+failed_line : (seat : ℕ) (text : List ℕ) (start now : Progress) (handed at : ℕ) (miss : Miss) → progress_after_lines seat start (take handed (all_said MAX_VARIABLE text)) ≡ Some now → IsMiss MAX_VARIABLE text handed at miss
     → IfReadFailed (missed_at at miss) (IsFailedRead seat text start now)
 failed_line seat text start now handed at (AtFault fault) enters h = tt
 failed_line seat text start now handed at Failed enters h =
-    let later = all_said-front 134217727 text [] in
-    let said = whole_said 134217727 text in
-    let entered_are : take handed (all_said 134217727 text) ≡ said =
-    ap (λ t. take handed (all_said 134217727 t)) (sym (append-nil text)) ∙ ap (take handed) later.1 ∙ ap (λ n. take n (said ++ later.0)) h.handed_is ∙ take_front said later.0 in
-    record { line_is = h.at_is; enters = ap (all_entered seat start) (sym entered_are) ∙ enters }
+    let later = all_said-front MAX_VARIABLE text [] in
+    let said = whole_said MAX_VARIABLE text in
+    let entered_are : take handed (all_said MAX_VARIABLE text) ≡ said =
+    ap (λ t. take handed (all_said MAX_VARIABLE t)) (sym (append-nil text)) ∙ ap (take handed) later.1 ∙ ap (λ n. take n (said ++ later.0)) h.handed_is ∙ take_front said later.0 in
+    record { line_is = h.at_is; enters = ap (progress_after_lines seat start) (sym entered_are) ∙ enters }
 
 no_end_missed : (at : ℕ) (miss : Miss) → missed_at at miss ≡ Ended → ⊥
 no_end_missed at Failed e = cc
@@ -213,7 +215,7 @@ reads_missed : (at : ℕ) (miss : Miss) → failed_reads (missed_at at miss) ≡
 reads_missed at Failed = refl
 reads_missed at (AtFault fault) = refl
 
-pub run_missed : (seat : ℕ) (first before after : SourceState) (start now : Progress) (reader : LinesRead) (r : RunsTo seat first before start now reader) (at : ℕ) (miss : Miss) → LineMissed 134217727 r.text r.handed at before after miss
+pub run_missed : (seat : ℕ) (first before after : SourceState) (start now : Progress) (reader : LinesRead) (r : RunsTo seat first before start now reader) (at : ℕ) (miss : Miss) → LineMissed MAX_VARIABLE r.text r.handed at before after miss
     → has_verdict now.state ≡ false → after.failures ≡ reads_failed miss → IsStreamRun seat first after start now (missed_at at miss)
 run_missed seat first before after start now reader r at miss m v failures =
     let enters = enters_since seat start now r.text m.piece r.handed m.same r.enters in
@@ -221,7 +223,7 @@ run_missed seat first before after start now reader r at miss m v failures =
       text = r.text ++ m.piece;
       gave = given_on first before after r.text m.piece r.gave m.gave;
       runs = record { count = r.handed; enters = enters; ends = at_miss seat now.state at (r.text ++ m.piece) r.handed miss v m.is };
-      no_room = room_missed at miss (IsRoomRefused 134217727 (r.text ++ m.piece) after.ended r.handed) m.no_room;
+      no_room = room_missed at miss (IsRoomRefused MAX_VARIABLE (r.text ++ m.piece) after.ended r.handed) m.no_room;
       failed_read = failed_line seat (r.text ++ m.piece) start now r.handed at miss enters m.is;
       ended = λ e. absurd (no_end_missed at miss e);
       failures = failures ∙ sym (reads_missed at miss);
@@ -287,16 +289,16 @@ no_fault_line s seat line at (Fault kind) P is = absurd (no_fault_entered s seat
 no_fault_line s seat line at (Refused refusal) P is = tt
 no_fault_line s seat line at ReadFailed P is = tt
 
-pub run_refused : (seat : ℕ) (first before after : SourceState) (start now : Progress) (reader new : LinesRead) (r : RunsTo seat first before start now reader) (line : Line) (end : LineEnd) → LineRead 134217727 r.text r.handed new before after (Some line)
+pub run_refused : (seat : ℕ) (first before after : SourceState) (start now : Progress) (reader new : LinesRead) (r : RunsTo seat first before start now reader) (line : Line) (end : LineEnd) → LineRead MAX_VARIABLE r.text r.handed new before after (Some line)
     → has_verdict now.state ≡ false → after.failures ≡ 0 → IsLineEnd end (reply_to_line now.state seat line) → IsStreamRun seat first after start now (AtLine new.at end)
 run_refused seat first before after start now reader new r line end read v unfailed is =
     let text = r.text ++ read.piece in
     record {
       text = text;
       gave = given_on first before after r.text read.piece r.gave read.gave;
-      runs = record { count = r.handed; enters = enters_since seat start now r.text read.piece r.handed read.same r.enters; ends = (v, at_refusal seat now.state new.at (all_said 134217727 text) r.handed line end read.next is) };
+      runs = record { count = r.handed; enters = enters_since seat start now r.text read.piece r.handed read.same r.enters; ends = (v, at_refusal seat now.state new.at (all_said MAX_VARIABLE text) r.handed line end read.next is) };
       failed_read = no_read_line now.state seat line new.at end (IsFailedRead seat text start now) is;
-      no_room = no_fault_line now.state seat line new.at end (IsRoomRefused 134217727 text after.ended r.handed) is;
+      no_room = no_fault_line now.state seat line new.at end (IsRoomRefused MAX_VARIABLE text after.ended r.handed) is;
       ended = λ e. cc;
       failures = unfailed ∙ sym (no_read_refused now.state seat line new.at end is);
     }

@@ -6,7 +6,7 @@ use Rattle.lj_text.specs.Streams.{SourceState}
 use Rattle.lj_run.specs.Program.{IfRun, IsFaultTold, IsOther, IsProofLost, IsRunAnswered, IsRunCut, MayEnd, SpellsUnsatisfiable}
 use Rattle.lj_run.specs.Proof.{SinkState}
 use Rattle.lj_run.specs.Starting.{ProgramEnds}
-use Rattle.lj_run.specs.Words.{asked_by}
+use Rattle.lj_run.specs.CommandLine.{asked_by}
 
 -- a list without its first, which it may lack
 pub without_first : {X : Type 0} (xs : List X) (n : ℕ) → n ≡ min (length xs) 1 → take (length xs - n) (drop n xs) ≡ drop 1 xs

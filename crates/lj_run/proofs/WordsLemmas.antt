@@ -25,7 +25,8 @@ use Rattle.clap.specs.Simple.{App, app_of, HasMatchesOf, is_simple, matches_of, 
 use Rattle.clap.specs.Walk.{Rule, all_of, first_of, rows_of}
 use Rattle.clap.proofs.WalkLemmas.{first_value-rows, raw_values-rows}
 use Rattle.lj_text.specs.Bytes.{decimal_value}
-use Rattle.lj_run.specs.Words.{Asked, HasRule, a_run, asked_by_rows, is_given, is_run_of, limit_of, program_app, run_asked, run_by_rows, steps_of_value, the_usage, with_proof}
+use Rattle.lj_run.specs.CommandLine.{Asked, a_run, asked_by_rows, is_given, is_run_of, limit_of, program_app, run_asked, run_by_rows, steps_of_value, the_usage, with_proof}
+use Rattle.lj_run.specs.inner.CommandLine.{HasRule}
 
 -- ---- the command line
 

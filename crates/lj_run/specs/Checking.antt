@@ -2,7 +2,7 @@
 use Rattle.std.specs.Prelude.{◌≡◌, ◌<◌, ℕ, Bool, List, ◌++◌, length, take, Option, Some, None}
 use Rattle.lj_clause.specs.ClauseMap.{FormulaValue}
 use Rattle.lj_text.specs.Streams.{SourceState}
-use Rattle.lj_book.specs.State.{IsUnsatisfiable}
+use Rattle.lj_clause.specs.Truth.{IsUnsatisfiable}
 use Rattle.lj_run.specs.declared.checking.CheckFault.{CheckFault}
 use Rattle.lj_run.specs.declared.checking.CheckFault.TheVariants.{Run, CannotWrite}
 use Rattle.lj_run.specs.declared.checking.Verdict.{Verdict}
@@ -44,7 +44,8 @@ pub record IsChecked {S W : Type 0} (before after : SourceState) (seen : S → S
   pub prints : text ≡ outcome_text outcome
 
 -- the run has an outcome, and the proof is what the run made of it
-abbrev pub HasOutcome : {S W : Type 0} → SourceState → SourceState → (S → SourceState) → (W → SinkState) → ℕ → Bool → List S → Option W → Option W → Type 0
+abbrev pub HasOutcome : {S W : Type 0} → SourceState → SourceState → (S → SourceState)
+    → (W → SinkState) → ℕ → Bool → List S → Option W → Option W → Type 0
 HasOutcome {S} before after seen sink max_steps trims streams proof_old proof_new = (outcome : Outcome S) × IsRunAnswer before after seen sink max_steps trims streams proof_old proof_new outcome
 
 -- the formula is at fault, or a read of it failed
@@ -66,6 +67,9 @@ pub record IsCutText {S : Type 0} (before after : SourceState) (seen : S → Sou
 
 -- Why a check has no answer: the formula's fault, a failed read of it or want of memory, and nothing was taken; or the output
 -- failed, and took a beginning.
-abbrev pub IsCheckFault : {S : Type 0} → SourceState → SourceState → (S → SourceState) → ℕ → List S → List ℕ → List ℕ → CheckFault → Type 0
-IsCheckFault before after seen max_steps streams old new (Run fault) = IsFormulaFault before after fault × (new ≡ old)
-IsCheckFault before after seen max_steps streams old new CannotWrite = IsCutText before after seen max_steps streams old new
+abbrev pub IsCheckFault : {S : Type 0} → SourceState → SourceState → (S → SourceState) → ℕ → List S
+    → List ℕ → List ℕ → CheckFault → Type 0
+IsCheckFault before after seen max_steps streams old new (Run fault) = IsFormulaFault before after
+    fault × (new ≡ old)
+IsCheckFault before after seen max_steps streams old new CannotWrite = IsCutText before after seen
+    max_steps streams old new

@@ -9,7 +9,8 @@ bytes_at files path = option_map (λ bytes. bytes.items) (get_by_text files.adde
 
 -- a file was added or created at a path
 abbrev pub is_file : MemoryFiles → List ℕ → Bool
-is_file files path = is_some (get_by_text files.added path) || is_some (get_by_text files.created path)
+is_file files path = is_some (get_by_text files.added path)
+    || is_some (get_by_text files.created path)
 
 -- what is told of each path stays
 abbrev pub AllStay : {V : Type 0} → (List ℕ → V) → (List ℕ → V) → Type 0

@@ -1,25 +1,12 @@
 -- How a formula is read from its source.
-use Rattle.std.specs.Prelude.{◌≡◌, ℕ, List, ◌++◌}
+use Rattle.std.specs.Prelude.{◌≡◌, ℕ, List}
 use Rattle.lj_clause.specs.ClauseMap.{FormulaValue}
 use Rattle.lj_text.specs.declared.cnf.fault.CnfFault.{CnfFault}
 use Rattle.lj_text.specs.Cnf.{Spells, HasFault}
-use Rattle.lj_text.specs.CnfRead.{CnfRead}
 use Rattle.lj_text.specs.Streams.{SourceState, HasGiven, HasEnded}
 use Rattle.lj_run.specs.declared.outcome.RunFault.{RunFault}
 use Rattle.lj_run.specs.declared.outcome.RunFault.TheVariants.{Formula, FormulaRead, NoMemory, Unconfirmed}
-
--- The source gave a piece, and the reader was fed it too.
-pub record FormulaReadOn (old new : CnfRead) (before after : SourceState) : Type 0 where
-  pub piece : List ℕ
-  pub gave : HasGiven before after piece
-  pub fed : new.fed ≡ old.fed ++ piece
-
--- the fault that is told once the source has ended is that of what was fed
-abbrev pub IsFaultAtEnd : CnfRead → RunFault → Type 0
-IsFaultAtEnd reader (Formula fault) = HasFault reader.max reader.fed fault
-IsFaultAtEnd reader FormulaRead = ⊥
-IsFaultAtEnd reader (NoMemory _) = Unit {0}
-IsFaultAtEnd reader Unconfirmed = ⊥
+use Rattle.lj_clause.specs.declared.lit.TheConstants.{MAX_VARIABLE}
 
 -- The source has ended without a failure, and these are the bytes that it gave.
 pub record GaveAll (before after : SourceState) (text : List ℕ) : Type 0 where
@@ -31,13 +18,13 @@ pub record GaveAll (before after : SourceState) (text : List ℕ) : Type 0 where
 pub record GaveFormula (before after : SourceState) (formula : FormulaValue) : Type 0 where
   pub text : List ℕ
   pub all : GaveAll before after text
-  pub spells : Spells 134217727 text formula
+  pub spells : Spells MAX_VARIABLE text formula
 
 -- All that the source gave has this fault, and spells no formula.
 pub record GaveFault (before after : SourceState) (fault : CnfFault) : Type 0 where
   pub text : List ℕ
   pub all : GaveAll before after text
-  pub has : HasFault 134217727 text fault
+  pub has : HasFault MAX_VARIABLE text fault
 
 -- Why there is no formula: all that the source gave has this fault, a read failed, or memory ran out. Nothing is confirmed here.
 abbrev pub IsFormulaFault : SourceState → SourceState → RunFault → Type 0

@@ -18,32 +18,38 @@ streams_by_seat streams (Some closing) = streams ++ closing ∷ []
 
 -- the state, and what a report counts
 abbrev pub report_progress : {S : Type 0} → State → Report S → Progress
-report_progress s report = record { state = s; added = report.added; deleted = report.deleted; imported = report.imported }
+report_progress s report = record
+    { state = s; added = report.added; deleted = report.deleted; imported = report.imported }
 
 -- The report is right of this stream, which led from one state to the other under this seat: its source is the stream, with what
 -- the run took of it.
 abbrev pub IsReport : {S : Type 0} → (S → SourceState) → ℕ → State → State → S → Report S → Type 0
-IsReport seen seat s next stream report = IsStreamRun seat (seen stream) (seen report.source) (progress_of s 0 0 0) (report_progress next report) report.end
+IsReport seen seat s next stream report = IsStreamRun seat (seen stream) (seen report.source)
+    (progress_of s 0 0 0) (report_progress next report) report.end
 
 -- These streams run one after the other, the first under this seat, the next under the next, and lead from this state to the final
 -- one; the reports are theirs.
-abbrev pub RunInTurn : {S : Type 0} → (S → SourceState) → ℕ → List S → State → List (Report S) → State → Type 0
+abbrev pub RunInTurn : {S : Type 0} → (S → SourceState) → ℕ → List S → State → List (Report S)
+    → State → Type 0
 RunInTurn seen seat [] s [] final = s ≡ final
 RunInTurn seen seat [] s (report ∷ reports) final = ⊥
 RunInTurn seen seat (stream ∷ streams) s [] final = ⊥
-RunInTurn seen seat (stream ∷ streams) s (report ∷ reports) final = (next : State) × IsReport seen seat s next stream report × RunInTurn seen (seat + 1) streams next reports final
+RunInTurn seen seat (stream ∷ streams) s (report ∷ reports) final = (next : State)
+    × IsReport seen seat s next stream report × RunInTurn seen (seat + 1) streams next reports final
 
 -- The outcome of a run of these streams on a formula. They lead in turn from a new book, with a seat for each, to a final state. Its
 -- history is legal, the steps are those of the history, and the live clauses are their replay. It is verified, with this formula,
 -- exactly where the steps refute it.
 pub record IsOutcome {S : Type 0} (seen : S → SourceState) (formula : FormulaValue) (max_steps : ℕ) (streams : List S) (outcome : Outcome S) : Type 0 where
   pub final : State
-  pub runs : RunInTurn seen 0 streams (opening formula (length streams) max_steps) outcome.reports.items final
+  pub runs : RunInTurn seen 0 streams (opening formula (length streams) max_steps)
+      outcome.reports.items final
   pub same : final.formula ≡ formula
   pub legal : IsReached final
   pub steps : outcome.steps.items ≡ steps_of final.history
   pub replayed : replay (formula_map formula) outcome.steps.items ≡ Some (live final)
-  pub verified : outcome.verified ≡ (if refutes formula outcome.steps.items then Some formula else None)
+  pub verified : outcome.verified
+      ≡ (if refutes formula outcome.steps.items then Some formula else None)
 
 -- What a run answers, over a formula's source that was first in one state and then in the other, and a sink of the proof that may have
 -- been handed in and was so before and after: an outcome of the formula that the source gave, and what became of the proof. Where the
@@ -53,4 +59,5 @@ pub record IsRunAnswer {S W : Type 0} (before after : SourceState) (seen : S →
   pub gave : GaveFormula before after formula
   pub comes : IsOutcome seen formula max_steps streams outcome
   pub proof : IsProof sink formula trims outcome.steps.items out_old out_new outcome.proof
-  pub refuted : outcome.verified ≡ Some formula → refutes formula (written_steps formula trims outcome.steps.items) ≡ true
+  pub refuted : outcome.verified ≡ Some formula
+      → refutes formula (written_steps formula trims outcome.steps.items) ≡ true

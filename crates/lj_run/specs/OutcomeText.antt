@@ -23,11 +23,14 @@ end_text (AtLine n end) = codes "line " ++ (decimal n ++ (codes ": " ++ line_end
 
 -- the counts of a stream in decimal, and how it ended
 abbrev pub report_text : {S : Type 0} → Report S → List ℕ
-report_text report = decimal report.added ++ (codes " added, " ++ (decimal report.deleted ++ (codes " deleted, " ++ (decimal report.imported ++ (codes " imported, " ++ end_text report.end)))))
+report_text report = decimal report.added
+    ++ (codes " added, " ++ (decimal report.deleted ++ (codes " deleted, "
+    ++ (decimal report.imported ++ (codes " imported, " ++ end_text report.end)))))
 
 -- the line of the stream of this number
 abbrev pub stream_line : {S : Type 0} → ℕ → Report S → List ℕ
-stream_line n report = codes "c stream " ++ (decimal n ++ (codes ": " ++ (report_text report ++ codes "\n")))
+stream_line n report = codes "c stream "
+    ++ (decimal n ++ (codes ": " ++ (report_text report ++ codes "\n")))
 
 -- the lines of streams, of which the first has this number
 abbrev pub stream_lines : {S : Type 0} → ℕ → List (Report S) → List ℕ
@@ -41,4 +44,5 @@ verdict_line false = codes "s NOT VERIFIED\n"
 
 -- a line for each stream in order, and then that of the verdict
 abbrev pub outcome_text : {S : Type 0} → Outcome S → List ℕ
-outcome_text outcome = stream_lines 0 outcome.reports.items ++ verdict_line (is_some outcome.verified)
+outcome_text outcome = stream_lines 0 outcome.reports.items
+    ++ verdict_line (is_some outcome.verified)

@@ -1,13 +1,12 @@
 -- How the program ends, and what it tells.
-use Rattle.std.specs.Prelude.{◌≡◌, ◌≢◌, ◌⊎◌, ◌≤◌, Bool, true, false, Some, ℕ, List, [], ◌∷◌, ◌++◌, map, Option, None, Contains, IfSome, codes, decimal, string_bytes}
+use Rattle.std.specs.Prelude.{◌≡◌, ◌≢◌, ◌⊎◌, ◌≤◌, Some, ℕ, List, [], ◌∷◌, ◌++◌, map, Option, None, Contains, IfSome, codes, decimal, string_bytes}
 use Rattle.std.specs.Io.KnownBytes.{Keeps}
-use Rattle.std.specs.Borrow.{Bor}
 use Rattle.lj_clause.specs.ClauseMap.{FormulaValue}
 use Rattle.lj_text.specs.declared.cnf.fault.CnfFault.{CnfFault}
 use Rattle.lj_text.specs.Cnf.{HasFault, Spells}
 use Rattle.lj_text.specs.FaultNames.{cnf_fault_name}
 use Rattle.lj_text.specs.Streams.{SourceState}
-use Rattle.lj_book.specs.State.{IsUnsatisfiable}
+use Rattle.lj_clause.specs.Truth.{IsUnsatisfiable}
 use Rattle.lj_run.specs.Checking.{IsChecked, IsCutText}
 use Rattle.lj_run.specs.FormulaReading.{IsFormulaFault}
 use Rattle.lj_run.specs.Proof.{SinkState}
@@ -16,9 +15,7 @@ use Rattle.lj_run.specs.declared.outcome.ProofEnd.{ProofEnd}
 use Rattle.lj_run.specs.declared.outcome.ProofEnd.TheVariants.{NotAsked, Written, Failed}
 use Rattle.lj_run.specs.declared.outcome.ProofFault.{ProofFault}
 use Rattle.lj_run.specs.declared.outcome.ProofFault.TheVariants.{Device, NoMemory}
-use Rattle.lj_run.specs.Words.{Asked, AskedRun, a_run, paths_by_seat, the_help, the_version, the_usage}
-use Rattle.lj_run.specs.declared.checking.CheckFault.{CheckFault}
-use Rattle.lj_run.specs.declared.checking.CheckFault.TheVariants as check_faults
+use Rattle.lj_run.specs.CommandLine.{Asked, AskedRun, a_run, paths_by_seat, the_help, the_version, the_usage}
 use Rattle.lj_run.specs.declared.checking.Verdict.{Verdict}
 use Rattle.lj_run.specs.declared.checking.Verdict.TheVariants.{Verified, NotVerified}
 use Rattle.lj_run.specs.declared.fault.Fault.{Fault}
@@ -27,6 +24,7 @@ use Rattle.lj_run.specs.declared.outcome.RunFault.{RunFault}
 use Rattle.lj_run.specs.declared.outcome.RunFault.TheVariants as run_faults
 use Rattle.lj_run.specs.declared.status.Status.{Status}
 use Rattle.lj_run.specs.declared.status.Status.TheVariants as statuses
+use Rattle.lj_clause.specs.declared.lit.TheConstants.{MAX_VARIABLE}
 
 -- ---- statuses
 
@@ -48,6 +46,7 @@ proof_status NotAsked status = status
 proof_status Written status = status
 proof_status (Failed fault) status = statuses.Fault
 
+-- the status of what a check answers
 abbrev pub checked_status : Checked → Status
 checked_status checked = proof_status checked.proof (verdict_status checked.verdict)
 
@@ -58,18 +57,11 @@ status_of_fault fault = statuses.Fault
 
 -- ---- what is told on standard error
 
--- what is told of a check of the formula at a path that has no answer
-abbrev pub fault_at : Bor (List ℕ) → CheckFault → Fault
-fault_at path (check_faults.Run (run_faults.Formula fault)) = faults.Formula path fault
-fault_at path (check_faults.Run run_faults.FormulaRead) = faults.CannotRead path
-fault_at path (check_faults.Run (run_faults.NoMemory e)) = faults.NoMemory e
-fault_at path (check_faults.Run run_faults.Unconfirmed) = faults.Unconfirmed
-fault_at path check_faults.CannotWrite = faults.CannotWrite
-
 -- the line of a fault of the formula's text at a path
 abbrev pub formula_fault_text : List ℕ → CnfFault → List ℕ
 formula_fault_text path fault =
-    (codes "lratjoin: " ++ (path ++ codes ": line ")) ++ (decimal fault.line ++ (codes ": " ++ (cnf_fault_name fault.kind ++ codes "\n")))
+    (codes "lratjoin: " ++ (path ++ codes ": line "))
+    ++ (decimal fault.line ++ (codes ": " ++ (cnf_fault_name fault.kind ++ codes "\n")))
 
 -- what is told of a proof that couldn't be written into the file at a path
 abbrev pub lost_text : List ℕ → ProofFault → List ℕ
@@ -88,27 +80,6 @@ fault_text faults.OutOfMemory = codes "lratjoin: NoMemory\n"
 fault_text faults.Unconfirmed = codes "lratjoin: Unconfirmed\n"
 fault_text (faults.Usage text) = string_bytes text
 
--- a growth of memory was refused
-abbrev pub IsNoMemory : Fault → Type 0
-IsNoMemory (faults.NoMemory e) = Unit {0}
-IsNoMemory faults.OutOfMemory = Unit {0}
-IsNoMemory fault = ⊥
-
--- the file at this path, whose bytes are told so, can't be opened, or memory was refused; a file whose bytes are told can be opened
-abbrev pub IsOpenFault : List ℕ → Option (List ℕ) → Fault → Type 0
-IsOpenFault path content (faults.CannotRead p) = (p.now ≡ path) × (content ≡ None)
-IsOpenFault path content fault = IsNoMemory fault
-
--- the file at one of these paths can't be opened, or memory was refused
-abbrev pub IsAnOpenFault : (List ℕ → Option (List ℕ)) → List (List ℕ) → Fault → Type 0
-IsAnOpenFault content paths (faults.CannotRead p) = Contains paths p.now × (content p.now ≡ None)
-IsAnOpenFault content paths fault = IsNoMemory fault
-
--- the file of the proof, which is asked for at this path, can't be created, or memory was refused
-abbrev pub IsCreateFault : Option (List ℕ) → Fault → Type 0
-IsCreateFault path (faults.CannotCreate p) = path ≡ Some p.now
-IsCreateFault path fault = IsNoMemory fault
-
 -- ---- the files of a run
 
 -- The state of a source that was just opened at a path: it has given nothing and hasn't failed, and what is told of the path's file
@@ -123,7 +94,8 @@ abbrev pub HasInputs : {I : Type 0} → (I → SourceState) → List (Option (Li
 HasInputs seen [] [] = Unit {0}
 HasInputs seen [] (input ∷ inputs) = ⊥
 HasInputs seen (content ∷ contents) [] = ⊥
-HasInputs seen (content ∷ contents) (input ∷ inputs) = IsOpened content (seen input) × HasInputs seen contents inputs
+HasInputs seen (content ∷ contents) (input ∷ inputs) = IsOpened content (seen input)
+    × HasInputs seen contents inputs
 
 -- The files of a run: that of the formula, as it was opened and once it was read, and those of the streams by their seats, as they
 -- were opened.
@@ -139,7 +111,8 @@ abbrev pub IsCreated : {W : Type 0} → (W → SinkState) → Option (List ℕ) 
 IsCreated sink None None = Unit {0}
 IsCreated sink None (Some created) = ⊥
 IsCreated sink (Some path) None = ⊥
-IsCreated sink (Some path) (Some created) = ((sink created).taken ≡ []) × ((sink created).failures ≡ 0)
+IsCreated sink (Some path) (Some created) = ((sink created).taken ≡ [])
+    × ((sink created).failures ≡ 0)
 
 -- ---- what is printed
 
@@ -150,12 +123,14 @@ pub record IsRunPrinted {I W : Type 0} (seen : I → SourceState) (sink : W → 
   pub created : Option W
   pub written : Option W
   pub created_is : IsCreated sink run.proof created
-  pub printed : IsChecked (seen inputs.opened) (seen inputs.after) seen sink run.max_steps run.trims inputs.streams created written checked text
+  pub printed : IsChecked (seen inputs.opened) (seen inputs.after) seen sink run.max_steps run.trims
+      inputs.streams created written checked text
 
 -- A beginning of what is printed of a run that was asked for so was taken, and not all.
 pub record IsRunCut {I : Type 0} (seen : I → SourceState) (content : List ℕ → Option (List ℕ)) (run : AskedRun) (old new : List ℕ) : Type 0 where
   pub inputs : RunInputs seen content run
-  pub cut : IsCutText (seen inputs.opened) (seen inputs.after) seen run.max_steps inputs.streams old new
+  pub cut : IsCutText (seen inputs.opened) (seen inputs.after) seen run.max_steps inputs.streams old
+      new
 
 -- What was taken is what is printed of a run that was asked for so, and this is the status of what the check answers.
 pub record IsRunAnswered {I W : Type 0} (seen : I → SourceState) (sink : W → SinkState) (content : List ℕ → Option (List ℕ)) (run : AskedRun) (old new : List ℕ) (status : ℕ) : Type 0 where
@@ -180,7 +155,7 @@ pub record HasLostProof {I W : Type 0} (seen : I → SourceState) (sink : W → 
 -- this text spells a formula that no assignment satisfies
 pub record SpellsUnsatisfiable (text : List ℕ) : Type 0 where
   pub formula : FormulaValue
-  pub spells : Spells 134217727 text formula
+  pub spells : Spells MAX_VARIABLE text formula
   pub unsatisfiable : IsUnsatisfiable formula
 
 -- ---- how the program ends
@@ -206,39 +181,11 @@ MayEnd the_help status = (status ≡ 0) ⊎ (status ≡ 2)
 MayEnd the_version status = (status ≡ 0) ⊎ (status ≡ 2)
 MayEnd the_usage status = (status ≡ 2) ⊎ (status ≡ 3)
 
--- what was asked for was answered with this status
-abbrev pub IsAnswerTo : {I W : Type 0} → (I → SourceState) → (W → SinkState) → (List ℕ → Option (List ℕ)) → Asked → List ℕ → List ℕ → Status → Type 0
-IsAnswerTo seen sink content (a_run run) old new status = IsRunAnswered seen sink content run old new (status_code status)
-IsAnswerTo seen sink content the_help old new status = status ≡ statuses.Done
-IsAnswerTo seen sink content the_version old new status = status ≡ statuses.Done
-IsAnswerTo seen sink content the_usage old new status = ⊥
-
 -- the proof that words ask for couldn't be written, and what is printed of the run was taken
-abbrev pub IsProofLost : {I W : Type 0} → (I → SourceState) → (W → SinkState) → (List ℕ → Option (List ℕ)) → Asked → List ℕ → List ℕ → Type 0
-IsProofLost seen sink content asked old new = IsRunAnd asked (λ run. IsRunAnswered seen sink content run old new 2)
-
--- whether something stands on standard output where this fault is told
-abbrev pub is_told_late : Fault → Bool
-is_told_late faults.CannotWrite = true
-is_told_late (faults.ProofLost path fault) = true
-is_told_late fault = false
-
--- the fault is that of a proof that couldn't be written
-abbrev pub is_lost : Fault → Bool
-is_lost (faults.ProofLost path fault) = true
-is_lost fault = false
-
--- the fault is that of a proof that was asked for at this path, of which this became
-abbrev pub IsLostAt : Option (List ℕ) → ProofEnd → Fault → Type 0
-IsLostAt path end (faults.ProofLost p fault) = (path ≡ Some p.now) × (end ≡ Failed fault)
-IsLostAt path end fault = ⊥
-
--- a proof that couldn't be written was asked for
-abbrev pub IsAskedFor : {A : Type 0} → ProofEnd → Option A → Type 0
-IsAskedFor NotAsked path = Unit {0}
-IsAskedFor Written path = Unit {0}
-IsAskedFor (Failed fault) (Some path) = Unit {0}
-IsAskedFor (Failed fault) None = ⊥
+abbrev pub IsProofLost : {I W : Type 0} → (I → SourceState) → (W → SinkState)
+    → (List ℕ → Option (List ℕ)) → Asked → List ℕ → List ℕ → Type 0
+IsProofLost seen sink content asked old new = IsRunAnd asked
+    (λ run. IsRunAnswered seen sink content run old new 2)
 
 -- the words ask for no proof at this path
 abbrev pub IsOther : Asked → List ℕ → Type 0
@@ -246,23 +193,30 @@ IsOther asked path = IfRun asked (λ run. run.proof ≢ Some path)
 
 -- the file at this path is to be read, and isn't told; one that is told can be opened
 abbrev pub IsUnopened : (List ℕ → Option (List ℕ)) → AskedRun → List ℕ → Type 0
-IsUnopened content run path = ((path ≡ run.formula) ⊎ Contains (paths_by_seat run) path) × (content path ≡ None)
+IsUnopened content run path = ((path ≡ run.formula) ⊎ Contains (paths_by_seat run) path)
+    × (content path ≡ None)
 
 -- The fault is right of what words ask for, where this is told of files: the fault of the text that FORMULA's file gave; a path that can't
 -- be opened, or FORMULA, of which a read failed; an output that failed, where there is something to print; OUT that can't be created, or
 -- that failed; a run that isn't confirmed; usage. Want of memory may stand in place of each that memory is taken for.
-abbrev pub IsFaultOf : {I W : Type 0} → (I → SourceState) → (W → SinkState) → Asked → (List ℕ → Option (List ℕ)) → Fault → Type 0
-IsFaultOf seen sink asked content (faults.Formula path fault) = IsRunAnd asked (λ run. (path.now ≡ run.formula)
-    × IfSome (content run.formula) (λ text. HasFault 134217727 text fault) × HasNoOutcome seen content run (run_faults.Formula fault))
+abbrev pub IsFaultOf : {I W : Type 0} → (I → SourceState) → (W → SinkState) → Asked
+    → (List ℕ → Option (List ℕ)) → Fault → Type 0
+IsFaultOf seen sink asked content (faults.Formula path fault) = IsRunAnd asked
+    (λ run. (path.now ≡ run.formula)
+    × IfSome (content run.formula) (λ text. HasFault MAX_VARIABLE text fault)
+    × HasNoOutcome seen content run (run_faults.Formula fault))
 IsFaultOf seen sink asked content (faults.CannotRead path) =
-    IsRunAnd asked (λ run. IsUnopened content run path.now ⊎ ((path.now ≡ run.formula) × HasNoOutcome seen content run run_faults.FormulaRead))
+    IsRunAnd asked (λ run. IsUnopened content run path.now
+    ⊎ ((path.now ≡ run.formula) × HasNoOutcome seen content run run_faults.FormulaRead))
 IsFaultOf seen sink asked content faults.CannotWrite = asked ≢ the_usage
-IsFaultOf seen sink asked content (faults.CannotCreate path) = IsRunAnd asked (λ run. run.proof ≡ Some path.now)
+IsFaultOf seen sink asked content (faults.CannotCreate path) = IsRunAnd asked
+    (λ run. run.proof ≡ Some path.now)
 IsFaultOf seen sink asked content (faults.ProofLost path fault) =
     IsRunAnd asked (λ run. (run.proof ≡ Some path.now) × HasLostProof seen sink content run fault)
 IsFaultOf seen sink asked content (faults.NoMemory e) = Unit {0}
 IsFaultOf seen sink asked content faults.OutOfMemory = Unit {0}
-IsFaultOf seen sink asked content faults.Unconfirmed = IsRunAnd asked (λ run. HasNoOutcome seen content run run_faults.Unconfirmed)
+IsFaultOf seen sink asked content faults.Unconfirmed = IsRunAnd asked
+    (λ run. HasNoOutcome seen content run run_faults.Unconfirmed)
 IsFaultOf seen sink asked content (faults.Usage text) = asked ≡ the_usage
 
 -- how often the output has failed where this fault is told: an output that failed is told, and nothing else then

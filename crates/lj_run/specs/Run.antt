@@ -1,5 +1,5 @@
 -- What the lines of a stream make of a book's state.
-use Rattle.std.specs.Prelude.{◌≡◌, ℕ, ◌+◌, Bool, true, false, List, [], ◌∷◌, ◌++◌, length, take, drop, Option, Some, None, Result, Ok, Err, is_some, option_and_then, slice_get, ℤ, if◌then◌else◌}
+use Rattle.std.specs.Prelude.{◌≡◌, ℕ, ◌+◌, Bool, true, false, List, [], ◌∷◌, take, drop, Option, Some, None, Result, Ok, Err, is_some, option_and_then, slice_get, if◌then◌else◌}
 use Rattle.lj_text.specs.declared.line.Line.{Line}
 use Rattle.lj_text.specs.declared.line.Line.TheVariants.{Add, Delete, Import}
 use Rattle.lj_text.specs.declared.lines.fault.LineFaultKind.{LineFaultKind}
@@ -14,12 +14,11 @@ use Rattle.lj_book.specs.History.{after_entry}
 use Rattle.lj_book.specs.Calls.{drop_reply, drop_entry, import_reply, import_entry}
 use Rattle.lj_book.specs.Inside.{inside_reply, inside_entry}
 use Rattle.lj_run.specs.Reading.{IsRoomRefused}
-use Rattle.lj_run.specs.declared.stream.Count.{Count}
-use Rattle.lj_run.specs.declared.stream.Count.TheVariants.{Addition, Deletion, Importing}
 use Rattle.lj_run.specs.declared.outcome.End.{End}
 use Rattle.lj_run.specs.declared.outcome.End.TheVariants.{Ended, Stopped, Line as AtLine}
 use Rattle.lj_run.specs.declared.outcome.LineEnd.{LineEnd}
 use Rattle.lj_run.specs.declared.outcome.LineEnd.TheVariants.{Fault, Refused, ReadFailed}
+use Rattle.lj_clause.specs.declared.lit.TheConstants.{MAX_VARIABLE}
 
 -- ---- one line
 
@@ -30,14 +29,12 @@ if_accepted (Err refusal) s = Err (Refused refusal)
 
 -- A stream's line given to the book: the state that it leaves, or why it isn't accepted.
 abbrev pub reply_to_line : State → ℕ → Line → Result State LineEnd
-reply_to_line s seat (Add a) = if_accepted (inside_reply s seat a) (after_entry s (inside_entry s seat a))
-reply_to_line s seat (Delete numbers) = if_accepted (drop_reply s seat numbers) (after_entry s (drop_entry s seat numbers))
-reply_to_line s seat (Import number clause) = if_accepted (import_reply s seat number clause) (after_entry s (import_entry seat number clause))
-
--- the answer that a line isn't accepted is right, unless memory ran out
-abbrev pub IsLineEnd : {A : Type 0} → LineEnd → Result A LineEnd → Type 0
-IsLineEnd (Refused (refusals.NoMemory _)) reply = Unit {0}
-IsLineEnd end reply = reply ≡ Err end
+reply_to_line s seat (Add a) = if_accepted (inside_reply s seat a)
+    (after_entry s (inside_entry s seat a))
+reply_to_line s seat (Delete numbers) = if_accepted (drop_reply s seat numbers)
+    (after_entry s (drop_entry s seat numbers))
+reply_to_line s seat (Import number clause) = if_accepted (import_reply s seat number clause)
+    (after_entry s (import_entry seat number clause))
 
 -- ---- the lines of a stream
 
@@ -50,13 +47,8 @@ pub record Progress : Type 0 where
 
 -- the progress of a stream with these counts
 abbrev pub progress_of : State → ℕ → ℕ → ℕ → Progress
-progress_of s added deleted imported = record { state = s; added = added; deleted = deleted; imported = imported }
-
--- what a line is counted as
-abbrev pub IsCounted : Line → Count → Type 0
-IsCounted (Add a) count = count ≡ Addition
-IsCounted (Delete numbers) count = count ≡ Deletion
-IsCounted (Import number clause) count = count ≡ Importing
+progress_of s added deleted imported = record
+    { state = s; added = added; deleted = deleted; imported = imported }
 
 -- the progress with a line counted, and the state that it left
 abbrev pub with_line : Progress → Line → State → Progress
@@ -64,21 +56,25 @@ with_line p (Add a) s = record p { state = s; added = p.added + 1 }
 with_line p (Delete numbers) s = record p { state = s; deleted = p.deleted + 1 }
 with_line p (Import number clause) s = record p { state = s; imported = p.imported + 1 }
 
+-- whether the state has a verdict
 abbrev pub has_verdict : State → Bool
 has_verdict s = is_some (verdict s.history)
 
-abbrev pub if_line_entered : Progress → Line → Result State LineEnd → Option Progress
-if_line_entered p line (Ok s) = Some (with_line p line s)
-if_line_entered p line (Err end) = None
+-- the progress after a line, where the book accepted it
+abbrev pub progress_if_entered : Progress → Line → Result State LineEnd → Option Progress
+progress_if_entered p line (Ok s) = Some (with_line p line s)
+progress_if_entered p line (Err end) = None
 
-abbrev pub said_entered : ℕ → Progress → Result Line LineFaultKind → Option Progress
-said_entered seat p (Ok line) = if_line_entered p line (reply_to_line p.state seat line)
-said_entered seat p (Err kind) = None
+-- the progress after what a line says, where it is right and accepted
+abbrev pub progress_after_line : ℕ → Progress → Result Line LineFaultKind → Option Progress
+progress_after_line seat p (Ok line) = progress_if_entered p line (reply_to_line p.state seat line)
+progress_after_line seat p (Err kind) = None
 
 -- what lines leave, where none is at fault or refused and the verdict stands before none of them
-abbrev pub all_entered : ℕ → Progress → List Said → Option Progress
-all_entered seat p [] = Some p
-all_entered seat p (said ∷ more) = if has_verdict p.state then None else option_and_then (λ q. all_entered seat q more) (said_entered seat p said.says)
+abbrev pub progress_after_lines : ℕ → Progress → List Said → Option Progress
+progress_after_lines seat p [] = Some p
+progress_after_lines seat p (said ∷ more) = if has_verdict p.state then None else option_and_then
+    (λ q. progress_after_lines seat q more) (progress_after_line seat p said.says)
 
 -- ---- how a stream ends
 
@@ -120,14 +116,14 @@ EndsWith seat s rest (AtLine n end) = (has_verdict s ≡ false) × EndsAtLine se
 -- before the verdict, and the next one isn't.
 pub record IsRunOfLines (seat : ℕ) (lines : List Said) (start final : Progress) (end : End) : Type 0 where
   pub count : ℕ
-  pub enters : all_entered seat start (take count lines) ≡ Some final
+  pub enters : progress_after_lines seat start (take count lines) ≡ Some final
   pub ends : EndsWith seat final.state (drop count lines) end
 
 -- A read of a stream failed in this line: it is the last of what the source gave, and the whole lines of that lead from one
 -- progress to the other.
 pub record IsFailedRead (seat : ℕ) (text : List ℕ) (start final : Progress) (n : ℕ) : Type 0 where
   pub line_is : n ≡ last_number text
-  pub enters : all_entered seat start (whole_said 134217727 text) ≡ Some final
+  pub enters : progress_after_lines seat start (whole_said MAX_VARIABLE text) ≡ Some final
 
 -- what holds where a stream ended at a read that failed
 abbrev pub IfReadFailed : End → (ℕ → Type 0) → Type 0
@@ -155,8 +151,8 @@ IfRoomRefused (AtLine n end) P = Unit {0}
 pub record IsStreamRun (seat : ℕ) (before after : SourceState) (start final : Progress) (end : End) : Type 0 where
   pub text : List ℕ
   pub gave : HasGiven before after text
-  pub runs : IsRunOfLines seat (all_said 134217727 text) start final end
+  pub runs : IsRunOfLines seat (all_said MAX_VARIABLE text) start final end
   pub failed_read : IfReadFailed end (IsFailedRead seat text start final)
-  pub no_room : IfRoomRefused end (IsRoomRefused 134217727 text after.ended runs.count)
+  pub no_room : IfRoomRefused end (IsRoomRefused MAX_VARIABLE text after.ended runs.count)
   pub ended : end ≡ Ended → HasEnded after
   pub failures : after.failures ≡ failed_reads end

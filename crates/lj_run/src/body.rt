@@ -1,10 +1,10 @@
 //! The body of the program.
 ghost use Rattle.std.specs.Prelude.{◌≡◌, ◌≢◌, ◌⊎◌, ◌<◌, ◌≤◌, ℕ, List, map, true, false, option_map, IfOk, IfErr, IfSome, OnOk};
 ghost use Rattle.lj_text.specs.Streams.{source_state};
-ghost use Rattle.lj_run.specs.Words.{a_run, asked_by, line_asked};
-ghost use Rattle.lj_run.specs.Program.{IfRun, IsAnswerTo, IsAskedFor, IsFaultOf, IsFaultTold, IsLostAt};
-ghost use Rattle.lj_run.specs.Program.{IsOther, IsProofLost, IsRunAnswered, IsRunCut, MayEnd};
-ghost use Rattle.lj_run.specs.Program.{SpellsUnsatisfiable, checked_status, failed_outputs, is_lost, is_told_late, status_code};
+ghost use Rattle.lj_run.specs.CommandLine.{a_run, asked_by};
+ghost use Rattle.lj_run.specs.inner.CommandLine.{line_asked};
+ghost use Rattle.lj_run.specs.Program.{IfRun, IsFaultOf, IsFaultTold, IsOther, IsProofLost, IsRunAnswered, IsRunCut, MayEnd, SpellsUnsatisfiable, checked_status, failed_outputs, status_code};
+ghost use Rattle.lj_run.specs.inner.Program.{IsAnswerTo, IsAskedFor, IsLostAt, is_lost, is_told_late};
 ghost use Rattle.lj_run.specs.Proof.{sink_state};
 ghost use Rattle.lj_run.specs.declared.fault.Fault.TheVariants as faults;
 ghost use Rattle.lj_run.specs.declared.status.Status.TheVariants as statuses;
@@ -184,8 +184,8 @@ fn ended<'a>(checked: Checked, path: Option<&'a str>) -> Result<Status, Fault<'a
     requires { IsAskedFor checked.proof path }
     ensures ok { IfOk result (λ status. (status ≡ checked_status checked)
         × (status_code status < 2)) }
-    ensures fault { IfErr result (λ fault. IsLostAt (option_map (λ path. path.now) path.entry) checked.proof fault
-        × (checked_status checked ≡ statuses.Fault)) }
+    ensures fault { IfErr result (λ fault. IsLostAt (option_map (λ path. path.now) path.entry)
+        checked.proof fault × (checked_status checked ≡ statuses.Fault)) }
 {
     match (checked.proof, path) {
         (ProofEnd::Failed(fault), Some(path)) => Err(Fault::ProofLost { path, fault }),

@@ -3,7 +3,7 @@ ghost use Rattle.std.specs.Prelude.{◌≡◌, ◌≢◌, ◌<◌, ◌≤◌, �
 ghost use Rattle.lj_clause.specs.ClauseMap.{FormulaValue};
 ghost use Rattle.lj_clause.specs.Memory.{no_memory};
 ghost use Rattle.lj_text.specs.Streams.{source_state};
-ghost use Rattle.lj_book.specs.State.{IsUnsatisfiable};
+ghost use Rattle.lj_clause.specs.Truth.{IsUnsatisfiable};
 ghost use Rattle.lj_run.specs.FormulaReading.{GaveFormula};
 ghost use Rattle.lj_run.specs.InTurn.{streams_by_seat};
 ghost use Rattle.lj_run.specs.Checking.{IsChecked, IsCheckFault, IsInputFault, HasOutcome, verdict_of};
@@ -85,7 +85,8 @@ pub fn check<R: Wait, F: Source, S: Source + Drop, P: Sink, O: Sink>(
     requires some { 0 < length (streams_by_seat streams.items closing) }
     requires at_most { length (streams_by_seat streams.items closing) ≤ 1024 }
     requires unfailed { F.failures formula.old ≡ 0 }
-    requires streams_unfailed { All (λ stream. S.failures stream ≡ 0) (streams_by_seat streams.items closing) }
+    requires streams_unfailed { All (λ stream. S.failures stream ≡ 0)
+        (streams_by_seat streams.items closing) }
     requires proof_unfailed { IfSome proof.old (λ sink. P.failures sink ≡ 0) }
     requires out_unfailed { O.failures out.old ≡ 0 }
 
@@ -102,11 +103,13 @@ pub fn check<R: Wait, F: Source, S: Source + Drop, P: Sink, O: Sink>(
         (source_state F.given F.ended F.rest F.failures formula.new) f) }
     ensures ok { OnOk result (O.failures out.new ≡ 0) }
 
-    ensures fault { IfErr result (IsCheckFault (source_state F.given F.ended F.rest F.failures formula.old)
+    ensures fault { IfErr result
+        (IsCheckFault (source_state F.given F.ended F.rest F.failures formula.old)
         (source_state F.given F.ended F.rest F.failures formula.new)
         (source_state S.given S.ended S.rest S.failures) options.now.max_steps
         (streams_by_seat streams.items closing) (O.taken out.old) (O.taken out.new)) }
-    ensures untouched { IfErr result (λ fault. fault ≢ check_faults.CannotWrite → out.new ≡ out.old) }
+    ensures untouched { IfErr result
+        (λ fault. fault ≢ check_faults.CannotWrite → out.new ≡ out.old) }
     ensures failed { result ≡ Err check_faults.CannotWrite → O.failures out.new ≡ 1 }
     ensures written { result ≡ Err check_faults.CannotWrite
         → HasOutcome (source_state F.given F.ended F.rest F.failures formula.old)

@@ -1,6 +1,7 @@
 //! What is told on standard error.
 ghost use Rattle.std.specs.Prelude.{◌≡◌, ◌++◌, OnOk, OnErr, codes};
-ghost use Rattle.lj_run.specs.Program.{fault_at, fault_text, formula_fault_text, lost_text, status_of_fault, IsNoMemory};
+ghost use Rattle.lj_run.specs.inner.Program.{fault_at, IsNoMemory};
+ghost use Rattle.lj_run.specs.Program.{fault_text, formula_fault_text, lost_text, status_of_fault};
 ghost use Rattle.lj_run.specs.declared.fault.Fault.TheVariants as faults;
 
 use crate::checking::CheckFault;

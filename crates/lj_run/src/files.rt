@@ -54,7 +54,8 @@ pub trait Files {
     fn open(&mut self, path: &str) -> Result<Self::Input, FileFault>
         ensures unfailed { IfOk result (λ input. Self.Input.failures input ≡ 0) }
         ensures fresh { IfOk result (λ input. Self.Input.given input ≡ []) }
-        ensures bytes { IfOk result (λ input. Keeps (content self.old path.now) (Self.Input.rest input)) }
+        ensures bytes { IfOk result
+            (λ input. Keeps (content self.old path.now) (Self.Input.rest input)) }
         ensures there { IsSome (content self.old path.now) → result ≢ Err file_faults.CannotOpen }
         ensures same { AllStay (content self.old) (content self.new) };
 
@@ -192,7 +193,8 @@ impl Files for MemoryFiles {
 
     fn open(&mut self, path: &str) -> Result<MemorySource, FileFault>
         ensures fresh { IfOk result (λ input. input.given ≡ []) }
-        ensures bytes { IfOk result (λ input. Keeps (bytes_at self.old path.now) (Some input.rest)) }
+        ensures bytes { IfOk result
+            (λ input. Keeps (bytes_at self.old path.now) (Some input.rest)) }
         ensures there { IsSome (bytes_at self.old path.now) → result ≢ Err file_faults.CannotOpen }
         ensures missing { is_file self.old path.now ≡ false → result ≡ Err file_faults.CannotOpen }
         ensures same { AllStay (bytes_at self.old) (bytes_at self.new) }

@@ -34,7 +34,8 @@ pub fn run_in_turn<R: Wait, F: Source, S: Source + Drop, W: Sink>(
     requires some { 0 < length (streams_by_seat streams.items closing) }
     requires at_most { length (streams_by_seat streams.items closing) ≤ 1024 }
     requires unfailed { F.failures formula.old ≡ 0 }
-    requires streams_unfailed { All (λ stream. S.failures stream ≡ 0) (streams_by_seat streams.items closing) }
+    requires streams_unfailed { All (λ stream. S.failures stream ≡ 0)
+        (streams_by_seat streams.items closing) }
     requires out_unfailed { IfSome out.old (λ sink. W.failures sink ≡ 0) }
 
     ensures outcome { IfOk result (IsRunAnswer
@@ -43,7 +44,8 @@ pub fn run_in_turn<R: Wait, F: Source, S: Source + Drop, W: Sink>(
         (source_state S.given S.ended S.rest S.failures)
         (sink_state W.taken W.failures) options.now.max_steps options.now.trim
         (streams_by_seat streams.items closing) out.old out.new) }
-    ensures fault { IfErr result (IsFormulaFault (source_state F.given F.ended F.rest F.failures formula.old)
+    ensures fault { IfErr result
+        (IsFormulaFault (source_state F.given F.ended F.rest F.failures formula.old)
         (source_state F.given F.ended F.rest F.failures formula.new)) }
     ensures untouched { OnErr result (out.new ≡ out.old) }
 {
@@ -85,7 +87,8 @@ fn run_all<R: Wait, S: Source + Drop>(
 ) -> Result<Vec<Report<S>>, AllocFailed<Report<S>>>
     requires at_most { length streams.items ≤ 1024 }
     requires unfailed { All (λ stream. S.failures stream ≡ 0) streams.items }
-    ensures reports { IfOk result (λ reports. RunInTurn (source_state S.given S.ended S.rest S.failures) 0 streams.items
+    ensures reports { IfOk result
+        (λ reports. RunInTurn (source_state S.given S.ended S.rest S.failures) 0 streams.items
         book.old reports.items book.new) }
     ensures formula { book.new.formula ≡ book.old.formula }
 {
@@ -107,7 +110,8 @@ fn run_of<R: Wait, S: Source>(
     stream: S,
 ) -> Report<S>
     requires { S.failures stream ≡ 0 }
-    ensures report { IsReport (source_state S.given S.ended S.rest S.failures) seat book.old book.new stream result }
+    ensures report { IsReport (source_state S.given S.ended S.rest S.failures) seat book.old
+        book.new stream result }
     ensures formula { book.new.formula ≡ book.old.formula }
 {
     let mut source = stream;

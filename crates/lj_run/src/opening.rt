@@ -2,7 +2,8 @@
 ghost use Rattle.std.specs.Prelude.{◌≡◌, ◌≢◌, ℕ, List, [], Some, IfOk, IfErr, map, option_map};
 ghost use Rattle.lj_text.specs.Streams.{source_state};
 ghost use Rattle.lj_run.specs.InTurn.{streams_by_seat};
-ghost use Rattle.lj_run.specs.Program.{HasInputs, IsCreated, IsCreateFault, IsOpened, IsOpenFault, IsAnOpenFault};
+ghost use Rattle.lj_run.specs.Program.{HasInputs, IsCreated, IsOpened};
+ghost use Rattle.lj_run.specs.inner.Program.{IsCreateFault, IsOpenFault, IsAnOpenFault};
 ghost use Rattle.lj_run.specs.Proof.{sink_state};
 
 use crate::fault::Fault;

@@ -3,8 +3,9 @@ ghost use Rattle.std.specs.Prelude.{◌≡◌, ◌<◌, ℕ, List, [], length, t
 ghost use Rattle.lj_text.specs.Cnf.{Spells};
 ghost use Rattle.lj_text.specs.LinesRead.{LineReaderStandsAt};
 ghost use Rattle.lj_text.specs.Streams.{source_state, HasEnded};
-ghost use Rattle.lj_run.specs.FormulaReading.{FormulaReadOn, GaveFormula, IsFormulaFault, IsFaultAtEnd};
-ghost use Rattle.lj_run.specs.Reading.{MayRead, PieceRead, LineRead, LineMissed, PieceMissed, reads_failed};
+ghost use Rattle.lj_run.specs.inner.FormulaReading.{FormulaReadOn, IsFaultAtEnd};
+ghost use Rattle.lj_run.specs.FormulaReading.{GaveFormula, IsFormulaFault};
+ghost use Rattle.lj_run.specs.inner.Reading.{MayRead, PieceRead, LineRead, LineMissed, PieceMissed, reads_failed};
 
 use crate::outcome::RunFault;
 use lj_clause::{Formula, MAX_VARIABLE};
@@ -22,9 +23,11 @@ pub(crate) fn read_formula<R: Wait, F: Source>(
     source: &mut F,
 ) -> Result<Formula, RunFault>
     requires { F.failures source.old ≡ 0 }
-    ensures formula { IfOk result (GaveFormula (source_state F.given F.ended F.rest F.failures source.old)
+    ensures formula { IfOk result
+        (GaveFormula (source_state F.given F.ended F.rest F.failures source.old)
         (source_state F.given F.ended F.rest F.failures source.new)) }
-    ensures fault { IfErr result (IsFormulaFault (source_state F.given F.ended F.rest F.failures source.old)
+    ensures fault { IfErr result
+        (IsFormulaFault (source_state F.given F.ended F.rest F.failures source.old)
         (source_state F.given F.ended F.rest F.failures source.new)) }
 {
     let mut reader = CnfReader::new(alloc, MAX_VARIABLE);
@@ -101,15 +104,16 @@ pub(crate) fn next_line<R: Wait, S: Source>(
     requires room { 0 < length room.old }
     requires unfailed { S.failures source.old ≡ 0 }
     requires may_read { MayRead reader.old ended.old }
-    requires ended { ended.old ≡ true → HasEnded (source_state S.given S.ended S.rest S.failures source.old) }
+    requires ended { ended.old ≡ true
+        → HasEnded (source_state S.given S.ended S.rest S.failures source.old) }
 
-    ensures line { IfOk result (λ line. (fed : List ℕ) (handed : ℕ) → LineReaderStandsAt reader.old fed handed
-        → LineRead reader.old.max fed handed reader.new
+    ensures line { IfOk result (λ line. (fed : List ℕ) (handed : ℕ)
+        → LineReaderStandsAt reader.old fed handed → LineRead reader.old.max fed handed reader.new
         (source_state S.given S.ended S.rest S.failures source.old)
         (source_state S.given S.ended S.rest S.failures source.new) line) }
-    ensures miss { IfErr result (λ miss. (fed : List ℕ) (handed : ℕ) → LineReaderStandsAt reader.old fed handed
-        → LineMissed reader.old.max fed handed reader.new.at
-        (source_state S.given S.ended S.rest S.failures source.old)
+    ensures miss { IfErr result (λ miss. (fed : List ℕ) (handed : ℕ)
+        → LineReaderStandsAt reader.old fed handed → LineMissed reader.old.max fed handed
+        reader.new.at (source_state S.given S.ended S.rest S.failures source.old)
         (source_state S.given S.ended S.rest S.failures source.new) miss) }
 
     ensures may_read { OnOk result (MayRead reader.new ended.new) }
@@ -148,9 +152,9 @@ fn pull_piece<S: Source>(
     requires may_read { MayRead reader.old ended.old }
     requires goes_on { ended.old ≡ false }
 
-    ensures onward { OnOk result ((fed : List ℕ) (handed : ℕ) → LineReaderStandsAt reader.old fed handed
-        → PieceRead fed handed reader.new
-        (source_state S.given S.ended S.rest S.failures source.old)
+    ensures onward { OnOk result
+        ((fed : List ℕ) (handed : ℕ) → LineReaderStandsAt reader.old fed handed → PieceRead fed
+        handed reader.new (source_state S.given S.ended S.rest S.failures source.old)
         (source_state S.given S.ended S.rest S.failures source.new)) }
     ensures miss { IfErr result (PieceMissed reader.old reader.new
         (source_state S.given S.ended S.rest S.failures source.old)

@@ -4,7 +4,7 @@ ghost use Rattle.std.specs.IoError.{error_kind};
 ghost use Rattle.std.specs.Process.{exit_status};
 ghost use Rattle.lj_text.specs.Streams.{source_state};
 ghost use Rattle.lj_run.specs.Proof.{sink_state};
-ghost use Rattle.lj_run.specs.Words.{asked_by};
+ghost use Rattle.lj_run.specs.CommandLine.{asked_by};
 ghost use Rattle.lj_run.specs.Starting.{ProgramEnds, unread_status, unread_text};
 
 use crate::body::program;

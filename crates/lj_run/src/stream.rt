@@ -1,10 +1,11 @@
 //! The run of one stream on a book.
 ghost use Rattle.std.specs.Prelude.{◌≡◌, ◌+◌, ◌<◌, MatchResult, Ok};
 ghost use Rattle.lj_text.specs.Streams.{source_state};
-ghost use Rattle.lj_run.specs.Run.{reply_to_line, IsLineEnd, IsCounted, IsStreamRun, progress_of, has_verdict};
+ghost use Rattle.lj_run.specs.Run.{reply_to_line, IsStreamRun, progress_of, has_verdict};
+ghost use Rattle.lj_run.specs.inner.Run.{IsLineEnd, IsCounted};
 ghost use Rattle.lj_text.specs.declared.line.Line.TheVariants.{Delete};
 ghost use Rattle.lj_run.specs.declared.outcome.LineEnd.TheVariants.{Refused};
-ghost use Rattle.lj_run.specs.Tally.{with_count, with_end, missed_at};
+ghost use Rattle.lj_run.specs.inner.Tally.{with_count, with_end, missed_at};
 
 use crate::outcome::{End, LineEnd};
 use crate::reading::{Miss, PIECE, next_line};
@@ -121,7 +122,9 @@ pub(crate) fn enter(
     line: Line,
     marks: &mut Marks,
 ) -> Result<Count, LineEnd>
-    ensures { MatchResult result (λ count. (reply_to_line book.old seat line ≡ Ok book.new) × IsCounted line count) (λ end. (book.new ≡ book.old) × IsLineEnd end (reply_to_line book.old seat line)) }
+    ensures { MatchResult result
+        (λ count. (reply_to_line book.old seat line ≡ Ok book.new) × IsCounted line count)
+        (λ end. (book.new ≡ book.old) × IsLineEnd end (reply_to_line book.old seat line)) }
 {
     match line {
         Line::Add(addition) => match book.add_inside(seat, &addition, marks) {
@@ -143,7 +146,8 @@ pub(crate) fn enter(
 fn delete(book: &mut Book, seat: u32, numbers: &Numbers) -> Result<(), Refusal>
     ensures { MatchResult result
         (λ _. reply_to_line book.old seat (Delete numbers.now) ≡ Ok book.new)
-        (λ refusal. (book.new ≡ book.old) × IsLineEnd (Refused refusal) (reply_to_line book.old seat (Delete numbers.now))) }
+        (λ refusal. (book.new ≡ book.old)
+        × IsLineEnd (Refused refusal) (reply_to_line book.old seat (Delete numbers.now))) }
 {
     let list = numbers.to_vec()?;
     book.drop_numbers(seat, &list)?;

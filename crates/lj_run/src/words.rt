@@ -7,8 +7,8 @@ ghost use Rattle.clap.specs.Values.{kind_of};
 ghost use Rattle.clap.specs.Walk.{rows_of};
 ghost use Rattle.clap.specs.Matches.{found_of};
 ghost use Rattle.clap.specs.declared.error.kind.ErrorKind.TheVariants.{OutOfMemory};
-ghost use Rattle.lj_run.specs.Words.{HasRule, asked_by, asked_by_rows, bare_app, flag_rule, is_input, is_run_of, kind_asked};
-ghost use Rattle.lj_run.specs.Words.{limit_of, line_asked, option_rule, path_rule, paths_rule, program_app, request_asked, run_asked, run_with_proof, steps_of_value, the_usage, with_proof};
+ghost use Rattle.lj_run.specs.inner.CommandLine.{HasRule, line_asked, request_asked};
+ghost use Rattle.lj_run.specs.CommandLine.{asked_by, asked_by_rows, bare_app, flag_rule, is_input, is_run_of, kind_asked, limit_of, option_rule, path_rule, paths_rule, program_app, run_asked, run_with_proof, steps_of_value, the_usage, with_proof};
 ghost use Rattle.lj_run.specs.declared.words.WordsFault.TheVariants as words_faults;
 
 use crate::command_line::{CommandLine, MAX_PROOFS, Request};

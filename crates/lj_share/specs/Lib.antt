@@ -1,3 +1,4 @@
 pub mod Seats
 pub mod Entries
 pub mod Refusals
+pub mod inner

@@ -14,6 +14,8 @@ IsOrNoMemory wanted e = IsRefusal {A = ℕ} e (Err wanted)
 abbrev pub CanMeet : Call → Refusal → Type 0
 CanMeet (calls.Add own lemma) e = Unit {0}
 CanMeet (calls.Drop numbers) e = IsOrNoMemory SeatGone e
-CanMeet (calls.Adopt own joint) e = IsOrNoMemory SeatGone e ⊎ (IsOrNoMemory NumberTaken e ⊎ IsOrNoMemory NoSuchClause e)
-CanMeet (calls.Import own clause) e = IsOrNoMemory SeatGone e ⊎ (IsOrNoMemory NumberTaken e ⊎ IsOrNoMemory NoSuchClause e)
+CanMeet (calls.Adopt own joint) e = IsOrNoMemory SeatGone e
+    ⊎ (IsOrNoMemory NumberTaken e ⊎ IsOrNoMemory NoSuchClause e)
+CanMeet (calls.Import own clause) e = IsOrNoMemory SeatGone e
+    ⊎ (IsOrNoMemory NumberTaken e ⊎ IsOrNoMemory NoSuchClause e)
 CanMeet calls.Leave e = IsOrNoMemory SeatGone e

@@ -1,6 +1,5 @@
 -- Seats, and how many entries were made through them.
-use Rattle.std.specs.Prelude.{◌≡◌, ℕ, zero, suc, ◌+◌, List, [], ◌∷◌, ◌++◌, length, refl}
-use Rattle.std.specs.Coded.{Coded, code_by, coded×, coded_ℕ}
+use Rattle.std.specs.Prelude.{◌≡◌, ℕ, zero, suc, ◌+◌, List, [], ◌∷◌, ◌++◌, length}
 use Rattle.lj_clause.specs.ClauseMap.{FormulaValue}
 use Rattle.lj_book.specs.State.{State}
 
@@ -8,10 +7,6 @@ use Rattle.lj_book.specs.State.{State}
 pub record SeatValue : Type 0 where
   pub number : ℕ
   pub count : ℕ
-
--- how a proof stores one
-abbrev pub seat_code : Coded SeatValue
-seat_code = code_by (ℕ × ℕ) (coded× coded_ℕ coded_ℕ) (λ s. (s.number, s.count)) (λ p. record { number = p.0; count = p.1 }) (λ _. refl)
 
 -- the seat of this number, through which no entry was made
 abbrev pub new_seat : ℕ → SeatValue
@@ -36,11 +31,3 @@ pub record IsOpenedAs (formula : FormulaValue) (seats max_steps : ℕ) (book : S
   pub formula_is : book.formula ≡ formula
   pub seats_are : length book.tables ≡ seats
   pub limit_is : book.max_steps ≡ max_steps
-
--- What the lock keeps: the book is that of the opening, the total of its ledger is the number of entries, and all
--- of the ledger is with the seats.
-pub record IsDesk (formula : FormulaValue) (seats max_steps : ℕ) (book : State) (total parts amount : ℕ) : Type 0 where
-  pub opened : IsOpenedAs formula seats max_steps book
-  pub counted : length book.history ≡ total
-  pub no_part : parts ≡ 0
-  pub no_amount : amount ≡ 0

@@ -17,7 +17,8 @@ pub struct Closed<L: Opening> {
 }
 
 impl<L: Opening> Model for Closed<L> {
-    ghost use Rattle.lj_book.specs.State.{State, state_code};
+    ghost use Rattle.lj_book.specs.State.{State};
+    ghost use Rattle.lj_book.specs.inner.Codes.{state_code};
     ghost use Rattle.lj_share.specs.Seats.{IsOpenedAs};
 
     ghost Value = { State };

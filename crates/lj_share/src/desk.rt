@@ -1,7 +1,8 @@
 //! What lies under the lock.
 ghost use Rattle.std.specs.Prelude.{◌≡◌, ◌+◌, length, OnOk, OnErr, IfOk, IfErr};
 ghost use Rattle.lj_book.specs.declared.entry.Call.TheVariants as calls;
-ghost use Rattle.lj_share.specs.Seats.{IsDesk, counting_one};
+ghost use Rattle.lj_share.specs.inner.Seats.{IsDesk};
+ghost use Rattle.lj_share.specs.Seats.{counting_one};
 ghost use Rattle.lj_share.specs.Entries.{IsEntryOf};
 ghost use Rattle.lj_share.specs.Refusals.{CanMeet};
 
@@ -26,7 +27,7 @@ pub struct Desk<L: Opening> {
 
 impl<L: Opening> Model for Desk<L> {
     ghost use Rattle.std.specs.Prelude.{◌≡◌, length};
-    ghost use Rattle.lj_share.specs.Seats.{IsDesk};
+    ghost use Rattle.lj_share.specs.inner.Seats.{IsDesk};
 
     ghost Value = { Unit {0} };
 
@@ -54,7 +55,8 @@ impl<L: Opening> Desk<L> {
 
     /// The book, the ledger, and what no seat has of it.
     pub fn into_parts(self) -> (Book, Tally<L>, Share<L>)
-        ensures { IsDesk L.formula L.seats L.max_steps result.0 result.1.total result.2.parts result.2.amount }
+        ensures { IsDesk L.formula L.seats L.max_steps result.0 result.1.total result.2.parts
+            result.2.amount }
     {
         let Desk {
             book,
@@ -70,7 +72,8 @@ impl<L: Opening> Desk<L> {
         seat: &mut Seat<L>,
         receipt: Receipt,
     ) -> Result<Told, (Refusal, Receipt)>
-        ensures told { IfOk result (λ told. IsEntryOf receipt.seat (calls.Add receipt.own receipt.lemma) told) }
+        ensures told { IfOk result
+            (λ told. IsEntryOf receipt.seat (calls.Add receipt.own receipt.lemma) told) }
         ensures counted { OnOk result (seat.new ≡ counting_one seat.old) }
         ensures kept { OnErr result (seat.new ≡ seat.old) }
         ensures back { IfErr result (λ e. e.1 ≡ receipt) }
@@ -88,7 +91,8 @@ impl<L: Opening> Desk<L> {
 
     /// Tests a seat's addition, and enters it.
     pub fn add_inside(&mut self, seat: &mut Seat<L>, addition: &Addition) -> Result<Told, Refusal>
-        ensures told { IfOk result (λ told. IsEntryOf seat.old.number (calls.Add addition.now.number addition.now.lemma) told) }
+        ensures told { IfOk result (λ told. IsEntryOf seat.old.number
+            (calls.Add addition.now.number addition.now.lemma) told) }
         ensures counted { OnOk result (seat.new ≡ counting_one seat.old) }
         ensures kept { OnErr result (seat.new ≡ seat.old) }
     {
@@ -107,7 +111,8 @@ impl<L: Opening> Desk<L> {
     /// Gives own numbers of the seat up.
     #[tactic(auto, using(crate::proofs::Refusing::drop_refused))]
     pub fn drop_numbers(&mut self, seat: &mut Seat<L>, numbers: &[u64]) -> Result<Told, Refusal>
-        ensures told { IfOk result (λ told. IsEntryOf seat.old.number (calls.Drop numbers.now) told) }
+        ensures told { IfOk result
+            (λ told. IsEntryOf seat.old.number (calls.Drop numbers.now) told) }
         ensures counted { OnOk result (seat.new ≡ counting_one seat.old) }
         ensures kept { OnErr result (seat.new ≡ seat.old) }
         ensures refusal { IfErr result (λ e. CanMeet (calls.Drop numbers.now) e) }
@@ -126,7 +131,8 @@ impl<L: Opening> Desk<L> {
     /// Binds the seat's own number to a live clause with exactly these literals.
     #[tactic(auto, using(crate::proofs::Refusing::import_refused))]
     pub fn import(&mut self, seat: &mut Seat<L>, own: u64, clause: &Clause) -> Result<Told, Refusal>
-        ensures told { IfOk result (λ told. IsEntryOf seat.old.number (calls.Import own clause.now) told) }
+        ensures told { IfOk result
+            (λ told. IsEntryOf seat.old.number (calls.Import own clause.now) told) }
         ensures counted { OnOk result (seat.new ≡ counting_one seat.old) }
         ensures kept { OnErr result (seat.new ≡ seat.old) }
         ensures refusal { IfErr result (λ e. CanMeet (calls.Import own clause.now) e) }
@@ -145,7 +151,8 @@ impl<L: Opening> Desk<L> {
     /// Binds the seat's own number to a joint number that lives.
     #[tactic(auto, using(crate::proofs::Refusing::adopt_refused))]
     pub fn adopt(&mut self, seat: &mut Seat<L>, own: u64, joint: u64) -> Result<Told, Refusal>
-        ensures told { IfOk result (λ told. IsEntryOf seat.old.number (calls.Adopt own joint) told) }
+        ensures told { IfOk result
+            (λ told. IsEntryOf seat.old.number (calls.Adopt own joint) told) }
         ensures counted { OnOk result (seat.new ≡ counting_one seat.old) }
         ensures kept { OnErr result (seat.new ≡ seat.old) }
         ensures refusal { IfErr result (λ e. CanMeet (calls.Adopt own joint) e) }

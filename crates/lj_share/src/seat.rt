@@ -20,7 +20,8 @@ pub struct Seat<L: Opening> {
 
 impl<L: Opening> Model for Seat<L> {
     ghost use Rattle.std.specs.Prelude.{◌≡◌};
-    ghost use Rattle.lj_share.specs.Seats.{SeatValue, seat_code};
+    ghost use Rattle.lj_share.specs.Seats.{SeatValue};
+    ghost use Rattle.lj_share.specs.inner.Codes.{seat_code};
 
     ghost Value = { SeatValue };
 

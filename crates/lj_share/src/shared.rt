@@ -124,7 +124,8 @@ impl<L: Opening> Shared<L> {
         at: u64,
         gate: &G,
     ) -> Result<Told, Refusal>
-        ensures told { IfOk result (λ told. IsEntryOf seat.old.number (calls.Add addition.now.number addition.now.lemma) told) }
+        ensures told { IfOk result (λ told. IsEntryOf seat.old.number
+            (calls.Add addition.now.number addition.now.lemma) told) }
         ensures counted { OnOk result (seat.new ≡ counting_one seat.old) }
         ensures kept { OnErr result (seat.new ≡ seat.old) }
     {
@@ -177,7 +178,8 @@ impl<L: Opening> Shared<L> {
         receipt: Receipt,
     ) -> Result<Told, (Refusal, Receipt)>
         requires { receipt.seat ≡ seat.old.number }
-        ensures told { IfOk result (λ told. IsEntryOf seat.old.number (calls.Add receipt.own receipt.lemma) told) }
+        ensures told { IfOk result
+            (λ told. IsEntryOf seat.old.number (calls.Add receipt.own receipt.lemma) told) }
         ensures counted { OnOk result (seat.new ≡ counting_one seat.old) }
         ensures kept { OnErr result (seat.new ≡ seat.old) }
         ensures back { IfErr result (λ e. e.1 ≡ receipt) }
@@ -196,7 +198,8 @@ impl<L: Opening> Shared<L> {
         own: u64,
         joint: u64,
     ) -> Result<Told, Refusal>
-        ensures told { IfOk result (λ told. IsEntryOf seat.old.number (calls.Adopt own joint) told) }
+        ensures told { IfOk result
+            (λ told. IsEntryOf seat.old.number (calls.Adopt own joint) told) }
         ensures counted { OnOk result (seat.new ≡ counting_one seat.old) }
         ensures kept { OnErr result (seat.new ≡ seat.old) }
         ensures refusal { IfErr result (λ e. CanMeet (calls.Adopt own joint) e) }

@@ -10,7 +10,7 @@ pub struct Told {
 
 impl Model for Told {
     ghost use Rattle.lj_book.specs.declared.entry.Entry.{Entry};
-    ghost use Rattle.lj_book.specs.Codes.{entry_code};
+    ghost use Rattle.lj_book.specs.inner.Codes.{entry_code};
 
     ghost Value = { Entry };
 

@@ -57,7 +57,7 @@ fn proof_text(alloc: Global) -> Result<String, AllocError> {
 
 /// The formula of a text that comes in one piece.
 fn formula_of(alloc: Global, text: &str) -> Result<Formula, Fail> {
-    let mut reader = CnfReader::new(alloc, 134_217_727);
+    let mut reader = CnfReader::new(alloc, lj_clause::MAX_VARIABLE);
     reader.feed(text.as_bytes())?;
     Ok(reader.finish()?)
 }
@@ -89,7 +89,7 @@ fn a_long_proof_is_read_entered_and_written(rt: HostRuntime) -> Result<(), Fail>
     assert!(rt; formula.len() == 14_001);
     let mut book = Book::open(alloc, formula, 1, 9_999)?;
     let text = proof_text(alloc)?;
-    let mut reader = LineReader::new(alloc, 134_217_727);
+    let mut reader = LineReader::new(alloc, lj_clause::MAX_VARIABLE);
     reader.feed(text.as_bytes())?;
     let mut marks = Marks::new(alloc);
     for _ in 0..9_999 {

@@ -16,7 +16,8 @@ use Rattle.lj_text.specs.declared.cnf.fault.CnfFault.{CnfFault}
 use Rattle.lj_text.specs.declared.cnf.fault.CnfFaultKind.TheVariants.{NoHeader, BadHeader, BadNumber, VariableRange, ClauseCount, Truncated, NoMemory}
 use Rattle.lj_text.specs.Lines.{with_read, then_read}
 use Rattle.lj_text.specs.Cnf.{Place, Percent, NoNumber, Number, number_at, fault_in, literals_up_to, clauses_of}
-use Rattle.lj_text.specs.CnfReading.{Begun, completed, clauses_after, IsCnfTold, IsNumberUpTo, is_up_to, is_literal_kept, keeps_first, Goes, places_behind}
+use Rattle.lj_text.specs.CnfReading.{Begun, formula_after, clauses_after, is_literal_kept, keeps_first}
+use Rattle.lj_text.specs.inner.CnfReading.{IsCnfTold, IsNumberUpTo, is_up_to, Goes, places_behind}
 use Rattle.lj_text.specs.declared.cnf.fault.CnfFaultKind.{CnfFaultKind}
 
 pub not_zero : (n : ℕ) → 0 < n → (n == 0) ≡ false
@@ -62,7 +63,7 @@ after_literal v last line left (o ∷ os) n rest le some h =
     ∙ regroup v last left o os n (literals_up_to v last rest)
 
 pub completed-literal : (b : Begun) (last line : ℕ) (n : ℤ) (rest : List Place) → unsigned_abs n ≤ b.variables → 0 < unsigned_abs n → 0 < b.left
-    → completed b last (Number line n ∷ rest) ≡ completed (record b { literals = b.literals ++ n ∷ [] }) last rest
+    → formula_after b last (Number line n ∷ rest) ≡ formula_after (record b { literals = b.literals ++ n ∷ [] }) last rest
 completed-literal b last line n rest le some h =
     ap (with_read (λ cs. formula_of b.variables (b.clauses ++ cs))) (after_literal b.variables last line b.left b.literals n rest le some h)
 
@@ -83,7 +84,7 @@ add_clause v done c (Ok cs) = ap (λ l. Ok (formula_of v l)) (sym (append_assoc 
 add_clause v done c (Err e) = refl
 
 pub completed-zero : (b : Begun) (last line : ℕ) (rest : List Place) → 0 < b.left
-    → completed b last (Number line (pos 0) ∷ rest) ≡ completed (record b { left = b.left - 1; clauses = b.clauses ++ from_literals b.literals ∷ []; literals = [] }) last rest
+    → formula_after b last (Number line (pos 0) ∷ rest) ≡ formula_after (record b { left = b.left - 1; clauses = b.clauses ++ from_literals b.literals ∷ []; literals = [] }) last rest
 completed-zero b last line rest h =
     ap (with_read (λ cs. formula_of b.variables (b.clauses ++ cs))) (after_zero b.variables last line b.left b.literals rest h)
     ∙ add_clause b.variables b.clauses (from_literals b.literals) (clauses_of b.variables last (b.left - 1) rest)
@@ -94,7 +95,7 @@ no_number v last line zero [] rest = refl
 no_number v last line (suc m) [] rest = refl
 no_number v last line left (o ∷ os) rest = refl
 
-pub completed-no_number : (b : Begun) (last line : ℕ) (rest : List Place) → completed b last (NoNumber line ∷ rest) ≡ fault_in line BadNumber
+pub completed-no_number : (b : Begun) (last line : ℕ) (rest : List Place) → formula_after b last (NoNumber line ∷ rest) ≡ fault_in line BadNumber
 completed-no_number b last line rest = ap (with_read (λ cs. formula_of b.variables (b.clauses ++ cs))) (no_number b.variables last line b.left b.literals rest)
 
 literals-beyond : (v last line : ℕ) (n : ℤ) (rest : List Place) → v < unsigned_abs n → literals_up_to v last (Number line n ∷ rest) ≡ fault_in line VariableRange
@@ -106,7 +107,7 @@ beyond v last line zero [] n rest above = ap (λ b. cond b (fault_in line Clause
 beyond v last line (suc m) [] n rest above = ap (λ read. then_read read (λ r. with_read (λ cs. from_literals r.0 ∷ cs) (clauses_of v last m r.1))) (literals-beyond v last line n rest above)
 beyond v last line left (o ∷ os) n rest above = ap (λ read. then_read read (λ r. with_read (λ cs. from_literals (o ∷ os ++ r.0) ∷ cs) (clauses_of v last (left - 1) r.1))) (literals-beyond v last line n rest above)
 
-pub completed-beyond : (b : Begun) (last line : ℕ) (n : ℤ) (rest : List Place) → b.variables < unsigned_abs n → completed b last (Number line n ∷ rest) ≡ fault_in line VariableRange
+pub completed-beyond : (b : Begun) (last line : ℕ) (n : ℤ) (rest : List Place) → b.variables < unsigned_abs n → formula_after b last (Number line n ∷ rest) ≡ fault_in line VariableRange
 completed-beyond b last line n rest above = ap (with_read (λ cs. formula_of b.variables (b.clauses ++ cs))) (beyond b.variables last line b.left b.literals n rest above)
 
 too_many : (v last line left : ℕ) (ls : List ℤ) (n : ℤ) (rest : List Place) → left ≡ 0 → ls ≡ [] → unsigned_abs n ≤ v → clauses_after v last left ls (Number line n ∷ rest) ≡ fault_in line ClauseCount
@@ -114,7 +115,7 @@ too_many v last line zero [] n rest h e le = ap (λ b. cond b (fault_in line Cla
 too_many v last line (suc m) [] n rest h e le = absurd (omega arith)
 too_many v last line left (o ∷ os) n rest h e le = cc
 
-pub completed-too_many : (b : Begun) (last line : ℕ) (n : ℤ) (rest : List Place) → b.left ≡ 0 → b.literals ≡ [] → unsigned_abs n ≤ b.variables → completed b last (Number line n ∷ rest) ≡ fault_in line ClauseCount
+pub completed-too_many : (b : Begun) (last line : ℕ) (n : ℤ) (rest : List Place) → b.left ≡ 0 → b.literals ≡ [] → unsigned_abs n ≤ b.variables → formula_after b last (Number line n ∷ rest) ≡ fault_in line ClauseCount
 completed-too_many b last line n rest h e le = ap (with_read (λ cs. formula_of b.variables (b.clauses ++ cs))) (too_many b.variables last line b.left b.literals n rest h e le)
 
 -- a percent
@@ -122,7 +123,7 @@ percent_open : (v last line left : ℕ) (ls : List ℤ) (rest : List Place) → 
 percent_open v last line left [] rest h = absurd (omega arith)
 percent_open v last line left (o ∷ os) rest h = refl
 
-pub completed-percent_open : (b : Begun) (last line : ℕ) (rest : List Place) → 0 < length b.literals → completed b last (Percent line ∷ rest) ≡ fault_in line BadNumber
+pub completed-percent_open : (b : Begun) (last line : ℕ) (rest : List Place) → 0 < length b.literals → formula_after b last (Percent line ∷ rest) ≡ fault_in line BadNumber
 completed-percent_open b last line rest h = ap (with_read (λ cs. formula_of b.variables (b.clauses ++ cs))) (percent_open b.variables last line b.left b.literals rest h)
 
 percent_early : (v last line left : ℕ) (ls : List ℤ) (rest : List Place) → 0 < left → ls ≡ [] → clauses_after v last left ls (Percent line ∷ rest) ≡ fault_in line ClauseCount
@@ -130,7 +131,7 @@ percent_early v last line zero [] rest h e = absurd (omega arith)
 percent_early v last line (suc m) [] rest h e = refl
 percent_early v last line left (o ∷ os) rest h e = cc
 
-pub completed-percent_early : (b : Begun) (last line : ℕ) (rest : List Place) → 0 < b.left → b.literals ≡ [] → completed b last (Percent line ∷ rest) ≡ fault_in line ClauseCount
+pub completed-percent_early : (b : Begun) (last line : ℕ) (rest : List Place) → 0 < b.left → b.literals ≡ [] → formula_after b last (Percent line ∷ rest) ≡ fault_in line ClauseCount
 completed-percent_early b last line rest h e = ap (with_read (λ cs. formula_of b.variables (b.clauses ++ cs))) (percent_early b.variables last line b.left b.literals rest h e)
 
 percent_end : (v last line left : ℕ) (ls : List ℤ) (rest : List Place) → left ≡ 0 → ls ≡ [] → clauses_after v last left ls (Percent line ∷ rest) ≡ Ok []
@@ -138,16 +139,16 @@ percent_end v last line zero [] rest h e = refl
 percent_end v last line (suc m) [] rest h e = absurd (omega arith)
 percent_end v last line left (o ∷ os) rest h e = cc
 
-pub completed-percent_end : (b : Begun) (last line : ℕ) (rest : List Place) → b.left ≡ 0 → b.literals ≡ [] → completed b last (Percent line ∷ rest) ≡ Ok (formula_of b.variables b.clauses)
+pub completed-percent_end : (b : Begun) (last line : ℕ) (rest : List Place) → b.left ≡ 0 → b.literals ≡ [] → formula_after b last (Percent line ∷ rest) ≡ Ok (formula_of b.variables b.clauses)
 completed-percent_end b last line rest h e =
     ap (with_read (λ cs. formula_of b.variables (b.clauses ++ cs))) (percent_end b.variables last line b.left b.literals rest h e)
     ∙ ap (λ l. Ok (formula_of b.variables l)) (append-nil b.clauses)
 
-pub completed-refused : (b : Begun) (last line : ℕ) (number : Option ℤ) (kind : CnfFaultKind) (rest : List Place) → IsNumberUpTo b.variables number (Err kind) → IsCnfTold kind line (completed b last (number_at line number ∷ rest))
+pub completed-refused : (b : Begun) (last line : ℕ) (number : Option ℤ) (kind : CnfFaultKind) (rest : List Place) → IsNumberUpTo b.variables number (Err kind) → IsCnfTold kind line (formula_after b last (number_at line number ∷ rest))
 completed-refused b last line number NoHeader rest h = absurd h
 completed-refused b last line number BadHeader rest h = absurd h
-completed-refused b last line number BadNumber rest h = ap (λ o. completed b last (number_at line o ∷ rest)) h ∙ completed-no_number b last line rest
-completed-refused b last line number VariableRange rest h = ap (λ o. completed b last (number_at line o ∷ rest)) h.1 ∙ completed-beyond b last line h.0 rest h.2
+completed-refused b last line number BadNumber rest h = ap (λ o. formula_after b last (number_at line o ∷ rest)) h ∙ completed-no_number b last line rest
+completed-refused b last line number VariableRange rest h = ap (λ o. formula_after b last (number_at line o ∷ rest)) h.1 ∙ completed-beyond b last line h.0 rest h.2
 completed-refused b last line number ClauseCount rest h = absurd h
 completed-refused b last line number Truncated rest h = absurd h
 completed-refused b last line number (NoMemory e) rest h = absurd h
@@ -157,11 +158,11 @@ empty_from [] h = refl
 empty_from (l ∷ ls) h = absurd (omega arith)
 
 -- the tokens of a line, one after the other
-pub goes-true : (b : Bool) (last line : ℕ) (tokens : List (List ℕ)) (rest : List Place) (old new : Begun) → b ≡ true → Goes last line tokens rest old new (Ok b) → completed old last (places_behind line tokens rest) ≡ Ok (formula_of new.variables new.clauses)
+pub goes-true : (b : Bool) (last line : ℕ) (tokens : List (List ℕ)) (rest : List Place) (old new : Begun) → b ≡ true → Goes last line tokens rest old new (Ok b) → formula_after old last (places_behind line tokens rest) ≡ Ok (formula_of new.variables new.clauses)
 goes-true true last line tokens rest old new h g = g
 goes-true false last line tokens rest old new h g = cc
 
-pub goes-false : (b : Bool) (last line : ℕ) (tokens : List (List ℕ)) (rest : List Place) (old new : Begun) → b ≡ false → Goes last line tokens rest old new (Ok b) → completed old last (places_behind line tokens rest) ≡ completed new last rest
+pub goes-false : (b : Bool) (last line : ℕ) (tokens : List (List ℕ)) (rest : List Place) (old new : Begun) → b ≡ false → Goes last line tokens rest old new (Ok b) → formula_after old last (places_behind line tokens rest) ≡ formula_after new last rest
 goes-false true last line tokens rest old new h g = cc
 goes-false false last line tokens rest old new h g = g
 
@@ -203,7 +204,7 @@ ends_open : (v last left : ℕ) (ls : List ℤ) → 0 < length ls → clauses_af
 ends_open v last left [] h = absurd (omega arith)
 ends_open v last left (o ∷ os) h = refl
 
-pub completed-open : (b : Begun) (last : ℕ) → 0 < length b.literals → completed b last [] ≡ fault_in last Truncated
+pub completed-open : (b : Begun) (last : ℕ) → 0 < length b.literals → formula_after b last [] ≡ fault_in last Truncated
 completed-open b last h = ap (with_read (λ cs. formula_of b.variables (b.clauses ++ cs))) (ends_open b.variables last b.left b.literals h)
 
 ends_early : (v last left : ℕ) (ls : List ℤ) → 0 < left → ls ≡ [] → clauses_after v last left ls [] ≡ fault_in last ClauseCount
@@ -211,7 +212,7 @@ ends_early v last zero [] h e = absurd (omega arith)
 ends_early v last (suc m) [] h e = refl
 ends_early v last left (o ∷ os) h e = cc
 
-pub completed-early : (b : Begun) (last : ℕ) → 0 < b.left → b.literals ≡ [] → completed b last [] ≡ fault_in last ClauseCount
+pub completed-early : (b : Begun) (last : ℕ) → 0 < b.left → b.literals ≡ [] → formula_after b last [] ≡ fault_in last ClauseCount
 completed-early b last h e = ap (with_read (λ cs. formula_of b.variables (b.clauses ++ cs))) (ends_early b.variables last b.left b.literals h e)
 
 ends_well : (v last left : ℕ) (ls : List ℤ) → left ≡ 0 → ls ≡ [] → clauses_after v last left ls [] ≡ Ok []
@@ -219,7 +220,7 @@ ends_well v last zero [] h e = refl
 ends_well v last (suc m) [] h e = absurd (omega arith)
 ends_well v last left (o ∷ os) h e = cc
 
-pub completed-end : (b : Begun) (last : ℕ) → b.left ≡ 0 → b.literals ≡ [] → completed b last [] ≡ Ok (formula_of b.variables b.clauses)
+pub completed-end : (b : Begun) (last : ℕ) → b.left ≡ 0 → b.literals ≡ [] → formula_after b last [] ≡ Ok (formula_of b.variables b.clauses)
 completed-end b last h e =
     ap (with_read (λ cs. formula_of b.variables (b.clauses ++ cs))) (ends_well b.variables last b.left b.literals h e)
     ∙ ap (λ l. Ok (formula_of b.variables l)) (append-nil b.clauses)

@@ -6,10 +6,10 @@ use Rattle.std.specs.List.{list_all}
 use Rattle.std.specs.Char.{is_ascii_digit}
 use Rattle.std.proofs.Math.Nat.{pow-succ'}
 use Rattle.std.specs.Prelude.{Option, Some, ℤ, pos, negsuc, option_map, option_and_then}
-use Rattle.lj_text.specs.declared.bytes.numbers.Word.TheVariants as words
+use Rattle.lj_text.specs.declared.bytes.digits.Word.TheVariants as words
 use Rattle.lj_text.specs.Bytes.{decimal_value, digits_value, negative}
 use Rattle.lj_text.specs.Lines.{greatest}
-use Rattle.lj_text.specs.Words.{Counts, IsWord}
+use Rattle.lj_text.specs.inner.HeldNumbers.{Counts, IsWord}
 
 -- some of the digits were read, and value is held of them
 pub record IsRead (all rest : List ℕ) (value : ℕ) : Type 0 where

@@ -17,7 +17,7 @@ use Rattle.lj_text.specs.declared.line.Addition.{Addition}
 use Rattle.lj_text.specs.declared.step.Step.{Step}
 use Rattle.lj_text.specs.declared.step.Step.TheVariants.{Add, Delete}
 use Rattle.lj_text.specs.Steps.{names, is_in_place, are_distinct, is_accepted, adds_empty, first_walk, is_rat_after}
-use Rattle.lj_text.specs.Needed.{NumberSet, has, with_numbers, up_to_empty, additions, all_hints, pick, with_other, by_pick, closure, added_number, empty_numbers, trimmed_step, if_some, trimmed}
+use Rattle.lj_text.specs.Needed.{NumberSet, has, with_numbers, up_to_empty, additions, all_hints, pick, with_other, by_pick, closure, added_number, empty_numbers, trimmed_step, if_some, trimmed_steps}
 
 is_some-mapped : {A B : Type 0} (f : A → B) (o : Option A) → is_some (option_map f o) ≡ is_some o
 is_some-mapped f None = refl
@@ -153,7 +153,7 @@ trimmed_step-listed m xs (Add a) = λ i. cond (nat_le a.number m || has-listed x
 trimmed_step-listed m xs (Delete ns) = λ i. if_some (filter (λ n. nat_le n m || has-listed xs n i) ns)
 
 -- a trimmed list of steps whose lemmas are written as lists
-pub trimmed-evaluated : (f : FormulaValue) (ss : List ListedStep) → trimmed f (map step_of ss) ≡ filter_map (trimmed_step_listed (length f.clauses) (needed_listed (up_to_empty_listed ss))) (map step_of (up_to_empty_listed ss))
+pub trimmed-evaluated : (f : FormulaValue) (ss : List ListedStep) → trimmed_steps f (map step_of ss) ≡ filter_map (trimmed_step_listed (length f.clauses) (needed_listed (up_to_empty_listed ss))) (map step_of (up_to_empty_listed ss))
 trimmed-evaluated f ss =
     let front = up_to_empty_listed ss in
     let adds = additions (map step_of front) in

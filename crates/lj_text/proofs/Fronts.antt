@@ -6,7 +6,7 @@ use Rattle.std.specs.List.{AllByRecursion, slice_get}
 use borrow.Author.Tests.{eqb-true}
 use Rattle.lj_text.specs.Bytes.{is_line_end}
 use Rattle.lj_text.specs.Lines.{Said, said_from, whole_said, all_said, all_said_from}
-use Rattle.lj_text.specs.LinesRead.{HasNoLineEnd, joined}
+use Rattle.lj_text.specs.LinesRead.{HasNoLineEnd, text_of_lines}
 use Rattle.lj_text.proofs.StandLemmas.{whole-joined, all-joined, whole-none}
 
 -- A text as its whole lines and what stands behind the last line feed.
@@ -15,13 +15,13 @@ record Cut (text : List ℕ) : Type 0 where
   after : List ℕ
   whole : AllByRecursion HasNoLineEnd lines
   open_end : HasNoLineEnd after
-  text_is : text ≡ joined lines ++ after
+  text_is : text ≡ text_of_lines lines ++ after
 
 -- a byte that is no line feed before a cut text
 byte_before : (b : ℕ) (bytes : List ℕ) → is_line_end b ≡ false → Cut bytes → Cut (b ∷ bytes)
 byte_before b bytes e c = by_lines c.lines c.whole c.text_is
   where
-    by_lines : (ls : List (List ℕ)) → AllByRecursion HasNoLineEnd ls → bytes ≡ joined ls ++ c.after → Cut (b ∷ bytes)
+    by_lines : (ls : List (List ℕ)) → AllByRecursion HasNoLineEnd ls → bytes ≡ text_of_lines ls ++ c.after → Cut (b ∷ bytes)
     by_lines [] h is = record { lines = []; after = b ∷ c.after; whole = tt; open_end = All-cons (λ x. is_line_end x ≡ false) b c.after e c.open_end; text_is = ap (λ xs. b ∷ xs) is }
     by_lines (l ∷ ls) h is = record { lines = (b ∷ l) ∷ ls; after = c.after; whole = (All-cons (λ x. is_line_end x ≡ false) b l e h.0, h.1); open_end = c.open_end; text_is = ap (λ xs. b ∷ xs) is }
 
@@ -41,7 +41,7 @@ all_said-front max front more =
     let whole : whole_said max front ≡ said_from max 0 c.lines =
     ap (whole_said max) c.text_is ∙ whole-joined max 0 c.lines c.after c.whole ∙ ap (λ ss. said_from max 0 c.lines ++ ss) (whole-none max (0 + length c.lines) c.after c.open_end) ∙ append-nil (said_from max 0 c.lines) in (
       all_said_from max (0 + length c.lines) (c.after ++ more),
-      ap (λ t. all_said max (t ++ more)) c.text_is ∙ ap (all_said max) (append_assoc (joined c.lines) c.after more) ∙ all-joined max 0 c.lines (c.after ++ more) c.whole
+      ap (λ t. all_said max (t ++ more)) c.text_is ∙ ap (all_said max) (append_assoc (text_of_lines c.lines) c.after more) ∙ all-joined max 0 c.lines (c.after ++ more) c.whole
           ∙ ap (λ ss. ss ++ all_said_from max (0 + length c.lines) (c.after ++ more)) (sym whole),
     )
 

@@ -5,7 +5,7 @@ use Rattle.std.proofs.lemmas.Bool.{cases_lt, false≢true}
 use Rattle.std.proofs.lemmas.List.{append-nil, take-append-le, drop-drop, get_or-take, get_or-drop, get_or_append_left, get_or_past, nil_from_length}
 use Rattle.lj_text.specs.Bytes.{is_line_end}
 use Rattle.lj_text.specs.LinesRead.{HasNoLineEnd}
-use Rattle.lj_text.specs.LinesHeld.{EndsLine, IsParted}
+use Rattle.lj_text.specs.inner.LinesHeld.{EndsLine, IsParted}
 
 -- no line feed stands where no line ends
 no_feed : (bytes : List ℕ) (k : ℕ) → HasNoLineEnd bytes → k < length bytes → get_or bytes k 0 ≡ 10 → ⊥

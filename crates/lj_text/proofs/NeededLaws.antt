@@ -8,7 +8,7 @@ use Rattle.std.specs.FinMap.{nat_cmp-IsAntisymmetric}
 use Rattle.std.proofs.lemmas.Bool.{false≢true}
 use Rattle.std.specs.FinMap as fin
 use Rattle.lj_text.specs.declared.line.Addition.{Addition}
-use Rattle.lj_text.specs.Needed.{NumberSet, has, with_numbers, up_to_empty, additions, all_hints, pick, with_other, by_pick, closure, empty_numbers, needed}
+use Rattle.lj_text.specs.Needed.{NumberSet, has, with_numbers, up_to_empty, additions, all_hints, pick, with_other, by_pick, closure, empty_numbers, needed_numbers}
 use Rattle.lj_text.specs.Laws.{NeededIsLeast}
 
 marked : (b : Bool) (x : Option (Unit {0})) → is_some (cond b (Some tt) x) ≡ (b || is_some x)
@@ -159,7 +159,7 @@ needed_least steps =
     let first = with_numbers fin.empty (empty_numbers (up_to_empty steps)) in
     let all = closes (length adds) first adds (omega arith) in (
       record {
-        empty_clause = all_in_part first (needed steps) (empty_numbers (up_to_empty steps)) all.part (has_all-with_numbers fin.empty (empty_numbers (up_to_empty steps)));
+        empty_clause = all_in_part first (needed_numbers steps) (empty_numbers (up_to_empty steps)) all.part (has_all-with_numbers fin.empty (empty_numbers (up_to_empty steps)));
         hints = all.covers;
       },
       λ s closed. closure_part (length adds) first s adds (with_numbers_part fin.empty s (empty_numbers (up_to_empty steps)) (no_numbers s) closed.empty_clause) closed.hints,

@@ -8,12 +8,12 @@ use Rattle.lj_text.specs.declared.lines.fault.LineFaultKind.{LineFaultKind}
 use Rattle.lj_text.specs.declared.lines.fault.LineFaultKind.TheVariants.{BadNumber, NumberRange, Syntax, Truncated, NoMemory}
 use Rattle.lj_text.specs.Bytes.{line_number, tokens_of, lines_of, is_silent}
 use Rattle.lj_text.specs.Lines.{Said, said_by, said_from, whole_said_from, all_said_from, all_but_last, line_of, with_read}
-use Rattle.lj_text.specs.LineReading.{spoken, IsLineTold}
-use Rattle.lj_text.specs.LinesRead.{HasNoLineEnd, IsSaidAt, IsSaidRight, joined, is_line_no_memory}
+use Rattle.lj_text.specs.inner.LineReading.{line_said, IsLineTold}
+use Rattle.lj_text.specs.LinesRead.{HasNoLineEnd, IsSaidAt, IsSaidRight, text_of_lines, is_line_no_memory}
 use Rattle.lj_text.specs.declared.lines.look.Found.{Found}
 use Rattle.std.specs.Prelude.{IsOk, MatchOption, is_some}
 use Rattle.std.proofs.Math.Seq.{drop-append_seam}
-use Rattle.lj_text.specs.Looking.{Looked, LookedBehind, Fails, FailsToEnd, said_of}
+use Rattle.lj_text.specs.inner.Looking.{Looked, LookedBehind, Fails, FailsToEnd, said_of}
 use Rattle.lj_text.proofs.StandLemmas.{all_more, joined_more, next_number, said_for, said-spoken, said_from-append, whole-joined, all-joined, all-none, cut-joined, cut-none}
 
 get-early : (xs ys : List Said) (x : Said) → slice_get xs 0 ≡ Some x → slice_get (xs ++ ys) 0 ≡ Some x
@@ -36,7 +36,7 @@ for_line number (Some line) = refl
 pub record Passed (max first : ℕ) (ahead rest : List ℕ) (number : ℕ) : Type 0 where
   pub lines : List (List ℕ)
   pub whole : AllByRecursion HasNoLineEnd lines
-  pub ahead_is : ahead ≡ joined lines ++ rest
+  pub ahead_is : ahead ≡ text_of_lines lines ++ rest
   pub number_is : (k : ℕ) → first ≡ line_number k → number ≡ line_number (k + length lines)
   pub silent : (k : ℕ) → said_from max k lines ≡ []
 
@@ -54,24 +54,24 @@ said_more max k ls l h = said_from-append max k ls (l ∷ []) ∙ ap (λ ss. ss 
 
 -- one silent line more
 pub passed-more : (max first : ℕ) (ahead rest l after : List ℕ) (number : ℕ) → Passed max first ahead rest number → rest ≡ l ++ 10 ∷ after → HasNoLineEnd l
-    → spoken max true (tokens_of l) ≡ Ok None → Passed max first ahead after (min (number + 1) (2 ^ 64 - 1))
+    → line_said max true (tokens_of l) ≡ Ok None → Passed max first ahead after (min (number + 1) (2 ^ 64 - 1))
 passed-more max first ahead rest l after number p e h silent = record {
   lines = p.lines ++ l ∷ [];
   whole = all_more p.lines l p.whole h;
-  ahead_is = p.ahead_is ∙ ap (λ r. joined p.lines ++ r) e ∙ sym (joined_more p.lines l after);
+  ahead_is = p.ahead_is ∙ ap (λ r. text_of_lines p.lines ++ r) e ∙ sym (joined_more p.lines l after);
   number_is = λ k first_is. next_number (k + length p.lines) number (p.number_is k first_is) ∙ ap line_number (omega (arith, length-append p.lines (l ∷ [])));
   silent = λ k. said_more max k p.lines l (p.silent k) ∙ said-spoken max (k + length p.lines) true l ∙ ap (said_for (line_number (k + length p.lines))) silent;
 }
 
 -- the line behind them says something
 pub looked-some : (max first k : ℕ) (ahead rest l after : List ℕ) (number left : ℕ) (line : Line) → Passed max first ahead rest number → first ≡ line_number k → rest ≡ l ++ 10 ∷ after → HasNoLineEnd l
-    → spoken max true (tokens_of l) ≡ Ok (Some line) → left ≡ length after
+    → line_said max true (tokens_of l) ≡ Ok (Some line) → left ≡ length after
     → Looked max k ahead (record { line = Some line; at = number; number = min (number + 1) (2 ^ 64 - 1); left = left; searched = 0 })
 looked-some max first k ahead rest l after number left line p first_is e h says left_is = record {
   lines = p.lines ++ l ∷ [];
   after = after;
   whole = all_more p.lines l p.whole h;
-  ahead_is = p.ahead_is ∙ ap (λ r. joined p.lines ++ r) e ∙ sym (joined_more p.lines l after);
+  ahead_is = p.ahead_is ∙ ap (λ r. text_of_lines p.lines ++ r) e ∙ sym (joined_more p.lines l after);
   left_is = left_is;
   number_is = next_number (k + length p.lines) number (p.number_is k first_is) ∙ ap line_number (omega (arith, length-append p.lines (l ∷ [])));
   said_is = said_more max k p.lines l (p.silent k) ∙ said-spoken max (k + length p.lines) true l ∙ ap (said_for (line_number (k + length p.lines))) says
@@ -101,7 +101,7 @@ looked-none max first k ahead rest number left p first_is h left_is = record {
 
 -- the first that says something, behind silent ones
 first_said : (max k : ℕ) (ls : List (List ℕ)) (l after : List ℕ) → AllByRecursion HasNoLineEnd ls → HasNoLineEnd l → said_from max k ls ≡ []
-    → whole_said_from max k (joined ls ++ (l ++ 10 ∷ after)) ≡ said_by max (k + length ls) true l ++ whole_said_from max (k + length ls + 1) after
+    → whole_said_from max k (text_of_lines ls ++ (l ++ 10 ∷ after)) ≡ said_by max (k + length ls) true l ++ whole_said_from max (k + length ls + 1) after
 first_said max k ls l after w h silent =
     let all : AllByRecursion HasNoLineEnd (ls ++ l ∷ []) = all_more ls l w h in
     ap (whole_said_from max k) (sym (joined_more ls l after))
@@ -109,7 +109,7 @@ first_said max k ls l after w h silent =
     ∙ ap (λ ss. ss ++ whole_said_from max (k + length (ls ++ l ∷ [])) after) (said_more max k ls l silent)
     ∙ ap (λ n. said_by max (k + length ls) true l ++ whole_said_from max n after) (omega (arith, length-append ls (l ∷ [])))
 
-fails_at : (max : ℕ) (kind : LineFaultKind) (l : List ℕ) → is_line_no_memory kind ≡ false → IsLineTold kind (spoken max true (tokens_of l)) → spoken max true (tokens_of l) ≡ Err kind
+fails_at : (max : ℕ) (kind : LineFaultKind) (l : List ℕ) → is_line_no_memory kind ≡ false → IsLineTold kind (line_said max true (tokens_of l)) → line_said max true (tokens_of l) ≡ Err kind
 fails_at max (NoMemory e) l n t = cc
 fails_at max BadNumber l n t = t
 fails_at max NumberRange l n t = t
@@ -124,18 +124,18 @@ fault_alone : (read : Result Line LineFaultKind) (kind : LineFaultKind) → with
 fault_alone (Ok line) kind h = cc
 fault_alone (Err other) kind h = cc
 
-loud_fault : (max : ℕ) (ended : Bool) (l : List ℕ) (kind : LineFaultKind) → is_silent (tokens_of l) ≡ false → spoken max ended (tokens_of l) ≡ Err kind → line_of max ended (tokens_of l) ≡ Err kind
+loud_fault : (max : ℕ) (ended : Bool) (l : List ℕ) (kind : LineFaultKind) → is_silent (tokens_of l) ≡ false → line_said max ended (tokens_of l) ≡ Err kind → line_of max ended (tokens_of l) ≡ Err kind
 loud_fault max ended l kind loud h =
     fault_alone (line_of max ended (tokens_of l)) kind (sym (ap (λ b. cond b (Ok None) (with_read Some (line_of max ended (tokens_of l)))) loud) ∙ h)
 
 -- the line behind them has a fault
 pub fails-here : (max first k : ℕ) (ahead rest l after : List ℕ) (number : ℕ) (fault : LineFault) → Passed max first ahead rest number → first ≡ line_number k → rest ≡ l ++ 10 ∷ after → HasNoLineEnd l
-    → (fault.line ≡ number) × IsLineTold fault.kind (spoken max true (tokens_of l)) → is_silent (tokens_of l) ≡ false → (is_line_no_memory fault.kind ≡ true → IsOk (line_of max true (tokens_of l)))
+    → (fault.line ≡ number) × IsLineTold fault.kind (line_said max true (tokens_of l)) → is_silent (tokens_of l) ≡ false → (is_line_no_memory fault.kind ≡ true → IsOk (line_of max true (tokens_of l)))
     → Fails max k ahead fault
 fails-here max first k ahead rest l after number fault p first_is e h told loud right =
     let number_is : line_number (k + length p.lines) ≡ fault.line = sym (told.0 ∙ p.number_is k first_is) in
     let first : slice_get (whole_said_from max k ahead) 0 ≡ Some (record { line = fault.line; says = line_of max true (tokens_of l) }) =
-    ap (λ bytes. slice_get (whole_said_from max k bytes) 0) (p.ahead_is ∙ ap (λ r. joined p.lines ++ r) e)
+    ap (λ bytes. slice_get (whole_said_from max k bytes) 0) (p.ahead_is ∙ ap (λ r. text_of_lines p.lines ++ r) e)
     ∙ ap (λ (ss : List Said). slice_get ss 0) (first_said max k p.lines l after p.whole h (p.silent k))
     ∙ ap (λ (ss : List Said). slice_get (ss ++ whole_said_from max (k + length p.lines + 1) after) 0) (said_loud max (k + length p.lines) true l loud)
     ∙ ap (λ n. Some (record { line = n; says = line_of max true (tokens_of l) })) number_is in
@@ -145,7 +145,7 @@ fails-here max first k ahead rest l after number fault p first_is e h told loud 
       right = λ memory. subst (λ (o : Option Said). IsSaidRight o) (sym first) (right memory);
     }
 
-fails_at_end : (max : ℕ) (kind : LineFaultKind) (l : List ℕ) → is_line_no_memory kind ≡ false → IsLineTold kind (spoken max false (tokens_of l)) → spoken max false (tokens_of l) ≡ Err kind
+fails_at_end : (max : ℕ) (kind : LineFaultKind) (l : List ℕ) → is_line_no_memory kind ≡ false → IsLineTold kind (line_said max false (tokens_of l)) → line_said max false (tokens_of l) ≡ Err kind
 fails_at_end max (NoMemory e) l n t = cc
 fails_at_end max BadNumber l n t = t
 fails_at_end max NumberRange l n t = t
@@ -176,12 +176,12 @@ lines_ahead max k ahead found p none =
 -- the bytes after the lines that were passed
 pub after_is : (max k : ℕ) (ahead : List ℕ) (found : Found) (p : Looked max k ahead found) → drop (length ahead - found.left) ahead ≡ p.after
 after_is max k ahead found p =
-    let count : length ahead - found.left ≡ length (joined p.lines) = omega (arith, p.left_is, ap length p.ahead_is, length-append (joined p.lines) p.after) in
-    ap (λ n. drop n ahead) count ∙ ap (drop (length (joined p.lines))) p.ahead_is ∙ drop-append_seam (joined p.lines) p.after
+    let count : length ahead - found.left ≡ length (text_of_lines p.lines) = omega (arith, p.left_is, ap length p.ahead_is, length-append (text_of_lines p.lines) p.after) in
+    ap (λ n. drop n ahead) count ∙ ap (drop (length (text_of_lines p.lines))) p.ahead_is ∙ drop-append_seam (text_of_lines p.lines) p.after
 
 -- the last line was read
 pub looked-behind : (max k : ℕ) (ahead last : List ℕ) (found : Found) (line : Option Line) → Looked max k ahead found → found.line ≡ None → last ≡ drop (length ahead - found.left) ahead
-    → spoken max false (tokens_of last) ≡ Ok line → LookedBehind max k ahead (record { line = line; at = found.number; number = found.number; left = 0; searched = 0 })
+    → line_said max false (tokens_of last) ≡ Ok line → LookedBehind max k ahead (record { line = line; at = found.number; number = found.number; left = 0; searched = 0 })
 looked-behind max k ahead last found line p none last_is says = record {
   said_is = last_said max k ahead found p none ∙ ap (said_by max (k + length p.lines) false) (sym (last_is ∙ after_is max k ahead found p))
       ∙ said-spoken max (k + length p.lines) false last ∙ ap (said_for (line_number (k + length p.lines))) says
@@ -194,7 +194,7 @@ looked-behind max k ahead last found line p none last_is says = record {
 
 -- the last line has a fault
 pub fails-behind : (max k : ℕ) (ahead last : List ℕ) (found : Found) (fault : LineFault) → Looked max k ahead found → found.line ≡ None → last ≡ drop (length ahead - found.left) ahead
-    → (fault.line ≡ found.number) × IsLineTold fault.kind (spoken max false (tokens_of last)) → is_silent (tokens_of last) ≡ false → (is_line_no_memory fault.kind ≡ true → IsOk (line_of max false (tokens_of last)))
+    → (fault.line ≡ found.number) × IsLineTold fault.kind (line_said max false (tokens_of last)) → is_silent (tokens_of last) ≡ false → (is_line_no_memory fault.kind ≡ true → IsOk (line_of max false (tokens_of last)))
     → FailsToEnd max k ahead fault
 fails-behind max k ahead last found fault p none last_is told loud right =
     let first : slice_get (all_said_from max k ahead) 0 ≡ Some (record { line = fault.line; says = line_of max false (tokens_of last) }) =
@@ -220,4 +220,4 @@ none-from_test None h = refl
 none-from_test (Some line) h = cc
 
 pub passed-left : (max first : ℕ) (ahead rest : List ℕ) (number : ℕ) → Passed max first ahead rest number → length rest ≤ length ahead
-passed-left max first ahead rest number p = omega (arith, ap length p.ahead_is, length-append (joined p.lines) rest)
+passed-left max first ahead rest number p = omega (arith, ap length p.ahead_is, length-append (text_of_lines p.lines) rest)

@@ -8,9 +8,9 @@ use Rattle.lj_text.specs.declared.lines.fault.LineFault.{LineFault}
 use Rattle.lj_text.specs.declared.lines.look.Found.{Found}
 use Rattle.lj_text.specs.Bytes.{line_number, lines_of}
 use Rattle.lj_text.specs.Lines.{Said, said_from, whole_said, all_said, whole_said_from, all_said_from, all_but_last}
-use Rattle.lj_text.specs.LinesRead.{LinesRead, HasNoLineEnd, joined, StandsWithin, StandsBehind, LineReaderStandsAt, line_answer, handed_out, line_number_of, last_number, is_line_no_memory}
-use Rattle.lj_text.specs.LinesHeld.{IsAhead, passed, kept}
-use Rattle.lj_text.specs.Looking.{Looked, LookedBehind, said_of}
+use Rattle.lj_text.specs.LinesRead.{LinesRead, HasNoLineEnd, text_of_lines, StandsWithin, StandsBehind, LineReaderStandsAt, line_answer, handed_out, line_number_of, last_number, is_line_no_memory}
+use Rattle.lj_text.specs.inner.LinesHeld.{IsAhead, reader_past, reader_with_fault}
+use Rattle.lj_text.specs.inner.Looking.{Looked, LookedBehind, said_of}
 use Rattle.lj_text.proofs.StandLemmas.{both, joined_both, whole-joined, all-joined, whole-none, get-behind, said_from-append, cut-joined, cut-none}
 use Rattle.lj_text.proofs.PassLemmas.{none-open, after_is}
 
@@ -74,7 +74,7 @@ count_said at None = refl
 count_said at (Some line) = refl
 
 pub stands-passed : (r : LinesRead) (text : List ℕ) (given : ℕ) (found : Found) (s : StandsWithin r text given) → Looked r.max (length s.lines) r.ahead found
-    → StandsWithin (passed r found) text (given + handed_out (Ok found.line))
+    → StandsWithin (reader_past r found) text (given + handed_out (Ok found.line))
 stands-passed r text given found s p =
     let after : drop (length r.ahead - found.left) r.ahead ≡ p.after = after_is r.max (length s.lines) r.ahead found p in
     let said : said_from r.max 0 (s.lines ++ p.lines) ≡ said_from r.max 0 s.lines ++ said_of found.at found.line =
@@ -82,7 +82,7 @@ stands-passed r text given found s p =
     record {
       lines = s.lines ++ p.lines;
       whole = both s.lines p.lines s.whole p.whole;
-      text_is = s.text_is ∙ ap (λ a. joined s.lines ++ a) p.ahead_is ∙ sym (joined_both s.lines p.lines p.after) ∙ ap (λ a. joined (s.lines ++ p.lines) ++ a) (sym after);
+      text_is = s.text_is ∙ ap (λ a. text_of_lines s.lines ++ a) p.ahead_is ∙ sym (joined_both s.lines p.lines p.after) ∙ ap (λ a. text_of_lines (s.lines ++ p.lines) ++ a) (sym after);
       line_is = p.number_is ∙ ap line_number (sym (length-append s.lines p.lines));
       given_is = omega (arith, s.given_is, count_said found.at found.line, ap length said, length-append (said_from r.max 0 s.lines) (said_of found.at found.line));
     }
@@ -92,8 +92,8 @@ pub place-none : (r : LinesRead) (text : List ℕ) (given : ℕ) (found : Found)
 place-none r text given found s p none =
     let P : Option Line → Type 0 = λ o. MatchOption o (HasNoLineEnd p.after × (found.at ≡ found.number)) (λ line. Unit {0}) in
     let last : all_but_last (lines_of text) ≡ s.lines ++ p.lines =
-    ap (λ t. all_but_last (lines_of t)) (s.text_is ∙ ap (λ a. joined s.lines ++ a) p.ahead_is)
-    ∙ cut-joined s.lines (joined p.lines ++ p.after) s.whole
+    ap (λ t. all_but_last (lines_of t)) (s.text_is ∙ ap (λ a. text_of_lines s.lines ++ a) p.ahead_is)
+    ∙ cut-joined s.lines (text_of_lines p.lines ++ p.after) s.whole
     ∙ ap (λ ls. s.lines ++ ls) (cut-joined p.lines p.after p.whole ∙ ap (λ ls. p.lines ++ all_but_last ls) (cut-none p.after (none-open r.max (length s.lines) r.ahead found p none)) ∙ append-nil p.lines) in
     (subst P none p.none_is).1 ∙ p.number_is ∙ ap line_number (sym (ap length last ∙ length-append s.lines p.lines))
 
@@ -113,7 +113,7 @@ ahead-found max k ahead found p =
     let after : drop (length ahead - found.left) ahead ≡ p.after = after_is max k ahead found p in
     let P : List ℕ → Type 0 = λ r. HasNoLineEnd (take found.searched r) in
     record {
-      left = omega (arith, p.left_is, ap length p.ahead_is, length-append (joined p.lines) p.after);
+      left = omega (arith, p.left_is, ap length p.ahead_is, length-append (text_of_lines p.lines) p.after);
       searched = p.searched_is;
       none_before = subst P (sym after) p.none_before;
       before = k + length p.lines;
@@ -127,7 +127,7 @@ within-of r text given h s = let P : Bool → Type 0 = λ b. MatchBool b (Stands
 pub stands-of : (r : LinesRead) (text : List ℕ) (given : ℕ) → r.finished ≡ false → StandsWithin r text given → LineReaderStandsAt r text given
 stands-of r text given h s = let P : Bool → Type 0 = λ b. MatchBool b (StandsBehind r text given) (StandsWithin r text given) in subst P (sym h) s
 
-pub kept-at : (r : LinesRead) (fault : LineFault) → is_line_no_memory fault.kind ≡ false → (kept r fault).at ≡ fault.line
+pub kept-at : (r : LinesRead) (fault : LineFault) → is_line_no_memory fault.kind ≡ false → (reader_with_fault r fault).at ≡ fault.line
 kept-at r fault h = ap (λ b. (cond b r (record r { at = fault.line; fault = Some fault })).at) h
 
 -- the number of the last line
@@ -180,7 +180,7 @@ by_memory : (b : Bool) (r : LinesRead) (fault : LineFault) → (cond b r (record
 by_memory true r fault = refl
 by_memory false r fault = refl
 
-pub kept-max : (r : LinesRead) (fault : LineFault) → (kept r fault).max ≡ r.max
+pub kept-max : (r : LinesRead) (fault : LineFault) → (reader_with_fault r fault).max ≡ r.max
 kept-max r fault = by_memory (is_line_no_memory fault.kind) r fault
 
 stands_by_memory : (b : Bool) (r : LinesRead) (fault : LineFault) (text : List ℕ) (given : ℕ) → r.finished ≡ false → StandsWithin r text given
@@ -188,9 +188,9 @@ stands_by_memory : (b : Bool) (r : LinesRead) (fault : LineFault) (text : List �
 stands_by_memory true r fault text given h s = stands-of r text given h s
 stands_by_memory false r fault text given h s = stands-of (record r { at = fault.line; fault = Some fault }) text given h (record { lines = s.lines; whole = s.whole; text_is = s.text_is; line_is = s.line_is; given_is = s.given_is })
 
-pub stands-kept : (r : LinesRead) (fault : LineFault) (text : List ℕ) (given : ℕ) → r.finished ≡ false → StandsWithin r text given → LineReaderStandsAt (kept r fault) text (given + 0)
+pub stands-kept : (r : LinesRead) (fault : LineFault) (text : List ℕ) (given : ℕ) → r.finished ≡ false → StandsWithin r text given → LineReaderStandsAt (reader_with_fault r fault) text (given + 0)
 stands-kept r fault text given h s =
-    let P : ℕ → Type 0 = λ n. LineReaderStandsAt (kept r fault) text n in
+    let P : ℕ → Type 0 = λ n. LineReaderStandsAt (reader_with_fault r fault) text n in
     let same : given ≡ given + 0 = omega arith in
     subst P same (stands_by_memory (is_line_no_memory fault.kind) r fault text given h s)
 

@@ -24,7 +24,7 @@ use Rattle.lj_clause.proofs.RatLaws as ratlaws
 use Rattle.lj_text.specs.declared.line.Addition.{Addition}
 use Rattle.lj_text.specs.declared.step.Step.{Step}
 use Rattle.lj_text.specs.declared.step.Step.TheVariants.{Add, Delete}
-use Rattle.lj_text.specs.Steps.{names, names_all, are_distinct, is_in_place, is_rat_on, is_rat_after, first_walk, is_accepted, without, after_step, replay, adds_empty, refutes, IsRecordedAfter, IsRecorded, with_covered, recorded_on, recorded_after, recorded}
+use Rattle.lj_text.specs.Steps.{names, names_all, are_distinct, is_in_place, is_rat_on, is_rat_after, first_walk, is_accepted, without, after_step, replay, adds_empty, refutes, IsRecordedAfter, IsRecorded, with_covered, recorded_on, recorded_after, recorded_form}
 
 pub both_true : (a b : Bool) → (a && b) ≡ true → (a ≡ true) × (b ≡ true)
 both_true true b e = (refl, e)
@@ -231,7 +231,7 @@ recorded_by p a (Open s) here is e = recorded_open p a s a.lemma.pivot refl here
 recorded_by p a (Stuck place) here is e = absurd (false≢true e)
 
 -- the recorded form of an accepted addition is accepted, in recorded form, and leaves the same map
-pub recorded_keeps : (p : ClauseMap) (a : Addition) → is_accepted p (Add a) ≡ true → IsRecorded p (recorded p a) × (is_accepted p (Add (recorded p a)) ≡ true) × (after_step p (Add (recorded p a)) ≡ after_step p (Add a))
+pub recorded_keeps : (p : ClauseMap) (a : Addition) → is_accepted p (Add a) ≡ true → IsRecorded p (recorded_form p a) × (is_accepted p (Add (recorded_form p a)) ≡ true) × (after_step p (Add (recorded_form p a)) ≡ after_step p (Add a))
 recorded_keeps p a e =
     let parts = both_true (is_in_place p a) (is_closed (first_walk p a) || is_rat_after p a (first_walk p a)) e in
     let keeps = recorded_by p a (first_walk p a) (in_place_parts p a parts.0) refl parts.1 in

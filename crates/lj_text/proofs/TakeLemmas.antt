@@ -13,13 +13,13 @@ use Rattle.lj_text.specs.declared.cnf.state.State.{State}
 use Rattle.lj_text.specs.declared.cnf.state.State.TheVariants.{Header, Clauses, Ended, Faulty}
 use Rattle.lj_text.specs.Bytes.{is_line_end, line_number, lines_of, tokens_of}
 use Rattle.lj_text.specs.Lines.{all_but_last}
-use Rattle.lj_text.specs.LinesRead.{HasNoLineEnd, joined, last_number}
+use Rattle.lj_text.specs.LinesRead.{HasNoLineEnd, text_of_lines, last_number}
 use Rattle.lj_text.proofs.StandLemmas.{all_more, joined_more, next_number, both, joined_both, cut-joined, cut-none}
-use Rattle.lj_text.specs.CnfReading.{IsCnfTold, is_cnf_no_memory}
-use Rattle.lj_text.specs.CnfResuming.{resumed, Reads, asks_room, kept_fault}
+use Rattle.lj_text.specs.inner.CnfReading.{IsCnfTold}
+use Rattle.lj_text.specs.CnfRead.{is_cnf_no_memory, IsAnswer, HasFaultAlready, BeginsByNumber, NeedsRoom, EndsByNumber}
+use Rattle.lj_text.specs.inner.CnfResuming.{formula_from_state, Reads, asks_room, kept_fault}
 use Rattle.lj_clause.specs.Memory.{no_memory}
-use Rattle.lj_text.specs.CnfRead.{IsAnswer, HasFaultAlready, BeginsByNumber, NeedsRoom, EndsByNumber}
-use Rattle.lj_text.specs.CnfHeld.{CnfStandsAt, Leads, NeedsRoomFrom, Taken}
+use Rattle.lj_text.specs.inner.CnfHeld.{CnfStandsAt, Leads, NeedsRoomFrom, Taken}
 use Rattle.lj_text.specs.Cnf.{read_cnf, HasFault}
 use Rattle.std.specs.Prelude.{Option, Some, None, ◌⊎◌}
 use Rattle.std.proofs.Common.{inl, inr}
@@ -31,7 +31,7 @@ no_line_end-both xs ys h k = All-append (λ b. is_line_end b ≡ false) xs ys h 
 pub record Going (max first : ℕ) (old : State) (held piece : List ℕ) (state : State) (number : ℕ) (left rest : List ℕ) : Type 0 where
   pub lines : List (List ℕ)
   pub whole : AllByRecursion HasNoLineEnd lines
-  pub text_is : held ++ piece ≡ joined lines ++ (left ++ rest)
+  pub text_is : held ++ piece ≡ text_of_lines lines ++ (left ++ rest)
   pub line_is : (n : ℕ) → first ≡ line_number n → number ≡ line_number (n + length lines)
   pub reads : (n : ℕ) → first ≡ line_number n → Leads max n old lines state
   pub held_is : (left ≡ []) ⊎ ((lines ≡ []) × (left ≡ held))
@@ -42,15 +42,15 @@ going-none max first old held piece = record {
   whole = tt;
   text_is = refl;
   line_is = λ n e. e ∙ ap line_number (omega arith);
-  reads = λ n e more. ap (λ k. resumed max k old (lines_of more)) (omega arith);
+  reads = λ n e more. ap (λ k. formula_from_state max k old (lines_of more)) (omega arith);
   held_is = inr (refl, refl);
 }
 
 -- what was fed, and what follows it
 behind : (max first number : ℕ) (old state : State) (held piece left rest : List ℕ) (g : Going max first old held piece state number left rest)
-    → (n : ℕ) → first ≡ line_number n → (more : List ℕ) → resumed max n old (lines_of (held ++ (piece ++ more))) ≡ resumed max (n + length g.lines) state (lines_of (left ++ (rest ++ more)))
+    → (n : ℕ) → first ≡ line_number n → (more : List ℕ) → formula_from_state max n old (lines_of (held ++ (piece ++ more))) ≡ formula_from_state max (n + length g.lines) state (lines_of (left ++ (rest ++ more)))
 behind max first number old state held piece left rest g n first_is more =
-    ap (λ t. resumed max n old (lines_of t)) (sym (append_assoc held piece more) ∙ ap (λ t. t ++ more) g.text_is ∙ append_assoc (joined g.lines) (left ++ rest) more ∙ ap (λ t. joined g.lines ++ t) (append_assoc left rest more))
+    ap (λ t. formula_from_state max n old (lines_of t)) (sym (append_assoc held piece more) ∙ ap (λ t. t ++ more) g.text_is ∙ append_assoc (text_of_lines g.lines) (left ++ rest) more ∙ ap (λ t. text_of_lines g.lines ++ t) (append_assoc left rest more))
     ∙ g.reads n first_is (left ++ (rest ++ more))
 
 -- the line that the held bytes and the front make
@@ -61,7 +61,7 @@ cut held rest front after more e h =
     ∙ ap lines_of (sym (append_assoc held front (10 ∷ (after ++ more))))
     ∙ slice_split_at is_line_end (held ++ front) 10 (after ++ more) h refl
 
-reads_of : (max k : ℕ) (lines : List (List ℕ)) (new : State) (read : Result FormulaValue CnfFault) → ((fault : CnfFault) → new ≡ Faulty fault → ⊥) → Reads max k lines new read → read ≡ resumed max k new lines
+reads_of : (max k : ℕ) (lines : List (List ℕ)) (new : State) (read : Result FormulaValue CnfFault) → ((fault : CnfFault) → new ≡ Faulty fault → ⊥) → Reads max k lines new read → read ≡ formula_from_state max k new lines
 reads_of max k lines Header read h r = r
 reads_of max k lines (Clauses b) read h r = r
 reads_of max k lines (Ended b) read h r = r
@@ -69,18 +69,18 @@ reads_of max k lines (Faulty fault) read h r = absurd (h fault refl)
 
 pub going-more : (max first number : ℕ) (old state new : State) (held piece left rest front after : List ℕ) → Going max first old held piece state number left rest
     → rest ≡ front ++ 10 ∷ after → HasNoLineEnd (left ++ front)
-    → ((k : ℕ) → number ≡ line_number k → (lines : List (List ℕ)) → Reads max (k + 1) lines new (resumed max k state ((left ++ front) ∷ lines)))
+    → ((k : ℕ) → number ≡ line_number k → (lines : List (List ℕ)) → Reads max (k + 1) lines new (formula_from_state max k state ((left ++ front) ∷ lines)))
     → ((fault : CnfFault) → new ≡ Faulty fault → ⊥)
     → Going max first old held piece new (min (number + 1) (2 ^ 64 - 1)) [] after
 going-more max first number old state new held piece left rest front after g e h line sound = record {
   lines = g.lines ++ (left ++ front) ∷ [];
   whole = all_more g.lines (left ++ front) g.whole h;
-  text_is = g.text_is ∙ ap (λ r. joined g.lines ++ (left ++ r)) e ∙ ap (λ r. joined g.lines ++ r) (sym (append_assoc left front (10 ∷ after))) ∙ sym (joined_more g.lines (left ++ front) after);
+  text_is = g.text_is ∙ ap (λ r. text_of_lines g.lines ++ (left ++ r)) e ∙ ap (λ r. text_of_lines g.lines ++ r) (sym (append_assoc left front (10 ∷ after))) ∙ sym (joined_more g.lines (left ++ front) after);
   line_is = λ n first_is. next_number (n + length g.lines) number (g.line_is n first_is) ∙ ap line_number (omega (arith, length-append g.lines ((left ++ front) ∷ [])));
-  reads = λ n first_is more. ap (λ t. resumed max n old (lines_of t)) (joined_more g.lines (left ++ front) more) ∙ g.reads n first_is ((left ++ front) ++ 10 ∷ more)
-      ∙ ap (resumed max (n + length g.lines) state) (slice_split_at is_line_end (left ++ front) 10 more h refl)
+  reads = λ n first_is more. ap (λ t. formula_from_state max n old (lines_of t)) (joined_more g.lines (left ++ front) more) ∙ g.reads n first_is ((left ++ front) ++ 10 ∷ more)
+      ∙ ap (formula_from_state max (n + length g.lines) state) (slice_split_at is_line_end (left ++ front) 10 more h refl)
       ∙ reads_of max (n + length g.lines + 1) (lines_of more) new _ sound (line (n + length g.lines) (g.line_is n first_is) (lines_of more))
-      ∙ ap (λ k. resumed max k new (lines_of more)) (omega (arith, length-append g.lines ((left ++ front) ∷ [])));
+      ∙ ap (λ k. formula_from_state max k new (lines_of more)) (omega (arith, length-append g.lines ((left ++ front) ∷ [])));
   held_is = inl refl;
 }
 
@@ -96,7 +96,7 @@ told-err (NoMemory e) line read m h = cc
 -- a fault in that line
 pub taken-fault : (max first number : ℕ) (old state : State) (fault : CnfFault) (held piece left rest front after now : List ℕ) → Going max first old held piece state number left rest
     → rest ≡ front ++ 10 ∷ after → HasNoLineEnd (left ++ front) → HasNoLineEnd now
-    → ((k : ℕ) → number ≡ line_number k → (lines : List (List ℕ)) → IsCnfTold fault.kind fault.line (resumed max k state ((left ++ front) ∷ lines)))
+    → ((k : ℕ) → number ≡ line_number k → (lines : List (List ℕ)) → IsCnfTold fault.kind fault.line (formula_from_state max k state ((left ++ front) ∷ lines)))
     → Taken max first old held piece (Faulty fault) number now
 taken-fault max first number old state fault held piece left rest front after now g e h none line = record {
   none = none;
@@ -107,8 +107,8 @@ taken-fault max first number old state fault held piece left rest front after no
   reads = λ sound. cc;
   told = λ kept is memory n first_is more.
       let same : fault ≡ kept = cc in
-      subst (λ (f : CnfFault). resumed max n old (lines_of (held ++ (piece ++ more))) ≡ Err f) same
-      (behind max first number old state held piece left rest g n first_is more ∙ ap (resumed max (n + length g.lines) state) (cut left rest front after more e h)
+      subst (λ (f : CnfFault). formula_from_state max n old (lines_of (held ++ (piece ++ more))) ≡ Err f) same
+      (behind max first number old state held piece left rest g n first_is more ∙ ap (formula_from_state max (n + length g.lines) state) (cut left rest front after more e h)
       ∙ told-err fault.kind fault.line _ (subst (λ (f : CnfFault). is_cnf_no_memory f.kind ≡ false) (sym same) memory) (line (n + length g.lines) (g.line_is n first_is) (lines_of (after ++ more))));
 }
 
@@ -179,7 +179,7 @@ sound_state (Clauses b) h = refl
 sound_state (Ended b) h = refl
 sound_state (Faulty fault) h = absurd (h fault refl)
 
-resumed_fault : (max n : ℕ) (lines : List (List ℕ)) (state : State) (fault : CnfFault) → kept_fault state ≡ Some fault → resumed max n state lines ≡ Err fault
+resumed_fault : (max n : ℕ) (lines : List (List ℕ)) (state : State) (fault : CnfFault) → kept_fault state ≡ Some fault → formula_from_state max n state lines ≡ Err fault
 resumed_fault max n lines Header fault is = cc
 resumed_fault max n lines (Clauses b) fault is = cc
 resumed_fault max n lines (Ended b) fault is = cc
@@ -205,17 +205,17 @@ pub stands-fed : (max line : ℕ) (held : List ℕ) (old : State) (text piece : 
 stands-fed max line held old text piece s new number left t sound = record {
   lines = s.lines ++ t.lines;
   whole = both s.lines t.lines s.whole t.whole;
-  text_is = ap (λ x. x ++ piece) s.text_is ∙ append_assoc (joined s.lines) held piece ∙ ap (λ x. joined s.lines ++ x) (t.text_is sound) ∙ sym (joined_both s.lines t.lines left);
+  text_is = ap (λ x. x ++ piece) s.text_is ∙ append_assoc (text_of_lines s.lines) held piece ∙ ap (λ x. text_of_lines s.lines ++ x) (t.text_is sound) ∙ sym (joined_both s.lines t.lines left);
   line_is = t.line_is (length s.lines) s.line_is ∙ ap line_number (sym (length-append s.lines t.lines));
-  reads = λ more. ap (read_cnf max) (joined_both s.lines t.lines more) ∙ s.reads (joined t.lines ++ more)
+  reads = λ more. ap (read_cnf max) (joined_both s.lines t.lines more) ∙ s.reads (text_of_lines t.lines ++ more)
       ∙ t.reads sound (length s.lines) s.line_is more
-      ∙ ap (λ k. resumed max k new (lines_of more)) (sym (length-append s.lines t.lines));
+      ∙ ap (λ k. formula_from_state max k new (lines_of more)) (sym (length-append s.lines t.lines));
 }
 
 -- whatever follows what was fed
-read_on : (max line : ℕ) (held : List ℕ) (state : State) (text : List ℕ) (s : CnfStandsAt max line held state text) (more : List ℕ) → read_cnf max (text ++ more) ≡ resumed max (length s.lines) state (lines_of (held ++ more))
+read_on : (max line : ℕ) (held : List ℕ) (state : State) (text : List ℕ) (s : CnfStandsAt max line held state text) (more : List ℕ) → read_cnf max (text ++ more) ≡ formula_from_state max (length s.lines) state (lines_of (held ++ more))
 read_on max line held state text s more =
-    ap (λ t. read_cnf max (t ++ more)) s.text_is ∙ ap (read_cnf max) (append_assoc (joined s.lines) held more) ∙ s.reads (held ++ more)
+    ap (λ t. read_cnf max (t ++ more)) s.text_is ∙ ap (read_cnf max) (append_assoc (text_of_lines s.lines) held more) ∙ s.reads (held ++ more)
 
 -- a fault in the piece
 pub fault-fed : (max line : ℕ) (held : List ℕ) (old : State) (text piece : List ℕ) → CnfStandsAt max line held old text → (new : State) (number : ℕ) (left : List ℕ) → Taken max line old held piece new number left
@@ -225,7 +225,7 @@ fault-fed max line held old text piece s new number left t fault is memory more 
     ∙ t.told fault is memory (length s.lines) s.line_is more
 
 -- the state that keeps what a line says is among the clauses
-begins_by : (max : ℕ) (lines : List (List ℕ)) (state : State) (line : List ℕ) → ((more : List ℕ) → read_cnf max (joined lines ++ more) ≡ resumed max (length lines) state (lines_of more))
+begins_by : (max : ℕ) (lines : List (List ℕ)) (state : State) (line : List ℕ) → ((more : List ℕ) → read_cnf max (text_of_lines lines ++ more) ≡ formula_from_state max (length lines) state (lines_of more))
     → asks_room state (tokens_of line) ≡ true → BeginsByNumber max lines line
 begins_by max lines Header line reads asks = cc
 begins_by max lines (Clauses begun) line reads asks = record { begun = begun; reads = reads; number = asks }
@@ -233,7 +233,7 @@ begins_by max lines (Ended begun) line reads asks = cc
 begins_by max lines (Faulty fault) line reads asks = cc
 
 -- the whole lines of a text that ends within a line
-whole_lines : (text : List ℕ) (lines : List (List ℕ)) (held : List ℕ) → AllByRecursion HasNoLineEnd lines → text ≡ joined lines ++ held → HasNoLineEnd held → all_but_last (lines_of text) ≡ lines
+whole_lines : (text : List ℕ) (lines : List (List ℕ)) (held : List ℕ) → AllByRecursion HasNoLineEnd lines → text ≡ text_of_lines lines ++ held → HasNoLineEnd held → all_but_last (lines_of text) ≡ lines
 whole_lines text lines held whole e none =
     ap (λ t. all_but_last (lines_of t)) e ∙ cut-joined lines held whole ∙ ap (λ ls. lines ++ all_but_last ls) (cut-none held none) ∙ append-nil lines
 
@@ -241,19 +241,19 @@ whole_lines text lines held whole e none =
 pub room-fed : (max first : ℕ) (held : List ℕ) (old : State) (text piece : List ℕ) → CnfStandsAt max first held old text → HasNoLineEnd held → (line : ℕ) → NeedsRoomFrom max first old held piece line → NeedsRoom max text piece line
 room-fed max first held old text piece s none line r =
     let lines = s.lines ++ r.lines in
-    let reads : (more : List ℕ) → read_cnf max (joined lines ++ more) ≡ resumed max (length lines) r.state (lines_of more) = λ more.
-    ap (read_cnf max) (joined_both s.lines r.lines more) ∙ s.reads (joined r.lines ++ more)
+    let reads : (more : List ℕ) → read_cnf max (text_of_lines lines ++ more) ≡ formula_from_state max (length lines) r.state (lines_of more) = λ more.
+    ap (read_cnf max) (joined_both s.lines r.lines more) ∙ s.reads (text_of_lines r.lines ++ more)
     ∙ r.reads (length s.lines) s.line_is more
-    ∙ ap (λ k. resumed max k r.state (lines_of more)) (sym (length-append s.lines r.lines)) in
+    ∙ ap (λ k. formula_from_state max k r.state (lines_of more)) (sym (length-append s.lines r.lines)) in
     record {
       lines = lines;
       whole = both s.lines r.lines s.whole r.whole;
       left = r.left;
-      cut = ap (λ x. x ++ piece) s.text_is ∙ append_assoc (joined s.lines) held piece ∙ ap (λ x. joined s.lines ++ x) r.cut ∙ sym (joined_both s.lines r.lines r.left);
+      cut = ap (λ x. x ++ piece) s.text_is ∙ append_assoc (text_of_lines s.lines) held piece ∙ ap (λ x. text_of_lines s.lines ++ x) r.cut ∙ sym (joined_both s.lines r.lines r.left);
       line_is = r.line_is (length s.lines) s.line_is ∙ ap line_number (sym (length-append s.lines r.lines));
       behind = omega (arith, ap length (whole_lines text s.lines held s.whole s.text_is none), length-append s.lines r.lines);
       room = elim r.room [
-        | inl some ↦ inl (held, s.text_is ∙ ap (λ ls. joined ls ++ held) (sym (ap (λ ls. s.lines ++ ls) some.0 ∙ append-nil s.lines)), (some.1, none))
+        | inl some ↦ inl (held, s.text_is ∙ ap (λ ls. text_of_lines ls ++ held) (sym (ap (λ ls. s.lines ++ ls) some.0 ∙ append-nil s.lines)), (some.1, none))
         | inr more ↦ inr (elim more [
           | inl unended ↦ inl unended
           | inr number ↦ inr (number.0, number.1, number.2, begins_by max lines r.state number.0 reads number.3)
@@ -262,7 +262,7 @@ room-fed max first held old text piece s none line r =
     }
 
 -- the end of the text
-closed_fault : (max n : ℕ) (new : State) (read : Result FormulaValue CnfFault) (fault : CnfFault) → Reads max n [] new read → IsCnfTold fault.kind fault.line (resumed max n new []) → is_cnf_no_memory fault.kind ≡ false → read ≡ Err fault
+closed_fault : (max n : ℕ) (new : State) (read : Result FormulaValue CnfFault) (fault : CnfFault) → Reads max n [] new read → IsCnfTold fault.kind fault.line (formula_from_state max n new []) → is_cnf_no_memory fault.kind ≡ false → read ≡ Err fault
 closed_fault max n Header read fault e h m = e ∙ told-err fault.kind fault.line _ m h
 closed_fault max n (Clauses b) read fault e h m = e ∙ told-err fault.kind fault.line _ m h
 closed_fault max n (Ended b) read fault e h m = e ∙ told-err fault.kind fault.line _ m h
@@ -272,18 +272,18 @@ closed_fault max n (Faulty kept) read fault e h m =
     let P : CnfFault → Type 0 = λ f. IsCnfTold f.kind f.line read in
     told-err fault.kind fault.line read m (subst P (sym same) e)
 
-closed_ok : (max n : ℕ) (new : State) (read : Result FormulaValue CnfFault) (formula : FormulaValue) → Reads max n [] new read → resumed max n new [] ≡ Ok formula → read ≡ Ok formula
+closed_ok : (max n : ℕ) (new : State) (read : Result FormulaValue CnfFault) (formula : FormulaValue) → Reads max n [] new read → formula_from_state max n new [] ≡ Ok formula → read ≡ Ok formula
 closed_ok max n Header read formula e h = e ∙ h
 closed_ok max n (Clauses b) read formula e h = e ∙ h
 closed_ok max n (Ended b) read formula e h = e ∙ h
 closed_ok max n (Faulty kept) read formula e h = cc
 
-whole : (max line : ℕ) (held : List ℕ) (state : State) (text : List ℕ) (s : CnfStandsAt max line held state text) → HasNoLineEnd held → read_cnf max text ≡ resumed max (length s.lines) state (held ∷ [])
-whole max line held state text s none = ap (read_cnf max) s.text_is ∙ s.reads held ∙ ap (resumed max (length s.lines) state) (slice_split_none is_line_end held none)
+whole : (max line : ℕ) (held : List ℕ) (state : State) (text : List ℕ) (s : CnfStandsAt max line held state text) → HasNoLineEnd held → read_cnf max text ≡ formula_from_state max (length s.lines) state (held ∷ [])
+whole max line held state text s none = ap (read_cnf max) s.text_is ∙ s.reads held ∙ ap (formula_from_state max (length s.lines) state) (slice_split_none is_line_end held none)
 
 pub answered : (max line : ℕ) (held : List ℕ) (state : State) (text : List ℕ) (s : CnfStandsAt max line held state text) (new : State) (result : Result FormulaValue CnfFault) → HasNoLineEnd held
-    → Reads max (length s.lines + 1) [] new (resumed max (length s.lines) state (held ∷ []))
-    → MatchResult result (λ formula. resumed max (length s.lines + 1) new [] ≡ Ok formula) (λ fault. IsCnfTold fault.kind fault.line (resumed max (length s.lines + 1) new []))
+    → Reads max (length s.lines + 1) [] new (formula_from_state max (length s.lines) state (held ∷ []))
+    → MatchResult result (λ formula. formula_from_state max (length s.lines + 1) new [] ≡ Ok formula) (λ fault. IsCnfTold fault.kind fault.line (formula_from_state max (length s.lines + 1) new []))
     → IsAnswer max text result
 answered max line held state text s new (Ok formula) none reads end = whole max line held state text s none ∙ closed_ok max (length s.lines + 1) new _ formula reads end
 answered max line held state text s new (Err fault) none reads end = λ m. whole max line held state text s none ∙ closed_fault max (length s.lines + 1) new _ fault reads end m

@@ -5,7 +5,8 @@ use Rattle.std.specs.List.{All, filter}
 use Rattle.std.proofs.Math.Seq.{drop-cons}
 use Rattle.std.proofs.lemmas.List.{take-append-drop, take_all, drop_all}
 use Rattle.std.proofs.lemmas.List.Splits.{slice_split-cons_yes, slice_split_none, slice_split_at}
-use Rattle.lj_text.specs.Bytes.{is_blank, is_filled, tokens_of, begins_blank}
+use Rattle.lj_text.specs.Bytes.{is_blank, is_filled, tokens_of}
+use Rattle.lj_text.specs.inner.Bytes.{begins_blank}
 
 pub tokens-blank : (b : ℕ) (bs : List ℕ) → is_blank b ≡ true → tokens_of (b ∷ bs) ≡ tokens_of bs
 tokens-blank b bs h = ap (filter is_filled) (slice_split-cons_yes is_blank b bs h)

@@ -8,11 +8,11 @@ use Rattle.std.proofs.Math.Nat.{pow-succ'}
 use Rattle.std.specs.List.{All, list_all}
 use Rattle.std.specs.Char.{is_ascii_digit}
 use Rattle.std.specs.Prelude.{Option, Some, None, ℤ, pos, negsuc, option_map, option_and_then}
-use Rattle.lj_text.specs.declared.bytes.numbers.Word.{Word}
-use Rattle.lj_text.specs.declared.bytes.numbers.Word.TheVariants as words
+use Rattle.lj_text.specs.declared.bytes.digits.Word.{Word}
+use Rattle.lj_text.specs.declared.bytes.digits.Word.TheVariants as words
 use Rattle.lj_text.specs.Bytes.{is_blank, is_filled, tokens_of, decimal_value, digits_value, negative, number_of}
 use Rattle.lj_text.specs.Lines.{greatest}
-use Rattle.lj_text.specs.Words.{BeginsToken, EndsToken, IsNumberAhead, IsWord}
+use Rattle.lj_text.specs.inner.HeldNumbers.{BeginsToken, EndsToken, IsNumberAhead, IsWord}
 use Rattle.lj_text.proofs.TokenLemmas.{tokens-last, tokens-first, tokens-blank}
 
 -- Digits that were read behind the first one, and what is left.

@@ -3,7 +3,8 @@ use Rattle.std.proofs.Common.{◌≡◌, ℕ, ◌+◌, ◌<◌, ◌≤◌, ◌*�
 use Rattle.std.specs.Prelude.{Result, Ok, Err, OnOk, OnErr}
 use Rattle.std.proofs.Math.Seq.{drop-cons}
 use Rattle.std.proofs.lemmas.List.{take-append-drop}
-use Rattle.lj_text.specs.Writing.{IsBeginning, Wrote, Broke}
+use Rattle.lj_text.specs.Writing.{IsBeginning}
+use Rattle.lj_text.specs.inner.Writing.{Wrote, Broke}
 
 pub beginning-self : (xs : List ℕ) → IsBeginning xs xs
 beginning-self xs = ([], sym (append-nil xs))

@@ -18,6 +18,7 @@ use Rattle.lj_text.specs.StepText.{group_words}
 use Rattle.lj_text.specs.ReadAgain.{IsClauseNumber, IsLiteralUpTo, IsGroupWithin}
 use Rattle.lj_text.proofs.TokenLemmas.{tokens-blank, tokens-last, tokens-first}
 use Rattle.lj_text.proofs.WordLemmas.{digits-all, digit_no_blank, number-unsigned, number-negative}
+use Rattle.lj_clause.specs.declared.lit.TheConstants.{MAX_VARIABLE}
 
 own : IsNumeralModel (λ ds. list_all is_ascii_digit ds ≡ true) decimal_value
 own = numerals_by_weight _ (search rules) decimal_value (search rules)
@@ -123,7 +124,7 @@ written-numbers (n ∷ ns) h =
     let small : n < 2 ^ 64 = omega (arith, h.0.1) in
     written-more (decimal n) (map decimal ns) (Some (pos n)) (as_numbers ns) (decimal-word n small) (number-decimal n small) (written-numbers ns h.1)
 
-pub written-literals : (most : ℕ) (ls : List ℤ) → most ≤ 134217727 → AllByRecursion (IsLiteralUpTo most) ls → AreWritten (map signed_decimal ls) (map Some ls)
+pub written-literals : (most : ℕ) (ls : List ℤ) → most ≤ MAX_VARIABLE → AllByRecursion (IsLiteralUpTo most) ls → AreWritten (map signed_decimal ls) (map Some ls)
 written-literals most [] le h = written-none
 written-literals most (l ∷ ls) le h =
     let small : variable_of l < 2 ^ 64 = omega (arith, h.0.1) in

@@ -15,12 +15,13 @@ use Rattle.lj_clause.specs.Lemma.{LemmaValue, IsLemma}
 use Rattle.lj_clause.specs.Rat.{HintGroup}
 use Rattle.lj_text.specs.declared.line.Addition.{Addition}
 use Rattle.lj_text.specs.declared.step.Step.{Step}
-use Rattle.lj_text.specs.StepText.{line_text, pivot_first, written_literals, group_words, addition_words, addition_text, deletion_text, step_text, greatest_with, greatest_number, text_after}
-use Rattle.lj_text.specs.Writing.{Wrote, Broke, spaced, spaced_words}
+use Rattle.lj_text.specs.StepText.{line_text, pivot_first, written_literals, group_words, addition_words, addition_text, deletion_text, step_text, greatest_with, text_after}
+use Rattle.lj_text.specs.inner.StepText.{greatest_number}
+use Rattle.lj_text.specs.inner.Writing.{Wrote, Broke, spaced_word, spaced_words}
 use Rattle.lj_text.proofs.WritingLemmas.{broke_then, broke_more}
 
 pub spaced_words-append : (xs ys : List (List ℕ)) → spaced_words (xs ++ ys) ≡ spaced_words xs ++ spaced_words ys
-spaced_words-append xs ys = flat_map-append spaced xs ys
+spaced_words-append xs ys = flat_map-append spaced_word xs ys
 
 -- the text of a list is those of its parts in a row
 abbrev JoinsTexts : {X : Type 0} → (List X → List ℕ) → Type 0
@@ -46,8 +47,8 @@ numbers_text-append ns ms = ap spaced_words (map-append decimal ns ms) ∙ space
 abbrev pub others_text : ℤ → List ℤ → List ℕ
 others_text pivot ls = spaced_words (map signed_decimal (filter (λ l. not (eq_by_cmp lit_cmp l pivot)) ls))
 
-pub others_text-other : (pivot l : ℤ) → eq_by_cmp lit_cmp l pivot ≡ false → others_text pivot (l ∷ []) ≡ spaced (signed_decimal l)
-others_text-other pivot l e = ap (λ b. spaced_words (map signed_decimal (cond (not b) (l ∷ []) []))) e ∙ append-nil (spaced (signed_decimal l))
+pub others_text-other : (pivot l : ℤ) → eq_by_cmp lit_cmp l pivot ≡ false → others_text pivot (l ∷ []) ≡ spaced_word (signed_decimal l)
+others_text-other pivot l e = ap (λ b. spaced_words (map signed_decimal (cond (not b) (l ∷ []) []))) e ∙ append-nil (spaced_word (signed_decimal l))
 
 pub others_text-append : (pivot : ℤ) → JoinsTexts (others_text pivot)
 others_text-append pivot ls ms =
@@ -63,9 +64,9 @@ groups_text-append gs hs = ap spaced_words (flat_map-append group_words gs hs) �
 
 -- the literals of a lemma with a pivot
 pub literals_some : (lemma : LemmaValue) (pivot : ℤ) (c : LiteralSet) (ls : List ℤ) → Some pivot ≡ lemma.pivot → c ≡ lemma.clause → ls ≡ literals c
-    → spaced (signed_decimal pivot) ++ others_text pivot ls ≡ spaced_words (map signed_decimal (written_literals lemma))
+    → spaced_word (signed_decimal pivot) ++ others_text pivot ls ≡ spaced_words (map signed_decimal (written_literals lemma))
 literals_some lemma pivot c ls e f h =
-    ap (λ t. spaced (signed_decimal pivot) ++ others_text pivot t) (h ∙ ap literals f)
+    ap (λ t. spaced_word (signed_decimal pivot) ++ others_text pivot t) (h ∙ ap literals f)
     ∙ ap (λ p. spaced_words (map signed_decimal (pivot_first p (literals lemma.clause)))) e
 
 no_item : {X : Type 0} (xs : List X) → length xs ≡ 0 → xs ≡ []

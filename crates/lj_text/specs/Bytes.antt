@@ -19,6 +19,7 @@ lines_of text = slice_split is_line_end text
 abbrev pub line_number : ℕ → ℕ
 line_number n = min (n + 1) (2 ^ 64 - 1)
 
+-- whether there is a byte
 abbrev pub is_filled : List ℕ → Bool
 is_filled [] = false
 is_filled (b ∷ bs) = true
@@ -44,7 +45,8 @@ decimal_value (b ∷ bs) = (b - 48) * 10 ^ length bs + decimal_value bs
 
 -- the value of one or more digits
 abbrev pub digits_value : List ℕ → Option ℕ
-digits_value bs = if is_filled bs && list_all is_ascii_digit bs then Some (decimal_value bs) else None
+digits_value bs = if is_filled bs && list_all is_ascii_digit bs then Some (decimal_value bs)
+    else None
 
 -- what follows a token's first byte
 abbrev pub rest_of : List ℕ → List ℕ
@@ -58,9 +60,5 @@ negative (suc n) = Some (negsuc n)
 
 -- the number that a token is, if it is one: digits, or `-` and digits
 abbrev pub number_of : List ℕ → Option ℤ
-number_of token = if begins 45 token then option_and_then negative (digits_value (rest_of token)) else option_map pos (digits_value token)
-
--- a blank stands first
-abbrev pub begins_blank : List ℕ → Bool
-begins_blank [] = false
-begins_blank (b ∷ bs) = is_blank b
+number_of token = if begins 45 token then option_and_then negative (digits_value (rest_of token))
+    else option_map pos (digits_value token)

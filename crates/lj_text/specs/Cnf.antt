@@ -7,28 +7,35 @@ use Rattle.lj_text.specs.declared.cnf.fault.CnfFaultKind.{CnfFaultKind}
 use Rattle.lj_text.specs.declared.cnf.fault.CnfFaultKind.TheVariants.{NoHeader, BadHeader, BadNumber, VariableRange, ClauseCount, Truncated}
 use Rattle.lj_text.specs.Bytes.{number_of, digits_value, tokens_of, lines_of, line_number, is_silent, begins}
 use Rattle.lj_text.specs.Lines.{is_letter, with_read, then_read}
+use Rattle.lj_clause.specs.declared.formula.TheConstants.{MAX_CLAUSES}
 
+-- a fault of this kind in this line
 abbrev pub fault_in : {A : Type 0} → ℕ → CnfFaultKind → Result A CnfFault
 fault_in line kind = Err (record { kind = kind; line = line })
 
 -- The header line
 
+-- the numbers of variables and of clauses, where they are numbers within the limits
 abbrev pub sizes_of : ℕ → ℕ → Option ℕ → Option ℕ → Result (ℕ × ℕ) CnfFault
 sizes_of max line None clauses = fault_in line BadHeader
 sizes_of max line (Some v) None = fault_in line BadHeader
-sizes_of max line (Some v) (Some m) = if nat_le m 4294967295 then (if nat_le v max then Ok (v, m) else fault_in line VariableRange) else fault_in line BadHeader
+sizes_of max line (Some v) (Some m) = if nat_le m MAX_CLAUSES then
+    (if nat_le v max then Ok (v, m) else fault_in line VariableRange) else fault_in line BadHeader
 
 -- behind `p` stand `cnf` and the numbers of variables and of clauses
 abbrev pub header_after : ℕ → ℕ → List (List ℕ) → Result (ℕ × ℕ) CnfFault
 header_after max line [] = fault_in line BadHeader
 header_after max line (word ∷ []) = fault_in line BadHeader
 header_after max line (word ∷ v ∷ []) = fault_in line BadHeader
-header_after max line (word ∷ v ∷ m ∷ []) = if bytes_eq word (codes "cnf") then sizes_of max line (digits_value v) (digits_value m) else fault_in line BadHeader
+header_after max line (word ∷ v ∷ m ∷ []) = if bytes_eq word (codes "cnf") then
+    sizes_of max line (digits_value v) (digits_value m) else fault_in line BadHeader
 header_after max line (word ∷ v ∷ m ∷ more ∷ tokens) = fault_in line BadHeader
 
+-- the numbers of variables and of clauses of a line that is to be the header
 abbrev pub header_of : ℕ → ℕ → List (List ℕ) → Result (ℕ × ℕ) CnfFault
 header_of max line [] = fault_in line NoHeader
-header_of max line (token ∷ tokens) = if is_letter 112 token then header_after max line tokens else fault_in line NoHeader
+header_of max line (token ∷ tokens) = if is_letter 112 token then header_after max line tokens
+    else fault_in line NoHeader
 
 -- The clauses
 
@@ -38,10 +45,12 @@ pub data Place : Type 0 where
   NoNumber : ℕ → Place
   Number : ℕ → ℤ → Place
 
+-- what a token says in a line, by the number that it is
 abbrev pub number_at : ℕ → Option ℤ → Place
 number_at line None = NoNumber line
 number_at line (Some n) = Number line n
 
+-- what a token of the clauses says in a line
 abbrev pub place_at : ℕ → List ℕ → Place
 place_at line token = if begins 37 token then Percent line else number_at line (number_of token)
 
@@ -52,7 +61,8 @@ places_at line tokens = if is_silent tokens then [] else map (place_at line) tok
 -- the tokens of lines, where n lines stand before them
 abbrev pub places_from : ℕ → List (List ℕ) → List Place
 places_from n [] = []
-places_from n (line ∷ lines) = places_at (line_number n) (tokens_of line) ++ places_from (n + 1) lines
+places_from n (line ∷ lines) = places_at (line_number n) (tokens_of line)
+    ++ places_from (n + 1) lines
 
 -- literals up to a 0, and what follows it; the input ends in line `last`
 abbrev pub literals_up_to : ℕ → ℕ → List Place → Result (List ℤ × List Place) CnfFault
@@ -60,7 +70,8 @@ literals_up_to variables last [] = fault_in last Truncated
 literals_up_to variables last (Percent line ∷ rest) = fault_in line BadNumber
 literals_up_to variables last (NoNumber line ∷ rest) = fault_in line BadNumber
 literals_up_to variables last (Number line n ∷ rest) =
-    if nat_le (unsigned_abs n) variables then (if unsigned_abs n == 0 then Ok ([], rest) else with_read (λ r. (n ∷ r.0, r.1)) (literals_up_to variables last rest))
+    if nat_le (unsigned_abs n) variables then (if unsigned_abs n == 0 then Ok ([], rest)
+    else with_read (λ r. (n ∷ r.0, r.1)) (literals_up_to variables last rest))
     else fault_in line VariableRange
 
 -- so many clauses, and the end of the formula
@@ -68,10 +79,13 @@ abbrev pub clauses_of : ℕ → ℕ → ℕ → List Place → Result (List Lite
 clauses_of variables last zero [] = Ok []
 clauses_of variables last zero (Percent line ∷ rest) = Ok []
 clauses_of variables last zero (NoNumber line ∷ rest) = fault_in line BadNumber
-clauses_of variables last zero (Number line n ∷ rest) = if nat_le (unsigned_abs n) variables then fault_in line ClauseCount else fault_in line VariableRange
+clauses_of variables last zero (Number line n ∷ rest) = if nat_le (unsigned_abs n) variables then
+    fault_in line ClauseCount else fault_in line VariableRange
 clauses_of variables last (suc m) [] = fault_in last ClauseCount
 clauses_of variables last (suc m) (Percent line ∷ rest) = fault_in line ClauseCount
-clauses_of variables last (suc m) (place ∷ rest) = then_read (literals_up_to variables last (place ∷ rest)) (λ r. with_read (λ cs. from_literals r.0 ∷ cs) (clauses_of variables last m r.1))
+clauses_of variables last (suc m) (place ∷ rest) = then_read
+    (literals_up_to variables last (place ∷ rest))
+    (λ r. with_read (λ cs. from_literals r.0 ∷ cs) (clauses_of variables last m r.1))
 
 -- The text
 
@@ -81,7 +95,8 @@ last_line n = line_number (n - 1)
 
 -- the clauses of these sizes, in lines before which n lines stand
 abbrev pub body_of : ℕ → List (List ℕ) → ℕ × ℕ → Result FormulaValue CnfFault
-body_of n lines sizes = with_read (formula_of sizes.0) (clauses_of sizes.0 (last_line (n + length lines)) sizes.1 (places_from n lines))
+body_of n lines sizes = with_read (formula_of sizes.0)
+    (clauses_of sizes.0 (last_line (n + length lines)) sizes.1 (places_from n lines))
 
 -- what lines spell, where n lines stand before them: silent ones, the header, the clauses
 abbrev pub formula_from : ℕ → ℕ → List (List ℕ) → Result FormulaValue CnfFault

@@ -1,12 +1,17 @@
 -- What a reader of lines holds of what was fed, and what it answers.
-use Rattle.std.specs.Prelude.{◌≡◌, ℕ, ◌/◌, max, Bool, true, false, List, [], ◌∷◌, ◌++◌, length, Option, None, Some, Result, Ok, Err, All, IsOk, MatchBool}
+use Rattle.std.specs.Prelude.{◌≡◌, ℕ, ◌/◌, max, Bool, false, List, [], ◌∷◌, ◌++◌, length, Option, None, Some, Result, Ok, Err, All, IsOk, MatchBool, true}
 use Rattle.std.specs.List.{AllByRecursion}
 use Rattle.lj_text.specs.declared.lines.fault.LineFault.{LineFault}
 use Rattle.lj_text.specs.declared.lines.fault.LineFaultKind.{LineFaultKind}
 use Rattle.lj_text.specs.declared.line.Line.{Line}
 use Rattle.lj_text.specs.Bytes.{is_line_end, line_number, lines_of}
 use Rattle.lj_text.specs.Lines.{Said, said_from, all_said, all_but_last}
-pub use Rattle.lj_text.specs.LineReading.{is_line_no_memory}
+use Rattle.lj_text.specs.declared.lines.fault.LineFaultKind.TheVariants.{NoMemory}
+
+-- whether it is the want of memory, which is no fault of a line
+abbrev pub is_line_no_memory : LineFaultKind → Bool
+is_line_no_memory (NoMemory _) = true
+is_line_no_memory kind = false
 
 -- What a reader of lines holds.
 pub record LinesRead : Type 0 where
@@ -27,13 +32,14 @@ pub record LinesRead : Type 0 where
 abbrev pub most_done : ℕ → ℕ
 most_done left = max 65536 (left / 4)
 
+-- none of the bytes is a line feed
 abbrev pub HasNoLineEnd : List ℕ → Type 0
 HasNoLineEnd bytes = All (λ b. is_line_end b ≡ false) bytes
 
 -- lines, with a line feed behind each
-abbrev pub joined : List (List ℕ) → List ℕ
-joined [] = []
-joined (line ∷ lines) = line ++ 10 ∷ joined lines
+abbrev pub text_of_lines : List (List ℕ) → List ℕ
+text_of_lines [] = []
+text_of_lines (line ∷ lines) = line ++ 10 ∷ text_of_lines lines
 
 -- the number of a text's last line, which no line feed ends
 abbrev pub last_number : List ℕ → ℕ
@@ -43,7 +49,7 @@ last_number text = line_number (length (all_but_last (lines_of text)))
 pub record StandsWithin (reader : LinesRead) (text : List ℕ) (given : ℕ) : Type 0 where
   pub lines : List (List ℕ)
   pub whole : AllByRecursion HasNoLineEnd lines
-  pub text_is : text ≡ joined lines ++ reader.ahead
+  pub text_is : text ≡ text_of_lines lines ++ reader.ahead
   pub line_is : reader.line ≡ line_number (length lines)
   pub given_is : given ≡ length (said_from reader.max 0 lines)
 
@@ -54,16 +60,18 @@ pub record StandsBehind (reader : LinesRead) (text : List ℕ) (given : ℕ) : T
 
 -- the reader stands at a text of which it has handed out `given` lines
 abbrev pub LineReaderStandsAt : LinesRead → List ℕ → ℕ → Type 0
-LineReaderStandsAt reader text given = MatchBool reader.finished (StandsBehind reader text given) (StandsWithin reader text given)
+LineReaderStandsAt reader text given = MatchBool reader.finished (StandsBehind reader text given)
+    (StandsWithin reader text given)
 
-abbrev pub told : ℕ → Result Line LineFaultKind → Result (Option Line) LineFault
-told n (Ok line) = Ok (Some line)
-told n (Err kind) = Err (record { kind = kind; line = n })
+-- the answer of a line with this number that is right, or its fault
+abbrev pub answer_of_line : ℕ → Result Line LineFaultKind → Result (Option Line) LineFault
+answer_of_line n (Ok line) = Ok (Some line)
+answer_of_line n (Err kind) = Err (record { kind = kind; line = n })
 
 -- the answer where a line says something, or none does
 abbrev pub line_answer : Option Said → Result (Option Line) LineFault
 line_answer None = Ok None
-line_answer (Some said) = told said.line said.says
+line_answer (Some said) = answer_of_line said.line said.says
 
 -- the number of the line that says something, or else of the one being read
 abbrev pub line_number_of : Option Said → ℕ → ℕ

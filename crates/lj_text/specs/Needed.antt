@@ -9,9 +9,11 @@ use Rattle.lj_text.specs.declared.step.Step.{Step}
 use Rattle.lj_text.specs.declared.step.Step.TheVariants.{Add, Delete}
 use Rattle.lj_text.specs.Steps.{adds_empty}
 
+-- a finite set of numbers
 abbrev pub NumberSet : Type 0
 NumberSet = FinSet nat_cmp
 
+-- whether the number is in the set
 abbrev pub has : NumberSet → ℕ → Bool
 has s n = fin.contains_key s n
 
@@ -35,7 +37,9 @@ additions (Delete numbers ∷ ss) = additions ss
 abbrev pub all_hints : Addition → List ℕ
 all_hints a = a.hints ++ flat_map (λ g. g.hints) a.groups
 
-abbrev pub with_other : Addition → Option (Addition × List Addition) → Option (Addition × List Addition)
+-- what was picked, with one addition more among the others
+abbrev pub with_other : Addition → Option (Addition × List Addition)
+    → Option (Addition × List Addition)
 with_other a None = None
 with_other a (Some found) = Some (found.0, a ∷ found.1)
 
@@ -44,7 +48,9 @@ abbrev pub pick : NumberSet → List Addition → Option (Addition × List Addit
 pick s [] = None
 pick s (a ∷ others) = if has s a.number then Some (a, others) else with_other a (pick s others)
 
-abbrev pub by_pick : (NumberSet → List Addition → NumberSet) → NumberSet → Option (Addition × List Addition) → NumberSet
+-- the set, where nothing was picked; else what goes on from the set with the hints of what was
+abbrev pub by_pick : (NumberSet → List Addition → NumberSet) → NumberSet
+    → Option (Addition × List Addition) → NumberSet
 by_pick onward s None = s
 by_pick onward s (Some found) = onward (with_numbers s (all_hints found.0)) found.1
 
@@ -53,6 +59,7 @@ abbrev pub closure : ℕ → NumberSet → List Addition → NumberSet
 closure zero s adds = s
 closure (suc n) s adds = by_pick (closure n) s (pick s adds)
 
+-- the number of a step that adds a clause
 abbrev pub added_number : Step → List ℕ
 added_number (Add a) = a.number ∷ []
 added_number (Delete numbers) = []
@@ -63,8 +70,9 @@ empty_numbers steps = flat_map (λ s. if adds_empty s then added_number s else [
 
 -- The needed set: the least set that holds the number of the first addition of the empty clause and, with each
 -- lemma's number in it, all the hints of that lemma.
-abbrev pub needed : List Step → NumberSet
-needed steps = let adds = additions (up_to_empty steps) in closure (length adds) (with_numbers fin.empty (empty_numbers (up_to_empty steps))) adds
+abbrev pub needed_numbers : List Step → NumberSet
+needed_numbers steps = let adds = additions (up_to_empty steps) in closure (length adds)
+    (with_numbers fin.empty (empty_numbers (up_to_empty steps))) adds
 
 -- whether the number is one of a clause of the formula or needed
 abbrev pub is_kept : ℕ → NumberSet → ℕ → Bool
@@ -77,10 +85,13 @@ if_some (n ∷ ns) = Some (Delete (n ∷ ns))
 
 -- the step without what isn't kept, if something is left
 abbrev pub trimmed_step : ℕ → NumberSet → Step → Option Step
-trimmed_step clauses s (Add a) = if is_kept clauses s a.number then Some (Add (record a { groups = filter (λ g. is_kept clauses s g.candidate) a.groups })) else None
+trimmed_step clauses s (Add a) = if is_kept clauses s a.number then
+    Some (Add (record a { groups = filter (λ g. is_kept clauses s g.candidate) a.groups }))
+    else None
 trimmed_step clauses s (Delete numbers) = if_some (filter (is_kept clauses s) numbers)
 
 -- The steps up to the first addition of the empty clause without the additions that aren't kept, without the groups
 -- whose candidate isn't, with only the kept numbers in deletions, and without deletions that then hold none.
-abbrev pub trimmed : FormulaValue → List Step → List Step
-trimmed f steps = filter_map (trimmed_step (length f.clauses) (needed steps)) (up_to_empty steps)
+abbrev pub trimmed_steps : FormulaValue → List Step → List Step
+trimmed_steps f steps = filter_map (trimmed_step (length f.clauses) (needed_numbers steps))
+    (up_to_empty steps)

@@ -13,6 +13,7 @@ use Rattle.lj_text.specs.declared.step.Step.TheVariants.{Add, Delete}
 use Rattle.lj_text.specs.Bytes.{line_number}
 use Rattle.lj_text.specs.Lines.{Said, all_said, greatest}
 use Rattle.lj_text.specs.StepText.{proof_text}
+use Rattle.lj_clause.specs.declared.lit.TheConstants.{MAX_VARIABLE}
 
 -- a number under which a clause may stand in a line
 abbrev pub IsClauseNumber : ℕ → Type 0
@@ -22,6 +23,7 @@ IsClauseNumber n = (0 < n) × (n ≤ greatest)
 abbrev pub IsLiteralUpTo : ℕ → ℤ → Type 0
 IsLiteralUpTo max l = (0 < variable_of l) × (variable_of l ≤ max)
 
+-- the numbers of a group are within the limits of a line
 abbrev pub IsGroupWithin : HintGroup → Type 0
 IsGroupWithin g = IsClauseNumber g.candidate × AllByRecursion IsClauseNumber g.hints
 
@@ -46,9 +48,11 @@ line_of_step (Delete numbers) = says.Delete numbers
 -- lines that say steps, one each, where n lines stand before them
 abbrev pub said_by_steps : ℕ → List Step → List Said
 said_by_steps n [] = []
-said_by_steps n (step ∷ steps) = record { line = line_number n; says = Ok (line_of_step step) } ∷ said_by_steps (n + 1) steps
+said_by_steps n (step ∷ steps) = record { line = line_number n; says = Ok (line_of_step step) } ∷
+    said_by_steps (n + 1) steps
 
 -- the text of steps within the limits is read as these steps, each in its line
 abbrev pub WrittenIsReadAgain : Type 0
-WrittenIsReadAgain = (max clauses : ℕ) (steps : List Step) → max ≤ 134217727 → clauses ≤ greatest → AllByRecursion (IsStepWithin max) steps
+WrittenIsReadAgain = (max clauses : ℕ) (steps : List Step) → max ≤ MAX_VARIABLE → clauses ≤ greatest
+    → AllByRecursion (IsStepWithin max) steps
     → all_said max (proof_text clauses steps) ≡ said_by_steps 0 steps

@@ -3,7 +3,7 @@
 --
 --   addition: number literals 0 hints groups 0
 --   deletion: greatest d numbers 0
-use Rattle.std.specs.Prelude.{ℕ, Bool, true, false, not, max, List, [], ◌∷◌, ◌++◌, map, filter, flat_map, ℤ, Option, None, Some, codes}
+use Rattle.std.specs.Prelude.{ℕ, not, max, List, [], ◌∷◌, ◌++◌, map, filter, flat_map, ℤ, Option, None, Some, codes}
 use Rattle.std.specs.Fmt.{decimal, signed_decimal}
 use Rattle.std.specs.List.{join_with_byte}
 use Rattle.std.specs.Ordering.{eq_by_cmp}
@@ -34,7 +34,8 @@ group_words g = (45 ∷ decimal g.candidate) ∷ map decimal g.hints
 
 -- the words of an addition behind its number: the literals and a 0, the hints, the groups and a 0
 abbrev pub addition_words : Addition → List (List ℕ)
-addition_words a = map signed_decimal (written_literals a.lemma) ++ codes "0" ∷ (map decimal a.hints ++ (flat_map group_words a.groups ++ codes "0" ∷ []))
+addition_words a = map signed_decimal (written_literals a.lemma)
+    ++ codes "0" ∷ (map decimal a.hints ++ (flat_map group_words a.groups ++ codes "0" ∷ []))
 
 -- the line of an addition
 abbrev pub addition_text : Addition → List ℕ
@@ -42,7 +43,8 @@ addition_text a = line_text (decimal a.number ∷ addition_words a)
 
 -- the line of a deletion that begins with this number
 abbrev pub deletion_text : ℕ → List ℕ → List ℕ
-deletion_text leading numbers = line_text (decimal leading ∷ codes "d" ∷ (map decimal numbers ++ codes "0" ∷ []))
+deletion_text leading numbers = line_text
+    (decimal leading ∷ codes "d" ∷ (map decimal numbers ++ codes "0" ∷ []))
 
 -- the line of a step, where a deletion begins with this number
 abbrev pub step_text : ℕ → Step → List ℕ
@@ -53,11 +55,6 @@ step_text leading (Delete numbers) = deletion_text leading numbers
 abbrev pub greatest_with : ℕ → Step → ℕ
 greatest_with n (Add a) = max n a.number
 greatest_with n (Delete numbers) = n
-
--- the greatest of a number and of those of the additions
-abbrev pub greatest_number : ℕ → List Step → ℕ
-greatest_number n [] = n
-greatest_number n (step ∷ steps) = greatest_number (greatest_with n step) steps
 
 -- the text of steps, where the greatest of the numbers so far is n: that of the formula's last clause, and those of the
 -- additions before

@@ -15,6 +15,7 @@ use Rattle.lj_text.specs.declared.step.Step.TheVariants.{Add, Delete}
 abbrev pub names : ClauseMap → ℕ → Bool
 names p n = fin.contains_key p n
 
+-- whether all of these numbers are in the map
 abbrev pub names_all : ClauseMap → List ℕ → Bool
 names_all p ns = list_all (names p) ns
 
@@ -33,7 +34,8 @@ is_in_place p a =
 -- whether the lemma is RAT on its pivot, a literal of its clause, for a walk that ended open with s
 abbrev pub is_rat_on : ClauseMap → Addition → LiteralSet → Option ℤ → Bool
 is_rat_on p a s None = false
-is_rat_on p a s (Some q) = not (variable_of q == 0) && (holds a.lemma.clause q && is_covered (rat p s q a.groups))
+is_rat_on p a s (Some q) = not (variable_of q == 0)
+    && (holds a.lemma.clause q && is_covered (rat p s q a.groups))
 
 -- whether the walk of the first hint list, which ended so, leaves a lemma that is RAT on its pivot
 abbrev pub is_rat_after : ClauseMap → Addition → Walk → Bool
@@ -47,7 +49,8 @@ first_walk p a = walk p (negations a.lemma.clause) a.hints
 
 -- A step is accepted: an addition that is in place and RUP or RAT, a deletion of numbers that are in the map.
 abbrev pub is_accepted : ClauseMap → Step → Bool
-is_accepted p (Add a) = is_in_place p a && (is_closed (first_walk p a) || is_rat_after p a (first_walk p a))
+is_accepted p (Add a) = is_in_place p a
+    && (is_closed (first_walk p a) || is_rat_after p a (first_walk p a))
 is_accepted p (Delete numbers) = names_all p numbers
 
 -- the map without these numbers
@@ -78,9 +81,11 @@ refutes f steps = is_some (replay (formula_map f) steps) && list_any adds_empty 
 -- one group for each candidate, by rising number, with all the hints of each group used.
 abbrev pub IsRecordedAfter : ClauseMap → Addition → Walk → Type 0
 IsRecordedAfter p a (Closed used) = (a.hints ≡ used) × (a.groups ≡ [])
-IsRecordedAfter p a (Open s) = MatchOption a.lemma.pivot ⊥ (λ q. rat p s q a.groups ≡ Covered a.groups)
+IsRecordedAfter p a (Open s) = MatchOption a.lemma.pivot ⊥
+    (λ q. rat p s q a.groups ≡ Covered a.groups)
 IsRecordedAfter p a (Stuck place) = ⊥
 
+-- the addition is in recorded form
 abbrev pub IsRecorded : ClauseMap → Addition → Type 0
 IsRecorded p a = IsRecordedAfter p a (first_walk p a)
 
@@ -92,14 +97,17 @@ with_covered a (MissingGroup n) = a
 with_covered a (GroupStuck n place) = a
 with_covered a (GroupOpen n) = a
 
+-- the recorded form on this pivot, where the first walk ended open with s
 abbrev pub recorded_on : ClauseMap → Addition → LiteralSet → Option ℤ → Addition
 recorded_on p a s None = a
 recorded_on p a s (Some q) = with_covered a (rat p s q a.groups)
 
+-- the recorded form, where the first walk ended so
 abbrev pub recorded_after : ClauseMap → Addition → Walk → Addition
 recorded_after p a (Closed used) = record a { hints = used; groups = [] }
 recorded_after p a (Open s) = recorded_on p a s a.lemma.pivot
 recorded_after p a (Stuck place) = a
 
-abbrev pub recorded : ClauseMap → Addition → Addition
-recorded p a = recorded_after p a (first_walk p a)
+-- the recorded form: only the hints that were read and, where it is RAT, one group for each candidate
+abbrev pub recorded_form : ClauseMap → Addition → Addition
+recorded_form p a = recorded_after p a (first_walk p a)

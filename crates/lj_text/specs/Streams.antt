@@ -11,8 +11,10 @@ pub record SourceState : Type 0 where
   pub failures : ℕ
 
 -- a source's state, by the members of its trait
-abbrev pub source_state : {S : Type 0} → (S → List ℕ) → (S → Bool) → (S → Option (List ℕ)) → (S → ℕ) → S → SourceState
-source_state given ended rest failures source = record { given = given source; ended = ended source; rest = rest source; failures = failures source }
+abbrev pub source_state : {S : Type 0} → (S → List ℕ) → (S → Bool) → (S → Option (List ℕ)) → (S → ℕ)
+    → S → SourceState
+source_state given ended rest failures source = record
+    { given = given source; ended = ended source; rest = rest source; failures = failures source }
 
 -- The source has ended, and where it tells what is still to come, that is nothing.
 pub record HasEnded (source : SourceState) : Type 0 where

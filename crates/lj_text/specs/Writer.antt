@@ -1,6 +1,7 @@
 -- What a writer of a joint proof is: its sink, and the text that it was given to write.
 use Rattle.std.specs.Prelude.{ℕ, Bool, List}
 
+-- A writer of a proof: its sink, and the text that it was given to write.
 pub record WriterValue (W : Type 0) : Type 0 where
   -- where the text goes
   pub sink : W

@@ -1,9 +1,9 @@
 //! Tokens and numbers of one line.
 
-mod numbers;
+mod digits;
+mod number_tokens;
 mod tokens;
-mod words;
 
-pub(crate) use numbers::{Word, digits_value, word_of};
+pub(crate) use digits::{Word, digits_value, word_of};
+pub(crate) use number_tokens::{first_word, next_word};
 pub(crate) use tokens::{after_blanks, next_token};
-pub(crate) use words::{first_word, next_word};

@@ -43,10 +43,12 @@ impl<S: Source> Source for FailingSource<S> {
         requires unfailed { failures_of S.failures self.old.source self.old.failed ≡ 0 }
 
         ensures bound { ReadsAtMost result buffer.new }
-        ensures given { IfOk result (λ n. S.given self.new.source ≡ S.given self.old.source ++ take n buffer.new) }
+        ensures given { IfOk result
+            (λ n. S.given self.new.source ≡ S.given self.old.source ++ take n buffer.new) }
         ensures end { IfOk result (λ n. (n ≡ 0) ↔ (S.ended self.new.source ≡ true)) }
         ensures stays_ended { S.ended self.old.source ≡ true → IfOk result (λ n. n ≡ 0) }
-        ensures rest { IfOk result (λ n. Consumes (S.rest self.old.source) (S.rest self.new.source) (take n buffer.new)) }
+        ensures rest { IfOk result
+            (λ n. Consumes (S.rest self.old.source) (S.rest self.new.source) (take n buffer.new)) }
         ensures rest_end { IfOk result (λ n. n ≡ 0 → IsAtEnd (S.rest self.new.source)) }
         ensures ok { OnOk result (failures_of S.failures self.new.source self.new.failed
             ≡ failures_of S.failures self.old.source self.old.failed) }
@@ -58,7 +60,8 @@ impl<S: Source> Source for FailingSource<S> {
         ensures kept { OnErr result (Keeps (S.rest self.old.source) (S.rest self.new.source)) }
 
         ensures fails { self.old.pulls ≡ 0 → IsErr result }
-        ensures fails_only_then { OnErr result ((self.old.pulls ≡ 0) ⊎ (0 < S.failures self.new.source)) }
+        ensures fails_only_then { OnErr result
+            ((self.old.pulls ≡ 0) ⊎ (0 < S.failures self.new.source)) }
         ensures counted { OnOk result (self.new.pulls + 1 ≡ self.old.pulls) }
     {
         if self.pulls == 0 {
@@ -104,8 +107,10 @@ impl<S: Sink> Sink for FailingSink<S> {
 
         ensures bound { WritesAtMost result piece.now }
         ensures some { IfOk result (λ n. 0 < length piece.now → 0 < n) }
-        ensures taken { IfOk result (λ n. S.taken self.new.sink ≡ S.taken self.old.sink ++ take n piece.now) }
-        ensures contents { IfOk result (λ n. Appends (S.contents self.old.sink) (S.contents self.new.sink) (take n piece.now)) }
+        ensures taken { IfOk result
+            (λ n. S.taken self.new.sink ≡ S.taken self.old.sink ++ take n piece.now) }
+        ensures contents { IfOk result (λ n. Appends (S.contents self.old.sink)
+            (S.contents self.new.sink) (take n piece.now)) }
         ensures ok { OnOk result (failures_of S.failures self.new.sink self.new.failed
             ≡ failures_of S.failures self.old.sink self.old.failed) }
 
@@ -115,7 +120,8 @@ impl<S: Sink> Sink for FailingSink<S> {
         ensures kept { OnErr result (Keeps (S.contents self.old.sink) (S.contents self.new.sink)) }
 
         ensures fails { self.old.room ≡ 0 → 0 < length piece.now → IsErr result }
-        ensures fails_only_then { OnErr result (((self.old.room ≡ 0) × (0 < length piece.now)) ⊎ (0 < S.failures self.new.sink)) }
+        ensures fails_only_then { OnErr result
+            (((self.old.room ≡ 0) × (0 < length piece.now)) ⊎ (0 < S.failures self.new.sink)) }
         ensures counted { IfOk result (λ n. self.new.room + n ≡ self.old.room) }
     {
         if self.room == 0 && !piece.is_empty() {

@@ -1,17 +1,17 @@
 //! Lines of a stream, by the grammar of LRAT.
 
+mod closing;
 mod cut;
+mod deletion;
 mod fault;
 mod held;
 mod hints;
 mod judge;
 mod literals;
 mod look;
-mod numbers;
 mod parse;
 mod reader;
 mod room;
-mod words;
 
 pub(crate) use cut::first_line;
 pub use fault::{LineFault, LineFaultKind};

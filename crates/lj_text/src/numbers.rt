@@ -1,13 +1,13 @@
 //! Lists of clause numbers, and hint groups.
 ghost use Rattle.std.specs.Prelude.{◌≡◌, ◌==◌, ◌∷◌, ◌++◌, [], length, slice_get, IfOk, IfSome, OnOk, OnErr};
-ghost use Rattle.lj_text.specs.Numbers.{numbers_in, numbers_left};
+ghost use Rattle.lj_text.specs.inner.Numbers.{numbers_in, numbers_left};
 
 use std::alloc::{AllocError, Global};
 use std::marker::Model;
 use std::mem::replace;
 
 /// The greatest number that takes four bytes.
-const MAX_SHORT: u64 = 4_294_967_295;
+const MAX_SHORT: u64 = u32::MAX as u64;
 
 /// A list of clause numbers. Two are equal where their contents are.
 ///
@@ -29,7 +29,7 @@ impl Model for Numbers {
 
     ghost Value = { List ℕ };
 
-    ghost use Rattle.lj_text.specs.Numbers.{numbers_in};
+    ghost use Rattle.lj_text.specs.inner.Numbers.{numbers_in};
 
     ghost view = { λ n. numbers_in n.form };
 }
@@ -174,7 +174,7 @@ impl<'a> Model for NumbersIter<'a> {
 
     ghost Value = { List ℕ };
 
-    ghost use Rattle.lj_text.specs.Numbers.{numbers_left};
+    ghost use Rattle.lj_text.specs.inner.Numbers.{numbers_left};
 
     ghost view = { λ n. numbers_left n.rest };
 }
@@ -308,7 +308,8 @@ pub struct Group {
 }
 
 impl Model for Group {
-    ghost use Rattle.lj_clause.specs.Rat.{HintGroup, hint_group_code};
+    ghost use Rattle.lj_clause.specs.Rat.{HintGroup};
+    ghost use Rattle.lj_clause.specs.inner.Codes.{hint_group_code};
 
     ghost Value = { HintGroup };
 
@@ -326,7 +327,8 @@ pub struct Groups {
 impl Model for Groups {
     ghost use Rattle.std.specs.Prelude.{List};
     ghost use Rattle.std.specs.Coded.{coded_list};
-    ghost use Rattle.lj_clause.specs.Rat.{HintGroup, hint_group_code};
+    ghost use Rattle.lj_clause.specs.Rat.{HintGroup};
+    ghost use Rattle.lj_clause.specs.inner.Codes.{hint_group_code};
 
     ghost Value = { List HintGroup };
 

@@ -33,7 +33,8 @@ pub trait Sink {
         ensures bound { WritesAtMost result piece.now }
         ensures some { IfOk result (λ n. 0 < length piece.now → 0 < n) }
         ensures taken { IfOk result (λ n. taken self.new ≡ taken self.old ++ take n piece.now) }
-        ensures contents { IfOk result (λ n. Appends (contents self.old) (contents self.new) (take n piece.now)) }
+        ensures contents { IfOk result
+            (λ n. Appends (contents self.old) (contents self.new) (take n piece.now)) }
         ensures ok { OnOk result (failures self.new ≡ failures self.old) }
 
         ensures err { OnErr result (failures self.new ≡ failures self.old + 1) }

@@ -37,7 +37,8 @@ pub trait Source {
         ensures given { IfOk result (λ n. given self.new ≡ given self.old ++ take n buffer.new) }
         ensures end { IfOk result (λ n. (n ≡ 0) ↔ (ended self.new ≡ true)) }
         ensures stays_ended { ended self.old ≡ true → IfOk result (λ n. n ≡ 0) }
-        ensures rest { IfOk result (λ n. Consumes (rest self.old) (rest self.new) (take n buffer.new)) }
+        ensures rest { IfOk result
+            (λ n. Consumes (rest self.old) (rest self.new) (take n buffer.new)) }
         ensures rest_end { IfOk result (λ n. n ≡ 0 → IsAtEnd (rest self.new)) }
         ensures ok { OnOk result (failures self.new ≡ failures self.old) }
 

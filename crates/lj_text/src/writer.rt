@@ -1,18 +1,19 @@
 //! The joint proof as text.
 ghost use Rattle.std.specs.Prelude.{◌≡◌, ℕ, ◌+◌, [], ◌++◌, ◌↔◌, true, false, map, length, Ok, Err, OnOk, OnErr};
 ghost use Rattle.lj_text.specs.StepText.{step_text, greatest_with, proof_text};
-ghost use Rattle.lj_text.specs.Writing.{IsBeginning, IsCutShort, Wrote, Broke};
+ghost use Rattle.lj_text.specs.Writing.{IsBeginning, IsCutShort};
+ghost use Rattle.lj_text.specs.inner.Writing.{Wrote, Broke};
 
 mod held;
-mod words;
+mod step_words;
 
 use crate::as_step::AsStep;
 use crate::sink::{Sink, SinkFault};
 use crate::step::Step;
 use held::Held;
 use std::marker::Model;
+use step_words::{write_addition, write_deletion};
 use thiserror::Error;
-use words::{write_addition, write_deletion};
 
 /// Why a writer wrote nothing, or only a beginning.
 #[derive(Clone, Copy, Debug, PartialEq, Eq, Error)]
@@ -87,7 +88,8 @@ impl<W: Sink> ProofWriter<W> {
     /// Nothing is written yet behind what the sink has taken. The formula has so many clauses.
     pub fn new(sink: W, clauses: u64) -> Self
         requires { W.failures sink ≡ 0 }
-        ensures { result ≡ record { sink = sink; text = W.taken sink; greatest = clauses; failed = false } }
+        ensures { result
+            ≡ record { sink = sink; text = W.taken sink; greatest = clauses; failed = false } }
     {
         ProofWriter {
             sink,
@@ -103,15 +105,17 @@ impl<W: Sink> ProofWriter<W> {
     /// [`WriteFault::Device`] where a write of the sink failed: it has taken a beginning of the text.
     /// [`WriteFault::Failed`] in each call after that: nothing is written.
     pub fn step(&mut self, step: &Step) -> Result<(), WriteFault>
-        ensures text { OnOk result (self.new.text ≡ self.old.text ++ step_text self.old.greatest step.now) }
-        ensures greatest { OnOk result (self.new.greatest ≡ greatest_with self.old.greatest step.now) }
+        ensures text { OnOk result
+            (self.new.text ≡ self.old.text ++ step_text self.old.greatest step.now) }
+        ensures greatest { OnOk result
+            (self.new.greatest ≡ greatest_with self.old.greatest step.now) }
         ensures ok { OnOk result ((self.new.failed ≡ false)
             × (W.failures self.new.sink ≡ W.failures self.old.sink)) }
 
         ensures device { result ≡ Err WriteFault.Device → (self.new.failed ≡ true)
             × (W.failures self.new.sink ≡ W.failures self.old.sink + 1) }
-        ensures cut_short { result ≡ Err WriteFault.Device
-            → IsCutShort (W.taken self.new.sink) (self.old.text ++ step_text self.old.greatest step.now) }
+        ensures cut_short { result ≡ Err WriteFault.Device → IsCutShort (W.taken self.new.sink)
+            (self.old.text ++ step_text self.old.greatest step.now) }
 
         ensures failed { (result ≡ Err WriteFault.Failed) ↔ (self.old.failed ≡ true) }
         ensures unchanged { self.old.failed ≡ true → self.new ≡ self.old }
@@ -139,13 +143,15 @@ impl<W: Sink> ProofWriter<W> {
     /// As [`ProofWriter::step`].
     pub fn finish(&mut self) -> Result<(), WriteFault>
         ensures taken { OnOk result (W.taken self.new.sink ≡ self.old.text) }
-        ensures same { OnOk result ((self.new.text ≡ self.old.text) × (self.new.greatest ≡ self.old.greatest)) }
+        ensures same { OnOk result
+            ((self.new.text ≡ self.old.text) × (self.new.greatest ≡ self.old.greatest)) }
         ensures ok { OnOk result ((self.new.failed ≡ false)
             × (W.failures self.new.sink ≡ W.failures self.old.sink)) }
 
         ensures device { result ≡ Err WriteFault.Device → (self.new.failed ≡ true)
             × (W.failures self.new.sink ≡ W.failures self.old.sink + 1) }
-        ensures cut_short { result ≡ Err WriteFault.Device → IsCutShort (W.taken self.new.sink) self.old.text }
+        ensures cut_short { result ≡ Err WriteFault.Device
+            → IsCutShort (W.taken self.new.sink) self.old.text }
 
         ensures failed { (result ≡ Err WriteFault.Failed) ↔ (self.old.failed ≡ true) }
         ensures unchanged { self.old.failed ≡ true → self.new ≡ self.old }
@@ -184,10 +190,12 @@ pub fn write_proof<W: Sink, S: AsStep>(
 ) -> Result<(), SinkFault>
     requires { W.failures sink.old ≡ 0 }
 
-    ensures taken { OnOk result (W.taken sink.new ≡ W.taken sink.old ++ proof_text clauses (map S.step steps.now)) }
+    ensures taken { OnOk result
+        (W.taken sink.new ≡ W.taken sink.old ++ proof_text clauses (map S.step steps.now)) }
     ensures ok { OnOk result (W.failures sink.new ≡ W.failures sink.old) }
 
-    ensures cut_short { OnErr result (IsCutShort (W.taken sink.new) (W.taken sink.old ++ proof_text clauses (map S.step steps.now))) }
+    ensures cut_short { OnErr result (IsCutShort (W.taken sink.new)
+        (W.taken sink.old ++ proof_text clauses (map S.step steps.now))) }
     ensures onward { OnErr result (IsBeginning (W.taken sink.old) (W.taken sink.new)) }
     ensures err { OnErr result (W.failures sink.new ≡ W.failures sink.old + 1) }
 {

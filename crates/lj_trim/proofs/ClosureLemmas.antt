@@ -12,8 +12,8 @@ use Rattle.lj_text.specs.declared.step.Step.{Step}
 use Rattle.lj_text.specs.Needed.{NumberSet, has, with_numbers, additions, all_hints, pick, with_other, by_pick, closure, empty_numbers}
 use Rattle.lj_text.proofs.NeededLaws.{has-insert, Found, same_found, Closes, closes, has_all-with_numbers, all_in_part}
 use Rattle.lj_trim.specs.declared.marks.Marks.{Marks}
-use Rattle.lj_trim.specs.Marks.{is_marked, AreMarked, IsWithin, HasAll, IsCovered, Covers}
-use Rattle.lj_trim.specs.Front.{needed_in}
+use Rattle.lj_trim.specs.inner.Marks.{is_marked, AreMarked, IsWithin, HasAll, IsCovered, Covers}
+use Rattle.lj_trim.specs.inner.Front.{needed_in}
 
 -- the set is within the marks
 abbrev IsMarkedAll : NumberSet → Marks → Type 0

@@ -17,7 +17,7 @@ use Rattle.lj_text.specs.declared.line.Addition.{Addition}
 use Rattle.lj_text.specs.declared.step.Step.{Step}
 use Rattle.lj_text.specs.declared.step.Step.TheVariants.{Add, Delete}
 use Rattle.lj_text.specs.Steps.{names_all, is_in_place, is_rat_on, is_rat_after, first_walk, is_accepted, without, after_step, replay, adds_empty}
-use Rattle.lj_text.specs.Needed.{NumberSet, has, up_to_empty, additions, all_hints, empty_numbers, needed, is_kept, if_some, trimmed_step, trimmed}
+use Rattle.lj_text.specs.Needed.{NumberSet, has, up_to_empty, additions, all_hints, empty_numbers, needed_numbers, is_kept, if_some, trimmed_step, trimmed_steps}
 use Rattle.lj_text.proofs.StepLaws.{both_true, and_true}
 use Rattle.lj_text.proofs.NeededLaws.{needed_least, Covers}
 use Rattle.lj_trim.specs.Laws.{AreAbove, FrontRefutes, TrimmedRefutes}
@@ -184,11 +184,11 @@ formula_kept f s n =
 pub trimmed_refutes : TrimmedRefutes
 trimmed_refutes f steps e above =
     let front = up_to_empty steps in
-    let s = needed steps in
+    let s = needed_numbers steps in
     let clauses = length f.clauses in
     let closed = (needed_least steps).0 in
     let first = front_refutes f steps e in
     let parts = both_true (is_some (replay (formula_map f) front)) (list_any adds_empty front) first in
-    and_true (is_some (replay (formula_map f) (trimmed f steps))) (list_any adds_empty (trimmed f steps))
+    and_true (is_some (replay (formula_map f) (trimmed_steps f steps))) (list_any adds_empty (trimmed_steps f steps))
     (replay_kept clauses s (formula_map f) (formula_map f) front (formula_kept f s) parts.0 closed.hints (front_above clauses steps above))
     (empty_kept clauses s front closed.empty_clause parts.1)

@@ -8,12 +8,13 @@ use Rattle.lj_text.specs.declared.line.Addition.{Addition}
 use Rattle.lj_text.specs.declared.step.Step.{Step}
 use Rattle.lj_text.specs.declared.step.Step.TheVariants.{Add, Delete}
 use Rattle.lj_clause.specs.ClauseMap.{FormulaValue}
-use Rattle.lj_text.specs.Needed.{NumberSet, has, if_some, trimmed_step, up_to_empty, trimmed}
-use Rattle.lj_trim.specs.Front.{needed_in}
+use Rattle.lj_text.specs.Needed.{NumberSet, has, if_some, trimmed_step, up_to_empty, trimmed_steps}
+use Rattle.lj_trim.specs.inner.Front.{needed_in}
 use Rattle.lj_trim.specs.declared.kept.Kept.{Kept}
 use Rattle.lj_trim.specs.declared.marks.Marks.{Marks}
-use Rattle.lj_trim.specs.Marks.{is_marked}
-use Rattle.lj_trim.specs.Trimmed.{step_of, keeps, groups_by, trimmed_by}
+use Rattle.lj_trim.specs.inner.Marks.{is_marked}
+use Rattle.lj_trim.specs.Trimmed.{step_of}
+use Rattle.lj_trim.specs.inner.Trimmed.{keeps, groups_by, trimmed_by}
 use Rattle.lj_trim.proofs.FrontLemmas.{take-item}
 
 both_left : (a b : Bool) → (a && b) ≡ true → a ≡ true
@@ -62,7 +63,7 @@ trimmed-marks clauses m s front e = λ i. filter_map (λ step. same_step clauses
 
 -- the trimmed list by the marks of what the steps up to the addition of the empty clause need
 pub trimmed-front : (f : FormulaValue) (steps front : List Step) (n : ℕ) (m : Marks) → front ≡ up_to_empty steps → n ≡ length f.clauses → ((k : ℕ) → is_marked m k ≡ has (needed_in front) k)
-    → filter_map (trimmed_by (keeps n m)) front ≡ trimmed f steps
+    → filter_map (trimmed_by (keeps n m)) front ≡ trimmed_steps f steps
 trimmed-front f steps front n m e l marks =
     trimmed-marks n m (needed_in front) front marks
     ∙ (λ i. filter_map (trimmed_step (l i) (needed_in (e i))) (e i))

@@ -5,7 +5,7 @@ use Rattle.lj_clause.specs.ClauseMap.{FormulaValue}
 use Rattle.lj_text.specs.declared.line.Addition.{Addition}
 use Rattle.lj_text.specs.declared.step.Step.{Step}
 use Rattle.lj_text.specs.Steps.{refutes}
-use Rattle.lj_text.specs.Needed.{up_to_empty, additions, trimmed}
+use Rattle.lj_text.specs.Needed.{up_to_empty, additions, trimmed_steps}
 
 -- the numbers of the additions are above this one
 abbrev pub AreAbove : ℕ → List Step → Type 0
@@ -13,8 +13,10 @@ AreAbove n steps = AllByRecursion (λ (a : Addition). n < a.number) (additions s
 
 -- steps that refute a formula refute it up to the first addition of the empty clause
 abbrev pub FrontRefutes : Type 0
-FrontRefutes = (f : FormulaValue) (steps : List Step) → refutes f steps ≡ true → refutes f (up_to_empty steps) ≡ true
+FrontRefutes = (f : FormulaValue) (steps : List Step) → refutes f steps ≡ true
+    → refutes f (up_to_empty steps) ≡ true
 
 -- the trimmed list of steps that refute a formula refutes it, where no addition takes the number of a clause of the formula
 abbrev pub TrimmedRefutes : Type 0
-TrimmedRefutes = (f : FormulaValue) (steps : List Step) → refutes f steps ≡ true → AreAbove (length f.clauses) steps → refutes f (trimmed f steps) ≡ true
+TrimmedRefutes = (f : FormulaValue) (steps : List Step) → refutes f steps ≡ true
+    → AreAbove (length f.clauses) steps → refutes f (trimmed_steps f steps) ≡ true

@@ -1,4 +1,3 @@
-pub mod Marks
-pub mod Front
 pub mod Trimmed
 pub mod Laws
+pub mod inner

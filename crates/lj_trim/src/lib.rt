@@ -10,4 +10,3 @@ mod trimming;
 pub use kept::Kept;
 pub use needed::up_to_empty_clause;
 pub use trimming::{TrimRefusal, trim};
-

@@ -17,7 +17,7 @@ pub(crate) struct Marks {
 }
 
 impl Marks {
-    ghost use Rattle.lj_trim.specs.Marks.{is_marked, Marked};
+    ghost use Rattle.lj_trim.specs.inner.Marks.{is_marked, Marked};
 
     /// No number is marked. Numbers below `near` take a byte each, and the others an entry of an ordered set.
     pub(crate) fn new(alloc: Global, near: usize) -> Result<Marks, NoMemory>

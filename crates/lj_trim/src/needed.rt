@@ -3,8 +3,8 @@ ghost use Rattle.std.specs.Prelude.{◌≡◌, ◌+◌, ◌<◌, ◌↔◌, ℕ,
 ghost use Rattle.std.specs.List.{list_any};
 ghost use Rattle.lj_text.specs.Steps.{adds_empty};
 ghost use Rattle.lj_text.specs.Needed.{up_to_empty, additions, empty_numbers, has};
-ghost use Rattle.lj_trim.specs.Marks.{is_marked, Marked, Passed};
-ghost use Rattle.lj_trim.specs.Front.{needed_in, lent_addition, empty_number_of};
+ghost use Rattle.lj_trim.specs.inner.Marks.{is_marked, Marked, Passed};
+ghost use Rattle.lj_trim.specs.inner.Front.{needed_in, lent_addition, empty_number_of};
 
 use crate::marks::Marks;
 use lj_clause::NoMemory;
@@ -24,7 +24,8 @@ pub(crate) fn adds_empty_clause(step: &Step) -> bool
 /// The place of the first addition of the empty clause.
 pub(crate) fn first_empty(steps: &[Step]) -> Option<usize>
     ensures none { IsNone result ↔ (list_any adds_empty steps.now ≡ false) }
-    ensures some { IfSome result (λ i. (i < length steps.now) × (take (i + 1) steps.now ≡ up_to_empty steps.now)) }
+    ensures some { IfSome result
+        (λ i. (i < length steps.now) × (take (i + 1) steps.now ≡ up_to_empty steps.now)) }
 {
     for (place, step) in steps.iter().enumerate() {
         if adds_empty_clause(step) {
@@ -86,7 +87,8 @@ fn pass<'a>(
     marks: &mut Marks,
     begun: &Vec<&'a Addition>,
 ) -> Result<Vec<&'a Addition>, NoMemory>
-    ensures { IfOk result (λ still. Passed marks.old marks.new (map lent_addition begun.now.items) (map lent_addition still.items)) }
+    ensures { IfOk result (λ still. Passed marks.old marks.new (map lent_addition begun.now.items)
+        (map lent_addition still.items)) }
 {
     let mut still = Vec::new(alloc);
     let mut left = begun.len();

@@ -2,8 +2,9 @@
 ghost use Rattle.std.specs.Prelude.{◌≡◌, ◌↔◌, false, nat_le, ◌||◌, map, filter, filter_map, option_map, length, IfOk, Err};
 ghost use Rattle.std.specs.List.{list_any, list_all};
 ghost use Rattle.lj_text.specs.Steps.{adds_empty};
-ghost use Rattle.lj_text.specs.Needed.{trimmed};
-ghost use Rattle.lj_trim.specs.Trimmed.{step_of, keeps, groups_by, trimmed_by};
+ghost use Rattle.lj_text.specs.Needed.{trimmed_steps};
+ghost use Rattle.lj_trim.specs.Trimmed.{step_of};
+ghost use Rattle.lj_trim.specs.inner.Trimmed.{keeps, groups_by, trimmed_by};
 
 use crate::kept::Kept;
 use crate::marks::Marks;
@@ -104,7 +105,8 @@ fn with_kept_groups(
     marks: &Marks,
     addition: &Addition,
 ) -> Result<Addition, NoMemory>
-    ensures { IfOk result (λ a. a ≡ record addition.now { groups = groups_by (keeps clauses marks.now) addition.now.groups }) }
+    ensures { IfOk result (λ a. a ≡ record addition.now
+        { groups = groups_by (keeps clauses marks.now) addition.now.groups }) }
 {
     Ok(Addition {
         number: addition.number,
@@ -121,7 +123,8 @@ fn trimmed_step<'a>(
     marks: &Marks,
     step: &'a Step,
 ) -> Result<Option<Kept<'a>>, NoMemory>
-    ensures { IfOk result (λ r. option_map step_of r ≡ trimmed_by (keeps clauses marks.now) step.now) }
+    ensures { IfOk result
+        (λ r. option_map step_of r ≡ trimmed_by (keeps clauses marks.now) step.now) }
 {
     match step {
         Step::Add(addition) => {
@@ -152,7 +155,8 @@ fn trimmed_steps<'a>(
     marks: &Marks,
     steps: &'a [Step],
 ) -> Result<Vec<Kept<'a>>, NoMemory>
-    ensures { IfOk result (λ v. map step_of v.items ≡ filter_map (trimmed_by (keeps clauses marks.now)) steps.now) }
+    ensures { IfOk result
+        (λ v. map step_of v.items ≡ filter_map (trimmed_by (keeps clauses marks.now)) steps.now) }
 {
     let mut kept = Vec::new(alloc);
     for step in steps {
@@ -178,8 +182,10 @@ pub fn trim<'a>(
     formula: &Formula,
     steps: &'a [Step],
 ) -> Result<Vec<Kept<'a>>, TrimRefusal>
-    ensures trimmed { IfOk result (λ kept. map step_of kept.items ≡ trimmed formula.now steps.now) }
-    ensures no_refutation { (result ≡ Err TrimRefusal.NoRefutation) ↔ (list_any adds_empty steps.now ≡ false) }
+    ensures trimmed { IfOk result
+        (λ kept. map step_of kept.items ≡ trimmed_steps formula.now steps.now) }
+    ensures no_refutation { (result ≡ Err TrimRefusal.NoRefutation)
+        ↔ (list_any adds_empty steps.now ≡ false) }
 {
     let Some(last) = first_empty(steps) else {
         return Err(TrimRefusal::NoRefutation);

@@ -44,7 +44,8 @@ impl Book {
     pub fn import(&mut self, seat: u32, own: u64, clause: &Clause) -> Result<Imported, Refusal>
         ensures reply { IsReply result (import_reply self.old seat own clause.now) }
         ensures refused { IfErr (import_reply self.old seat own clause.now) (λ e. result ≡ Err e) }
-        ensures ok { OnOk result (self.new ≡ after_entry self.old (import_entry seat own clause.now)) }
+        ensures ok { OnOk result
+            (self.new ≡ after_entry self.old (import_entry seat own clause.now)) }
         ensures err { OnErr result (self.new ≡ self.old) }
     {
         if let Some(refusal) = self.free_refusal(seat, own) {
@@ -86,7 +87,8 @@ impl Book {
         requires free { free_refusal self.old seat own ≡ None }
         requires lives { fin.contains_key (live self.old) joint ≡ true }
         requires legal { IsLegalCall self.old seat call None }
-        requires binds { tables_after self.old seat call ≡ with_binding self.old.tables seat own joint }
+        requires binds { tables_after self.old seat call
+            ≡ with_binding self.old.tables seat own joint }
         ensures place { IfOk result (λ place. place ≡ length self.old.history) }
         ensures ok { OnOk result (self.new ≡ after_entry self.old (binding_entry seat call)) }
         ensures err { OnErr result (self.new ≡ self.old) }

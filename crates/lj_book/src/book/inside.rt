@@ -5,7 +5,7 @@ ghost use Rattle.lj_clause.specs.LiteralSet.{holds};
 ghost use Rattle.lj_book.specs.History.{after_entry, IsReached};
 ghost use Rattle.lj_book.specs.Calls.{IsReply, free_refusal, commit_told};
 ghost use Rattle.lj_book.specs.Inside.{inside_reply, inside_entry};
-ghost use Rattle.lj_book.specs.JointLines.{inside_line, line_entry};
+ghost use Rattle.lj_book.specs.inner.JointLines.{inside_line, line_entry};
 
 use crate::book::Book;
 use crate::committing::{bind_clause, refuted_at};
@@ -38,8 +38,10 @@ impl Book {
         marks: &mut Marks,
     ) -> Result<Added, Refusal>
         ensures reply { IsReply result (inside_reply self.old seat addition.now) }
-        ensures refused { IfSome (free_refusal self.old seat addition.now.number) (λ e. result ≡ Err e) }
-        ensures ok { OnOk result (self.new ≡ after_entry self.old (inside_entry self.old seat addition.now)) }
+        ensures refused { IfSome (free_refusal self.old seat addition.now.number)
+            (λ e. result ≡ Err e) }
+        ensures ok { OnOk result
+            (self.new ≡ after_entry self.old (inside_entry self.old seat addition.now)) }
         ensures err { OnErr result (self.new ≡ self.old) }
     {
         let step = match self.inside_line(seat, addition, marks) {
@@ -64,7 +66,8 @@ impl Book {
     ) -> Result<Addition, Refusal>
         ensures reply { IsReply result (inside_line self.old seat addition.now) }
         ensures reached { IsReached self.old }
-        ensures refused { IfSome (free_refusal self.old seat addition.now.number) (λ e. result ≡ Err e) }
+        ensures refused { IfSome (free_refusal self.old seat addition.now.number)
+            (λ e. result ≡ Err e) }
         ensures same { self.new ≡ self.old }
     {
         let alloc = *self.history.allocator();
@@ -101,7 +104,8 @@ impl Book {
     ) -> Result<Added, NoMemory>
         requires { inside_line self.old seat addition.now ≡ Ok step }
         ensures told { IfOk result (λ added. added ≡ commit_told self.old) }
-        ensures ok { OnOk result (self.new ≡ after_entry self.old (line_entry seat addition.now.number step)) }
+        ensures ok { OnOk result
+            (self.new ≡ after_entry self.old (line_entry seat addition.now.number step)) }
         ensures err { OnErr result (self.new ≡ self.old) }
     {
         let _ = has_pivot(&addition.lemma);

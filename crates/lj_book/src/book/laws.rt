@@ -17,7 +17,8 @@ pub fn history_is_legal(book: &Book)
 
 /// The live clauses are what the steps of the history make of the formula.
 pub fn live_is_the_replay(book: &Book)
-    ensures { replay (formula_map book.now.formula) (steps_of book.now.history) ≡ Some (live book.now) }
+    ensures { replay (formula_map book.now.formula) (steps_of book.now.history)
+        ≡ Some (live book.now) }
 {
     let _ = &book.formula;
 }

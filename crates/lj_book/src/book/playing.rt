@@ -68,8 +68,9 @@ impl Book {
     }
 
     fn answer_take(&self, seat: u32, addition: &Addition, pending: &mut [Pending]) -> Reply
-        ensures { IsAnswered (record { state = self.now; pending = pending.old }) (events.Take seat addition.now)
-            result (record { state = self.now; pending = pending.new }) }
+        ensures { IsAnswered (record { state = self.now; pending = pending.old })
+            (events.Take seat addition.now) result
+            (record { state = self.now; pending = pending.new }) }
     {
         match self.take(seat, addition) {
             Ok(case) => {
@@ -84,8 +85,8 @@ impl Book {
     }
 
     fn answer_commit(&mut self, seat: u32, pending: &mut [Pending]) -> Reply
-        ensures { IsAnswered (record { state = self.old; pending = pending.old }) (events.Commit seat) result
-            (record { state = self.new; pending = pending.new }) }
+        ensures { IsAnswered (record { state = self.old; pending = pending.old })
+            (events.Commit seat) result (record { state = self.new; pending = pending.new }) }
     {
         match take_pending(pending, seat) {
             Pending::Receipt(receipt) => match self.commit(receipt) {
@@ -101,7 +102,8 @@ impl Book {
 
     fn answer_inside(&mut self, seat: u32, addition: &Addition, marks: &mut Marks) -> Reply
         ensures { (pending : List Pending)
-            → IsAnswered (record { state = self.old; pending = pending }) (events.Inside seat addition.now) result
+            → IsAnswered (record { state = self.old; pending = pending })
+            (events.Inside seat addition.now) result
             (record { state = self.new; pending = pending }) }
     {
         match self.add_inside(seat, addition, marks) {
@@ -112,8 +114,8 @@ impl Book {
 
     fn answer_drop(&mut self, seat: u32, numbers: &Numbers) -> Reply
         ensures { (pending : List Pending)
-            → IsAnswered (record { state = self.old; pending = pending }) (events.Drop seat numbers.now) result
-            (record { state = self.new; pending = pending }) }
+            → IsAnswered (record { state = self.old; pending = pending })
+            (events.Drop seat numbers.now) result (record { state = self.new; pending = pending }) }
     {
         match self.drop_listed(seat, numbers) {
             Ok(dropped) => Reply::Dropped(dropped),
@@ -125,7 +127,8 @@ impl Book {
     fn drop_listed(&mut self, seat: u32, numbers: &Numbers) -> Result<Dropped, Refusal>
         ensures reply { IsReply result (drop_reply self.old seat numbers.now) }
         ensures refused { IfErr (drop_reply self.old seat numbers.now) (λ e. result ≡ Err e) }
-        ensures ok { OnOk result (self.new ≡ after_entry self.old (drop_entry self.old seat numbers.now)) }
+        ensures ok { OnOk result
+            (self.new ≡ after_entry self.old (drop_entry self.old seat numbers.now)) }
         ensures err { OnErr result (self.new ≡ self.old) }
     {
         if !self.tables.is_here(seat) {
@@ -137,8 +140,8 @@ impl Book {
 
     fn answer_adopt(&mut self, seat: u32, own: u64, joint: u64) -> Reply
         ensures { (pending : List Pending)
-            → IsAnswered (record { state = self.old; pending = pending }) (events.Adopt seat own joint) result
-            (record { state = self.new; pending = pending }) }
+            → IsAnswered (record { state = self.old; pending = pending })
+            (events.Adopt seat own joint) result (record { state = self.new; pending = pending }) }
     {
         match self.adopt(seat, own, joint) {
             Ok(place) => Reply::Adopted(place),
@@ -148,7 +151,8 @@ impl Book {
 
     fn answer_import(&mut self, seat: u32, own: u64, clause: &Clause) -> Reply
         ensures { (pending : List Pending)
-            → IsAnswered (record { state = self.old; pending = pending }) (events.Import seat own clause.now) result
+            → IsAnswered (record { state = self.old; pending = pending })
+            (events.Import seat own clause.now) result
             (record { state = self.new; pending = pending }) }
     {
         match self.import(seat, own, clause) {
@@ -205,8 +209,8 @@ fn take_pending(pending: &mut [Pending], seat: u32) -> Pending
 
 /// The reply to the test of what is pending for a seat.
 fn answer_test(seat: u32, pending: &mut [Pending], marks: &mut Marks) -> Reply
-    ensures { IsTestOf (slice_index_or pending.old seat pendings.Nothing) pending.old (slice_set pending.old seat)
-        result pending.new }
+    ensures { IsTestOf (slice_index_or pending.old seat pendings.Nothing) pending.old
+        (slice_set pending.old seat) result pending.new }
 {
     match take_pending(pending, seat) {
         Pending::Case(case) => {

@@ -3,7 +3,7 @@ ghost use Rattle.std.specs.Prelude.{◌≡◌, OnOk, OnErr, IfOk, IfErr, IfSome,
 ghost use Rattle.lj_book.specs.History.{after_entry};
 ghost use Rattle.lj_book.specs.Calls.{IsReplyBy, drop_reply, drop_entry, commit_reply, commit_entry, adopt_reply, adopt_entry, import_reply, import_entry, leave_reply, leave_entry, free_refusal};
 ghost use Rattle.lj_book.specs.Inside.{inside_reply, inside_entry};
-ghost use Rattle.lj_book.specs.JointLines.{line_entry};
+ghost use Rattle.lj_book.specs.inner.JointLines.{line_entry};
 ghost use Rattle.lj_book.specs.Telling.{without_receipt};
 
 use crate::book::{Book, deletion_of};
@@ -22,7 +22,8 @@ impl Book {
     /// # Errors
     /// As [`Book::commit`].
     pub fn commit_telling(&mut self, receipt: Receipt) -> Result<(Added, Entry), (Refusal, Receipt)>
-        ensures reply { IsReplyBy (λ told. told.0) (without_receipt result) (commit_reply self.old receipt) }
+        ensures reply { IsReplyBy (λ told. told.0) (without_receipt result)
+            (commit_reply self.old receipt) }
         ensures refused { IfErr (commit_reply self.old receipt) (λ e. result ≡ Err (e, receipt)) }
         ensures told { IfOk result (λ told. told.1 ≡ commit_entry self.old receipt) }
         ensures ok { OnOk result (self.new ≡ after_entry self.old (commit_entry self.old receipt)) }
@@ -64,10 +65,13 @@ impl Book {
         addition: &Addition,
         marks: &mut Marks,
     ) -> Result<(Added, Entry), Refusal>
-        ensures reply { IsReplyBy (λ told. told.0) result (inside_reply self.old seat addition.now) }
-        ensures refused { IfSome (free_refusal self.old seat addition.now.number) (λ e. result ≡ Err e) }
+        ensures reply { IsReplyBy (λ told. told.0) result
+            (inside_reply self.old seat addition.now) }
+        ensures refused { IfSome (free_refusal self.old seat addition.now.number)
+            (λ e. result ≡ Err e) }
         ensures told { IfOk result (λ told. told.1 ≡ inside_entry self.old seat addition.now) }
-        ensures ok { OnOk result (self.new ≡ after_entry self.old (inside_entry self.old seat addition.now)) }
+        ensures ok { OnOk result
+            (self.new ≡ after_entry self.old (inside_entry self.old seat addition.now)) }
         ensures err { OnErr result (self.new ≡ self.old) }
     {
         let step = match self.inside_line(seat, addition, marks) {
@@ -92,7 +96,8 @@ impl Book {
         ensures reply { IsReplyBy (λ told. told.0) result (drop_reply self.old seat numbers.now) }
         ensures refused { IfErr (drop_reply self.old seat numbers.now) (λ e. result ≡ Err e) }
         ensures told { IfOk result (λ told. told.1 ≡ drop_entry self.old seat numbers.now) }
-        ensures ok { OnOk result (self.new ≡ after_entry self.old (drop_entry self.old seat numbers.now)) }
+        ensures ok { OnOk result
+            (self.new ≡ after_entry self.old (drop_entry self.old seat numbers.now)) }
         ensures err { OnErr result (self.new ≡ self.old) }
     {
         if !self.tables.is_here(seat) {
@@ -145,10 +150,12 @@ impl Book {
         own: u64,
         clause: &Clause,
     ) -> Result<(Imported, Entry), Refusal>
-        ensures reply { IsReplyBy (λ told. told.0) result (import_reply self.old seat own clause.now) }
+        ensures reply { IsReplyBy (λ told. told.0) result
+            (import_reply self.old seat own clause.now) }
         ensures refused { IfErr (import_reply self.old seat own clause.now) (λ e. result ≡ Err e) }
         ensures told { IfOk result (λ told. told.1 ≡ import_entry seat own clause.now) }
-        ensures ok { OnOk result (self.new ≡ after_entry self.old (import_entry seat own clause.now)) }
+        ensures ok { OnOk result
+            (self.new ≡ after_entry self.old (import_entry seat own clause.now)) }
         ensures err { OnErr result (self.new ≡ self.old) }
     {
         if let Some(refusal) = self.free_refusal(seat, own) {

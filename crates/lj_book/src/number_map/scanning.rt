@@ -3,7 +3,7 @@ ghost use Rattle.std.specs.Prelude.{◌≡◌, IfOk, true, slice_get};
 ghost use Rattle.std.specs.FinMap as fin;
 ghost use Rattle.lj_clause.specs.LiteralSet.{holds};
 ghost use Rattle.lj_book.specs.Lookup.{is_same, numbers_holding, least_number};
-ghost use Rattle.lj_book.specs.Slots.{slot_numbers};
+ghost use Rattle.lj_book.specs.inner.Slots.{slot_numbers};
 
 use crate::number_map::NumberMap;
 use lj_clause::{Clause, Lit, NoMemory};

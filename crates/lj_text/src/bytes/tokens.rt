@@ -1,7 +1,8 @@
 //! The tokens of a line, one after the other.
 
 ghost use Rattle.std.specs.Prelude.{◌≡◌, ◌<◌, ◌≤◌, ℕ, Bool, true, false, List, [], ◌∷◌, length, take, All, IfNone, IfSome, slice_index};
-ghost use Rattle.lj_text.specs.Bytes.{is_blank, tokens_of, begins_blank};
+ghost use Rattle.lj_text.specs.Bytes.{is_blank, tokens_of};
+ghost use Rattle.lj_text.specs.inner.Bytes.{begins_blank};
 
 /// Whether a byte is a space, a tab or a carriage return.
 #[inline(always)]
@@ -45,7 +46,8 @@ fn token_len(bytes: &[u8]) -> usize
 /// The first token of a line, and what follows it.
 pub(crate) fn next_token(bytes: &[u8]) -> Option<(&[u8], &[u8])>
     ensures none { IfNone result (tokens_of bytes.now ≡ []) }
-    ensures some { IfSome result (λ found. tokens_of bytes.now ≡ found.0.now ∷ tokens_of found.1.now) }
+    ensures some { IfSome result
+        (λ found. tokens_of bytes.now ≡ found.0.now ∷ tokens_of found.1.now) }
     ensures shorter { IfSome result (λ found. length found.1.now < length bytes.now) }
 {
     let rest = after_blanks(bytes);

@@ -3,7 +3,10 @@ ghost use Rattle.std.specs.Prelude.{◌≡◌, ◌≤◌, ◌∷◌, ◌++◌, �
 ghost use Rattle.lj_clause.specs.ClauseMap.{formula_of};
 ghost use Rattle.lj_text.specs.Bytes.{begins, number_of};
 ghost use Rattle.lj_text.specs.Cnf.{Place, Percent, Number, number_at, place_at};
-ghost use Rattle.lj_text.specs.CnfReading.{Goes, IsCnfTold, IsNumberUpTo, completed, is_cnf_no_memory, is_literal_kept};
+ghost use Rattle.lj_text.specs.inner.CnfReading.{Goes, IsCnfTold, IsNumberUpTo};
+ghost use Rattle.lj_text.specs.CnfReading.{formula_after, is_literal_kept};
+ghost use Rattle.lj_text.specs.CnfRead.{is_cnf_no_memory};
+ghost use Rattle.lj_clause.specs.declared.lit.TheConstants.{MAX_VARIABLE};
 
 use super::fault::CnfFaultKind;
 use crate::bytes::{Word, word_of};
@@ -24,7 +27,9 @@ pub(super) struct Body {
 }
 
 impl Model for Body {
-    ghost use Rattle.lj_text.specs.CnfReading.{Begun, begun_code, IsBegun};
+    ghost use Rattle.lj_text.specs.CnfReading.{Begun};
+    ghost use Rattle.lj_text.specs.inner.Codes.{begun_code};
+    ghost use Rattle.lj_text.specs.inner.CnfReading.{IsBegun};
 
     ghost Value = { Begun };
 
@@ -38,8 +43,9 @@ impl Model for Body {
 impl Body {
     /// A formula of these sizes, of which nothing was read.
     pub(super) fn new(alloc: Global, variables: u32, clauses: u32) -> Body
-        requires { variables ≤ 134217727 }
-        ensures { result ≡ record { variables = variables; left = clauses; clauses = []; literals = [] } }
+        requires { variables ≤ MAX_VARIABLE }
+        ensures { result
+            ≡ record { variables = variables; left = clauses; clauses = []; literals = [] } }
     {
         Body {
             alloc,
@@ -54,8 +60,12 @@ impl Body {
     fn take_literal(&mut self, number: i32) -> Result<(), CnfFaultKind>
         requires some { 0 < unsigned_abs number }
         requires in_range { unsigned_abs number ≤ self.old.variables }
-        ensures left { MatchResult result (λ _. 0 < self.old.left) (λ kind. is_cnf_no_memory kind ≡ true → 0 < self.old.left) }
-        ensures reads { (last line : ℕ) (rest : List Place) → MatchResult result (λ _. completed self.old last (Number line number ∷ rest) ≡ completed self.new last rest) (λ kind. IsCnfTold kind line (completed self.old last (Number line number ∷ rest))) }
+        ensures left { MatchResult result (λ _. 0 < self.old.left)
+            (λ kind. is_cnf_no_memory kind ≡ true → 0 < self.old.left) }
+        ensures reads { (last line : ℕ) (rest : List Place)
+            → MatchResult result (λ _. formula_after self.old last (Number line number ∷ rest)
+            ≡ formula_after self.new last rest) (λ kind. IsCnfTold kind line
+            (formula_after self.old last (Number line number ∷ rest))) }
     {
         if self.left == 0 {
             return Err(CnfFaultKind::ClauseCount);
@@ -71,8 +81,12 @@ impl Body {
 
     /// Takes the 0 that closes a clause.
     fn close_clause(&mut self) -> Result<(), CnfFaultKind>
-        ensures left { MatchResult result (λ _. 0 < self.old.left) (λ kind. is_cnf_no_memory kind ≡ true → 0 < self.old.left) }
-        ensures reads { (last line : ℕ) (rest : List Place) → MatchResult result (λ _. completed self.old last (Number line (pos 0) ∷ rest) ≡ completed self.new last rest) (λ kind. IsCnfTold kind line (completed self.old last (Number line (pos 0) ∷ rest))) }
+        ensures left { MatchResult result (λ _. 0 < self.old.left)
+            (λ kind. is_cnf_no_memory kind ≡ true → 0 < self.old.left) }
+        ensures reads { (last line : ℕ) (rest : List Place)
+            → MatchResult result (λ _. formula_after self.old last (Number line (pos 0) ∷ rest)
+            ≡ formula_after self.new last rest) (λ kind. IsCnfTold kind line
+            (formula_after self.old last (Number line (pos 0) ∷ rest))) }
     {
         if self.left == 0 {
             return Err(CnfFaultKind::ClauseCount);
@@ -87,7 +101,10 @@ impl Body {
     /// Takes a token that begins with `%`, which ends the formula where a clause would begin.
     fn take_percent(&self) -> Result<(), CnfFaultKind>
         ensures no_room { IfErr result (λ kind. is_cnf_no_memory kind ≡ false) }
-        ensures reads { (last line : ℕ) (rest : List Place) → MatchResult result (λ _. completed self.now last (Percent line ∷ rest) ≡ Ok (formula_of self.now.variables self.now.clauses)) (λ kind. IsCnfTold kind line (completed self.now last (Percent line ∷ rest))) }
+        ensures reads { (last line : ℕ) (rest : List Place)
+            → MatchResult result (λ _. formula_after self.now last (Percent line ∷ rest)
+            ≡ Ok (formula_of self.now.variables self.now.clauses))
+            (λ kind. IsCnfTold kind line (formula_after self.now last (Percent line ∷ rest))) }
     {
         if !self.literals.is_empty() {
             Err(CnfFaultKind::BadNumber)
@@ -100,8 +117,13 @@ impl Body {
 
     /// Takes a token that isn't to end the formula.
     fn take_number(&mut self, token: &[u8]) -> Result<(), CnfFaultKind>
-        ensures room { MatchResult result (λ _. is_literal_kept self.old (number_of token.now) ≡ true) (λ kind. is_cnf_no_memory kind ≡ true → is_literal_kept self.old (number_of token.now) ≡ true) }
-        ensures reads { (last line : ℕ) (rest : List Place) → MatchResult result (λ _. completed self.old last (number_at line (number_of token.now) ∷ rest) ≡ completed self.new last rest) (λ kind. IsCnfTold kind line (completed self.old last (number_at line (number_of token.now) ∷ rest))) }
+        ensures room { MatchResult result
+            (λ _. is_literal_kept self.old (number_of token.now) ≡ true) (λ kind. is_cnf_no_memory
+            kind ≡ true → is_literal_kept self.old (number_of token.now) ≡ true) }
+        ensures reads { (last line : ℕ) (rest : List Place) → MatchResult result
+            (λ _. formula_after self.old last (number_at line (number_of token.now) ∷ rest)
+            ≡ formula_after self.new last rest) (λ kind. IsCnfTold kind line
+            (formula_after self.old last (number_at line (number_of token.now) ∷ rest))) }
     {
         let number = number_up_to(token, self.variables)?;
         if number == 0 {
@@ -113,8 +135,12 @@ impl Body {
 
     /// Takes a token, and answers whether it ends the formula.
     pub(super) fn take(&mut self, token: &[u8]) -> Result<bool, CnfFaultKind>
-        ensures room { MatchResult result (λ ended. ended ≡ false → is_literal_kept self.old (number_of token.now) ≡ true) (λ kind. is_cnf_no_memory kind ≡ true → is_literal_kept self.old (number_of token.now) ≡ true) }
-        ensures reads { (last line : ℕ) (rest : List Place) → Goes last line (token.now ∷ []) rest self.old self.new result }
+        ensures room { MatchResult result
+            (λ ended. ended ≡ false → is_literal_kept self.old (number_of token.now) ≡ true)
+            (λ kind. is_cnf_no_memory kind ≡ true
+            → is_literal_kept self.old (number_of token.now) ≡ true) }
+        ensures reads { (last line : ℕ) (rest : List Place)
+            → Goes last line (token.now ∷ []) rest self.old self.new result }
     {
         if is_percent(token) {
             self.take_percent()?;
@@ -127,7 +153,9 @@ impl Body {
     /// The formula at the end of the input.
     pub(super) fn close(self) -> Result<Formula, CnfFaultKind>
         ensures no_room { IfErr result (λ kind. is_cnf_no_memory kind ≡ false) }
-        ensures reads { (last : ℕ) → MatchResult result (λ formula. completed self last [] ≡ Ok formula) (λ kind. IsCnfTold kind last (completed self last [])) }
+        ensures reads { (last : ℕ)
+            → MatchResult result (λ formula. formula_after self last [] ≡ Ok formula)
+            (λ kind. IsCnfTold kind last (formula_after self last [])) }
     {
         if !self.literals.is_empty() {
             Err(CnfFaultKind::Truncated)
@@ -148,7 +176,7 @@ impl Body {
 
 /// The number that a token is, whose absolute value is at most the number of variables.
 fn number_up_to(token: &[u8], variables: u32) -> Result<i32, CnfFaultKind>
-    requires { variables ≤ 134217727 }
+    requires { variables ≤ MAX_VARIABLE }
     ensures { IsNumberUpTo variables (number_of token.now) result }
 {
     match word_of(token) {

@@ -4,18 +4,20 @@ ghost use Rattle.lj_text.specs.Bytes.{tokens_of};
 ghost use Rattle.lj_text.specs.Lines.{is_letter};
 ghost use Rattle.lj_text.specs.Cnf.{fault_in, header_after, header_of};
 ghost use Rattle.lj_text.specs.declared.cnf.fault.CnfFaultKind.TheVariants as kinds;
-ghost use Rattle.lj_text.specs.CnfReading.{IsCnfTold, is_cnf_no_memory};
+ghost use Rattle.lj_text.specs.inner.CnfReading.{IsCnfTold};
+ghost use Rattle.lj_text.specs.CnfRead.{is_cnf_no_memory};
+ghost use Rattle.lj_clause.specs.declared.lit.TheConstants.{MAX_VARIABLE};
 
 use super::fault::CnfFaultKind;
 use crate::bytes::{digits_value, next_token};
-
-/// The greatest number of clauses in a header.
-const MAX_CLAUSES: u64 = 4_294_967_295;
+use lj_clause::MAX_CLAUSES;
 
 /// The tokens of a line that has three.
 fn three_tokens(bytes: &[u8]) -> Option<(&[u8], &[u8], &[u8])>
-    ensures none { IfNone result ((max line : ℕ) → header_after max line (tokens_of bytes.now) ≡ fault_in line kinds.BadHeader) }
-    ensures some { IfSome result (λ found. tokens_of bytes.now ≡ found.0.now ∷ found.1.now ∷ found.2.now ∷ []) }
+    ensures none { IfNone result ((max line : ℕ)
+        → header_after max line (tokens_of bytes.now) ≡ fault_in line kinds.BadHeader) }
+    ensures some { IfSome result
+        (λ found. tokens_of bytes.now ≡ found.0.now ∷ found.1.now ∷ found.2.now ∷ []) }
 {
     let (word, after) = next_token(bytes)?;
     let (variables, after) = next_token(after)?;
@@ -28,10 +30,12 @@ fn three_tokens(bytes: &[u8]) -> Option<(&[u8], &[u8], &[u8])>
 
 /// The numbers of variables and of clauses behind a header's `p`.
 fn read_sizes(max: u32, bytes: &[u8]) -> Result<(u32, u32), CnfFaultKind>
-    requires { max ≤ 134217727 }
+    requires { max ≤ MAX_VARIABLE }
     ensures in_range { IfOk result (λ sizes. sizes.0 ≤ max) }
     ensures no_room { IfErr result (λ kind. is_cnf_no_memory kind ≡ false) }
-    ensures sizes { (line : ℕ) → MatchResult result (λ sizes. header_after max line (tokens_of bytes.now) ≡ Ok sizes) (λ kind. IsCnfTold kind line (header_after max line (tokens_of bytes.now))) }
+    ensures sizes { (line : ℕ)
+        → MatchResult result (λ sizes. header_after max line (tokens_of bytes.now) ≡ Ok sizes)
+        (λ kind. IsCnfTold kind line (header_after max line (tokens_of bytes.now))) }
 {
     match three_tokens(bytes) {
         Some(([b'c', b'n', b'f'], variables, clauses)) => match (
@@ -39,7 +43,7 @@ fn read_sizes(max: u32, bytes: &[u8]) -> Result<(u32, u32), CnfFaultKind>
             digits_value(clauses),
         ) {
             (Some(variables), Some(clauses)) => {
-                if clauses > MAX_CLAUSES {
+                if clauses > MAX_CLAUSES as u64 {
                     Err(CnfFaultKind::BadHeader)
                 } else if variables > u64::from(max) {
                     Err(CnfFaultKind::VariableRange)
@@ -65,10 +69,12 @@ fn is_header(token: &[u8]) -> bool
 
 /// The numbers of variables and of clauses that a header line says, whose first token this is.
 pub(super) fn read_header(max: u32, token: &[u8], after: &[u8]) -> Result<(u32, u32), CnfFaultKind>
-    requires { max ≤ 134217727 }
+    requires { max ≤ MAX_VARIABLE }
     ensures in_range { IfOk result (λ sizes. sizes.0 ≤ max) }
     ensures no_room { IfErr result (λ kind. is_cnf_no_memory kind ≡ false) }
-    ensures sizes { (line : ℕ) → MatchResult result (λ sizes. header_of max line (token.now ∷ tokens_of after.now) ≡ Ok sizes) (λ kind. IsCnfTold kind line (header_of max line (token.now ∷ tokens_of after.now))) }
+    ensures sizes { (line : ℕ) → MatchResult result
+        (λ sizes. header_of max line (token.now ∷ tokens_of after.now) ≡ Ok sizes)
+        (λ kind. IsCnfTold kind line (header_of max line (token.now ∷ tokens_of after.now))) }
 {
     if is_header(token) {
         read_sizes(max, after)

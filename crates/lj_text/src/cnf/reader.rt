@@ -3,10 +3,10 @@ ghost use Rattle.std.specs.Prelude.{◌≡◌, ◌<◌, ◌≤◌, ◌+◌, ◌�
 ghost use Rattle.lj_clause.specs.Memory.{no_memory};
 ghost use Rattle.lj_text.specs.Bytes.{line_number, tokens_of};
 ghost use Rattle.lj_text.specs.LinesRead.{HasNoLineEnd, last_number};
-ghost use Rattle.lj_text.specs.CnfRead.{IsAnswer, HasFaultAlready, EndsByNumber, NeedsRoom, cnf_fault_of};
-ghost use Rattle.lj_text.specs.CnfHeld.{NeedsRoomFrom, Taken};
-ghost use Rattle.lj_text.specs.CnfReading.{is_cnf_no_memory};
-ghost use Rattle.lj_text.specs.CnfResuming.{Reads, asks_room, kept_fault, resumed};
+ghost use Rattle.lj_text.specs.CnfRead.{IsAnswer, HasFaultAlready, EndsByNumber, NeedsRoom, cnf_fault_of, is_cnf_no_memory};
+ghost use Rattle.lj_text.specs.inner.CnfHeld.{NeedsRoomFrom, Taken};
+ghost use Rattle.lj_text.specs.inner.CnfResuming.{Reads, asks_room, kept_fault, formula_from_state};
+ghost use Rattle.lj_clause.specs.declared.lit.TheConstants.{MAX_VARIABLE};
 
 use super::fault::{CnfFault, CnfFaultKind};
 use super::state::{State, after_line, close};
@@ -34,8 +34,8 @@ pub struct CnfReader {
 
 impl Model for CnfReader {
     ghost use Rattle.lj_text.specs.CnfRead.{CnfRead};
-    ghost use Rattle.lj_text.specs.CnfHeld.{IsCnfHeld};
-    ghost use Rattle.lj_text.specs.CnfResuming.{kept_fault};
+    ghost use Rattle.lj_text.specs.inner.CnfHeld.{IsCnfHeld};
+    ghost use Rattle.lj_text.specs.inner.CnfResuming.{kept_fault};
 
     ghost Value = { CnfRead };
 
@@ -47,7 +47,7 @@ impl Model for CnfReader {
 impl CnfReader {
     /// A reader at the beginning of a text, for formulas of variables up to `max`.
     pub fn new(alloc: Global, max: u32) -> CnfReader
-        requires { max ≤ 134217727 }
+        requires { max ≤ MAX_VARIABLE }
         ensures { result ≡ record { max = max; fed = []; fault = None } }
     {
         CnfReader {
@@ -68,10 +68,12 @@ impl CnfReader {
         ensures told_again { IfSome self.old.fault (λ fault. result ≡ Err fault) }
         ensures fed { self.new.fed ≡ self.old.fed ++ piece.now }
         ensures kept { self.new.fault ≡ cnf_fault_of result }
-        ensures fault { IfErr result (λ fault. is_cnf_no_memory fault.kind ≡ false → HasFaultAlready self.new.max self.new.fed fault) }
+        ensures fault { IfErr result (λ fault. is_cnf_no_memory fault.kind ≡ false
+            → HasFaultAlready self.new.max self.new.fed fault) }
 
         // Want of memory comes only where a line needs room, and is told at that line.
-        ensures room { self.old.fault ≡ None → IfErr result (λ fault. is_cnf_no_memory fault.kind ≡ true → NeedsRoom self.old.max self.old.fed piece.now fault.line) }
+        ensures room { self.old.fault ≡ None → IfErr result (λ fault. is_cnf_no_memory fault.kind
+            ≡ true → NeedsRoom self.old.max self.old.fed piece.now fault.line) }
 
         ensures max { self.new.max ≡ self.old.max }
     {
@@ -107,8 +109,10 @@ impl CnfReader {
         ensures answer { IsAnswer self.max self.fed result }
 
         // Each fault is told at the last line, and want of memory only where that one needs room.
-        ensures line { self.fault ≡ None → IfErr result (λ fault. fault.line ≡ last_number self.fed) }
-        ensures room { self.fault ≡ None → IfErr result (λ fault. is_cnf_no_memory fault.kind ≡ true → EndsByNumber self.max self.fed) }
+        ensures line { self.fault ≡ None
+            → IfErr result (λ fault. fault.line ≡ last_number self.fed) }
+        ensures room { self.fault ≡ None → IfErr result
+            (λ fault. is_cnf_no_memory fault.kind ≡ true → EndsByNumber self.max self.fed) }
     {
         if let Some(fault) = fault_of(&self.state) {
             return Err(fault);
@@ -130,7 +134,8 @@ fn fault_of(state: &State) -> Option<CnfFault>
 
 /// The state where memory ran out.
 fn refused_at(line: u64, e: AllocError) -> State
-    ensures { kept_fault result ≡ Some (record { kind = CnfFaultKind.NoMemory no_memory; line = line }) }
+    ensures { kept_fault result
+        ≡ Some (record { kind = CnfFaultKind.NoMemory no_memory; line = line }) }
 {
     State::Faulty(CnfFault {
         kind: e.into(),
@@ -147,13 +152,15 @@ fn after_held_line(
     held: &mut Vec<u8>,
     front: &[u8],
 ) -> State
-    requires max { max ≤ 134217727 }
+    requires max { max ≤ MAX_VARIABLE }
     requires none { HasNoLineEnd held.old.items }
     ensures none { HasNoLineEnd held.new.items }
     ensures done { kept_fault result ≡ None → held.new.items ≡ [] }
-    ensures told { kept_fault state ≡ None → IfSome (kept_fault result) (λ fault. (fault.line ≡ number)
-        × (is_cnf_no_memory fault.kind ≡ true → (0 < length held.old.items) ⊎ ((held.old.items ≡ []) × (asks_room state (tokens_of front.now) ≡ true)))) }
-    ensures reads { (n : ℕ) → number ≡ line_number n → (lines : List (List ℕ)) → Reads max (n + 1) lines result (resumed max n state ((held.old.items ++ front.now) ∷ lines)) }
+    ensures told { kept_fault state ≡ None → IfSome (kept_fault result) (λ fault. (fault.line
+        ≡ number) × (is_cnf_no_memory fault.kind ≡ true → (0 < length held.old.items)
+        ⊎ ((held.old.items ≡ []) × (asks_room state (tokens_of front.now) ≡ true)))) }
+    ensures reads { (n : ℕ) → number ≡ line_number n → (lines : List (List ℕ)) → Reads max (n + 1)
+        lines result (formula_from_state max n state ((held.old.items ++ front.now) ∷ lines)) }
 {
     if held.is_empty() {
         return after_line(state, alloc, max, number, front);
@@ -177,10 +184,13 @@ fn take_piece(
     held: &mut Vec<u8>,
     piece: &[u8],
 ) -> (State, u64)
-    requires max { max ≤ 134217727 }
+    requires max { max ≤ MAX_VARIABLE }
     requires none { HasNoLineEnd held.old.items }
-    ensures taken { Taken max first before held.old.items piece.now result.0 result.1 held.new.items }
-    ensures room { kept_fault before ≡ None → IfSome (kept_fault result.0) (λ fault. is_cnf_no_memory fault.kind ≡ true → NeedsRoomFrom max first before held.old.items piece.now fault.line) }
+    ensures taken { Taken max first before held.old.items piece.now result.0 result.1
+        held.new.items }
+    ensures room { kept_fault before ≡ None
+        → IfSome (kept_fault result.0) (λ fault. is_cnf_no_memory fault.kind ≡ true
+        → NeedsRoomFrom max first before held.old.items piece.now fault.line) }
 {
     let mut state = before;
     let mut number = first;

@@ -1,7 +1,7 @@
 //! What a reader of lines holds of what was fed.
 ghost use Rattle.std.specs.Prelude.{◌≡◌, ◌+◌, ◌-◌, ◌<◌, ◌≤◌, ◌∷◌, ◌++◌, ℕ, List, [], length, take, drop, IfNone, IfSome, OnOk, OnErr};
 ghost use Rattle.lj_text.specs.LinesRead.{HasNoLineEnd, most_done};
-ghost use Rattle.lj_text.specs.LinesHeld.{EndsLine, IsParted};
+ghost use Rattle.lj_text.specs.inner.LinesHeld.{EndsLine, IsParted};
 
 use super::cut::first_line;
 use memchr::memchr;

@@ -1,10 +1,10 @@
 //! Hints and groups of hints.
 ghost use Rattle.std.specs.Prelude.{◌<◌, length, IfSome, IfOk};
 ghost use Rattle.lj_text.specs.Lines.{hints_of, with_read};
-ghost use Rattle.lj_text.specs.LineReading.{Gives, HintsGive, words_of, group_before};
+ghost use Rattle.lj_text.specs.inner.LineReading.{Gives, HintsGive, words_of, group_before};
 
+use super::closing::{check_closed, cut_short};
 use super::fault::LineFaultKind;
-use super::words::{check_closed, cut_short};
 use crate::bytes::{Word, next_word};
 use crate::numbers::{Group, NumberRoom, Numbers};
 use std::alloc::Global;
@@ -16,7 +16,8 @@ fn read_hints<'a>(
     bytes: &'a [u8],
 ) -> Result<Option<(u64, &'a [u8])>, LineFaultKind>
     ensures hints { HintsGive ended hints.new result (hints_of ended (words_of bytes.now)) }
-    ensures shorter { IfOk result (λ next. IfSome next (λ next. length next.1.now < length bytes.now)) }
+    ensures shorter { IfOk result
+        (λ next. IfSome next (λ next. length next.1.now < length bytes.now)) }
 {
     hints.clear();
     let mut rest = bytes;
@@ -44,7 +45,8 @@ fn read_groups(
     first: u64,
     bytes: &[u8],
 ) -> Result<Vec<Group>, LineFaultKind>
-    ensures { Gives (λ v. v.items) result (with_read (group_before first) (hints_of ended (words_of bytes.now))) }
+    ensures { Gives (λ v. v.items) result
+        (with_read (group_before first) (hints_of ended (words_of bytes.now))) }
 {
     let mut groups = Vec::new(alloc);
     let mut candidate = first;

@@ -2,17 +2,21 @@
 ghost use Rattle.std.specs.Prelude.{◌≡◌, ◌<◌, ◌≤◌, ℤ, List, length, MatchResult, Ok, Err, false};
 ghost use Rattle.lj_text.specs.Bytes.{tokens_of};
 ghost use Rattle.lj_text.specs.Lines.{literals_then, numbers_of, hints_of, after_number, line_of};
-ghost use Rattle.lj_text.specs.LineReading.{Judges, is_line_no_memory, words_of};
+ghost use Rattle.lj_text.specs.inner.LineReading.{Judges, words_of};
+ghost use Rattle.lj_text.specs.LinesRead.{is_line_no_memory};
+ghost use Rattle.lj_clause.specs.declared.lit.TheConstants.{MAX_VARIABLE};
 
+use super::closing::{check_closed, cut_short};
 use super::fault::LineFaultKind;
 use super::parse::after_zero;
-use super::words::{check_closed, cut_short};
 use crate::bytes::{Word, first_word, next_token, next_word};
 
 /// Passes the literals up to a 0, and answers what follows it.
 fn pass_literals(max: u32, ended: bool, bytes: &[u8]) -> Result<&[u8], LineFaultKind>
-    ensures { MatchResult result (λ rest. (ls : List ℤ) × (literals_then max ended (words_of bytes.now) ≡ Ok (ls, words_of rest.now)))
-        (λ kind. (literals_then max ended (words_of bytes.now) ≡ Err kind) × (is_line_no_memory kind ≡ false)) }
+    ensures { MatchResult result (λ rest. (ls : List ℤ)
+        × (literals_then max ended (words_of bytes.now) ≡ Ok (ls, words_of rest.now)))
+        (λ kind. (literals_then max ended (words_of bytes.now) ≡ Err kind)
+        × (is_line_no_memory kind ≡ false)) }
 {
     let mut rest = bytes;
     while let Some((word, after)) = next_word(rest) {
@@ -61,7 +65,7 @@ fn pass_hints(ended: bool, bytes: &[u8]) -> Result<(), LineFaultKind>
 
 /// Passes what follows a line's first number.
 fn pass_after_number(max: u32, ended: bool, number: u64, bytes: &[u8]) -> Result<(), LineFaultKind>
-    requires { max ≤ 134217727 }
+    requires { max ≤ MAX_VARIABLE }
     ensures { Judges result (after_number max ended number (tokens_of bytes.now)) }
 {
     match next_token(bytes) {
@@ -75,7 +79,7 @@ fn pass_after_number(max: u32, ended: bool, number: u64, bytes: &[u8]) -> Result
 
 /// Whether a line that isn't silent is right, or its fault. Takes time linear in the bytes.
 pub(super) fn judge(max: u32, ended: bool, bytes: &[u8]) -> Result<(), LineFaultKind>
-    requires { max ≤ 134217727 }
+    requires { max ≤ MAX_VARIABLE }
     ensures { Judges result (line_of max ended (tokens_of bytes.now)) }
 {
     match first_word(bytes) {

@@ -1,10 +1,11 @@
 //! Lists of literals.
 ghost use Rattle.std.specs.Prelude.{◌≡◌, ◌≤◌, ℤ, pos, negsuc, suc, Some, ◌+◌};
 ghost use Rattle.lj_text.specs.Lines.{literals_then};
-ghost use Rattle.lj_text.specs.LineReading.{Gives, words_of};
+ghost use Rattle.lj_text.specs.inner.LineReading.{Gives, words_of};
+ghost use Rattle.lj_clause.specs.declared.lit.TheConstants.{MAX_VARIABLE};
 
+use super::closing::cut_short;
 use super::fault::LineFaultKind;
-use super::words::cut_short;
 use crate::bytes::{Word, next_word};
 use lj_clause::Lit;
 
@@ -15,8 +16,9 @@ pub(super) fn read_literals<'a>(
     ended: bool,
     bytes: &'a [u8],
 ) -> Result<&'a [u8], LineFaultKind>
-    requires { max ≤ 134217727 }
-    ensures { Gives (λ rest. (literals.new.items, words_of rest.now)) result (literals_then max ended (words_of bytes.now)) }
+    requires { max ≤ MAX_VARIABLE }
+    ensures { Gives (λ rest. (literals.new.items, words_of rest.now)) result
+        (literals_then max ended (words_of bytes.now)) }
 {
     literals.clear();
     let mut rest = bytes;

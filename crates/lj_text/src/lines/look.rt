@@ -2,9 +2,10 @@
 ghost use Rattle.std.specs.Prelude.{◌≡◌, ◌-◌, ◌≤◌, ℕ, length, take, drop, IfErr, IfOk, IsOk, OnErr, MatchResult, MatchBool, IsSome, Ok, true, false};
 ghost use Rattle.lj_text.specs.Bytes.{tokens_of, line_number, is_silent};
 ghost use Rattle.lj_text.specs.Lines.{line_of};
-ghost use Rattle.lj_text.specs.LineReading.{IsLineTold, spoken, is_line_no_memory};
-ghost use Rattle.lj_text.specs.Looking.{Looked, LookedBehind, Fails, FailsToEnd};
-ghost use Rattle.lj_text.specs.LinesRead.{HasNoLineEnd};
+ghost use Rattle.lj_text.specs.inner.LineReading.{IsLineTold, line_said};
+ghost use Rattle.lj_text.specs.LinesRead.{is_line_no_memory, HasNoLineEnd};
+ghost use Rattle.lj_text.specs.inner.Looking.{Looked, LookedBehind, Fails, FailsToEnd};
+ghost use Rattle.lj_clause.specs.declared.lit.TheConstants.{MAX_VARIABLE};
 
 use super::fault::LineFault;
 use super::held::Held;
@@ -35,10 +36,13 @@ pub(super) fn parse_at(
     bytes: &[u8],
     number: u64,
 ) -> Result<Option<Line>, LineFault>
-    requires { max ≤ 134217727 }
-    ensures says { MatchResult result (λ line. spoken max ended (tokens_of bytes.now) ≡ Ok line) (λ fault. (fault.line ≡ number) × IsLineTold fault.kind (spoken max ended (tokens_of bytes.now))) }
+    requires { max ≤ MAX_VARIABLE }
+    ensures says { MatchResult result (λ line. line_said max ended (tokens_of bytes.now) ≡ Ok line)
+        (λ fault. (fault.line ≡ number)
+        × IsLineTold fault.kind (line_said max ended (tokens_of bytes.now))) }
     ensures speaks { OnErr result (is_silent (tokens_of bytes.now) ≡ false) }
-    ensures right { IfErr result (λ fault. is_line_no_memory fault.kind ≡ true → IsOk (line_of max ended (tokens_of bytes.now))) }
+    ensures right { IfErr result (λ fault. is_line_no_memory fault.kind ≡ true
+        → IsOk (line_of max ended (tokens_of bytes.now))) }
 {
     match parse(room, max, ended, bytes) {
         Ok(line) => Ok(line),
@@ -54,12 +58,14 @@ pub(super) fn look(
     ahead: &Held,
     searched: usize,
 ) -> Result<Found, LineFault>
-    requires max { max ≤ 134217727 }
+    requires max { max ≤ MAX_VARIABLE }
     requires within { searched ≤ length ahead.now }
     requires none_before { HasNoLineEnd (take searched ahead.now) }
     ensures left { IfOk result (λ found. found.left ≤ length ahead.now) }
-    ensures open { IfOk result (λ found. found.line ≡ None → HasNoLineEnd (drop (length ahead.now - found.left) ahead.now)) }
-    ensures found { (k : ℕ) → first ≡ line_number k → MatchResult result (λ found. Looked max k ahead.now found) (λ fault. Fails max k ahead.now fault) }
+    ensures open { IfOk result (λ found. found.line ≡ None
+        → HasNoLineEnd (drop (length ahead.now - found.left) ahead.now)) }
+    ensures found { (k : ℕ) → first ≡ line_number k → MatchResult result
+        (λ found. Looked max k ahead.now found) (λ fault. Fails max k ahead.now fault) }
 {
     let mut rest = ahead.ahead();
     let mut none_before = searched;
@@ -100,10 +106,13 @@ pub(super) fn look_to_end(
     ahead: &Held,
     searched: usize,
 ) -> Result<(Found, bool), LineFault>
-    requires max { max ≤ 134217727 }
+    requires max { max ≤ MAX_VARIABLE }
     requires within { searched ≤ length ahead.now }
     requires none_before { HasNoLineEnd (take searched ahead.now) }
-    ensures { (k : ℕ) → first ≡ line_number k → MatchResult result (λ found. MatchBool found.1 (LookedBehind max k ahead.now found.0) (Looked max k ahead.now found.0 × IsSome found.0.line)) (λ fault. FailsToEnd max k ahead.now fault) }
+    ensures { (k : ℕ) → first ≡ line_number k
+        → MatchResult result (λ found. MatchBool found.1 (LookedBehind max k ahead.now found.0)
+        (Looked max k ahead.now found.0 × IsSome found.0.line))
+        (λ fault. FailsToEnd max k ahead.now fault) }
 {
     let found = look(room, max, first, ahead, searched)?;
     if found.line.is_some() {

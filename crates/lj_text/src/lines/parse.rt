@@ -2,15 +2,17 @@
 ghost use Rattle.std.specs.Prelude.{◌≡◌, ◌≤◌, ◌∷◌, IfErr, IsOk, OnErr, true, false};
 ghost use Rattle.lj_text.specs.Bytes.{tokens_of, is_silent};
 ghost use Rattle.lj_text.specs.Lines.{addition_of, deletion_of, import_of, after_zero, after_number, line_of};
-ghost use Rattle.lj_text.specs.LineReading.{Gives, words_of, spoken, is_line_no_memory};
+ghost use Rattle.lj_text.specs.inner.LineReading.{Gives, words_of, line_said};
+ghost use Rattle.lj_text.specs.LinesRead.{is_line_no_memory};
+ghost use Rattle.lj_clause.specs.declared.lit.TheConstants.{MAX_VARIABLE};
 
+use super::closing::{check_closed, cut_short};
+use super::deletion::read_numbers;
 use super::fault::LineFaultKind;
 use super::hints::read_proof;
 use super::judge::judge;
 use super::literals::read_literals;
-use super::numbers::read_numbers;
 use super::room::Room;
-use super::words::{check_closed, cut_short};
 use crate::bytes::{Word, after_blanks, first_word, next_token, word_of};
 use crate::line::{Addition, Line};
 use crate::numbers::Groups;
@@ -24,7 +26,7 @@ fn addition(
     number: u64,
     bytes: &[u8],
 ) -> Result<Line, LineFaultKind>
-    requires { max ≤ 134217727 }
+    requires { max ≤ MAX_VARIABLE }
     ensures { Gives (λ line. line) result (addition_of max ended number (words_of bytes.now)) }
 {
     let rest = read_literals(&mut room.literals, max, ended, bytes)?;
@@ -53,7 +55,7 @@ fn import(
     number: u64,
     bytes: &[u8],
 ) -> Result<Line, LineFaultKind>
-    requires { max ≤ 134217727 }
+    requires { max ≤ MAX_VARIABLE }
     ensures { Gives (λ line. line) result (import_of max ended number (words_of bytes.now)) }
 {
     let rest = read_literals(&mut room.literals, max, ended, bytes)?;
@@ -66,7 +68,7 @@ fn import(
 
 /// The fault of a second token that isn't `d`, where the first number is 0.
 pub(super) fn after_zero(max: u32, token: &[u8]) -> LineFaultKind
-    requires { max ≤ 134217727 }
+    requires { max ≤ MAX_VARIABLE }
     ensures value { result ≡ after_zero max token.now }
     ensures no_room { is_line_no_memory result ≡ false }
 {
@@ -89,7 +91,7 @@ fn after_number(
     number: u64,
     bytes: &[u8],
 ) -> Result<Line, LineFaultKind>
-    requires { max ≤ 134217727 }
+    requires { max ≤ MAX_VARIABLE }
     ensures { Gives (λ line. line) result (after_number max ended number (tokens_of bytes.now)) }
 {
     let rest = after_blanks(bytes);
@@ -111,7 +113,7 @@ fn after_any_number(
     number: u64,
     bytes: &[u8],
 ) -> Result<Line, LineFaultKind>
-    requires { max ≤ 134217727 }
+    requires { max ≤ MAX_VARIABLE }
     ensures { Gives (λ line. line) result (after_number max ended number (tokens_of bytes.now)) }
 {
     match next_token(bytes) {
@@ -125,7 +127,7 @@ fn after_any_number(
 
 /// The line that isn't silent.
 fn line(room: &mut Room, max: u32, ended: bool, bytes: &[u8]) -> Result<Line, LineFaultKind>
-    requires { max ≤ 134217727 }
+    requires { max ≤ MAX_VARIABLE }
     ensures { Gives (λ line. line) result (line_of max ended (tokens_of bytes.now)) }
 {
     match first_word(bytes) {
@@ -145,9 +147,10 @@ fn line_or_fault(
     ended: bool,
     bytes: &[u8],
 ) -> Result<Line, LineFaultKind>
-    requires { max ≤ 134217727 }
+    requires { max ≤ MAX_VARIABLE }
     ensures gives { Gives (λ line. line) result (line_of max ended (tokens_of bytes.now)) }
-    ensures right { IfErr result (λ kind. is_line_no_memory kind ≡ true → IsOk (line_of max ended (tokens_of bytes.now))) }
+    ensures right { IfErr result
+        (λ kind. is_line_no_memory kind ≡ true → IsOk (line_of max ended (tokens_of bytes.now))) }
 {
     match line(room, max, ended, bytes) {
         Err(LineFaultKind::NoMemory(e)) => {
@@ -165,10 +168,11 @@ pub(super) fn parse(
     ended: bool,
     bytes: &[u8],
 ) -> Result<Option<Line>, LineFaultKind>
-    requires { max ≤ 134217727 }
-    ensures says { Gives (λ line. line) result (spoken max ended (tokens_of bytes.now)) }
+    requires { max ≤ MAX_VARIABLE }
+    ensures says { Gives (λ line. line) result (line_said max ended (tokens_of bytes.now)) }
     ensures speaks { OnErr result (is_silent (tokens_of bytes.now) ≡ false) }
-    ensures right { IfErr result (λ kind. is_line_no_memory kind ≡ true → IsOk (line_of max ended (tokens_of bytes.now))) }
+    ensures right { IfErr result
+        (λ kind. is_line_no_memory kind ≡ true → IsOk (line_of max ended (tokens_of bytes.now))) }
 {
     let rest = after_blanks(bytes);
     match rest {

@@ -3,8 +3,9 @@ ghost use Rattle.std.specs.Prelude.{◌≡◌, ◌+◌, ◌≤◌, ◌++◌, ◌
 ghost use Rattle.lj_text.specs.Bytes.{line_number};
 ghost use Rattle.lj_text.specs.Lines.{whole_said, all_said};
 ghost use Rattle.lj_text.specs.LinesRead.{LineReaderStandsAt, IsSaidAt, IsSaidRight, wants_memory, line_answer, handed_out, fault_of, line_number_of, last_number, most_done};
-ghost use Rattle.lj_text.specs.LinesHeld.{IsAhead, passed, kept};
-ghost use Rattle.lj_text.specs.Looking.{Looked, LookedBehind, Fails, FailsToEnd};
+ghost use Rattle.lj_text.specs.inner.LinesHeld.{IsAhead, reader_past, reader_with_fault};
+ghost use Rattle.lj_text.specs.inner.Looking.{Looked, LookedBehind, Fails, FailsToEnd};
+ghost use Rattle.lj_clause.specs.declared.lit.TheConstants.{MAX_VARIABLE};
 
 use super::fault::{LineFault, LineFaultKind};
 use super::held::Held;
@@ -33,7 +34,7 @@ pub struct LineReader {
 
 impl Model for LineReader {
     ghost use Rattle.lj_text.specs.LinesRead.{LinesRead};
-    ghost use Rattle.lj_text.specs.LinesHeld.{IsHeld};
+    ghost use Rattle.lj_text.specs.inner.LinesHeld.{IsHeld};
 
     ghost Value = { LinesRead };
 
@@ -45,7 +46,7 @@ impl Model for LineReader {
 impl LineReader {
     /// A reader at the beginning of an input, for literals of variables up to `max`.
     pub fn new(alloc: Global, max: u32) -> LineReader
-        requires { max ≤ 134217727 }
+        requires { max ≤ MAX_VARIABLE }
         ensures max { result.max ≡ max }
         ensures stands { LineReaderStandsAt result [] 0 }
         ensures fresh { (result.finished ≡ false) × (result.fault ≡ None) × (result.at ≡ 1) }
@@ -71,8 +72,11 @@ impl LineReader {
         ensures told_again { IfSome self.old.fault (λ fault. result ≡ Err fault) }
         ensures no_other { self.old.fault ≡ None → OnErr result (wants_memory result ≡ true) }
         ensures line { self.old.fault ≡ None → IfErr result (λ fault. fault.line ≡ self.old.line) }
-        ensures stands { OnOk result ((text : List ℕ) (given : ℕ) → LineReaderStandsAt self.old text given → LineReaderStandsAt self.new (text ++ piece.now) given) }
-        ensures same { (self.new.max ≡ self.old.max) × (self.new.at ≡ self.old.at) × (self.new.finished ≡ false) × (self.new.fault ≡ self.old.fault) }
+        ensures stands { OnOk result
+            ((text : List ℕ) (given : ℕ) → LineReaderStandsAt self.old text given
+            → LineReaderStandsAt self.new (text ++ piece.now) given) }
+        ensures same { (self.new.max ≡ self.old.max) × (self.new.at ≡ self.old.at)
+            × (self.new.finished ≡ false) × (self.new.fault ≡ self.old.fault) }
         ensures unchanged { OnErr result (self.new ≡ self.old) }
     {
         if let Some(fault) = self.fault {
@@ -93,23 +97,34 @@ impl LineReader {
     /// The line's fault, and from then on that fault again; `NoMemory` of a line that is right, and then the reader is
     /// unchanged.
     pub fn next(&mut self) -> Result<Option<Line>, LineFault>
-        ensures told_again { IfSome self.old.fault (λ fault. (result ≡ Err fault) × (self.new ≡ self.old)) }
+        ensures told_again { IfSome self.old.fault
+            (λ fault. (result ≡ Err fault) × (self.new ≡ self.old)) }
 
         // The first whole line that says something and wasn't handed out, or its fault; none exactly where there is none.
-        ensures answer { (text : List ℕ) (given : ℕ) → LineReaderStandsAt self.old text given → self.old.fault ≡ None → wants_memory result ≡ false → result ≡ line_answer (slice_get (whole_said self.old.max text) given) }
-        ensures stands { (text : List ℕ) (given : ℕ) → LineReaderStandsAt self.old text given → LineReaderStandsAt self.new text (given + handed_out result) }
+        ensures answer { (text : List ℕ) (given : ℕ) → LineReaderStandsAt self.old text given
+            → self.old.fault ≡ None → wants_memory result ≡ false
+            → result ≡ line_answer (slice_get (whole_said self.old.max text) given) }
+        ensures stands { (text : List ℕ) (given : ℕ) → LineReaderStandsAt self.old text given
+            → LineReaderStandsAt self.new text (given + handed_out result) }
 
         // Each fault, want of memory too, is told at that line, and want of memory only where the line is right.
-        ensures line { (text : List ℕ) (given : ℕ) → LineReaderStandsAt self.old text given → self.old.fault ≡ None → IfErr result (λ fault. IsSaidAt (slice_get (whole_said self.old.max text) given) fault.line) }
-        ensures right { (text : List ℕ) (given : ℕ) → LineReaderStandsAt self.old text given → self.old.fault ≡ None → wants_memory result ≡ true → IsSaidRight (slice_get (whole_said self.old.max text) given) }
+        ensures line { (text : List ℕ) (given : ℕ) → LineReaderStandsAt self.old text given
+            → self.old.fault ≡ None → IfErr result
+            (λ fault. IsSaidAt (slice_get (whole_said self.old.max text) given) fault.line) }
+        ensures right { (text : List ℕ) (given : ℕ) → LineReaderStandsAt self.old text given
+            → self.old.fault ≡ None → wants_memory result ≡ true
+            → IsSaidRight (slice_get (whole_said self.old.max text) given) }
 
         // Its number, or that of the line being read.
-        ensures at { (text : List ℕ) (given : ℕ) → LineReaderStandsAt self.old text given → self.old.fault ≡ None → wants_memory result ≡ false → self.new.at ≡ line_number_of (slice_get (whole_said self.old.max text) given) (last_number text) }
+        ensures at { (text : List ℕ) (given : ℕ) → LineReaderStandsAt self.old text given
+            → self.old.fault ≡ None → wants_memory result ≡ false → self.new.at
+            ≡ line_number_of (slice_get (whole_said self.old.max text) given) (last_number text) }
 
         // Where no whole line is left, the line being read begins what it holds.
         ensures none_left { self.old.fault ≡ None → result ≡ Ok None → self.new.line ≡ self.new.at }
 
-        ensures fault { self.old.fault ≡ None → wants_memory result ≡ false → self.new.fault ≡ fault_of result }
+        ensures fault { self.old.fault ≡ None → wants_memory result ≡ false
+            → self.new.fault ≡ fault_of result }
         ensures unchanged { wants_memory result ≡ true → self.new ≡ self.old }
         ensures same { (self.new.max ≡ self.old.max) × (self.new.finished ≡ self.old.finished) }
     {
@@ -136,20 +151,31 @@ impl LineReader {
     /// The line's fault, and from then on that fault again; `NoMemory` of a line that is right, and then the reader is
     /// unchanged.
     pub fn finish(&mut self) -> Result<Option<Line>, LineFault>
-        ensures told_again { IfSome self.old.fault (λ fault. (result ≡ Err fault) × (self.new ≡ self.old)) }
+        ensures told_again { IfSome self.old.fault
+            (λ fault. (result ≡ Err fault) × (self.new ≡ self.old)) }
 
         // The first line that says something and wasn't handed out, or its fault; none exactly where there is none.
-        ensures answer { (text : List ℕ) (given : ℕ) → LineReaderStandsAt self.old text given → self.old.fault ≡ None → wants_memory result ≡ false → result ≡ line_answer (slice_get (all_said self.old.max text) given) }
-        ensures stands { (text : List ℕ) (given : ℕ) → LineReaderStandsAt self.old text given → LineReaderStandsAt self.new text (given + handed_out result) }
+        ensures answer { (text : List ℕ) (given : ℕ) → LineReaderStandsAt self.old text given
+            → self.old.fault ≡ None → wants_memory result ≡ false
+            → result ≡ line_answer (slice_get (all_said self.old.max text) given) }
+        ensures stands { (text : List ℕ) (given : ℕ) → LineReaderStandsAt self.old text given
+            → LineReaderStandsAt self.new text (given + handed_out result) }
 
         // Each fault, want of memory too, is told at that line, and want of memory only where the line is right.
-        ensures line { (text : List ℕ) (given : ℕ) → LineReaderStandsAt self.old text given → self.old.fault ≡ None → IfErr result (λ fault. IsSaidAt (slice_get (all_said self.old.max text) given) fault.line) }
-        ensures right { (text : List ℕ) (given : ℕ) → LineReaderStandsAt self.old text given → self.old.fault ≡ None → wants_memory result ≡ true → IsSaidRight (slice_get (all_said self.old.max text) given) }
+        ensures line { (text : List ℕ) (given : ℕ) → LineReaderStandsAt self.old text given
+            → self.old.fault ≡ None → IfErr result
+            (λ fault. IsSaidAt (slice_get (all_said self.old.max text) given) fault.line) }
+        ensures right { (text : List ℕ) (given : ℕ) → LineReaderStandsAt self.old text given
+            → self.old.fault ≡ None → wants_memory result ≡ true
+            → IsSaidRight (slice_get (all_said self.old.max text) given) }
 
         // Its number, or that of the last line.
-        ensures at { (text : List ℕ) (given : ℕ) → LineReaderStandsAt self.old text given → self.old.fault ≡ None → wants_memory result ≡ false → self.new.at ≡ line_number_of (slice_get (all_said self.old.max text) given) (last_number text) }
+        ensures at { (text : List ℕ) (given : ℕ) → LineReaderStandsAt self.old text given
+            → self.old.fault ≡ None → wants_memory result ≡ false → self.new.at
+            ≡ line_number_of (slice_get (all_said self.old.max text) given) (last_number text) }
 
-        ensures fault { self.old.fault ≡ None → wants_memory result ≡ false → self.new.fault ≡ fault_of result }
+        ensures fault { self.old.fault ≡ None → wants_memory result ≡ false
+            → self.new.fault ≡ fault_of result }
         ensures unchanged { wants_memory result ≡ true → self.new ≡ self.old }
         ensures max { self.new.max ≡ self.old.max }
     {
@@ -192,7 +218,9 @@ impl LineReader {
 
     /// The next whole line that says something.
     fn look_ahead(&mut self) -> Result<Found, LineFault>
-        ensures found { (k : ℕ) → self.old.line ≡ line_number k → MatchResult result (λ found. Looked self.old.max k self.old.ahead found) (λ fault. Fails self.old.max k self.old.ahead fault) }
+        ensures found { (k : ℕ) → self.old.line ≡ line_number k
+            → MatchResult result (λ found. Looked self.old.max k self.old.ahead found)
+            (λ fault. Fails self.old.max k self.old.ahead fault) }
         ensures counted { (k : ℕ) × (self.old.line ≡ line_number k) }
         ensures same { self.new ≡ self.old }
     {
@@ -207,7 +235,10 @@ impl LineReader {
 
     /// The same, up to the end of the input.
     fn look_to_end(&mut self) -> Result<(Found, bool), LineFault>
-        ensures found { (k : ℕ) → self.old.line ≡ line_number k → MatchResult result (λ found. MatchBool found.1 (LookedBehind self.old.max k self.old.ahead found.0) (Looked self.old.max k self.old.ahead found.0 × IsSome found.0.line)) (λ fault. FailsToEnd self.old.max k self.old.ahead fault) }
+        ensures found { (k : ℕ) → self.old.line ≡ line_number k → MatchResult result
+            (λ found. MatchBool found.1 (LookedBehind self.old.max k self.old.ahead found.0)
+            (Looked self.old.max k self.old.ahead found.0 × IsSome found.0.line))
+            (λ fault. FailsToEnd self.old.max k self.old.ahead fault) }
         ensures counted { (k : ℕ) × (self.old.line ≡ line_number k) }
         ensures same { self.new ≡ self.old }
     {
@@ -224,7 +255,7 @@ impl LineReader {
     fn pass(&mut self, found: Found) -> Option<Line>
         requires { IsAhead self.old.ahead found }
         ensures line { result ≡ found.line }
-        ensures passed { self.new ≡ passed self.old found }
+        ensures passed { self.new ≡ reader_past self.old found }
     {
         self.held.keep_last(found.left);
         self.searched = found.searched;
@@ -235,7 +266,7 @@ impl LineReader {
 
     /// Keeps a fault, but for the want of memory.
     fn keep(&mut self, fault: LineFault)
-        ensures { self.new ≡ kept self.old fault }
+        ensures { self.new ≡ reader_with_fault self.old fault }
     {
         if !matches!(fault.kind, LineFaultKind::NoMemory(_)) {
             self.at = fault.line;

@@ -1,6 +1,6 @@
 //! Bytes that are held back on their way to a sink.
 ghost use Rattle.std.specs.Prelude.{◌≡◌, ◌≤◌, ◌+◌, ℕ, [], ◌++◌, length, OnOk, OnErr};
-ghost use Rattle.lj_text.specs.Writing.{Wrote, Broke};
+ghost use Rattle.lj_text.specs.inner.Writing.{Wrote, Broke};
 
 use crate::sink::{Sink, SinkFault, write_all};
 use std::marker::Model;
@@ -56,9 +56,11 @@ impl Held {
         requires unfailed { W.failures sink.old ≡ 0 }
         requires short { length bytes.now ≤ 64 }
 
-        ensures wrote { OnOk result (Wrote (W.taken sink.old) self.old (W.taken sink.new) self.new bytes.now) }
+        ensures wrote { OnOk result
+            (Wrote (W.taken sink.old) self.old (W.taken sink.new) self.new bytes.now) }
         ensures unfailed { OnOk result (W.failures sink.new ≡ 0) }
-        ensures broke { OnErr result (Broke (W.taken sink.old) self.old (W.taken sink.new) bytes.now) }
+        ensures broke { OnErr result
+            (Broke (W.taken sink.old) self.old (W.taken sink.new) bytes.now) }
         ensures failed { OnErr result (W.failures sink.new ≡ 1) }
         ensures none { OnErr result (self.new ≡ []) }
     {
@@ -73,7 +75,8 @@ impl Held {
         requires short { count ≤ 64 }
 
         ensures room { OnOk result (length self.new + count ≤ 65536) }
-        ensures wrote { OnOk result (Wrote (W.taken sink.old) self.old (W.taken sink.new) self.new []) }
+        ensures wrote { OnOk result
+            (Wrote (W.taken sink.old) self.old (W.taken sink.new) self.new []) }
         ensures unfailed { OnOk result (W.failures sink.new ≡ 0) }
         ensures broke { OnErr result (Broke (W.taken sink.old) self.old (W.taken sink.new) []) }
         ensures failed { OnErr result (W.failures sink.new ≡ 1) }

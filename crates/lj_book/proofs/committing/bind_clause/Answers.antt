@@ -2,7 +2,7 @@ use Rattle.std.proofs.Common.{◌≡◌, ap, ◌∙◌, arith}
 use Rattle.std.specs.FinMap as fin
 use Rattle.lj_clause.specs.ClauseMap.{ClauseMap}
 use Rattle.lj_book.proofs.TableLaws.{remove-insert, none_held}
-use Rattle.lj_book.specs.Holders.{holders_of}
+use Rattle.lj_book.specs.inner.Holders.{holders_of}
 use Rattle.lj_book.proofs.committing.bind_clause.Goals as goal
 
 pub bind-requires-clause-room : goal.bind-requires-clause-room

@@ -3,7 +3,7 @@ use Rattle.std.specs.Prelude.{ℤ, List, [], ◌∷◌, map, length, Option, Som
 use Rattle.std.specs.Bool.{then_some}
 use Rattle.std.specs.FinMap as fin
 use Rattle.lj_clause.specs.LiteralSet.{LiteralSet, literals}
-use Rattle.lj_book.specs.Kept.{refuted_after}
+use Rattle.lj_book.specs.inner.Kept.{refuted_after}
 use Rattle.lj_book.proofs.committing.refuted_at.Goals as goal
 
 length_first : {X Y : Type 0} (es : List (X × Y)) → length (map (λ e. e.0) es) ≡ length es

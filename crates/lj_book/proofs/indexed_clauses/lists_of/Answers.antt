@@ -1,7 +1,7 @@
 use Rattle.std.proofs.Common.{ap, sym, ◌∙◌, subst, ◌+◌, arith}
 use Rattle.std.specs.Prelude.{option_copied}
 use Rattle.std.specs.FinMap as fin
-use Rattle.lj_book.specs.Occurrences.{Lists, AreOccurrences}
+use Rattle.lj_book.specs.inner.Occurrences.{Lists, AreOccurrences}
 use Rattle.lj_book.proofs.OccurrenceLaws.{clauses_below, none_yet, next_listed, next_passed, all_listed}
 use Rattle.lj_book.proofs.indexed_clauses.lists_of.Goals as goal
 use Rattle.lj_book.proofs.indexed_clauses.lists_of.Goals.{in-Some+in_ok-add_clause, in_default}

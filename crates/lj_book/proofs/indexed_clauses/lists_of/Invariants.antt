@@ -1,4 +1,4 @@
-use Rattle.lj_book.specs.Occurrences.{AreOccurrences}
+use Rattle.lj_book.specs.inner.Occurrences.{AreOccurrences}
 use Rattle.lj_book.proofs.OccurrenceLaws.{clauses_below}
 use Rattle.lj_book.proofs.indexed_clauses.lists_of.Given as goal
 

@@ -1,7 +1,7 @@
 use Rattle.std.proofs.Common.{ap, ◌∙◌, subst, ℕ, ◌+◌, ◌≤◌, arith}
 use Rattle.std.specs.Prelude.{Option}
 use Rattle.lj_book.specs.Tables.{is_among}
-use Rattle.lj_book.specs.Occurrences.{Lists, AreListed, list_at, places_of, put_if}
+use Rattle.lj_book.specs.inner.Occurrences.{Lists, AreListed, list_at, places_of, put_if}
 use Rattle.lj_book.proofs.OccurrenceLaws.{clause_listed}
 use Rattle.lj_book.proofs.indexed_clauses.with_clause.Goals as goal
 

@@ -7,7 +7,7 @@ use Rattle.lj_clause.specs.Rat.{HintGroup}
 use Rattle.lj_text.specs.declared.line.Addition.{Addition}
 use Rattle.lj_hint.specs.declared.live_line.Passed.TheVariants.{Closed}
 use Rattle.lj_hint.specs.LineTest.{line_reply}
-use Rattle.lj_book.specs.JointLines.{addition_of_parts}
+use Rattle.lj_book.specs.inner.JointLines.{addition_of_parts}
 use Rattle.lj_book.proofs.LineLaws.{closed_line}
 use Rattle.lj_book.proofs.line_tests.tested_line.Goals as goal
 

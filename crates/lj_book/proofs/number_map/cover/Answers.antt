@@ -1,5 +1,5 @@
 use Rattle.std.proofs.Common.{ap, ◌∙◌, ◌+◌, length}
-use Rattle.lj_book.specs.Slots.{slot_map}
+use Rattle.lj_book.specs.inner.Slots.{slot_map}
 use Rattle.lj_book.proofs.Slots.{push_empty, length_push}
 use Rattle.lj_book.proofs.number_map.cover.Goals as goal
 

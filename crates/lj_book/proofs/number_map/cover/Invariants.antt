@@ -1,5 +1,5 @@
 use Rattle.std.proofs.Common.{◌≡◌, length}
-use Rattle.lj_book.specs.Slots.{slot_map}
+use Rattle.lj_book.specs.inner.Slots.{slot_map}
 use Rattle.lj_book.proofs.number_map.cover.Given as goal
 
 abbrev pub invariant-loop : goal.invariant-loop

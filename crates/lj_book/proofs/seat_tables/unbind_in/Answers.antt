@@ -1,7 +1,7 @@
 use Rattle.std.proofs.Common.{◌≡◌, ap, sym, ◌∙◌, subst, ◌+◌, ◌-◌, ℕ}
 use Rattle.std.specs.Prelude.{OnOk}
 use Rattle.std.specs.FinMap as fin
-use Rattle.lj_book.specs.Holders.{one_if_at, count_at}
+use Rattle.lj_book.specs.inner.Holders.{one_if_at, count_at}
 use Rattle.lj_book.proofs.TableLaws.{one_less}
 use Rattle.lj_book.proofs.seat_tables.unbind_in.Goals as goal
 

@@ -1,8 +1,8 @@
 use Rattle.std.proofs.Common.{◌≡◌, drop}
 use Rattle.lj_hint.specs.Case.{groups_of}
 use Rattle.lj_book.specs.Calls.{group_pairs_of, pair_in}
-use Rattle.lj_book.specs.Fronts.{behind}
+use Rattle.lj_book.specs.inner.Fronts.{with_front}
 use Rattle.lj_book.proofs.taking.group_pairs_of.Given as goal
 
 abbrev pub invariant-loop-group : goal.invariant-loop-group
-invariant-loop-group l = behind (groups_of l.pairs.items) (group_pairs_of (pair_in l.tables l.clauses l.seat) (drop l.group-index l.groups)) ≡ group_pairs_of (pair_in l.tables l.clauses l.seat) l.groups
+invariant-loop-group l = with_front (groups_of l.pairs.items) (group_pairs_of (pair_in l.tables l.clauses l.seat) (drop l.group-index l.groups)) ≡ group_pairs_of (pair_in l.tables l.clauses l.seat) l.groups

@@ -1,7 +1,7 @@
 use Rattle.std.proofs.Common.{◌≡◌, take}
 use Rattle.lj_clause.specs.Walk.{hints_in}
 use Rattle.lj_clause.specs.Rat.{groups_in}
-use Rattle.lj_hint.specs.Lent.{lent_groups}
+use Rattle.lj_hint.specs.inner.Lent.{lent_groups}
 use Rattle.lj_hint.proofs.live_line.lent_numbers.Given as goal
 
 abbrev pub invariant-loop-group : goal.invariant-loop-group

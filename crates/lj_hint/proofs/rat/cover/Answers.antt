@@ -9,7 +9,7 @@ use Rattle.lj_clause.specs.Rat.{HintGroup, candidates, group_of, candidate_walk,
 use Rattle.lj_clause.proofs.RatLaws.{candidates-get}
 use Rattle.lj_hint.specs.declared.rat_refusal.RatRefusal.{RatRefusal}
 use Rattle.lj_hint.specs.RatTest.{rat_told}
-use Rattle.lj_hint.specs.Lent.{lent_groups, candidate_told}
+use Rattle.lj_hint.specs.inner.Lent.{lent_groups, candidate_told}
 use Rattle.lj_hint.proofs.RatTests.{behind_groups, IsCandidate, at_one, candidate_at, candidate_covered, candidate_refused, all_covered, refusal_told, has_hints}
 use Rattle.lj_hint.proofs.rat.cover.Goals as goal
 

@@ -1,7 +1,7 @@
 use Rattle.std.proofs.Common.{◌≡◌, drop}
 use Rattle.lj_clause.specs.LiteralSet.{from_literals}
 use Rattle.lj_clause.specs.Rat.{candidates, rat_over}
-use Rattle.lj_hint.specs.Lent.{lent_groups}
+use Rattle.lj_hint.specs.inner.Lent.{lent_groups}
 use Rattle.lj_hint.specs.RatTest.{rat_told}
 use Rattle.lj_hint.proofs.RatTests.{behind_groups}
 use Rattle.lj_hint.proofs.rat.cover.Given as goal

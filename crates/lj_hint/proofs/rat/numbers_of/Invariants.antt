@@ -1,5 +1,5 @@
 use Rattle.std.proofs.Common.{◌≡◌, take}
-use Rattle.lj_hint.specs.Hints.{hint_numbers}
+use Rattle.lj_hint.specs.inner.Hints.{hint_numbers}
 use Rattle.lj_hint.proofs.rat.numbers_of.Given as goal
 
 abbrev pub invariant-loop-index : goal.invariant-loop-index

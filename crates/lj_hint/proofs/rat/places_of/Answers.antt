@@ -5,7 +5,7 @@ use Rattle.std.specs.Ordering.{nat_cmp}
 use Rattle.std.specs.Cmp.{unsigned_tied}
 use Rattle.std.specs.BTreeMap.{get}
 use Rattle.lj_clause.specs.Rat.{group_of}
-use Rattle.lj_hint.specs.Lent.{lent_groups, group_at}
+use Rattle.lj_hint.specs.inner.Lent.{lent_groups, group_at}
 use Rattle.lj_hint.proofs.RatTests.{group_placed}
 use Rattle.lj_hint.proofs.rat.places_of.Goals as goal
 

@@ -2,7 +2,7 @@ use Rattle.std.proofs.Common.{◌≡◌, ◌≤◌, ℕ, drop, length}
 use Rattle.std.specs.BTreeMap.{get}
 use Rattle.std.specs.Ordering.{nat_cmp}
 use Rattle.lj_clause.specs.Rat.{group_of}
-use Rattle.lj_hint.specs.Lent.{lent_groups, group_at}
+use Rattle.lj_hint.specs.inner.Lent.{lent_groups, group_at}
 use Rattle.lj_hint.proofs.rat.places_of.Given as goal
 
 abbrev pub invariant-loop-at : goal.invariant-loop-at

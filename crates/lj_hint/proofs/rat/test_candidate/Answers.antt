@@ -3,7 +3,7 @@ use Rattle.std.specs.Prelude.{List, is_some, option_map, option_copied, Ok, neg_
 use Rattle.lj_clause.specs.LiteralSet.{from_literals, with_negations}
 use Rattle.lj_clause.specs.Walk.{Walk}
 use Rattle.lj_clause.specs.Rat.{HintGroup, others}
-use Rattle.lj_hint.specs.Lent.{lent_hints, candidate_told}
+use Rattle.lj_hint.specs.inner.Lent.{lent_hints, candidate_told}
 use Rattle.lj_hint.proofs.Used.{closed_reads}
 use Rattle.lj_hint.proofs.rat.test_candidate.Goals as goal
 

@@ -5,7 +5,7 @@ use Rattle.lj_clause.specs.Literal.{lit_cmp}
 use Rattle.lj_clause.specs.LiteralSet.{LiteralSet, from_literals, with_negations}
 use Rattle.lj_clause.specs.Walk.{walk_over}
 use Rattle.lj_clause.specs.Rat.{others, candidate_walk}
-use Rattle.lj_hint.specs.Ending.{ending_of}
+use Rattle.lj_hint.specs.inner.Ending.{ending_of}
 use Rattle.lj_hint.proofs.Walks.{closed_at_once, open_at_end}
 use Rattle.lj_hint.proofs.rat.walk_candidate.Goals as goal
 

@@ -2,8 +2,8 @@ use Rattle.std.proofs.Common.{◌≡◌, ◌+◌, ap, sym, subst, ◌∙◌, ari
 use Rattle.std.specs.Prelude.{Some, None, option_copied}
 use Rattle.lj_clause.specs.LiteralSet.{LiteralSet, from_literals}
 use Rattle.lj_hint.specs.declared.walk.Ending.TheVariants.{ClosedAfter}
-use Rattle.lj_hint.specs.Trail.{Extends}
-use Rattle.lj_hint.specs.Ending.{ending_of}
+use Rattle.lj_hint.specs.inner.Trail.{Extends}
+use Rattle.lj_hint.specs.inner.Ending.{ending_of}
 use Rattle.lj_hint.proofs.Walks.{Reads, walk_from, ends_contradictory, ends_open, ends_closed, ends_stuck, ends_nowhere, goes_on}
 use Rattle.lj_hint.proofs.TrailLaws.{from_literals-with_mark, Extends-trans, Extends-with_mark}
 use Rattle.lj_hint.proofs.walk.walk.Goals as goal

@@ -1,7 +1,7 @@
 use Rattle.std.proofs.Common.{◌≡◌}
 use Rattle.lj_clause.specs.LiteralSet.{from_literals}
 use Rattle.lj_clause.specs.Walk.{walk_over}
-use Rattle.lj_hint.specs.Trail.{Extends}
+use Rattle.lj_hint.specs.inner.Trail.{Extends}
 use Rattle.lj_hint.proofs.Walks.{walk_from}
 use Rattle.lj_hint.proofs.walk.walk.Given as goal
 

@@ -2,9 +2,10 @@ use Rattle.std.proofs.Common.{◌∙◌, ap, sym, subst, refl, inl, inr, arith}
 use Rattle.lj_text.specs.Streams.{source_state}
 use Rattle.lj_run.specs.InTurn.{streams_by_seat}
 use Rattle.std.proofs.lemmas.Bool.{both_ways}
-use Rattle.lj_run.specs.Program.{IsAskedFor, is_told_late, status_code}
+use Rattle.lj_run.specs.inner.Program.{IsAskedFor, is_told_late}
+use Rattle.lj_run.specs.Program.{status_code}
 use Rattle.lj_run.specs.Proof.{sink_state}
-use Rattle.lj_run.specs.Words.{line_asked}
+use Rattle.lj_run.specs.inner.CommandLine.{line_asked}
 use Rattle.lj_run.proofs.ProgramLemmas.{among_closing, among_streams, asked_proof, check_cut, check_fault, create_fault, created_unfailed, err_more, formula_unopened, lost_fault, lost_late, ok_more, few_streams, inputs_unfailed, open_fault, passed_on, streams_before}
 use Rattle.lj_run.proofs.body.run.Goals as goal
 

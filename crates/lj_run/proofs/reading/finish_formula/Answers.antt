@@ -3,7 +3,7 @@ use Rattle.std.proofs.Common.{◌≡◌, false, refl}
 use Rattle.lj_clause.specs.declared.memory.NoMemory.{NoMemory}
 use Rattle.lj_text.specs.declared.cnf.fault.CnfFaultKind.{CnfFaultKind}
 use Rattle.lj_text.specs.declared.cnf.fault.CnfFaultKind.TheVariants as kinds
-use Rattle.lj_text.specs.CnfReading.{is_cnf_no_memory}
+use Rattle.lj_text.specs.CnfRead.{is_cnf_no_memory}
 use Rattle.lj_run.proofs.reading.finish_formula.Goals as goal
 
 is_another : (kind : CnfFaultKind) → ((e : NoMemory) → kind ≡ kinds.NoMemory e → ⊥) → is_cnf_no_memory kind ≡ false

@@ -3,7 +3,8 @@ use Rattle.std.specs.Prelude.{slice_get}
 use Rattle.lj_text.specs.Lines.{all_said}
 use Rattle.lj_text.specs.LinesRead.{LineReaderStandsAt, last_number, handed_out}
 use Rattle.lj_text.specs.Streams.{source_state}
-use Rattle.lj_run.specs.Reading.{IsNext, IsRightLine}
+use Rattle.lj_run.specs.inner.Reading.{IsNext}
+use Rattle.lj_run.specs.Reading.{IsRightLine}
 use Rattle.lj_run.proofs.ReadingLemmas.{line_of_text, fault_of_text, last_of_text, right_of_text, right_at_end, faulted, fed_none, fed_on, line_read, line_faulty, piece_missed, passed_on}
 use Rattle.lj_run.proofs.reading.next_line.Goals as goal
 

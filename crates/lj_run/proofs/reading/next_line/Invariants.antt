@@ -1,7 +1,7 @@
 use Rattle.std.proofs.Common.{◌≡◌, ◌<◌, ℕ, true, List, length}
 use Rattle.lj_text.specs.LinesRead.{LineReaderStandsAt}
 use Rattle.lj_text.specs.Streams.{source_state, HasEnded}
-use Rattle.lj_run.specs.Reading.{MayRead}
+use Rattle.lj_run.specs.inner.Reading.{MayRead}
 use Rattle.lj_run.proofs.ReadingLemmas.{FedSince}
 use Rattle.lj_run.proofs.reading.next_line.Given as goal
 

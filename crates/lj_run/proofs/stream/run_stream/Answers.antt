@@ -1,12 +1,13 @@
 use Rattle.std.proofs.Common.{rules, ◌≡◌, ◌+◌, true, false, Option, Some, None, sym, ap, ◌∙◌, subst, arith}
 use Rattle.lj_text.specs.Streams.{source_state}
 use Rattle.lj_book.specs.State.{State}
-use Rattle.lj_run.specs.Reading.{LineRead, LineMissed}
+use Rattle.lj_run.specs.inner.Reading.{LineRead, LineMissed}
 use Rattle.lj_run.specs.Run.{IsStreamRun, progress_of, has_verdict}
 use Rattle.lj_run.specs.declared.stream.Tally.{Tally}
 use Rattle.lj_run.specs.declared.outcome.End.TheVariants.{Line as AtLine}
 use Rattle.lj_run.proofs.RunLemmas.{count_more, RunsTo, run_stopped, run_ended, run_missed, run_refused, runs_on, entered_longer, entered_formula}
 use Rattle.lj_run.proofs.stream.run_stream.Goals as goal
+use Rattle.lj_clause.specs.declared.lit.TheConstants.{MAX_VARIABLE}
 
 pub returns-then-is_done-clause-run : goal.returns-then-is_done-clause-run
 returns-then-is_done-clause-run g c =
@@ -42,7 +43,7 @@ returns-in-Err-clause-run g c =
     let before = seen c.loop.source in
     let after = seen c.next_line.new.source in
     let told = subst (λ m. LineMissed m r.text r.handed c.next_line.new.reader.at before after c.in-Err.miss) c.loop.invariant.max (c.in-Err.ensures.miss r.text r.handed r.stands) in
-    let miss = subst (λ n. LineMissed 134217727 r.text r.handed n before after c.in-Err.miss) (sym c.at.ensures) told in
+    let miss = subst (λ n. LineMissed MAX_VARIABLE r.text r.handed n before after c.in-Err.miss) (sym c.at.ensures) told in
     let run = run_missed c.args.seat (seen c.args.source.now) before after start now c.loop.reader r c.at.result c.in-Err.miss miss v c.in-Err.ensures.failures in
     let ended = c.ending-in-Err.ensures ∙ ap (λ e. record c.loop.tally { end = e }) c.missed.ensures in
     subst (λ (t : Tally). IsStreamRun c.args.seat (seen c.args.source.now) after start (progress_of c.loop.book t.added t.deleted t.imported) t.end) (sym ended) run

@@ -1,9 +1,10 @@
 use Rattle.std.proofs.Common.{◌≡◌, ◌+◌, ◌≤◌, true, length}
 use Rattle.lj_text.specs.Streams.{source_state, HasEnded}
-use Rattle.lj_run.specs.Reading.{MayRead}
+use Rattle.lj_run.specs.inner.Reading.{MayRead}
 use Rattle.lj_run.specs.Run.{progress_of}
 use Rattle.lj_run.proofs.RunLemmas.{RunsTo}
 use Rattle.lj_run.proofs.stream.run_stream.Given as goal
+use Rattle.lj_clause.specs.declared.lit.TheConstants.{MAX_VARIABLE}
 
 abbrev pub invariant-loop : goal.invariant-loop
 invariant-loop g l =
@@ -14,7 +15,7 @@ invariant-loop g l =
       unfailed : g.S.Source.failures l.source ≡ 0;
       may_read : MayRead l.reader l.ended;
       ended : l.ended ≡ true → HasEnded (seen l.source);
-      max : l.reader.max ≡ 134217727;
+      max : l.reader.max ≡ MAX_VARIABLE;
       room : length l.room ≡ 65536;
       counted : l.tally.added + l.tally.deleted + l.tally.imported ≤ length l.book.history;
       formula : l.book.formula ≡ l.fn.book.formula;

@@ -2,7 +2,8 @@ use Rattle.std.proofs.Common.{◌≡◌, ℕ, List, [], ◌++◌, ◌<◌, map, 
 use Rattle.std.proofs.lemmas.List.{length-map, get_or-map}
 use Rattle.lj_text.specs.declared.step.Step.{Step}
 use Rattle.lj_text.specs.StepText.{step_text, greatest_with}
-use Rattle.lj_text.specs.Writing.{IsCutShort, Wrote, Broke}
+use Rattle.lj_text.specs.Writing.{IsCutShort}
+use Rattle.lj_text.specs.inner.Writing.{Wrote, Broke}
 use Rattle.lj_text.proofs.WritingLemmas.{broke_then, broke_more, wrote_then, on_err}
 use Rattle.lj_text.proofs.WrittenWords.{text-more, greatest-more, text_parts}
 use Rattle.lj_text.proofs.writer.write_proof.Goals as goal

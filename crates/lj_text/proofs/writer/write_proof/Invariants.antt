@@ -1,6 +1,7 @@
 use Rattle.std.proofs.Common.{◌≡◌, [], take, map}
-use Rattle.lj_text.specs.StepText.{text_after, greatest_number}
-use Rattle.lj_text.specs.Writing.{Wrote}
+use Rattle.lj_text.specs.StepText.{text_after}
+use Rattle.lj_text.specs.inner.StepText.{greatest_number}
+use Rattle.lj_text.specs.inner.Writing.{Wrote}
 use Rattle.lj_text.proofs.writer.write_proof.Given as goal
 
 -- the first steps are written

@@ -1,7 +1,7 @@
 use Rattle.std.proofs.Common.{ap, ◌∙◌, sym, ◌++◌, ◌∷◌, [], append-nil, map, take}
 use Rattle.std.proofs.lemmas.List.{map-append}
 use Rattle.lj_text.specs.Needed.{additions}
-use Rattle.lj_trim.specs.Front.{lent_addition}
+use Rattle.lj_trim.specs.inner.Front.{lent_addition}
 use Rattle.lj_trim.proofs.FrontLemmas.{additions-more}
 use Rattle.lj_trim.proofs.needed.additions_of.Goals as goal
 use Rattle.lj_trim.proofs.needed.additions_of.Goals.{in-Add+in_ok-push, in_default}

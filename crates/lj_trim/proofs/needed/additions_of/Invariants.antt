@@ -1,6 +1,6 @@
 use Rattle.std.proofs.Common.{◌≡◌, take, map}
 use Rattle.lj_text.specs.Needed.{additions}
-use Rattle.lj_trim.specs.Front.{lent_addition}
+use Rattle.lj_trim.specs.inner.Front.{lent_addition}
 use Rattle.lj_trim.proofs.needed.additions_of.Given as goal
 
 -- the additions among the first steps

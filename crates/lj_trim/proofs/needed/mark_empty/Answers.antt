@@ -1,6 +1,6 @@
 use Rattle.std.proofs.Common.{◌≡◌, ℕ, ap, ◌∙◌, sym, subst, List, ◌++◌}
 use Rattle.lj_trim.specs.declared.marks.Marks.{Marks}
-use Rattle.lj_trim.specs.Marks.{Marked}
+use Rattle.lj_trim.specs.inner.Marks.{Marked}
 use Rattle.lj_trim.proofs.MarkLemmas.{marked_then, marked_none}
 use Rattle.lj_trim.proofs.FrontLemmas.{empty_numbers-more}
 use Rattle.lj_trim.proofs.needed.mark_empty.Goals as goal

@@ -1,6 +1,6 @@
 use Rattle.std.proofs.Common.{take}
 use Rattle.lj_text.specs.Needed.{empty_numbers}
-use Rattle.lj_trim.specs.Marks.{Marked}
+use Rattle.lj_trim.specs.inner.Marks.{Marked}
 use Rattle.lj_trim.proofs.needed.mark_empty.Given as goal
 
 -- the first steps are done

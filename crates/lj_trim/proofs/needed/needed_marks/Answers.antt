@@ -3,8 +3,8 @@ use Rattle.std.specs.List.{AllByRecursion}
 use Rattle.std.proofs.lemmas.Bool.{false≢true}
 use Rattle.std.proofs.lemmas.List.{length-map}
 use Rattle.lj_text.specs.Needed.{empty_numbers}
-use Rattle.lj_trim.specs.Marks.{is_marked, IsCovered, Covers}
-use Rattle.lj_trim.specs.Front.{needed_in, lent_addition}
+use Rattle.lj_trim.specs.inner.Marks.{is_marked, IsCovered, Covers}
+use Rattle.lj_trim.specs.inner.Front.{needed_in, lent_addition}
 use Rattle.lj_trim.proofs.MarkLemmas.{all-map, covered_unmarked}
 use Rattle.lj_trim.proofs.ClosureLemmas.{needed-empty, needed-covers, marked-needed}
 use Rattle.lj_trim.proofs.needed.needed_marks.Goals as goal

@@ -2,8 +2,8 @@ use Rattle.std.proofs.Common.{map, vec_len}
 use Rattle.std.specs.List.{AllByRecursion}
 use Rattle.lj_text.specs.Needed.{additions, empty_numbers}
 use Rattle.lj_trim.specs.declared.marks.Marks.{Marks}
-use Rattle.lj_trim.specs.Marks.{AreMarked, IsWithin, Grows, IsCovered, Covers}
-use Rattle.lj_trim.specs.Front.{needed_in, lent_addition}
+use Rattle.lj_trim.specs.inner.Marks.{AreMarked, IsWithin, Grows, IsCovered, Covers}
+use Rattle.lj_trim.specs.inner.Front.{needed_in, lent_addition}
 use Rattle.lj_trim.proofs.needed.needed_marks.Given as goal
 
 -- What is marked is needed, and what was done stays done.

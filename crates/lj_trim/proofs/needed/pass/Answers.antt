@@ -2,7 +2,7 @@ use Rattle.std.proofs.Common.{◌≡◌, ℕ, ap, ◌∙◌, sym, ◌∷◌, [],
 use Rattle.std.specs.Borrow.{Bor}
 use Rattle.std.proofs.lemmas.List.{map-append}
 use Rattle.lj_text.specs.declared.line.Addition.{Addition}
-use Rattle.lj_trim.specs.Front.{lent_addition}
+use Rattle.lj_trim.specs.inner.Front.{lent_addition}
 use Rattle.lj_trim.proofs.MarkLemmas.{passed_taken, passed_open, passed_along, passed_still}
 use Rattle.lj_trim.proofs.FrontLemmas.{drop-item, drop-map}
 use Rattle.lj_trim.proofs.needed.pass.Goals as goal

@@ -1,6 +1,6 @@
 use Rattle.std.proofs.Common.{◌≤◌, drop, map, length, vec_len}
-use Rattle.lj_trim.specs.Marks.{Passed}
-use Rattle.lj_trim.specs.Front.{lent_addition}
+use Rattle.lj_trim.specs.inner.Marks.{Passed}
+use Rattle.lj_trim.specs.inner.Front.{lent_addition}
 use Rattle.lj_trim.proofs.needed.pass.Given as goal
 
 -- the last additions are done

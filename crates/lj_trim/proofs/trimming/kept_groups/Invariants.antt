@@ -1,5 +1,5 @@
 use Rattle.std.proofs.Common.{◌≡◌, take}
-use Rattle.lj_trim.specs.Trimmed.{keeps, groups_by}
+use Rattle.lj_trim.specs.inner.Trimmed.{keeps, groups_by}
 use Rattle.lj_trim.proofs.trimming.kept_groups.Given as goal
 
 -- the first groups are done

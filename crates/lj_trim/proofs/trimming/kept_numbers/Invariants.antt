@@ -1,6 +1,6 @@
 use Rattle.std.proofs.Common.{◌≡◌, ◌++◌}
 use Rattle.std.specs.Prelude.{filter}
-use Rattle.lj_trim.specs.Trimmed.{keeps}
+use Rattle.lj_trim.specs.inner.Trimmed.{keeps}
 use Rattle.lj_trim.proofs.trimming.kept_numbers.Given as goal
 
 -- the first numbers are done

@@ -1,5 +1,5 @@
 use Rattle.std.proofs.Common.{◌∙◌, sym}
-use Rattle.lj_trim.specs.Trimmed.{keeps}
+use Rattle.lj_trim.specs.inner.Trimmed.{keeps}
 use Rattle.lj_trim.proofs.TrimmedLemmas.{whole}
 use Rattle.lj_trim.proofs.trimming.trimmed_step.Goals as goal
 

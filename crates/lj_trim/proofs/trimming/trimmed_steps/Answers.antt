@@ -1,7 +1,8 @@
 use Rattle.std.proofs.Common.{ap, ◌∙◌, sym, ◌++◌, map, take, append-nil}
 use Rattle.std.specs.Prelude.{filter_map, option_map, option_to_list}
 use Rattle.std.proofs.lemmas.List.{map-append}
-use Rattle.lj_trim.specs.Trimmed.{step_of, keeps, trimmed_by}
+use Rattle.lj_trim.specs.Trimmed.{step_of}
+use Rattle.lj_trim.specs.inner.Trimmed.{keeps, trimmed_by}
 use Rattle.lj_trim.proofs.TrimmedLemmas.{steps_more}
 use Rattle.lj_trim.proofs.trimming.trimmed_steps.Goals as goal
 use Rattle.lj_trim.proofs.trimming.trimmed_steps.Goals.{in-Some+in_ok-push, in_default}

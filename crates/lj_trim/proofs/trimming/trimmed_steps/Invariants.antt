@@ -1,6 +1,7 @@
 use Rattle.std.proofs.Common.{◌≡◌, take, map}
 use Rattle.std.specs.Prelude.{filter_map}
-use Rattle.lj_trim.specs.Trimmed.{step_of, keeps, trimmed_by}
+use Rattle.lj_trim.specs.Trimmed.{step_of}
+use Rattle.lj_trim.specs.inner.Trimmed.{keeps, trimmed_by}
 use Rattle.lj_trim.proofs.trimming.trimmed_steps.Given as goal
 
 -- the first steps are done

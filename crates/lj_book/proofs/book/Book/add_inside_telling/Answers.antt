@@ -3,7 +3,7 @@ use Rattle.std.specs.Prelude.{Ok}
 use Rattle.lj_book.specs.State.{State}
 use Rattle.lj_book.specs.History.{after_entry}
 use Rattle.lj_book.specs.Calls.{commit_told}
-use Rattle.lj_book.specs.JointLines.{line_entry}
+use Rattle.lj_book.specs.inner.JointLines.{line_entry}
 use Rattle.lj_book.proofs.HistoryLaws.{IsSound-reached}
 use Rattle.lj_book.proofs.InsideLaws.{refusal_passes, inside_refused, entered, entered_reply, entered_entry}
 use Rattle.lj_book.proofs.book.Book.add_inside_telling.Goals as goal

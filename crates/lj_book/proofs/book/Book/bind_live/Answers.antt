@@ -3,8 +3,8 @@ use Rattle.std.specs.Prelude.{List, [], ◌∷◌, ◌++◌, is_ok, length}
 use Rattle.lj_book.specs.declared.entry.Entry.{Entry}
 use Rattle.lj_book.specs.State.{State}
 use Rattle.lj_book.specs.Calls.{binding_entry}
-use Rattle.lj_book.specs.Holders.{holders_of}
-use Rattle.lj_book.specs.Kept.{IsKept}
+use Rattle.lj_book.specs.inner.Holders.{holders_of}
+use Rattle.lj_book.specs.inner.Kept.{IsKept}
 use Rattle.lj_book.proofs.HolderBounds.{holders_bounded}
 use Rattle.lj_book.proofs.BindingLaws.{IsKept-bound, bound_state}
 use Rattle.lj_book.proofs.book.Book.bind_live.Goals as goal

@@ -5,7 +5,7 @@ use Rattle.lj_clause.specs.ClauseMap.{ClauseMap}
 use Rattle.lj_book.specs.declared.entry.Entry.{Entry}
 use Rattle.lj_book.specs.State.{State, next, live}
 use Rattle.lj_book.specs.Tables.{is_held}
-use Rattle.lj_book.specs.Kept.{IsKept, refuted_after}
+use Rattle.lj_book.specs.inner.Kept.{IsKept, refuted_after}
 use Rattle.lj_book.specs.Calls.{commit_refusal}
 use Rattle.lj_book.proofs.HistoryLaws.{IsSound-reached}
 use Rattle.lj_book.proofs.CommitLaws.{IsKept-commit, committed_state, no_clause_at_next, not_held_at_next, can_commit}

@@ -6,11 +6,11 @@ use Rattle.lj_clause.specs.ClauseMap.{ClauseMap}
 use Rattle.lj_text.specs.declared.step.Step.TheVariants as steps
 use Rattle.lj_book.specs.declared.entry.Call.TheVariants as calls
 use Rattle.lj_book.specs.declared.entry.Entry.{Entry}
-use Rattle.lj_book.specs.State.{State, added, next, live}
+use Rattle.lj_book.specs.State.{State, addition_count, next, live}
 use Rattle.lj_book.specs.Tables.{is_held}
-use Rattle.lj_book.specs.Kept.{IsKept, refuted_after}
+use Rattle.lj_book.specs.inner.Kept.{IsKept, refuted_after}
 use Rattle.lj_book.specs.History.{after_entry}
-use Rattle.lj_book.specs.JointLines.{inside_line, line_entry}
+use Rattle.lj_book.specs.inner.JointLines.{inside_line, line_entry}
 use Rattle.lj_book.proofs.HistoryLaws.{IsSound-reached}
 use Rattle.lj_book.proofs.CommitLaws.{no_clause_at_next, not_held_at_next}
 use Rattle.lj_book.proofs.InsideLaws.{IsPivot, entered, entered_room, entered_legal, step_kept, IsKept-line, line_state}
@@ -71,7 +71,7 @@ pub overflow_add-self : goal.overflow_add-self
 overflow_add-self c =
     let s : State = record { formula = c.self.inside.formula; max_steps = c.self.inside.max_steps; tables = c.self.inside.tables; history = c.self.inside.history.items } in
     let e = entered s c.args.seat c.args.addition.now c.args.step (ap (λ (t : State). inside_line t c.args.seat c.args.addition.now) c.self.view_is ∙ c.requires) in
-    let room : added s.history < s.max_steps = entered_room s c.args.seat c.args.addition.now c.args.step e.0 e.1 in
+    let room : addition_count s.history < s.max_steps = entered_room s c.args.seat c.args.addition.now c.args.step e.0 e.1 in
     let counted = c.self.invariant.additions in
     omega arith
 

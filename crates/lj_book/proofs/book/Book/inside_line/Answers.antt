@@ -1,9 +1,9 @@
 use Rattle.std.proofs.Common.{◌≡◌, ◌≤◌, ◌<◌, ◌+◌, ap, sym, ◌∙◌, subst, ℕ, arith}
 use Rattle.std.specs.Prelude.{Ok, Err}
-use Rattle.lj_book.specs.State.{State, added, next, live}
+use Rattle.lj_book.specs.State.{State, addition_count, next, live}
 use Rattle.lj_book.specs.History.{IsReached}
 use Rattle.lj_book.specs.Calls.{free_refusal}
-use Rattle.lj_book.specs.JointLines.{LineParts, addition_of_parts, tested_line, inside_line}
+use Rattle.lj_book.specs.inner.JointLines.{LineParts, addition_of_parts, tested_line, inside_line}
 use Rattle.lj_book.proofs.InsideLaws.{IsTaken, refusal_passes, line_refused, line_full, line_passed}
 use Rattle.lj_book.proofs.book.Book.inside_line.Goals as goal
 
@@ -33,7 +33,7 @@ returns-then-added-max_steps-clause-reply c =
       are = c.in-Ok.ensures;
     } in
     let number : c.len.result + 1 + c.from.result ≡ next s = λ i. c.len.ensures.len i + 1 + (c.from.ensures ∙ c.self.invariant.additions) i in
-    let full : s.max_steps ≤ added s.history = let counted = c.self.invariant.additions in omega arith in
+    let full : s.max_steps ≤ addition_count s.history = let counted = c.self.invariant.additions in omega arith in
     ap (λ (t : State). inside_line t c.args.seat a) (sym c.self.view_is)
     ∙ line_full s c.args.seat a parts c.in-Ok-tested_line.step taken ((λ i. tested_line (sym c.self.invariant.lives i) (addition_of_parts (sym number i) a.lemma parts)) ∙ c.in-Ok-tested_line.ensures.reply) full
 
@@ -47,6 +47,6 @@ returns-clause-reply c =
       are = c.in-Ok.ensures;
     } in
     let number : c.len.result + 1 + c.from.result ≡ next s = λ i. c.len.ensures.len i + 1 + (c.from.ensures ∙ c.self.invariant.additions) i in
-    let room : added s.history < s.max_steps = let counted = c.self.invariant.additions in omega arith in
+    let room : addition_count s.history < s.max_steps = let counted = c.self.invariant.additions in omega arith in
     ap (λ (t : State). inside_line t c.args.seat a) (sym c.self.view_is)
     ∙ line_passed s c.args.seat a parts c.in-Ok-tested_line.step taken ((λ i. tested_line (sym c.self.invariant.lives i) (addition_of_parts (sym number i) a.lemma parts)) ∙ c.in-Ok-tested_line.ensures.reply) room

@@ -6,7 +6,7 @@ use Rattle.lj_book.specs.declared.entry.Entry.{Entry}
 use Rattle.lj_book.specs.Tables.{joint_of, is_among, without_seat}
 use Rattle.lj_book.specs.State.{State}
 use Rattle.lj_book.specs.History.{after_entry}
-use Rattle.lj_book.specs.Kept.{IsKept}
+use Rattle.lj_book.specs.inner.Kept.{IsKept}
 use Rattle.lj_book.specs.Calls.{leave_entry}
 use Rattle.lj_book.proofs.HistoryLaws.{IsSound-reached}
 use Rattle.lj_book.proofs.LeaveLaws.{IsKept-leave, left_dead, left_state}

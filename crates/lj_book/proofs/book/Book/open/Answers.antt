@@ -2,7 +2,7 @@ use Rattle.std.proofs.Common.{ap, sym, ◌∙◌, subst, ℕ}
 use Rattle.std.specs.Prelude.{replicate, Some, None}
 use Rattle.lj_book.specs.Tables.{up_to}
 use Rattle.lj_book.specs.State.{State}
-use Rattle.lj_book.specs.Kept.{IsKept}
+use Rattle.lj_book.specs.inner.Kept.{IsKept}
 use Rattle.lj_book.proofs.BookLaws.{IsKept-opening, same_state}
 use Rattle.lj_book.proofs.book.Book.open.Goals as goal
 

@@ -1,7 +1,8 @@
 use Rattle.std.proofs.Common.{ap, sym, ◌∙◌, subst}
 use Rattle.std.specs.Prelude.{not}
 use Rattle.lj_clause.specs.ClauseMap.{FormulaValue}
-use Rattle.lj_book.specs.State.{State, IsUnsatisfiable}
+use Rattle.lj_book.specs.State.{State}
+use Rattle.lj_clause.specs.Truth.{IsUnsatisfiable}
 use Rattle.lj_book.proofs.BookLaws.{refuted_unsatisfiable, told_refutes}
 use Rattle.lj_book.proofs.book.Book.verified.Goals as goal
 

@@ -1,6 +1,6 @@
 use Rattle.std.proofs.Common.{sym, subst, ◌+◌, ◌≤◌, arith}
 use Rattle.std.specs.Prelude.{Option}
-use Rattle.lj_book.specs.Occurrences.{Lists, AreListed}
+use Rattle.lj_book.specs.inner.Occurrences.{Lists, AreListed}
 use Rattle.lj_book.proofs.OccurrenceLaws.{Indexed-insert}
 use Rattle.lj_book.proofs.indexed_clauses.IndexedClauses.insert.Goals as goal
 

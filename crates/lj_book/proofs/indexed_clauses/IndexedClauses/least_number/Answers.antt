@@ -2,7 +2,7 @@ use Rattle.std.proofs.Common.{ap, ◌∙◌, subst, ◌+◌}
 use Rattle.std.specs.Prelude.{Option}
 use Rattle.lj_clause.specs.ClauseMap.{ClauseMap}
 use Rattle.lj_book.specs.Lookup.{least_number}
-use Rattle.lj_book.specs.Occurrences.{Lists, AreListed}
+use Rattle.lj_book.specs.inner.Occurrences.{Lists, AreListed}
 use Rattle.lj_book.proofs.OccurrenceLaws.{first_is_least}
 use Rattle.lj_book.proofs.indexed_clauses.IndexedClauses.least_number.Goals as goal
 

@@ -3,7 +3,7 @@ use Rattle.std.specs.Prelude.{Option, filter}
 use Rattle.std.specs.FinMap as fin
 use Rattle.lj_clause.specs.ClauseMap.{ClauseMap}
 use Rattle.lj_book.specs.Lookup.{numbers_holding}
-use Rattle.lj_book.specs.Occurrences.{Lists, AreListed, list_at}
+use Rattle.lj_book.specs.inner.Occurrences.{Lists, AreListed, list_at}
 use Rattle.lj_book.proofs.Slots.{if_ok_then}
 use Rattle.lj_book.proofs.OccurrenceLaws.{living_are}
 use Rattle.lj_book.proofs.indexed_clauses.IndexedClauses.numbers_holding.Goals as goal

@@ -1,7 +1,7 @@
 use Rattle.std.proofs.Common.{sym, subst, ◌+◌}
 use Rattle.std.specs.Prelude.{Option}
 use Rattle.lj_clause.specs.ClauseMap.{ClauseMap}
-use Rattle.lj_book.specs.Occurrences.{Lists, AreListed}
+use Rattle.lj_book.specs.inner.Occurrences.{Lists, AreListed}
 use Rattle.lj_book.proofs.OccurrenceLaws.{listed_without, Indexed-remove}
 use Rattle.lj_book.proofs.indexed_clauses.IndexedClauses.remove.Goals as goal
 

@@ -1,6 +1,6 @@
 use Rattle.std.proofs.Common.{ap, sym, ◌∙◌}
 use Rattle.std.specs.FinMap as fin
-use Rattle.lj_book.specs.Slots.{slot_map}
+use Rattle.lj_book.specs.inner.Slots.{slot_map}
 use Rattle.lj_book.proofs.Slots.{get_slot, slot_within, slot_past}
 use Rattle.lj_book.proofs.number_map.NumberMap.get.Goals as goal
 

@@ -1,6 +1,6 @@
 use Rattle.std.proofs.Common.{ap, ◌∙◌, true}
 use Rattle.std.specs.FinMap as fin
-use Rattle.lj_book.specs.Slots.{slot_numbers}
+use Rattle.lj_book.specs.inner.Slots.{slot_numbers}
 use Rattle.lj_book.proofs.Slots.{slot_keys_are, if_ok_then}
 use Rattle.lj_book.proofs.number_map.NumberMap.keys.Goals as goal
 

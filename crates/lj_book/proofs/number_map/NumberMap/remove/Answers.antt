@@ -1,7 +1,7 @@
 use Rattle.std.proofs.Common.{ap, sym, ◌∙◌, arith, ◌<◌, ◌≤◌, length}
 use Rattle.std.specs.Prelude.{slice_set}
 use Rattle.std.specs.FinMap as fin
-use Rattle.lj_book.specs.Slots.{slot_map}
+use Rattle.lj_book.specs.inner.Slots.{slot_map}
 use Rattle.lj_book.proofs.Slots.{get_slot, slot_within, slot_past, empty_slot, remove_absent}
 use Rattle.lj_book.proofs.number_map.NumberMap.remove.Goals as goal
 

@@ -1,7 +1,7 @@
 use Rattle.std.proofs.Common.{◌≡◌}
 use Rattle.std.specs.Prelude.{drop}
 use Rattle.lj_book.specs.Lookup.{is_same}
-use Rattle.lj_book.specs.Slots.{slot_numbers}
+use Rattle.lj_book.specs.inner.Slots.{slot_numbers}
 use Rattle.lj_book.proofs.number_map.scanning.first_same.Given as goal
 
 abbrev pub invariant-loop-at : goal.invariant-loop-at

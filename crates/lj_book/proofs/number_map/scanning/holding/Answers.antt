@@ -2,7 +2,7 @@ use Rattle.std.proofs.Common.{ap, sym, ◌∙◌, ◌++◌, ◌+◌}
 use Rattle.std.specs.Prelude.{[], ◌∷◌, drop}
 use Rattle.std.proofs.lemmas.List.{append_assoc}
 use Rattle.lj_clause.specs.LiteralSet.{LiteralSet, holds}
-use Rattle.lj_book.specs.Slots.{slot_numbers}
+use Rattle.lj_book.specs.inner.Slots.{slot_numbers}
 use Rattle.lj_book.proofs.Slots.{numbers-empty, numbers-taken, numbers-passed}
 use Rattle.lj_book.proofs.number_map.scanning.holding.Goals as goal
 use Rattle.lj_book.proofs.number_map.scanning.holding.Goals.{in-Some+then-holds+in_ok-push, in-Some+else-holds, in_default}

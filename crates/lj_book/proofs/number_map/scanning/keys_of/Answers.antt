@@ -1,7 +1,7 @@
 use Rattle.std.proofs.Common.{ap, sym, ◌∙◌, ◌++◌, ◌+◌, true}
 use Rattle.std.specs.Prelude.{[], ◌∷◌, drop}
 use Rattle.std.proofs.lemmas.List.{append_assoc}
-use Rattle.lj_book.specs.Slots.{slot_numbers}
+use Rattle.lj_book.specs.inner.Slots.{slot_numbers}
 use Rattle.lj_book.proofs.Slots.{keys-taken, keys-passed}
 use Rattle.lj_book.proofs.number_map.scanning.keys_of.Goals as goal
 use Rattle.lj_book.proofs.number_map.scanning.keys_of.Goals.{then-is_some+in_ok-push, else-is_some}

@@ -1,6 +1,6 @@
 use Rattle.std.proofs.Common.{◌≡◌, ◌++◌, true}
 use Rattle.std.specs.Prelude.{drop}
-use Rattle.lj_book.specs.Slots.{slot_numbers}
+use Rattle.lj_book.specs.inner.Slots.{slot_numbers}
 use Rattle.lj_book.proofs.number_map.scanning.keys_of.Given as goal
 
 abbrev pub invariant-loop-at : goal.invariant-loop-at

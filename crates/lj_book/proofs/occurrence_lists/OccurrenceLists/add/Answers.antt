@@ -1,7 +1,7 @@
 use Rattle.std.proofs.Common.{ap, sym, ◌∙◌, ℕ, List}
 use Rattle.std.specs.Prelude.{[], ◌∷◌, ◌++◌}
 use Rattle.std.specs.FinMap as fin
-use Rattle.lj_book.specs.Occurrences.{Lists, list_or_empty, list_at}
+use Rattle.lj_book.specs.inner.Occurrences.{Lists, list_or_empty, list_at}
 use Rattle.lj_book.proofs.Slots.{ok_then}
 use Rattle.lj_book.proofs.OccurrenceLaws.{put_back}
 use Rattle.lj_book.proofs.occurrence_lists.OccurrenceLists.add.Goals as goal

@@ -2,7 +2,7 @@ use Rattle.std.proofs.Common.{ap, sym, ◌∙◌, ℕ, length}
 use Rattle.std.specs.Prelude.{ℤ, List, [], ◌∷◌, ◌++◌, ◌==◌}
 use Rattle.std.specs.FinMap as fin
 use Rattle.lj_clause.specs.Literal.{place_of}
-use Rattle.lj_book.specs.Occurrences.{list_at}
+use Rattle.lj_book.specs.inner.Occurrences.{list_at}
 use Rattle.lj_book.proofs.Slots.{ok_then}
 use Rattle.lj_book.proofs.OccurrenceLaws.{only_place, literal_added}
 use Rattle.lj_book.proofs.occurrence_lists.OccurrenceLists.add_clause.Goals as goal

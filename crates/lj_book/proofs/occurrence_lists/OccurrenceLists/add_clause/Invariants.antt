@@ -1,7 +1,7 @@
 use Rattle.std.proofs.Common.{◌≡◌, ℕ, take, map}
 use Rattle.lj_clause.specs.Literal.{place_of}
 use Rattle.lj_book.specs.Tables.{is_among}
-use Rattle.lj_book.specs.Occurrences.{list_at, put_if}
+use Rattle.lj_book.specs.inner.Occurrences.{list_at, put_if}
 use Rattle.lj_book.proofs.occurrence_lists.OccurrenceLists.add_clause.Given as goal
 
 abbrev pub invariant-loop-lit : goal.invariant-loop-lit

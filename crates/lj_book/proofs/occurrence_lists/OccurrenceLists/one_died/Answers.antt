@@ -3,7 +3,7 @@ use Rattle.std.specs.List.Sorted.{IsStrictlySortedBy}
 use Rattle.std.specs.Ordering.{nat_cmp}
 use Rattle.std.specs.FinMap as fin
 use Rattle.lj_book.specs.Tables.{is_among}
-use Rattle.lj_book.specs.Occurrences.{Lists, list_or_empty, list_at, AreOccurrences}
+use Rattle.lj_book.specs.inner.Occurrences.{Lists, list_or_empty, list_at, AreOccurrences}
 use Rattle.lj_book.proofs.Slots.{ok_then}
 use Rattle.lj_book.proofs.OccurrenceLaws.{put_back, none_taken, list_swept}
 use Rattle.lj_book.proofs.occurrence_lists.OccurrenceLists.one_died.Goals as goal

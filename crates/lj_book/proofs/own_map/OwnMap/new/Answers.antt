@@ -1,7 +1,7 @@
 use Rattle.std.proofs.Common.{ap, sym, ◌∙◌, subst, option_copied}
 use Rattle.std.specs.Prelude.{is_some}
 use Rattle.std.specs.FinMap as fin
-use Rattle.lj_book.specs.Slots.{joined_map, AreApart}
+use Rattle.lj_book.specs.inner.Slots.{joined_map, AreApart}
 use Rattle.lj_book.proofs.Slots.{joined_empty, apart-empty}
 use Rattle.lj_book.proofs.own_map.OwnMap.new.Goals as goal
 

@@ -1,6 +1,6 @@
 use Rattle.std.proofs.Common.{ap, sym, ◌∙◌, subst}
 use Rattle.std.specs.FinMap as fin
-use Rattle.lj_book.specs.Slots.{joined_map, AreApart}
+use Rattle.lj_book.specs.inner.Slots.{joined_map, AreApart}
 use Rattle.lj_book.proofs.Slots.{joined_far, insert_near, insert_far, apart-insert_near, apart-insert_far, either_way, ok_then, err_then}
 use Rattle.lj_book.proofs.own_map.OwnMap.put.Goals as goal
 

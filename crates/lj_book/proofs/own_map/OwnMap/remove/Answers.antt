@@ -1,7 +1,7 @@
 use Rattle.std.proofs.Common.{ap, sym, ◌∙◌, subst, option_copied}
 use Rattle.std.specs.Prelude.{is_some}
 use Rattle.std.specs.FinMap as fin
-use Rattle.lj_book.specs.Slots.{joined_map, AreApart}
+use Rattle.lj_book.specs.inner.Slots.{joined_map, AreApart}
 use Rattle.lj_book.proofs.Slots.{joined_near, joined_far, remove_absent, remove_near, remove_far, apart-remove_near, apart-remove_far}
 use Rattle.lj_book.proofs.own_map.OwnMap.remove.Goals as goal
 

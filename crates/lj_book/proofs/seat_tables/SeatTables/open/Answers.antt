@@ -1,6 +1,6 @@
 use Rattle.std.proofs.Common.{ap, sym, ◌∙◌, ℕ}
 use Rattle.lj_book.specs.Tables.{Table, Tables}
-use Rattle.lj_book.specs.Holders.{count_at, holders_of, all_up_to}
+use Rattle.lj_book.specs.inner.Holders.{count_at, holders_of, all_up_to}
 use Rattle.lj_book.proofs.TableLaws.{AreHolders-opening}
 use Rattle.lj_book.proofs.seat_tables.SeatTables.open.Goals as goal
 

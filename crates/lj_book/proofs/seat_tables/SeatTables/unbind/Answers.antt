@@ -2,7 +2,7 @@ use Rattle.std.proofs.Common.{ap, sym, ◌∙◌, subst, arith, ◌<◌}
 use Rattle.std.specs.Prelude.{length, Some, is_some}
 use Rattle.std.specs.FinMap as fin
 use Rattle.lj_book.specs.Tables.{Table, Tables, is_here, is_bound, with_table}
-use Rattle.lj_book.specs.Holders.{AreHolders}
+use Rattle.lj_book.specs.inner.Holders.{AreHolders}
 use Rattle.lj_book.proofs.TableLaws.{here_in_range, table_of-at, joint_in_table, AreHolders-unbind, bound_is_counted, with_table-set, no_table}
 use Rattle.std.proofs.Math.ListN.{set}
 use Rattle.lj_book.proofs.seat_tables.SeatTables.unbind.Goals as goal

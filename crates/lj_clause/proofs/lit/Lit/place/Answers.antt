@@ -1,7 +1,7 @@
 use Rattle.std.proofs.Common.{ap, sym, ◌∙◌}
 use Rattle.lj_clause.specs.declared.lit.Lit.TheInside.{Inside}
 use Rattle.lj_clause.specs.Literal.{place_of}
-use Rattle.lj_clause.specs.LitCode.{literal_back}
+use Rattle.lj_clause.specs.inner.LitCode.{literal_back}
 use Rattle.lj_clause.proofs.lit.Lit.place.Goals as goal
 
 pub returns-clause-place : goal.returns-clause-place

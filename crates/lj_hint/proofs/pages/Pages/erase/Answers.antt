@@ -1,6 +1,6 @@
 use Rattle.std.proofs.Common.{◌≡◌, ap, sym, ◌∙◌, arith}
 use Rattle.std.specs.Prelude.{◌==◌, if◌then◌else◌, List, ℕ}
-use Rattle.lj_hint.specs.Stamps.{page_stamp}
+use Rattle.lj_hint.specs.inner.Stamps.{page_stamp}
 use Rattle.lj_hint.proofs.StampLaws.{stamped, none_erased}
 use Rattle.lj_hint.proofs.pages.Pages.erase.Goals as goal
 

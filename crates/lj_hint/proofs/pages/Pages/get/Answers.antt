@@ -1,6 +1,6 @@
 use Rattle.std.proofs.Common.{◌≤◌, ◌/◌, ap, sym, ◌∙◌, subst, length, ℕ}
 use Rattle.std.specs.Prelude.{List, []}
-use Rattle.lj_hint.specs.Stamps.{page_at, page_stamp}
+use Rattle.lj_hint.specs.inner.Stamps.{page_at, page_stamp}
 use Rattle.lj_hint.proofs.StampLaws.{stamp_read, past_pages}
 use Rattle.lj_hint.proofs.pages.Pages.get.Goals as goal
 

@@ -1,7 +1,7 @@
 use Rattle.std.proofs.Common.{◌≡◌, ap, sym, ◌∙◌, arith, ◌/◌, ◌<◌, length, ℕ}
 use Rattle.std.specs.Prelude.{◌==◌, if◌then◌else◌, List}
 use Rattle.std.proofs.lemmas.Result.{on_ok_weaker, on_err_weaker}
-use Rattle.lj_hint.specs.Stamps.{page_stamp}
+use Rattle.lj_hint.specs.inner.Stamps.{page_stamp}
 use Rattle.lj_hint.proofs.StampLaws.{stamped, same_stamps, restored, on_err}
 use Rattle.lj_hint.proofs.pages.Pages.set.Goals as goal
 

@@ -1,6 +1,6 @@
 use Rattle.std.proofs.Common.{ap, refl, ◌∙◌, arith}
 use Rattle.std.specs.Prelude.{◌==◌, if◌then◌else◌}
-use Rattle.lj_hint.specs.Stamps.{Stamped, stamp_at}
+use Rattle.lj_hint.specs.inner.Stamps.{Stamped, stamp_at}
 use Rattle.lj_hint.proofs.NearLaws.{near_set, far_set}
 use Rattle.lj_hint.proofs.stamps.Stamps.erase.Goals as goal
 

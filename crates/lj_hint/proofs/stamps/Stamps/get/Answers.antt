@@ -1,5 +1,5 @@
 use Rattle.std.proofs.Common.{ap, sym, ◌∙◌, arith}
-use Rattle.lj_hint.specs.Stamps.{Stamped, stamp_at}
+use Rattle.lj_hint.specs.inner.Stamps.{Stamped, stamp_at}
 use Rattle.lj_hint.proofs.NearLaws.{near_stamp, far_stamp}
 use Rattle.lj_hint.proofs.stamps.Stamps.get.Goals as goal
 

@@ -1,7 +1,7 @@
 use Rattle.std.proofs.Common.{ap, refl, ◌∙◌, arith}
 use Rattle.std.specs.Prelude.{◌==◌, if◌then◌else◌, slice_index}
 use Rattle.std.proofs.lemmas.Result.{on_ok_weaker, on_err_weaker}
-use Rattle.lj_hint.specs.Stamps.{Stamped, stamp_at}
+use Rattle.lj_hint.specs.inner.Stamps.{Stamped, stamp_at}
 use Rattle.lj_hint.proofs.NearLaws.{near_set, far_set, same_stamped}
 use Rattle.lj_hint.proofs.stamps.Stamps.set.Goals as goal
 

@@ -1,6 +1,6 @@
 use Rattle.std.proofs.Common.{ℕ, ◌<◌, sym, subst, arith}
 use Rattle.lj_hint.specs.declared.trail.Trail.TheInside.{Inside}
-use Rattle.lj_hint.specs.Stamps.{stamp_at, AreMarks}
+use Rattle.lj_hint.specs.inner.Stamps.{stamp_at, AreMarks}
 use Rattle.lj_hint.proofs.TrailLaws.{fresh_marks}
 use Rattle.lj_hint.proofs.trail.Trail.clear.Goals as goal
 use Rattle.lj_hint.proofs.trail.Trail.clear.Goals.{then-self, else-self}

@@ -1,7 +1,7 @@
 use Rattle.std.proofs.Common.{ap, ◌∙◌}
 use Rattle.std.specs.Prelude.{◌==◌, List, ℤ}
 use Rattle.lj_clause.specs.LiteralSet.{holds, from_literals}
-use Rattle.lj_hint.specs.Stamps.{stamp_at}
+use Rattle.lj_hint.specs.inner.Stamps.{stamp_at}
 use Rattle.lj_hint.proofs.trail.Trail.holds.Goals as goal
 
 pub returns : goal.returns

@@ -1,6 +1,6 @@
 use Rattle.std.proofs.Common.{◌≡◌, ℕ, subst}
 use Rattle.std.specs.Prelude.{◌==◌, if◌then◌else◌}
-use Rattle.lj_hint.specs.Stamps.{stamp_at, AreMarks}
+use Rattle.lj_hint.specs.inner.Stamps.{stamp_at, AreMarks}
 use Rattle.lj_hint.proofs.TrailLaws.{popped_marks}
 use Rattle.lj_hint.proofs.trail.Trail.pop.Goals as goal
 

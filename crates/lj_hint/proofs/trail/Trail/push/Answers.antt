@@ -1,7 +1,7 @@
 use Rattle.std.proofs.Common.{◌≡◌, ℕ, Bool, cond, ap, sym, ◌∙◌, subst}
 use Rattle.std.specs.Prelude.{ℤ, List, [], ◌∷◌, ◌++◌, ◌==◌, is_ok, if◌then◌else◌}
 use Rattle.lj_clause.specs.LiteralSet.{holds, from_literals}
-use Rattle.lj_hint.specs.Stamps.{stamp_at, AreMarks}
+use Rattle.lj_hint.specs.inner.Stamps.{stamp_at, AreMarks}
 use Rattle.lj_hint.proofs.TrailLaws.{pushed_marks}
 use Rattle.lj_hint.proofs.trail.Trail.push.Goals as goal
 

@@ -1,5 +1,5 @@
 use Rattle.std.proofs.Common.{sym, subst, arith}
-use Rattle.lj_hint.specs.Stamps.{AreMarks}
+use Rattle.lj_hint.specs.inner.Stamps.{AreMarks}
 use Rattle.lj_hint.proofs.TrailLaws.{fresh_marks}
 use Rattle.lj_hint.proofs.trail.Trail.starting_at.Goals as goal
 

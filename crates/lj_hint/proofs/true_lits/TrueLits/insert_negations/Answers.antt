@@ -1,7 +1,7 @@
 use Rattle.std.proofs.Common.{ap, sym, ◌∙◌, subst}
 use Rattle.std.specs.Prelude.{neg_ℤ}
 use Rattle.lj_clause.specs.LiteralSet.{LiteralSet, from_literals, with_literal}
-use Rattle.lj_hint.specs.Trail.{Extends}
+use Rattle.lj_hint.specs.inner.Trail.{Extends}
 use Rattle.lj_hint.proofs.Inserts.{with_negations-more}
 use Rattle.lj_hint.proofs.TrailLaws.{from_literals-with_mark, Extends-trans, Extends-with_mark}
 use Rattle.lj_hint.proofs.true_lits.TrueLits.insert_negations.Goals as goal

@@ -1,6 +1,6 @@
 use Rattle.std.proofs.Common.{◌≡◌, take}
 use Rattle.lj_clause.specs.LiteralSet.{from_literals, with_negations}
-use Rattle.lj_hint.specs.Trail.{Extends}
+use Rattle.lj_hint.specs.inner.Trail.{Extends}
 use Rattle.lj_hint.proofs.true_lits.TrueLits.insert_negations.Given as goal
 
 abbrev pub invariant-loop-lit : goal.invariant-loop-lit

@@ -3,7 +3,7 @@ use Rattle.std.specs.Prelude.{ℤ, not, neg_ℤ}
 use Rattle.std.specs.Ordering.{eq_by_cmp}
 use Rattle.lj_clause.specs.Literal.{lit_cmp}
 use Rattle.lj_clause.specs.LiteralSet.{LiteralSet, from_literals, with_literal}
-use Rattle.lj_hint.specs.Trail.{Extends}
+use Rattle.lj_hint.specs.inner.Trail.{Extends}
 use Rattle.lj_hint.proofs.Inserts.{with_negations-passed, with_negations-skipped}
 use Rattle.lj_hint.proofs.TrailLaws.{from_literals-with_mark, Extends-trans, Extends-with_mark}
 use Rattle.lj_hint.proofs.true_lits.TrueLits.insert_negations_but.Goals as goal

@@ -3,7 +3,7 @@ use Rattle.std.specs.Prelude.{filter, not}
 use Rattle.std.specs.Ordering.{eq_by_cmp}
 use Rattle.lj_clause.specs.Literal.{lit_cmp}
 use Rattle.lj_clause.specs.LiteralSet.{from_literals, with_negations}
-use Rattle.lj_hint.specs.Trail.{Extends}
+use Rattle.lj_hint.specs.inner.Trail.{Extends}
 use Rattle.lj_hint.proofs.true_lits.TrueLits.insert_negations_but.Given as goal
 
 abbrev pub invariant-loop-other : goal.invariant-loop-other

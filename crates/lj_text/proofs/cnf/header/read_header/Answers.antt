@@ -4,7 +4,7 @@ use Rattle.lj_text.specs.Bytes.{tokens_of}
 use Rattle.lj_text.specs.Lines.{is_letter}
 use Rattle.lj_text.specs.declared.cnf.fault.CnfFaultKind.TheVariants as kinds
 use Rattle.lj_text.specs.Cnf.{fault_in, header_after}
-use Rattle.lj_text.specs.CnfReading.{IsCnfTold}
+use Rattle.lj_text.specs.inner.CnfReading.{IsCnfTold}
 use Rattle.lj_text.proofs.cnf.header.read_header.Goals as goal
 
 pub returns-then-is_header-clause-sizes : goal.returns-then-is_header-clause-sizes

@@ -1,6 +1,6 @@
 use Rattle.std.proofs.Common.{◌≡◌, length, None}
 use Rattle.lj_text.specs.LinesRead.{HasNoLineEnd}
-use Rattle.lj_text.specs.CnfResuming.{kept_fault}
+use Rattle.lj_text.specs.inner.CnfResuming.{kept_fault}
 use Rattle.lj_text.proofs.TakeLemmas.{Going}
 use Rattle.lj_text.proofs.cnf.reader.take_piece.Given as goal
 

@@ -1,6 +1,6 @@
 use Rattle.std.proofs.Common.{◌≡◌, length}
 use Rattle.lj_text.specs.Lines.{hints_of, with_read}
-use Rattle.lj_text.specs.LineReading.{words_of, group_before}
+use Rattle.lj_text.specs.inner.LineReading.{words_of, group_before}
 use Rattle.lj_text.proofs.FrontLemmas.{with_groups}
 use Rattle.lj_text.proofs.lines.hints.read_groups.Given as goal
 

@@ -1,6 +1,6 @@
 use Rattle.std.proofs.Common.{length}
 use Rattle.lj_text.specs.Lines.{numbers_of}
-use Rattle.lj_text.specs.LineReading.{words_of}
+use Rattle.lj_text.specs.inner.LineReading.{words_of}
 use Rattle.lj_text.proofs.JudgeLemmas.{Follows}
 use Rattle.lj_text.proofs.lines.judge.pass_numbers.Given as goal
 

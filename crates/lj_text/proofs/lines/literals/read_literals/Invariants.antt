@@ -1,6 +1,6 @@
 use Rattle.std.proofs.Common.{◌≡◌, length}
 use Rattle.lj_text.specs.Lines.{literals_then}
-use Rattle.lj_text.specs.LineReading.{words_of}
+use Rattle.lj_text.specs.inner.LineReading.{words_of}
 use Rattle.lj_text.proofs.FrontLemmas.{with_literals}
 use Rattle.lj_text.proofs.lines.literals.read_literals.Given as goal
 

@@ -3,7 +3,7 @@ use Rattle.std.specs.Prelude.{flat_map}
 use Rattle.std.proofs.lemmas.Grind.{flat_map-append}
 use Rattle.std.proofs.lemmas.List.{take_all}
 use Rattle.lj_clause.specs.Rat.{HintGroup}
-use Rattle.lj_trim.specs.Marks.{Marked}
+use Rattle.lj_trim.specs.inner.Marks.{Marked}
 use Rattle.lj_trim.proofs.MarkLemmas.{marked_then}
 use Rattle.lj_trim.proofs.FrontLemmas.{take-item}
 use Rattle.lj_trim.proofs.marks.Marks.mark_hints.Goals as goal

@@ -1,7 +1,7 @@
 use Rattle.std.proofs.Common.{take, ◌++◌}
 use Rattle.std.specs.Prelude.{flat_map}
 use Rattle.lj_clause.specs.Rat.{HintGroup}
-use Rattle.lj_trim.specs.Marks.{Marked}
+use Rattle.lj_trim.specs.inner.Marks.{Marked}
 use Rattle.lj_trim.proofs.marks.Marks.mark_hints.Given as goal
 
 -- the hints of the first list and of the first groups are marked

@@ -1,5 +1,5 @@
 use Rattle.std.proofs.Common.{◌≡◌, ◌++◌}
-use Rattle.lj_trim.specs.Marks.{Marked}
+use Rattle.lj_trim.specs.inner.Marks.{Marked}
 use Rattle.lj_trim.proofs.marks.Marks.mark_numbers.Given as goal
 
 -- the first numbers are marked

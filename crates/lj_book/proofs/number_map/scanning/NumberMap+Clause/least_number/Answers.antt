@@ -1,7 +1,7 @@
 use Rattle.std.proofs.Common.{ap, sym, ◌∙◌}
 use Rattle.std.specs.Prelude.{slice_get}
 use Rattle.lj_book.specs.Lookup.{is_same, least_number}
-use Rattle.lj_book.specs.Slots.{slot_numbers}
+use Rattle.lj_book.specs.inner.Slots.{slot_numbers}
 use Rattle.lj_book.proofs.Slots.{slot_numbers_are}
 use Rattle.lj_book.proofs.number_map.scanning.NumberMap+Clause.least_number.Goals as goal
 

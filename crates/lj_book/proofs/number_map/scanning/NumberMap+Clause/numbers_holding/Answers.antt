@@ -1,7 +1,7 @@
 use Rattle.std.proofs.Common.{ap, ◌∙◌}
 use Rattle.lj_clause.specs.LiteralSet.{LiteralSet, holds}
 use Rattle.lj_book.specs.Lookup.{numbers_holding}
-use Rattle.lj_book.specs.Slots.{slot_numbers}
+use Rattle.lj_book.specs.inner.Slots.{slot_numbers}
 use Rattle.lj_book.proofs.Slots.{slot_numbers_are, if_ok_then}
 use Rattle.lj_book.proofs.number_map.scanning.NumberMap+Clause.numbers_holding.Goals as goal
 

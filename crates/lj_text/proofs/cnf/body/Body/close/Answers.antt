@@ -1,7 +1,7 @@
 use Rattle.std.proofs.Common.{◌≡◌, ◌<◌, [], length, sym, ap, ◌∙◌, arith}
 use Rattle.std.proofs.lemmas.Bool.Decides.{nat_tests}
 use Rattle.std.proofs.lemmas.Grind.{common_steps}
-use Rattle.lj_text.specs.CnfReading.{Begun, completed}
+use Rattle.lj_text.specs.CnfReading.{Begun, formula_after}
 use Rattle.lj_text.proofs.CnfLemmas.{completed-early, empty_from}
 use Rattle.lj_text.proofs.cnf.body.Body.close.Goals as goal
 
@@ -12,4 +12,4 @@ returns-then-self-gt0-clause-reads c last =
     let same : begun ≡ c.args.self = c.self.view_is in
     let count : length v.literals.items ≡ 0 = grind (arith, nat_tests, common_steps, c.is_empty.ensures, c.if-not-is_empty.false) in
     let some : 0 < v.left = omega arith in
-    ap (λ b. completed b last []) (sym same) ∙ completed-early begun last some (empty_from v.literals.items count)
+    ap (λ b. formula_after b last []) (sym same) ∙ completed-early begun last some (empty_from v.literals.items count)

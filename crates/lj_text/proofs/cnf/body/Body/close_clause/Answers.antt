@@ -3,7 +3,8 @@ use Rattle.std.specs.List.{list_all}
 use Rattle.lj_clause.specs.ClauseMap.{names_up_to}
 use Rattle.lj_clause.specs.LiteralSet.{LiteralSet, from_literals}
 use Rattle.lj_text.specs.Cnf.{Number}
-use Rattle.lj_text.specs.CnfReading.{Begun, completed, is_up_to}
+use Rattle.lj_text.specs.CnfReading.{Begun, formula_after}
+use Rattle.lj_text.specs.inner.CnfReading.{is_up_to}
 use Rattle.lj_text.proofs.CnfLemmas.{completed-zero, clauses-pushed}
 use Rattle.lj_text.proofs.cnf.body.Body.close_clause.Goals as goal
 
@@ -14,10 +15,10 @@ returns-clause-reads c last line rest =
     let same : begun ≡ c.args.self.now = c.self.view_is in
     let clause : from_literals v.literals.items ≡ c.in_ok-clause.clause = ap from_literals (sym c.deref.ensures.value) ∙ sym c.in_ok-clause.ensures in
     let pushed : v.clauses.items ++ from_literals v.literals.items ∷ [] ≡ c.push.new.self.items = ap (λ cl. v.clauses.items ++ cl ∷ []) clause ∙ sym c.in_ok-push.ensures.items in
-    ap (λ b. completed b last (Number line (pos 0) ∷ rest)) (sym same)
+    ap (λ b. formula_after b last (Number line (pos 0) ∷ rest)) (sym same)
     ∙ completed-zero begun last line rest (omega arith)
-    ∙ ap (λ (cs : List LiteralSet). completed (record begun { left = v.left - 1; clauses = cs; literals = [] }) last rest) pushed
-    ∙ ap (λ (ls : List ℤ). completed (record begun { left = v.left - 1; clauses = c.push.new.self.items; literals = ls }) last rest) (sym c.clear.ensures.items)
+    ∙ ap (λ (cs : List LiteralSet). formula_after (record begun { left = v.left - 1; clauses = cs; literals = [] }) last rest) pushed
+    ∙ ap (λ (ls : List ℤ). formula_after (record begun { left = v.left - 1; clauses = c.push.new.self.items; literals = ls }) last rest) (sym c.clear.ensures.items)
 
 pub invariant_of-self-2 : goal.invariant_of-self-2
 invariant_of-self-2 c =

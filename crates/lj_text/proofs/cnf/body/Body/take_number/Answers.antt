@@ -5,7 +5,8 @@ use Rattle.std.proofs.lemmas.Int.{to_z-of_z}
 use Rattle.std.proofs.lemmas.Result.{err_from_is_err_and}
 use Rattle.lj_text.specs.Bytes.{number_of}
 use Rattle.lj_text.specs.Cnf.{number_at}
-use Rattle.lj_text.specs.CnfReading.{Begun, IsCnfTold, IsNumberUpTo, completed}
+use Rattle.lj_text.specs.CnfReading.{Begun, formula_after}
+use Rattle.lj_text.specs.inner.CnfReading.{IsCnfTold, IsNumberUpTo}
 use Rattle.lj_text.proofs.CnfLemmas.{completed-refused}
 use Rattle.lj_text.proofs.cnf.body.Body.take_number.Goals as goal
 
@@ -18,8 +19,8 @@ returns-in_err-number-clause-reads c last line rest =
 
 pub returns-else-number-eq0-clause-reads : goal.returns-else-number-eq0-clause-reads
 returns-else-number-eq0-clause-reads c last line rest =
-    let P : Option ℤ → Type 0 = λ o. MatchResult c.take_literal.result (λ x. completed c.args.self.now last (number_at line o ∷ rest) ≡ completed c.take_literal.new.self last rest)
-    (λ kind. IsCnfTold kind line (completed c.args.self.now last (number_at line o ∷ rest))) in
+    let P : Option ℤ → Type 0 = λ o. MatchResult c.take_literal.result (λ x. formula_after c.args.self.now last (number_at line o ∷ rest) ≡ formula_after c.take_literal.new.self last rest)
+    (λ kind. IsCnfTold kind line (formula_after c.args.self.now last (number_at line o ∷ rest))) in
     let fits : FitsSigned w32 c.in_ok-number.number = search rules in
     let Q : ℤ → Type 0 = λ z. P (Some z) in
     subst P (sym c.in_ok-number.ensures.0) (subst Q (to_z-of_z w32 c.in_ok-number.number fits) (c.take_literal.ensures.reads last line rest))

@@ -2,10 +2,9 @@ use Rattle.std.proofs.Common.{◌≡◌, true, List, ℕ, ◌++◌, Option, None
 use Rattle.std.specs.Prelude.{IfSome}
 use Rattle.lj_text.specs.declared.cnf.state.State.{State}
 use Rattle.lj_text.specs.declared.cnf.fault.CnfFault.{CnfFault}
-use Rattle.lj_text.specs.CnfReading.{is_cnf_no_memory}
-use Rattle.lj_text.specs.CnfResuming.{kept_fault}
-use Rattle.lj_text.specs.CnfRead.{CnfRead, HasFaultAlready, NeedsRoom}
-use Rattle.lj_text.specs.CnfHeld.{CnfStandsAt, NeedsRoomFrom, Taken}
+use Rattle.lj_text.specs.CnfRead.{is_cnf_no_memory, CnfRead, HasFaultAlready, NeedsRoom}
+use Rattle.lj_text.specs.inner.CnfResuming.{kept_fault}
+use Rattle.lj_text.specs.inner.CnfHeld.{CnfStandsAt, NeedsRoomFrom, Taken}
 use Rattle.lj_text.proofs.TakeLemmas.{fault-fed, none_kept, room-fed, stands-fed}
 use Rattle.lj_text.proofs.cnf.reader.CnfReader.feed.Goals as goal
 

@@ -2,9 +2,8 @@ use Rattle.std.proofs.Common.{◌≡◌, ℕ, ◌+◌, true, [], ◌∷◌, List
 use Rattle.std.specs.Prelude.{IfErr}
 use Rattle.lj_text.specs.Bytes.{tokens_of}
 use Rattle.lj_text.specs.LinesRead.{last_number}
-use Rattle.lj_text.specs.CnfReading.{is_cnf_no_memory}
-use Rattle.lj_text.specs.CnfResuming.{resumed, Reads, asks_room, kept_fault}
-use Rattle.lj_text.specs.CnfRead.{CnfRead, EndsByNumber, IsAnswer}
+use Rattle.lj_text.specs.CnfRead.{is_cnf_no_memory, CnfRead, EndsByNumber, IsAnswer}
+use Rattle.lj_text.specs.inner.CnfResuming.{formula_from_state, Reads, asks_room, kept_fault}
 use Rattle.lj_text.specs.Cnf.{HasFault}
 use Rattle.lj_text.proofs.TakeLemmas.{answered, ends_at, ends_by, fault-at_end, none_kept, asks_at_end, told_line, told_room}
 use Rattle.lj_text.proofs.cnf.reader.CnfReader.finish.Goals as goal
@@ -25,7 +24,7 @@ returns-clause-answer c =
     let sound : kept_fault v.state ≡ None = sym c.fault_of.ensures ∙ none_kept c.fault_of.result c.in_default.not-Some in
     let s = c.self.invariant.stands sound in
     let Q : CnfRead → Type 0 = λ x. IsAnswer x.max x.fed c.close.result in
-    let R : List ℕ → Type 0 = λ b. Reads v.max (length s.lines + 1) [] c.after_line-state.result (resumed v.max (length s.lines) v.state (b ∷ [])) in
+    let R : List ℕ → Type 0 = λ b. Reads v.max (length s.lines + 1) [] c.after_line-state.result (formula_from_state v.max (length s.lines) v.state (b ∷ [])) in
     subst Q same (answered v.max v.line v.held.items v.state v.fed.bytes s c.after_line-state.result c.close.result c.self.invariant.none
     (subst R c.deref.ensures.value (c.after_line-state.ensures.reads (length s.lines) s.line_is []))
     (c.close.ensures.reads v.max (length s.lines) s.line_is))

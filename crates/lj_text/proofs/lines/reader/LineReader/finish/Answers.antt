@@ -1,7 +1,7 @@
 use Rattle.std.proofs.Common.{length, Option, Ok, sym, ap, ◌∙◌, subst}
 use Rattle.lj_text.specs.Lines.{Said}
 use Rattle.lj_text.specs.LinesRead.{LinesRead, IsSaidAt, IsSaidRight, line_answer, line_number_of, last_number}
-use Rattle.lj_text.specs.LinesHeld.{passed}
+use Rattle.lj_text.specs.inner.LinesHeld.{reader_past}
 use Rattle.lj_text.proofs.ReaderLemmas.{at_true, at_false, all-at, all-found, behind-found, answers, stands-passed, stands-behind, place-some, place-behind, ahead-found, ahead-behind, within-of, stands-of, stands-kept, kept-at, kept-max}
 use Rattle.lj_text.proofs.lines.reader.LineReader.finish.Goals as goal
 
@@ -55,7 +55,7 @@ returns-in-Ok-default-false-clause-stands c text given stands =
     let s = within-of r text given going stands in
     let found = c.in-Ok-default-false.found in
     let p = at_false c.in-Ok-default-false.field-0-1 _ _ c.in-Ok-default-false.field-0-1-test (c.in-Ok-default-false.ensures.found (length s.lines) s.line_is) in
-    rw (c.pass.ensures.passed, c.look_to_end.ensures.same, c.pass.ensures.line) (stands-of (passed r found) text _ going (stands-passed r text given found s p.0))
+    rw (c.pass.ensures.passed, c.look_to_end.ensures.same, c.pass.ensures.line) (stands-of (reader_past r found) text _ going (stands-passed r text given found s p.0))
 
 pub returns-in-Ok-default-false-clause-at : goal.returns-in-Ok-default-false-clause-at
 returns-in-Ok-default-false-clause-at c text given stands none memory =

@@ -4,7 +4,7 @@ use Rattle.lj_text.specs.declared.line.Line.{Line}
 use Rattle.lj_text.specs.declared.lines.fault.LineFault.{LineFault}
 use Rattle.lj_text.specs.Lines.{Said}
 use Rattle.lj_text.specs.LinesRead.{HasNoLineEnd, LinesRead, IsSaidAt, IsSaidRight, line_answer, line_number_of, last_number}
-use Rattle.lj_text.specs.LinesHeld.{passed}
+use Rattle.lj_text.specs.inner.LinesHeld.{reader_past}
 use Rattle.lj_text.proofs.ReaderLemmas.{whole-at, whole-found, answers, stands-passed, place-whole, ahead-found, within-of, stands-of, kept-at}
 use Rattle.lj_text.proofs.lines.reader.LineReader.next.Goals as goal
 
@@ -26,7 +26,7 @@ returns-in-Ok-clause-stands c text given stands =
     let going = sym (ap (λ (v : LinesRead). v.finished) c.self.view_is) ∙ c.if-self.false in
     let s = within-of r text given going stands in
     let p = c.in-Ok.ensures.found (length s.lines) s.line_is in
-    rw (c.pass.ensures.passed, c.look_ahead.ensures.same, c.pass.ensures.line) (stands-of (passed r c.in-Ok.found) text _ going (stands-passed r text given c.in-Ok.found s p))
+    rw (c.pass.ensures.passed, c.look_ahead.ensures.same, c.pass.ensures.line) (stands-of (reader_past r c.in-Ok.found) text _ going (stands-passed r text given c.in-Ok.found s p))
 
 pub returns-in-Ok-clause-at : goal.returns-in-Ok-clause-at
 returns-in-Ok-clause-at c text given stands none memory =

@@ -1,6 +1,6 @@
 use Rattle.std.proofs.Common.{◌≡◌, ◌<◌, ℕ, List, [], ◌++◌, length, take, subst}
 use Rattle.std.specs.Prelude.{Result, Ok, Err, OnErr}
-use Rattle.lj_text.specs.Writing.{Broke}
+use Rattle.lj_text.specs.inner.Writing.{Broke}
 use Rattle.lj_text.proofs.WritingLemmas.{broke_flushed}
 use Rattle.lj_text.proofs.writer.held.Held.flush.Goals as goal
 

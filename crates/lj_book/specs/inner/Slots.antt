@@ -1,0 +1,30 @@
+-- How a map from numbers is kept: in slots by number, and in a tree beside them.
+use Rattle.std.specs.Prelude.{◌≡◌, ℕ, suc, Bool, true, if◌then◌else◌, List, [], ◌∷◌, ◌++◌, Option, Some, None, is_some}
+use Rattle.std.specs.Ordering.{nat_cmp}
+use Rattle.std.specs.FinMap as fin
+
+-- the entries of slots, the first of which stands for this number
+abbrev pub slot_entries : {V : Type 0} → ℕ → List (Option V) → List (ℕ × V)
+slot_entries n [] = []
+slot_entries n (None ∷ slots) = slot_entries (suc n) slots
+slot_entries n (Some v ∷ slots) = (n, v) ∷ slot_entries (suc n) slots
+
+-- the map that slots from 0 on make
+abbrev pub slot_map : {V : Type 0} → List (Option V) → fin.FinMap nat_cmp V
+slot_map slots = fin.from_entries (slot_entries 0 slots)
+
+-- the entries of two maps in one
+abbrev pub joined_map : {V : Type 0} → fin.FinMap nat_cmp V → fin.FinMap nat_cmp V
+    → fin.FinMap nat_cmp V
+joined_map near far = fin.from_entries (fin.entries near ++ fin.entries far)
+
+-- no number is in both maps
+abbrev pub AreApart : {V : Type 0} → fin.FinMap nat_cmp V → fin.FinMap nat_cmp V → Type 0
+AreApart near far = (q : ℕ) → is_some (fin.get near q) ≡ true → fin.get far q ≡ None
+
+-- the numbers of the slots whose value passes the test
+abbrev pub slot_numbers : {V : Type 0} → (V → Bool) → ℕ → List (Option V) → List ℕ
+slot_numbers test n [] = []
+slot_numbers test n (None ∷ slots) = slot_numbers test (suc n) slots
+slot_numbers test n (Some v ∷ slots) = if test v then n ∷ slot_numbers test (suc n) slots
+    else slot_numbers test (suc n) slots

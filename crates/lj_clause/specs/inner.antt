@@ -1,0 +1,4 @@
+-- What invariants, private functions and proofs say. No public contract names any of it.
+pub mod Literal
+pub mod LitCode
+pub mod Codes

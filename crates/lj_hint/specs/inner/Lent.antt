@@ -1,0 +1,43 @@
+-- Groups whose hints are lent, and the test of one candidate.
+use Rattle.std.specs.Prelude.{◌≡◌, ℕ, Bool, List, [], map, Option, option_map, option_and_then, unwrap_or, slice_get, if◌then◌else◌, Result, Ok, Err, MatchResult}
+use Rattle.lj_clause.specs.Walk as walks
+use Rattle.lj_clause.specs.Walk.{Hint}
+use Rattle.lj_clause.specs.Rat.{HintGroup, NamedGroup}
+use Rattle.lj_hint.specs.declared.rat_refusal.RatRefusal.{RatRefusal}
+use Rattle.lj_hint.specs.declared.rat_refusal.RatRefusal.TheVariants.{EmptyOpen, MissingGroup, GroupStuck, GroupOpen, NoMemory}
+use Rattle.lj_hint.specs.declared.rat.LentGroup.{LentGroup}
+
+-- the groups with the hints that theirs stand for
+abbrev pub lent_groups : {H : Type 0} → (H → List Hint) → List (LentGroup H) → List NamedGroup
+lent_groups hints groups = map (λ g. record { candidate = g.candidate; hints = hints g.hints })
+    groups
+
+-- the hints of the group at a place, if there is one
+abbrev pub group_at : {H : Type 0} → (H → List Hint) → List (LentGroup H) → Option ℕ
+    → Option (List Hint)
+group_at hints groups place = option_map (λ g. hints g.hints)
+    (option_and_then (λ at. slice_get groups at) place)
+
+-- the hints, none where there is no group
+abbrev pub lent_hints : Option (List Hint) → List Hint
+lent_hints group = unwrap_or group []
+
+-- what a candidate's walk tells, by whether it has a group: the group of the hints that were read, or the refusal
+abbrev pub candidate_told : ℕ → Bool → walks.Walk → Result HintGroup RatRefusal
+candidate_told n has_group (walks.Closed used) = Ok (record { candidate = n; hints = used })
+candidate_told n has_group (walks.Open a) = if has_group then Err (GroupOpen n)
+    else Err (MissingGroup n)
+candidate_told n has_group (walks.Stuck place) = if has_group then Err (GroupStuck n place)
+    else Err (MissingGroup n)
+
+-- an answer is the reply, and NoMemory may stand in place of it
+abbrev pub IsCandidateRefusal : RatRefusal → Result HintGroup RatRefusal → Type 0
+IsCandidateRefusal (NoMemory e) reply = Unit {0}
+IsCandidateRefusal EmptyOpen reply = reply ≡ Err EmptyOpen
+IsCandidateRefusal (MissingGroup n) reply = reply ≡ Err (MissingGroup n)
+IsCandidateRefusal (GroupStuck n place) reply = reply ≡ Err (GroupStuck n place)
+IsCandidateRefusal (GroupOpen n) reply = reply ≡ Err (GroupOpen n)
+
+abbrev pub IsCandidateReply : Result HintGroup RatRefusal → Result HintGroup RatRefusal → Type 0
+IsCandidateReply answer reply = MatchResult answer (λ group. reply ≡ Ok group)
+    (λ e. IsCandidateRefusal e reply)

@@ -1,0 +1,31 @@
+-- Stamps of literals by their place.
+use Rattle.std.specs.Prelude.{◌≡◌, ℕ, nat_lt, if◌then◌else◌, ◌/◌, ◌%◌, ◌<◌, ◌≤◌, ◌==◌, List, [], ℤ, pos, false, length, take, slice_index, slice_index_or}
+use Rattle.lj_clause.specs.Literal.{place_of}
+use Rattle.lj_clause.specs.LiteralSet.{holds, from_literals}
+use Rattle.lj_hint.specs.declared.pages.TheConstants.{PAGE}
+use Rattle.lj_hint.specs.declared.stamps.TheConstants.{NEAR}
+
+-- the page of a number, without a stamp where it was never made
+abbrev pub page_at : List (List ℕ) → ℕ → List ℕ
+page_at pages number = slice_index_or pages number []
+
+-- the stamp at a place in pages: 0 where none was set
+unfoldable pub page_stamp : List (List ℕ) → ℕ → ℕ
+page_stamp pages place = slice_index (page_at pages (place / PAGE)) (place % PAGE)
+
+-- the stamps of the near places, and the pages of the others
+abbrev pub Stamped : Type 0
+Stamped = List ℕ × List (List ℕ)
+
+-- the stamp at a place: 0 where none was set
+unfoldable pub stamp_at : Stamped → ℕ → ℕ
+stamp_at stamps place = if nat_lt place NEAR then slice_index stamps.0 place
+    else page_stamp stamps.1 place
+
+-- The literals that have the current stamp are those of the trail, in which each stands once.
+pub record AreMarks (stamps : Stamped) (stamp : ℕ) (trail : List ℤ) : Type 0 where
+  pub some : 0 < stamp
+  pub greatest : (place : ℕ) → stamp_at stamps place ≤ stamp
+  pub marked : (l : ℤ) → (stamp_at stamps (place_of l) == stamp) ≡ holds (from_literals trail) l
+  pub once : (k : ℕ) → k < length trail
+      → holds (from_literals (take k trail)) (slice_index_or trail k (pos 0)) ≡ false

@@ -1,0 +1,164 @@
+-- What the words of the command line ask for.
+use Rattle.std.specs.Prelude.{◌&&◌, ◌||◌, ◌^◌, ℕ, Bool, List, [], ◌∷◌, length, nat_lt, true, false, Option, Some, None, if◌then◌else◌, option_and_then, unwrap_or, codes}
+use Rattle.std.specs.List.{list_any}
+use Rattle.std.specs.Option.{option_eq}
+use Rattle.std.specs.Str.{bytes_eq}
+use Rattle.clap.specs.Faults.{fault_of}
+use Rattle.clap.specs.Kinds.{Kinds}
+use Rattle.clap.specs.Simple.{App, matches_of, new_app, new_rule, on_top, with_rule}
+use Rattle.clap.specs.Walk.{Row, Rule, all_of, first_of}
+use Rattle.clap.specs.declared.builder.action.ArgAction.TheVariants.{Append, Set, SetTrue}
+use Rattle.clap.specs.declared.error.kind.ErrorKind.{ErrorKind}
+use Rattle.clap.specs.declared.error.kind.ErrorKind.TheVariants.{DisplayHelp, DisplayVersion}
+use Rattle.lj_text.specs.Bytes.{digits_value}
+use Rattle.lj_run.specs.InTurn.{streams_by_seat}
+use Rattle.lj_clause.specs.declared.formula.TheConstants.{MAX_CLAUSES}
+
+-- ---- the command line
+
+-- an argument that has to be given, once, with a value
+abbrev pub path_rule : List ℕ → Rule
+path_rule id = record (new_rule id) { action = Some Set; required = true }
+
+-- an argument that has to be given, with one value or more, each word one
+abbrev pub paths_rule : List ℕ → Rule
+paths_rule id = record (new_rule id) { action = Some Append; required = true }
+
+-- an option of this long name, which may be given once, with a value
+abbrev pub option_rule : List ℕ → Rule
+option_rule name = record (new_rule name) { long = Some name; value_names = 1; action = Some Set }
+
+-- an option of this long name, which may be given once, without a value
+abbrev pub flag_rule : List ℕ → Rule
+flag_rule name = record (new_rule name) { long = Some name; action = Some SetTrue }
+
+-- the program without its arguments: it has a version, and its own name isn't among the words
+abbrev pub bare_app : App
+bare_app = on_top (λ s. record s { has_version = true; no_binary_name = true })
+    (new_app (codes "lratjoin"))
+
+-- FORMULA and then each PROOF
+abbrev pub paths_app : App
+paths_app = with_rule (with_rule bare_app (path_rule (codes "FORMULA")))
+    (paths_rule (codes "PROOF"))
+
+-- FORMULA, each PROOF and the options. `--in-turn` is taken, and asks for what is done without it.
+abbrev pub program_app : App
+program_app = with_rule
+    (with_rule
+    (with_rule
+    (with_rule (with_rule paths_app (option_rule (codes "close"))) (flag_rule (codes "in-turn")))
+    (option_rule (codes "proof"))) (flag_rule (codes "trim"))) (option_rule (codes "max-steps"))
+
+-- ---- what words ask for
+
+-- What a run is asked for: the paths of the formula, of the streams in their order, and of the closing stream, the most
+-- additions that it accepts, the path that the proof is written to, and whether it is trimmed.
+pub record AskedRun : Type 0 where
+  pub formula : List ℕ
+  pub proofs : List (List ℕ)
+  pub closing : Option (List ℕ)
+  pub max_steps : ℕ
+  pub proof : Option (List ℕ)
+  pub trims : Bool
+
+-- What words ask for: a run, or to be told the help, the version, or how the program is used.
+pub data Asked : Type 0 where
+  a_run : AskedRun → Asked
+  the_help : Asked
+  the_version : Asked
+  the_usage : Asked
+
+-- the paths of the streams of a run by their seats: the closing one has the last
+abbrev pub paths_by_seat : AskedRun → List (List ℕ)
+paths_by_seat run = streams_by_seat run.proofs run.closing
+
+-- the greatest number of additions that a run accepts where words don't say it
+abbrev pub most_steps : ℕ
+most_steps = MAX_CLAUSES
+
+-- the number, where it is a limit of additions
+abbrev pub as_limit : ℕ → Option ℕ
+as_limit n = if nat_lt n (2 ^ 32) then Some n else None
+
+-- the limit of additions that a text of decimal digits writes
+abbrev pub limit_of : List ℕ → Option ℕ
+limit_of text = option_and_then as_limit (digits_value text)
+
+-- the limit that the value of --max-steps writes, and the greatest where there is none
+abbrev pub steps_of_value : Option (List ℕ) → Option ℕ
+steps_of_value None = Some most_steps
+steps_of_value (Some text) = limit_of text
+
+-- from 1 to 64 streams
+abbrev pub is_run_of : List (List ℕ) → Bool
+is_run_of proofs = nat_lt 0 (length proofs) && nat_lt (length proofs) 65
+
+-- the run of these paths, where the limit of additions is one
+abbrev pub run_within : List ℕ → List (List ℕ) → Option (List ℕ) → Option ℕ → Asked
+run_within formula proofs closing (Some max_steps) =
+    a_run (record {
+      formula = formula;
+      proofs = proofs;
+      closing = closing;
+      max_steps = max_steps;
+      proof = None;
+      trims = false;
+    })
+run_within formula proofs closing None = the_usage
+
+-- the values of FORMULA and PROOF, of --close and --max-steps; right words have a FORMULA
+abbrev pub run_asked : Option (List ℕ) → List (List ℕ) → Option (List ℕ) → Option (List ℕ) → Asked
+run_asked (Some formula) proofs closing max_steps =
+    if is_run_of proofs then run_within formula proofs closing (steps_of_value max_steps)
+    else the_usage
+run_asked None proofs closing max_steps = the_usage
+
+-- whether a run reads the file at this path: paths are taken as written
+abbrev pub is_input : AskedRun → List ℕ → Bool
+is_input run path = bytes_eq run.formula path
+    || (list_any (λ proof. bytes_eq proof path) run.proofs
+    || option_eq bytes_eq run.closing (Some path))
+
+-- the run with its proof at this path, which isn't to overwrite what the run reads
+abbrev pub run_with_proof : AskedRun → List ℕ → Bool → Asked
+run_with_proof run path trims = if is_input run path then the_usage
+    else a_run (record run { proof = Some path; trims = trims })
+
+-- what is asked for with the value of --proof, and with --trim or without it: without --proof it does nothing
+abbrev pub with_proof : Asked → Option (List ℕ) → Bool → Asked
+with_proof (a_run run) (Some path) trims = run_with_proof run path trims
+with_proof (a_run run) None trims = a_run run
+with_proof the_help proof trims = the_help
+with_proof the_version proof trims = the_version
+with_proof the_usage proof trims = the_usage
+
+-- whether the flag of this name is given, by its value
+abbrev pub is_given : List ℕ → List Row → Bool
+is_given name rows = option_eq bytes_eq (first_of name rows) (Some (codes "true"))
+
+-- what is asked for by what the words give, but for the proof
+abbrev pub run_by_rows : List Row → Asked
+run_by_rows rows = run_asked (first_of (codes "FORMULA") rows)
+    (unwrap_or (all_of (codes "PROOF") rows) [])
+    (first_of (codes "close") rows) (first_of (codes "max-steps") rows)
+
+-- what is asked for by what the words give
+abbrev pub asked_by_rows : List Row → Asked
+asked_by_rows rows = with_proof (run_by_rows rows) (first_of (codes "proof") rows)
+    (is_given (codes "trim") rows)
+
+-- what words ask for that are wrong by this kind
+abbrev pub kind_asked : ErrorKind → Asked
+kind_asked DisplayHelp = the_help
+kind_asked DisplayVersion = the_version
+kind_asked kind = the_usage
+
+-- what words ask for, by the fault that is found in them first, and by what they give
+abbrev pub asked_by_fault : Kinds → List Row → Asked
+asked_by_fault [] rows = asked_by_rows rows
+asked_by_fault (kind ∷ more) rows = kind_asked kind
+
+-- what words ask for, those after the program's own name, as `clap` reads a command line
+unfoldable pub asked_by : List (List ℕ) → Asked
+asked_by words = asked_by_fault (fault_of program_app words) (matches_of program_app words)

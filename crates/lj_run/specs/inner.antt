@@ -1,0 +1,7 @@
+-- What invariants, private functions and proofs say. No public contract names any of it.
+pub mod FormulaReading
+pub mod Program
+pub mod Reading
+pub mod Run
+pub mod Tally
+pub mod CommandLine

@@ -1,0 +1,80 @@
+-- How the lines of a stream are read from its source.
+use Rattle.std.specs.Prelude.{◌≡◌, ℕ, ◌+◌, Bool, true, false, List, [], ◌++◌, take, Option, None, Some, Ok, Err, slice_get}
+use Rattle.lj_text.specs.declared.line.Line.{Line}
+use Rattle.lj_text.specs.Lines.{Said, all_said}
+use Rattle.lj_text.specs.LinesRead.{LinesRead, LineReaderStandsAt, is_line_no_memory}
+use Rattle.lj_text.specs.Streams.{SourceState, HasGiven, HasEnded}
+use Rattle.lj_run.specs.declared.reading.Miss.{Miss}
+use Rattle.lj_run.specs.declared.reading.Miss.TheVariants.{Failed, AtFault}
+use Rattle.lj_run.specs.Reading.{FailsAt, IsRoomRefused}
+
+-- The reader may go on: it has told no fault, and was told of the end only where the source has ended.
+pub record MayRead (reader : LinesRead) (ended : Bool) : Type 0 where
+  pub no_fault : reader.fault ≡ None
+  pub goes_on : ended ≡ false → reader.finished ≡ false
+
+-- The source gave a piece, and the reader stands behind it.
+pub record PieceRead (fed : List ℕ) (handed : ℕ) (reader : LinesRead) (before after : SourceState) : Type 0 where
+  pub piece : List ℕ
+  pub gave : HasGiven before after piece
+  pub stands : LineReaderStandsAt reader (fed ++ piece) handed
+
+-- the next of these lines is this one, of this number; none where there are no more
+abbrev pub IsNext : List Said → ℕ → ℕ → Option Line → Type 0
+IsNext lines handed at None = slice_get lines handed ≡ None
+IsNext lines handed at (Some line) = slice_get lines handed
+    ≡ Some (record { line = at; says = Ok line })
+
+-- how many lines were handed out, with this one
+abbrev pub with_handed : ℕ → Option Line → ℕ
+with_handed handed None = handed
+with_handed handed (Some line) = handed + 1
+
+-- The source gave a piece behind what the reader was fed. In all of that the lines handed out before are the same, and this one
+-- is the next; where there is none, the source has ended.
+pub record LineRead (max : ℕ) (fed : List ℕ) (handed : ℕ) (reader : LinesRead) (before after : SourceState) (line : Option Line) : Type 0 where
+  pub piece : List ℕ
+  pub gave : HasGiven before after piece
+  pub same : take handed (all_said max (fed ++ piece)) ≡ take handed (all_said max fed)
+  pub next : IsNext (all_said max (fed ++ piece)) handed reader.at line
+  pub stands : LineReaderStandsAt reader (fed ++ piece) (with_handed handed line)
+  pub ended : line ≡ None → HasEnded after
+
+-- the next line of a text is at fault, or a read failed; of the want of memory see IsRoomRefused
+abbrev pub IsMiss : ℕ → List ℕ → ℕ → ℕ → Miss → Type 0
+IsMiss max text handed at Failed = FailsAt max text handed at
+IsMiss max text handed at (AtFault fault) = is_line_no_memory fault.kind ≡ false
+    → slice_get (all_said max text) handed
+    ≡ Some (record { line = fault.line; says = Err fault.kind })
+
+-- what holds of its line where memory was refused
+abbrev pub IfOutOfRoom : Miss → (ℕ → Type 0) → Type 0
+IfOutOfRoom Failed P = Unit {0}
+IfOutOfRoom (AtFault fault) P = is_line_no_memory fault.kind ≡ true → P fault.line
+
+-- The source gave a piece behind what the reader was fed. In all of that the lines handed out before are the same, and the next
+-- one is missed.
+pub record LineMissed (max : ℕ) (fed : List ℕ) (handed at : ℕ) (before after : SourceState) (miss : Miss) : Type 0 where
+  pub piece : List ℕ
+  pub gave : HasGiven before after piece
+  pub same : take handed (all_said max (fed ++ piece)) ≡ take handed (all_said max fed)
+  pub is : IsMiss max (fed ++ piece) handed at miss
+  pub no_room : IfOutOfRoom miss (IsRoomRefused max (fed ++ piece) after.ended handed)
+
+-- how many reads failed
+abbrev pub reads_failed : Miss → ℕ
+reads_failed Failed = 1
+reads_failed (AtFault fault) = 0
+
+-- a read that failed gave nothing; of a piece, which a source gave that goes on, only the want of memory is told, at this line
+abbrev pub IsPieceOf : ℕ → Bool → Miss → List ℕ → Type 0
+IsPieceOf line ended Failed piece = piece ≡ []
+IsPieceOf line ended (AtFault fault) piece = (is_line_no_memory fault.kind ≡ true)
+    × (fault.line ≡ line) × (ended ≡ false)
+
+-- A piece was missed, and the reader is as it was.
+pub record PieceMissed (old new : LinesRead) (before after : SourceState) (miss : Miss) : Type 0 where
+  pub piece : List ℕ
+  pub gave : HasGiven before after piece
+  pub is : IsPieceOf old.line after.ended miss piece
+  pub same : new ≡ old

@@ -1,0 +1,3 @@
+-- What invariants, private functions and proofs say. No public contract names any of it.
+pub mod Seats
+pub mod Codes

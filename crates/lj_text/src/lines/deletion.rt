@@ -1,0 +1,34 @@
+//! Lists of numbers.
+ghost use Rattle.lj_text.specs.Lines.{numbers_of};
+ghost use Rattle.lj_text.specs.inner.LineReading.{Gives, words_of};
+
+use super::closing::{check_closed, cut_short};
+use super::fault::LineFaultKind;
+use crate::bytes::{Word, next_word};
+use crate::numbers::NumberRoom;
+
+/// The numbers up to the closing 0.
+pub(super) fn read_numbers(
+    numbers: &mut NumberRoom,
+    ended: bool,
+    bytes: &[u8],
+) -> Result<(), LineFaultKind>
+    ensures { Gives (λ _. numbers.new) result (numbers_of ended (words_of bytes.now)) }
+{
+    numbers.clear();
+    let mut rest = bytes;
+    while let Some((word, after)) = next_word(rest) {
+        match word {
+            Word::Positive(number) => numbers.push(number)?,
+            Word::Zero => {
+                check_closed(after)?;
+                return Ok(());
+            }
+            Word::NoNumber => return Err(LineFaultKind::BadNumber),
+            Word::Negative(_) => return Err(LineFaultKind::Syntax),
+            Word::Beyond => return Err(LineFaultKind::NumberRange),
+        }
+        rest = after;
+    }
+    Err(cut_short(ended))
+}
