@@ -4,6 +4,8 @@ mod FaultKinds
 mod FormulaLemmas
 mod GivenLemmas
 mod InTurnLemmas
+mod JointLemmas
+mod JointRunLemmas
 mod ProgramLemmas
 mod ProofLemmas
 mod ReadingLemmas

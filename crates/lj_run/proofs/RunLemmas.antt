@@ -76,18 +76,18 @@ more_entered seat p q (x ∷ xs) said e =
 same_element : {X : Type 0} (x y : X) → Some x ≡ Some y → x ≡ y
 same_element x y e = cc
 
-take_next : {X : Type 0} (xs : List X) (n : ℕ) (x : X) → slice_get xs n ≡ Some x → take (suc n) xs ≡ take n xs ++ x ∷ []
+pub take_next : {X : Type 0} (xs : List X) (n : ℕ) (x : X) → slice_get xs n ≡ Some x → take (suc n) xs ≡ take n xs ++ x ∷ []
 take_next [] n x e = cc
 take_next (y ∷ xs) zero x e = ap (λ z. z ∷ []) (same_element y x e)
 take_next (y ∷ xs) (suc n) x e = ap (λ zs. y ∷ zs) (take_next xs n x e)
 
-first_left : {X : Type 0} (xs : List X) (n : ℕ) → slice_get (drop n xs) 0 ≡ slice_get xs n
+pub first_left : {X : Type 0} (xs : List X) (n : ℕ) → slice_get (drop n xs) 0 ≡ slice_get xs n
 first_left [] zero = refl
 first_left [] (suc n) = refl
 first_left (x ∷ xs) zero = refl
 first_left (x ∷ xs) (suc n) = first_left xs n
 
-none_left : {X : Type 0} (xs : List X) (n : ℕ) → slice_get xs n ≡ None → drop n xs ≡ []
+pub none_left : {X : Type 0} (xs : List X) (n : ℕ) → slice_get xs n ≡ None → drop n xs ≡ []
 none_left [] zero e = refl
 none_left [] (suc n) e = refl
 none_left (x ∷ xs) zero e = cc
@@ -169,7 +169,7 @@ run_ended seat first before after start now reader new r read v unfailed =
       failures = unfailed;
     }
 
-meets_fault : (kind : LineFaultKind) (n : ℕ) (lines : List Said) (given : ℕ) → (is_line_no_memory kind ≡ false → slice_get lines given ≡ Some (record { line = n; says = Err kind })) → MeetsFault n kind (drop given lines)
+pub meets_fault : (kind : LineFaultKind) (n : ℕ) (lines : List Said) (given : ℕ) → (is_line_no_memory kind ≡ false → slice_get lines given ≡ Some (record { line = n; says = Err kind })) → MeetsFault n kind (drop given lines)
 meets_fault (kinds.NoMemory e) n lines given h = tt
 meets_fault kinds.BadNumber n lines given h = first_left lines given ∙ h refl
 meets_fault kinds.NumberRange n lines given h = first_left lines given ∙ h refl
@@ -181,7 +181,7 @@ at_miss seat s at text handed Failed v h = (v, tt)
 at_miss seat s at text handed (AtFault fault) v h = (v, meets_fault fault.kind fault.line (all_said MAX_VARIABLE text) handed h)
 
 -- want of memory while the next line was read
-room_missed : (at : ℕ) (miss : Miss) (P : ℕ → Type 0) → IfOutOfRoom miss P → IfRoomRefused (missed_at at miss) P
+pub room_missed : (at : ℕ) (miss : Miss) (P : ℕ → Type 0) → IfOutOfRoom miss P → IfRoomRefused (missed_at at miss) P
 room_missed at Failed P h = tt
 room_missed at (AtFault fault) P h = by_kind fault.kind fault.line h
   where
@@ -207,11 +207,11 @@ failed_line seat text start now handed at Failed enters h =
     ap (λ t. take handed (all_said MAX_VARIABLE t)) (sym (append-nil text)) ∙ ap (take handed) later.1 ∙ ap (λ n. take n (said ++ later.0)) h.handed_is ∙ take_front said later.0 in
     record { line_is = h.at_is; enters = ap (progress_after_lines seat start) (sym entered_are) ∙ enters }
 
-no_end_missed : (at : ℕ) (miss : Miss) → missed_at at miss ≡ Ended → ⊥
+pub no_end_missed : (at : ℕ) (miss : Miss) → missed_at at miss ≡ Ended → ⊥
 no_end_missed at Failed e = cc
 no_end_missed at (AtFault fault) e = cc
 
-reads_missed : (at : ℕ) (miss : Miss) → failed_reads (missed_at at miss) ≡ reads_failed miss
+pub reads_missed : (at : ℕ) (miss : Miss) → failed_reads (missed_at at miss) ≡ reads_failed miss
 reads_missed at Failed = refl
 reads_missed at (AtFault fault) = refl
 

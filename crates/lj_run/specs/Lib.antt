@@ -6,6 +6,7 @@ pub mod InTurn
 pub mod OutcomeText
 pub mod Checking
 pub mod Files
+pub mod Joint
 pub mod CommandLine
 pub mod Program
 pub mod Starting

@@ -1,5 +1,6 @@
 -- What invariants, private functions and proofs say. No public contract names any of it.
 pub mod FormulaReading
+pub mod Joint
 pub mod Program
 pub mod Reading
 pub mod Run

@@ -78,7 +78,7 @@ fn is_done(book: &Book) -> bool
 
 impl Tally {
     /// Counts a line, which is one of so many entries.
-    fn count(&mut self, count: Count, entries: u64)
+    pub(crate) fn count(&mut self, count: Count, entries: u64)
         requires { self.old.added + self.old.deleted + self.old.imported < entries }
         ensures { self.new ≡ with_count self.old count }
     {
@@ -90,7 +90,7 @@ impl Tally {
     }
 
     /// The tally of a stream that ended so.
-    fn ending(self, end: End) -> Tally
+    pub(crate) fn ending(self, end: End) -> Tally
         ensures { result ≡ with_end self end }
     {
         Tally { end, ..self }
@@ -98,7 +98,7 @@ impl Tally {
 }
 
 /// The end of a stream whose next line is missed, where this line is being read.
-fn missed(miss: Miss, at: u64) -> End
+pub(crate) fn missed(miss: Miss, at: u64) -> End
     ensures { result ≡ missed_at at miss }
 {
     match miss {

@@ -7,6 +7,8 @@ mod book;
 #[cfg(test)]
 mod clauses;
 #[cfg(test)]
+mod joint;
+#[cfg(test)]
 mod shared;
 #[cfg(test)]
 mod sizes;

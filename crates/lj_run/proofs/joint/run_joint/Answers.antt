@@ -1,0 +1,23 @@
+use Rattle.std.proofs.Common.{◌≡◌, subst}
+use Rattle.std.specs.Prelude.{IfSome}
+use Rattle.lj_clause.specs.ClauseMap.{FormulaValue}
+use Rattle.lj_text.specs.Streams.{source_state}
+use Rattle.lj_run.specs.InTurn.{streams_by_seat}
+use Rattle.lj_run.specs.Proof.{IsProof, sink_state}
+use Rattle.lj_run.specs.declared.outcome.Outcome.{Outcome}
+use Rattle.lj_run.proofs.JointRunLemmas.{joint_outcome_is, joint_answer}
+use Rattle.lj_run.proofs.joint.run_joint.Goals as goal
+
+pub returns-clause-outcome : goal.returns-clause-outcome
+returns-clause-outcome g c =
+    let seen = source_state g.S.Source.given g.S.Source.ended g.S.Source.rest g.S.Source.failures in
+    let sink = sink_state g.W.Sink.taken g.W.Sink.failures in
+    let f = c.in_ok-formula.formula in
+    let max = c.args.options.now.max_steps in
+    let trims = c.args.options.now.trim in
+    let streams = streams_by_seat c.args.streams.items c.args.closing in
+    let outcome : Outcome g.row.S.Denot = record { reports = c.in_ok-reports.reports; verified = c.in_ok-verified.verified; steps = c.in_ok-steps.steps; proof = c.prove-proof.result } in
+    let is = joint_outcome_is seen f max streams c.in_ok-reports.book outcome c.in_ok-reports.ensures.ran c.in_ok-steps.ensures.steps c.live_is_the_replay.ensures c.in_ok-verified.ensures.some c.in_ok-verified.ensures.refuted c.in_ok-verified.ensures.formula in
+    let formula : IfSome c.in_ok-verified.verified (λ h. h ≡ f) = subst (λ (h : FormulaValue). IfSome c.in_ok-verified.verified (λ k. k ≡ h)) c.in_ok-reports.ensures.ran.opened.formula_is c.in_ok-verified.ensures.formula in
+    joint_answer _ _ seen sink f max trims streams _ _ outcome c.in_ok-formula.ensures.formula is
+    (subst (λ ss. IsProof sink f trims ss c.args.out.now c.prove-proof.new.out c.prove-proof.result) c.deref.ensures.value (c.prove-proof.ensures f c.len-clauses.ensures.len formula))

@@ -1,0 +1,81 @@
+use Rattle.std.proofs.Common.{rules, ◌≡◌, ◌+◌, true, false, Option, Some, None, sym, ap, ◌∙◌, subst, arith}
+use Rattle.lj_text.specs.Streams.{source_state}
+use Rattle.lj_run.specs.Joint.{IsStreamBeside, AreCountsOf}
+use Rattle.lj_run.specs.inner.Joint.{report_of}
+use Rattle.lj_run.specs.inner.Reading.{LineRead, LineMissed}
+use Rattle.lj_run.specs.declared.stream.Tally.{Tally}
+use Rattle.lj_run.proofs.JointLemmas.{SubmittedTo, beside_stopped, beside_ended, beside_missed, beside_refused, submitted_on, counts_on}
+use Rattle.lj_run.proofs.RunLemmas.{count_more}
+use Rattle.lj_run.proofs.joint.worker.run_lines.Goals as goal
+use Rattle.lj_clause.specs.declared.lit.TheConstants.{MAX_VARIABLE}
+
+pub returns-then-is_some-clause-report : goal.returns-then-is_some-clause-report
+returns-then-is_some-clause-report g c =
+    let seen = source_state g.S.Source.given g.S.Source.ended g.S.Source.rest g.S.Source.failures in
+    let i = c.loop.invariant in
+    let run = beside_stopped seen c.args.source.now c.loop.source c.loop.told.items c.loop.tally c.loop.reader i.runs i.counts i.unfailed in
+    subst (λ (t : Tally). IsStreamBeside seen true c.loop.told.items c.args.source.now (report_of t c.loop.source)) (sym c.ending.ensures) run
+
+pub returns-in-Ok-None-clause-report : goal.returns-in-Ok-None-clause-report
+returns-in-Ok-None-clause-report g c =
+    let seen = source_state g.S.Source.given g.S.Source.ended g.S.Source.rest g.S.Source.failures in
+    let i = c.loop.invariant in
+    let r = i.runs in
+    let before = seen c.loop.source in
+    let after = seen c.next_line.new.source in
+    let new = c.next_line.new.reader in
+    let told = subst (λ (o : Option _). LineRead c.loop.reader.max r.text r.handed new before after o) c.in-Ok-None.field-0-is (c.in-Ok-None.ensures.line r.text r.handed r.stands) in
+    let read = subst (λ m. LineRead m r.text r.handed new before after None) i.max told in
+    let run = beside_ended seen c.args.source.now c.loop.source c.next_line.new.source c.loop.told.items c.loop.tally c.loop.reader new r read i.counts c.in-Ok-None.ensures.unfailed in
+    subst (λ (t : Tally). IsStreamBeside seen true c.loop.told.items c.args.source.now (report_of t c.next_line.new.source)) (sym c.ending-in-Ok-None.ensures) run
+
+pub returns-in-Err-clause-report : goal.returns-in-Err-clause-report
+returns-in-Err-clause-report g c =
+    let seen = source_state g.S.Source.given g.S.Source.ended g.S.Source.rest g.S.Source.failures in
+    let i = c.loop.invariant in
+    let r = i.runs in
+    let before = seen c.loop.source in
+    let after = seen c.next_line.new.source in
+    let told = subst (λ m. LineMissed m r.text r.handed c.next_line.new.reader.at before after c.in-Err.miss) i.max (c.in-Err.ensures.miss r.text r.handed r.stands) in
+    let miss = subst (λ n. LineMissed MAX_VARIABLE r.text r.handed n before after c.in-Err.miss) (sym c.at.ensures) told in
+    let run = beside_missed seen c.args.source.now c.loop.source c.next_line.new.source c.loop.told.items c.loop.tally c.loop.reader r c.at.result c.in-Err.miss miss i.counts c.in-Err.ensures.failures in
+    let ended = c.ending-in-Err.ensures ∙ ap (λ e. record c.loop.tally { end = e }) c.missed.ensures in
+    subst (λ (t : Tally). IsStreamBeside seen true c.loop.told.items c.args.source.now (report_of t c.next_line.new.source)) (sym ended) run
+
+pub returns-in-Err-enter-clause-report : goal.returns-in-Err-enter-clause-report
+returns-in-Err-enter-clause-report g c =
+    let seen = source_state g.S.Source.given g.S.Source.ended g.S.Source.rest g.S.Source.failures in
+    let i = c.loop.invariant in
+    let r = i.runs in
+    let before = seen c.loop.source in
+    let after = seen c.next_line.new.source in
+    let new = c.next_line.new.reader in
+    let told = subst (λ (o : Option _). LineRead c.loop.reader.max r.text r.handed new before after o) c.in-Ok-Some.field-0-is (c.in-Ok-Some.ensures.line r.text r.handed r.stands) in
+    let read = subst (λ m. LineRead m r.text r.handed new before after (Some c.in-Ok-Some.line)) i.max told in
+    let run = beside_refused seen c.args.source.now c.loop.source c.next_line.new.source c.loop.told.items c.loop.tally c.loop.reader new r c.in-Ok-Some.line c.in-Err-enter.refusal read i.counts c.in-Ok-Some.ensures.unfailed in
+    search rules
+
+pub loop-preserved : goal.loop-preserved
+loop-preserved g c =
+    let seen = source_state g.S.Source.given g.S.Source.ended g.S.Source.rest g.S.Source.failures in
+    let i = c.loop.invariant in
+    let r = i.runs in
+    let before = seen c.loop.source in
+    let after = seen c.next_line.new.source in
+    let new = c.next_line.new.reader in
+    let told = subst (λ (o : Option _). LineRead c.loop.reader.max r.text r.handed new before after o) c.in-Ok-Some.field-0-is (c.in-Ok-Some.ensures.line r.text r.handed r.stands) in
+    let read = subst (λ m. LineRead m r.text r.handed new before after (Some c.in-Ok-Some.line)) i.max told in
+    let counts = counts_on c.loop.tally c.loop.told.items c.enter.new.told.items c.in-Ok-Some.line c.in-Ok.count c.in-Ok.ensures.count c.in-Ok.ensures.told i.counts in
+    let more = ap (λ (t : Tally). t.added + t.deleted + t.imported) c.count-in-Ok.ensures ∙ count_more c.loop.tally c.in-Ok.count in
+    record {
+      goes = tt;
+      finite = tt;
+      unfailed = c.in-Ok-Some.ensures.unfailed;
+      may_read = c.in-Ok-Some.ensures.may_read;
+      ended = c.in-Ok-Some.ensures.ended;
+      max = c.in-Ok-Some.ensures.max ∙ i.max;
+      room = search rules;
+      counted = ap (λ s. s.count) c.in-Ok.ensures.counted ∙ ap (λ n. n + 1) i.counted ∙ sym more;
+      counts = subst (λ (t : Tally). AreCountsOf c.enter.new.told.items t.added t.deleted t.imported) (sym c.count-in-Ok.ensures) counts;
+      runs = submitted_on c.loop.told.items c.enter.new.told.items c.in-Ok-Some.line c.loop.reader new (seen c.args.source.now) before after r read c.in-Ok.ensures.told;
+    }

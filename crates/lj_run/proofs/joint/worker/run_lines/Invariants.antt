@@ -1,0 +1,23 @@
+use Rattle.std.proofs.Common.{◌≡◌, ◌+◌, true, length}
+use Rattle.lj_text.specs.Streams.{source_state, HasEnded}
+use Rattle.lj_run.specs.Joint.{AreCountsOf}
+use Rattle.lj_run.specs.inner.Reading.{MayRead}
+use Rattle.lj_run.proofs.JointLemmas.{SubmittedTo}
+use Rattle.lj_run.proofs.joint.worker.run_lines.Given as goal
+use Rattle.lj_clause.specs.declared.lit.TheConstants.{MAX_VARIABLE}
+
+abbrev pub invariant-loop : goal.invariant-loop
+invariant-loop g l =
+    let seen = source_state g.S.Source.given g.S.Source.ended g.S.Source.rest g.S.Source.failures in
+    record {
+      goes : (goal.iterator-loop g).can_next l.iterator';
+      finite : (goal.iterator-loop g).is_finite l.iterator';
+      unfailed : g.S.Source.failures l.source ≡ 0;
+      may_read : MayRead l.reader l.ended;
+      ended : l.ended ≡ true → HasEnded (seen l.source);
+      max : l.reader.max ≡ MAX_VARIABLE;
+      room : length l.room ≡ 65536;
+      counted : l.seat.count ≡ l.tally.added + l.tally.deleted + l.tally.imported;
+      counts : AreCountsOf l.told.items l.tally.added l.tally.deleted l.tally.imported;
+      runs : SubmittedTo (seen l.fn.source) (seen l.source) l.told.items l.reader;
+    }

@@ -1,0 +1,180 @@
+-- What comes of a run of streams beside one another, on one shared book.
+use Rattle.std.specs.Prelude.{◌≡◌, ◌≢◌, ◌⊎◌, ℕ, ◌+◌, Bool, true, false, List, [], ◌∷◌, length, map, filter, take, drop, Option, None, Some, Result, Ok, Err, slice_get, if◌then◌else◌}
+use Rattle.std.specs.List.{sum_by}
+use Rattle.lj_clause.specs.ClauseMap.{FormulaValue, formula_map}
+use Rattle.lj_text.specs.declared.line.Line.{Line}
+use Rattle.lj_text.specs.declared.lines.fault.LineFaultKind.{LineFaultKind}
+use Rattle.lj_text.specs.Lines.{Said, all_said}
+use Rattle.lj_text.specs.Steps.{replay, refutes}
+use Rattle.lj_text.specs.Streams.{SourceState, HasGiven, HasEnded}
+use Rattle.lj_book.specs.declared.entry.Call.{Call}
+use Rattle.lj_book.specs.declared.entry.Call.TheVariants as calls
+use Rattle.lj_book.specs.declared.entry.Entry.{Entry}
+use Rattle.lj_book.specs.State.{State, live, steps_of}
+use Rattle.lj_book.specs.History.{IsReached}
+use Rattle.lj_share.specs.Entries.{call_of, entries_of}
+use Rattle.lj_share.specs.Seats.{IsOpenedAs}
+use Rattle.lj_run.specs.declared.outcome.End.{End}
+use Rattle.lj_run.specs.declared.outcome.End.TheVariants.{Ended, Stopped, Line as AtLine}
+use Rattle.lj_run.specs.declared.outcome.LineEnd.TheVariants.{Fault, Refused, ReadFailed}
+use Rattle.lj_run.specs.declared.outcome.Outcome.{Outcome}
+use Rattle.lj_run.specs.declared.outcome.Report.{Report}
+use Rattle.lj_run.specs.declared.outcome.RunFault.{RunFault}
+use Rattle.lj_run.specs.declared.outcome.RunFault.TheVariants.{Formula, FormulaRead, NoMemory, Unconfirmed}
+use Rattle.lj_run.specs.FormulaReading.{GaveFormula, IsFormulaFault}
+use Rattle.lj_run.specs.Proof.{SinkState, IsProof, written_steps}
+use Rattle.lj_run.specs.Reading.{FailsAt, IsRoomRefused}
+use Rattle.lj_run.specs.Run.{has_verdict, MeetsFault, MeetsLine, IfReadFailed, IfRoomRefused, failed_reads}
+use Rattle.lj_clause.specs.declared.lit.TheConstants.{MAX_VARIABLE}
+
+-- ---- the entries of one stream
+
+-- the call that a line makes, where its text has no fault
+abbrev pub said_call : Result Line LineFaultKind → Option Call
+said_call (Ok line) = Some (call_of line)
+said_call (Err kind) = None
+
+-- These are the entries of these lines: in order, one of each line's call, and no others.
+abbrev pub AreEntriesOf : List Said → List Entry → Type 0
+AreEntriesOf lines entries = map (λ said. said_call said.says) lines
+    ≡ map (λ e. Some e.call) entries
+
+-- whether the call is an addition
+abbrev pub is_addition : Call → Bool
+is_addition (calls.Add own lemma) = true
+is_addition call = false
+
+-- whether it is a deletion
+abbrev pub is_deletion : Call → Bool
+is_deletion (calls.Drop numbers) = true
+is_deletion call = false
+
+-- whether it is an import
+abbrev pub is_import : Call → Bool
+is_import (calls.Import own clause) = true
+is_import call = false
+
+-- how many of the entries are of such a call
+abbrev pub how_many : (Call → Bool) → List Entry → ℕ
+how_many is entries = length (filter (λ e. is e.call) entries)
+
+-- The counts are how many of the entries are additions, deletions and imports.
+pub record AreCountsOf (entries : List Entry) (added deleted imported : ℕ) : Type 0 where
+  pub added_is : added ≡ how_many is_addition entries
+  pub deleted_is : deleted ≡ how_many is_deletion entries
+  pub imported_is : imported ≡ how_many is_import entries
+
+-- ---- how a stream ends
+
+-- A stream ends so with these lines still to come, on a book that is refuted or not: at its end, where the verdict stands, or at that
+-- line. Of a read that failed see FailsAt.
+abbrev pub EndsBeside : Bool → List Said → End → Type 0
+EndsBeside refuted rest Ended = rest ≡ []
+EndsBeside refuted rest Stopped = refuted ≡ true
+EndsBeside refuted rest (AtLine n (Fault kind)) = MeetsFault n kind rest
+EndsBeside refuted rest (AtLine n (Refused refusal)) = MeetsLine n rest
+EndsBeside refuted rest (AtLine n ReadFailed) = Unit {0}
+
+-- The report is right of this stream, whose entries these are, on a book that is refuted or not. What its source gave meanwhile are its
+-- lines: all of them where it ended, as the source has then, and the first ones else. The entries are those of its first lines. A read
+-- failed exactly where that is how it ended. Where memory was refused to the reading of a line see IsRoomRefused.
+pub record IsStreamBeside {S : Type 0} (seen : S → SourceState) (refuted : Bool) (entries : List Entry) (stream : S) (report : Report S) : Type 0 where
+  pub text : List ℕ
+  pub gave : HasGiven (seen stream) (seen report.source) text
+  pub count : ℕ
+  pub enters : AreEntriesOf (take count (all_said MAX_VARIABLE text)) entries
+  pub counts : AreCountsOf entries report.added report.deleted report.imported
+  pub ends : EndsBeside refuted (drop count (all_said MAX_VARIABLE text)) report.end
+  pub failed_read : IfReadFailed report.end (FailsAt MAX_VARIABLE text count)
+  pub no_room : IfRoomRefused report.end
+      (IsRoomRefused MAX_VARIABLE text (seen report.source).ended count)
+  pub ended : report.end ≡ Ended → HasEnded (seen report.source)
+  pub failures : (seen report.source).failures ≡ failed_reads report.end
+
+-- Each report is right of its stream, whose entries are those of its seat: this seat for the first, the next for the next.
+abbrev pub RunBeside : {S : Type 0} → (S → SourceState) → Bool → List Entry → ℕ → List S
+    → List (Report S) → Type 0
+RunBeside seen refuted history seat [] [] = Unit {0}
+RunBeside seen refuted history seat [] (report ∷ reports) = ⊥
+RunBeside seen refuted history seat (stream ∷ streams) [] = ⊥
+RunBeside seen refuted history seat (stream ∷ streams) (report ∷ reports) =
+    IsStreamBeside seen refuted (entries_of seat history) stream report
+    × RunBeside seen refuted history (seat + 1) streams reports
+
+-- how many lines of a stream were accepted
+abbrev pub accepted : {S : Type 0} → Report S → ℕ
+accepted report = report.added + report.deleted + report.imported
+
+-- ---- the run
+
+-- What a run of these streams beside one another leaves of a new book of a formula, with a seat for each stream and this limit: a legal
+-- history leads to the final state. It has an entry for each line that the reports count, and each report is right of its stream.
+pub record IsBookOfRun {S : Type 0} (seen : S → SourceState) (formula : FormulaValue) (max_steps : ℕ) (streams : List S) (refuted : Bool) (reports : List (Report S)) (final : State) : Type 0 where
+  pub opened : IsOpenedAs formula (length streams) max_steps final
+  pub legal : IsReached final
+  pub counted : length final.history ≡ sum_by accepted reports
+  pub runs : RunBeside seen refuted final.history 0 streams reports
+
+-- The outcome of a run of these streams beside one another on a formula. The steps are those of the history that the run leaves, and the
+-- live clauses are their replay. It is verified, with this formula, exactly where the steps refute it.
+pub record IsJointOutcome {S : Type 0} (seen : S → SourceState) (formula : FormulaValue) (max_steps : ℕ) (streams : List S) (outcome : Outcome S) : Type 0 where
+  pub final : State
+  pub leaves : IsBookOfRun seen formula max_steps streams (refutes formula outcome.steps.items)
+      outcome.reports.items final
+  pub steps : outcome.steps.items ≡ steps_of final.history
+  pub replayed : replay (formula_map formula) outcome.steps.items ≡ Some (live final)
+  pub verified : outcome.verified
+      ≡ (if refutes formula outcome.steps.items then Some formula else None)
+
+-- What a run answers, over a formula's source that was first in one state and then in the other, and a sink of the proof that may have
+-- been handed in and was so before and after: an outcome of the formula that the source gave, and what became of the proof. Where the
+-- outcome is verified, the steps that are written refute the formula.
+pub record IsJointAnswer {S W : Type 0} (before after : SourceState) (seen : S → SourceState) (sink : W → SinkState) (max_steps : ℕ) (trims : Bool) (streams : List S) (out_old out_new : Option W) (outcome : Outcome S) : Type 0 where
+  pub formula : FormulaValue
+  pub gave : GaveFormula before after formula
+  pub comes : IsJointOutcome seen formula max_steps streams outcome
+  pub proof : IsProof sink formula trims outcome.steps.items out_old out_new outcome.proof
+  pub refuted : outcome.verified ≡ Some formula
+      → refutes formula (written_steps formula trims outcome.steps.items) ≡ true
+
+-- ---- what the workers leave
+
+-- The entries of the seat are others, or there is no verdict though the stream says so.
+abbrev pub IsDenied : {S : Type 0} → State → ℕ → List Entry → Report S → Type 0
+IsDenied s seat told report = (entries_of seat s.history ≢ told)
+    ⊎ ((report.end ≡ Stopped) × (has_verdict s ≡ false))
+
+-- ---- why there is no outcome
+
+-- A run on a formula can't be confirmed: there is a stream with its report and the entries that were told of its lines, and a final state of
+-- a book of the formula, in which the entries of the stream's seat are others, or which has no verdict though the stream says that it does.
+pub record IsUnconfirmed {S : Type 0} (seen : S → SourceState) (formula : FormulaValue) (max_steps : ℕ) (streams : List S) : Type 0 where
+  pub final : State
+  pub opened : IsOpenedAs formula (length streams) max_steps final
+  pub legal : IsReached final
+  pub seat : ℕ
+  pub stream : S
+  pub stream_is : slice_get streams seat ≡ Some stream
+  pub told : List Entry
+  pub report : Report S
+  pub runs : IsStreamBeside seen true told stream report
+  pub denied : IsDenied final seat told report
+
+-- The run of the formula that the source gave can't be confirmed.
+pub record IsUnconfirmedRun {S : Type 0} (before after : SourceState) (seen : S → SourceState) (max_steps : ℕ) (streams : List S) : Type 0 where
+  pub formula : FormulaValue
+  pub gave : GaveFormula before after formula
+  pub unconfirmed : IsUnconfirmed seen formula max_steps streams
+
+-- Why there is no outcome: all that the formula's source gave has this fault, a read of it failed, memory ran out, or the run can't be
+-- confirmed.
+abbrev pub IsJointFault : {S : Type 0} → SourceState → SourceState → (S → SourceState) → ℕ → List S
+    → RunFault → Type 0
+IsJointFault before after seen max_steps streams (Formula fault) = IsFormulaFault before after
+    (Formula fault)
+IsJointFault before after seen max_steps streams FormulaRead = IsFormulaFault before after
+    FormulaRead
+IsJointFault before after seen max_steps streams (NoMemory e) = IsFormulaFault before after
+    (NoMemory e)
+IsJointFault before after seen max_steps streams Unconfirmed = IsUnconfirmedRun before after seen
+    max_steps streams

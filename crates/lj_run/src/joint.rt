@@ -1,0 +1,95 @@
+//! The run of streams beside one another, on one shared book.
+ghost use Rattle.std.specs.Prelude.{◌≡◌, ◌<◌, ◌≤◌, length, All, IfOk, IfErr, IfSome, OnErr};
+ghost use Rattle.lj_text.specs.Streams.{source_state};
+ghost use Rattle.lj_run.specs.InTurn.{streams_by_seat};
+ghost use Rattle.lj_run.specs.Joint.{IsJointAnswer, IsJointFault};
+ghost use Rattle.lj_run.specs.Proof.{sink_state};
+
+mod opened;
+mod worker;
+
+use crate::joint::opened::run_opened;
+use crate::outcome::{Options, Outcome, RunFault};
+use crate::proving::prove;
+use crate::reading::read_formula;
+use lj_book::laws::{history_is_legal, live_is_the_replay};
+use lj_share::Gate;
+use lj_text::{Sink, Source};
+use std::alloc::Global;
+use std::marker::Brand;
+use std::sync::Wait;
+use std::sync::ledger::Blank;
+use std::thread::Threads;
+
+/// Reads a formula, and runs the streams beside one another on one shared book of it, each under a seat of its own and by a
+/// worker of its own. The closing one has the last seat, and runs once all others have ended. The gate stands round each
+/// line. Where a sink is handed in, the proof is written into it: the lines of the steps up to the first addition of the
+/// empty clause, trimmed where the options ask for it, and of all steps where none adds it.
+///
+/// The workers run on threads beside one another; one for which no thread can be made runs on its caller's.
+///
+/// # Errors
+/// The fault of the formula's text, a read of it that failed, want of memory outside the streams, or
+/// [`RunFault::Unconfirmed`]. After an error the sink is as it was.
+pub fn run_joint<
+    R: Threads + Wait + Sync,
+    F: Source,
+    S: Source + Drop + Send,
+    G: Gate + Sync,
+    W: Sink,
+>(
+    rt: &R,
+    alloc: Global,
+    formula: &mut F,
+    streams: Vec<S>,
+    closing: Option<S>,
+    options: &Options,
+    gate: &G,
+    out: &mut Option<W>,
+) -> Result<Outcome<S>, RunFault>
+    requires some { 0 < length (streams_by_seat streams.items closing) }
+    requires at_most { length (streams_by_seat streams.items closing) ≤ 1024 }
+    requires unfailed { F.failures formula.old ≡ 0 }
+    requires streams_unfailed { All (λ stream. S.failures stream ≡ 0)
+        (streams_by_seat streams.items closing) }
+    requires out_unfailed { IfSome out.old (λ sink. W.failures sink ≡ 0) }
+
+    ensures outcome { IfOk result (IsJointAnswer
+        (source_state F.given F.ended F.rest F.failures formula.old)
+        (source_state F.given F.ended F.rest F.failures formula.new)
+        (source_state S.given S.ended S.rest S.failures)
+        (sink_state W.taken W.failures) options.now.max_steps options.now.trim
+        (streams_by_seat streams.items closing) out.old out.new) }
+    ensures fault { IfErr result (IsJointFault
+        (source_state F.given F.ended F.rest F.failures formula.old)
+        (source_state F.given F.ended F.rest F.failures formula.new)
+        (source_state S.given S.ended S.rest S.failures) options.now.max_steps
+        (streams_by_seat streams.items closing)) }
+    ensures untouched { OnErr result (out.new ≡ out.old) }
+{
+    let formula = read_formula(rt, alloc, formula)?;
+    let clauses = formula.len() as u64;
+    let seats = streams.len() + usize::from(closing.is_some());
+    let blank = Blank::new(seats as u64);
+    let (reports, book) = run_opened::<Brand, _, _, _>(
+        rt,
+        alloc,
+        blank,
+        formula,
+        streams,
+        closing,
+        options.max_steps,
+        gate,
+    )?;
+    history_is_legal(&book);
+    live_is_the_replay(&book);
+    let verified = book.verified()?;
+    let steps = book.into_steps()?;
+    let proof = prove(alloc, clauses, &verified, options.trim, &steps, out);
+    Ok(Outcome {
+        reports,
+        verified,
+        steps,
+        proof,
+    })
+}

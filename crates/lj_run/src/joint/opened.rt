@@ -1,0 +1,207 @@
+//! The run on one opening of the shared book.
+ghost use Rattle.std.specs.Prelude.{◌≡◌, ◌≢◌, ◌⊎◌, ◌<◌, ◌≤◌, true, false, length, map, All, IfOk, IfErr, MatchBool};
+ghost use Rattle.std.specs.List.{zip, sum_by};
+ghost use Rattle.lj_share.specs.Entries.{entries_of};
+ghost use Rattle.lj_share.specs.Seats.{entries_made};
+ghost use Rattle.lj_run.specs.declared.outcome.End.TheVariants.{Stopped};
+ghost use Rattle.lj_text.specs.Streams.{source_state};
+ghost use Rattle.lj_run.specs.InTurn.{streams_by_seat};
+ghost use Rattle.lj_run.specs.Joint.{IsBookOfRun, IsStreamBeside, accepted};
+ghost use Rattle.lj_run.specs.inner.Joint.{IsBookless, HaveRun, AreConfirmed, SomeDenied};
+ghost use Rattle.lj_run.specs.Run.{has_verdict};
+
+use crate::joint::worker::{Ran, run_worker};
+use crate::outcome::{End, Report, RunFault};
+use lj_book::Book;
+use lj_clause::{Formula, NoMemory};
+use lj_share::{Closed, Gate, Opening, Seat, Shared, Told};
+use lj_text::Source;
+use std::alloc::Global;
+use std::sync::Wait;
+use std::sync::ledger::Blank;
+use std::thread::{Threads, map_vec};
+
+/// Runs the streams on a new shared book of the formula, and gives their reports and the book.
+///
+/// # Errors
+/// Want of memory outside the streams, and [`RunFault::Unconfirmed`].
+pub(crate) fn run_opened<
+    L: Opening + Send + Sync,
+    R: Threads + Wait + Sync,
+    S: Source + Drop + Send,
+    G: Gate + Sync,
+>(
+    rt: &R,
+    alloc: Global,
+    blank: Blank,
+    formula: Formula,
+    streams: Vec<S>,
+    closing: Option<S>,
+    max_steps: u32,
+    gate: &G,
+) -> Result<(Vec<Report<S>>, Book), RunFault>
+    requires name { blank.name ≡ L.name }
+    requires parts { (blank.parts ≡ L.parts)
+        × (blank.parts ≡ length (streams_by_seat streams.items closing)) }
+    requires formula { formula ≡ L.formula }
+    requires seats { L.seats ≡ length (streams_by_seat streams.items closing) }
+    requires limit { max_steps ≡ L.max_steps }
+    requires some { 0 < length (streams_by_seat streams.items closing) }
+    requires at_most { length (streams_by_seat streams.items closing) ≤ 1024 }
+    requires unfailed { All (λ stream. S.failures stream ≡ 0)
+        (streams_by_seat streams.items closing) }
+    ensures ran { IfOk result
+        (λ ran. IsBookOfRun (source_state S.given S.ended S.rest S.failures) formula max_steps
+        (streams_by_seat streams.items closing) (has_verdict ran.1) ran.0.items ran.1) }
+    ensures fault { IfErr result (IsBookless (source_state S.given S.ended S.rest S.failures)
+        formula max_steps (streams_by_seat streams.items closing)) }
+{
+    let count = streams.len() + usize::from(closing.is_some());
+    let (shared, seats) = Shared::<L>::open(alloc, blank, formula, count as u32, max_steps)?;
+    let ran = run_all(rt, alloc, &shared, gate, seats, streams, closing)?;
+    let (seats, told, reports) = parted(alloc, ran)?;
+    let Ok(closed) = shared.close(seats) else {
+        unreachable!()
+    };
+    if !all_confirmed(&closed, &told, &reports) {
+        return Err(RunFault::Unconfirmed);
+    }
+    Ok((reports, closed.into_book()))
+}
+
+/// Runs the streams beside one another, and then the closing one, each under its seat.
+fn run_all<
+    L: Opening + Send + Sync,
+    R: Threads + Wait + Sync,
+    S: Source + Drop + Send,
+    G: Gate + Sync,
+>(
+    rt: &R,
+    alloc: Global,
+    shared: &Shared<L>,
+    gate: &G,
+    seats: Vec<Seat<L>>,
+    streams: Vec<S>,
+    closing: Option<S>,
+) -> Result<Vec<Ran<L, S>>, NoMemory>
+    requires seats { length seats.items ≡ length (streams_by_seat streams.items closing) }
+    requires fresh { All (λ seat. seat.count ≡ 0) seats.items }
+    requires unfailed { All (λ stream. S.failures stream ≡ 0)
+        (streams_by_seat streams.items closing) }
+    ensures ran { IfOk result (λ ran. HaveRun (source_state S.given S.ended S.rest S.failures)
+        (streams_by_seat streams.items closing) (map (λ r. r.told.items) ran.items)
+        (map (λ r. r.report) ran.items)) }
+    ensures counted { IfOk result (λ ran. entries_made (map (λ r. r.seat) ran.items)
+        ≡ sum_by (λ r. accepted r.report) ran.items) }
+{
+    let mut seats = seats;
+    match closing {
+        None => run_beside(rt, shared, alloc, gate, jobs_of(alloc, seats, streams)?),
+        Some(stream) => {
+            let Some(seat) = seats.pop() else {
+                unreachable!()
+            };
+            let mut ran = run_beside(rt, shared, alloc, gate, jobs_of(alloc, seats, streams)?)?;
+            ran.push(run_worker(rt, alloc, shared, gate, (seat, stream)))?;
+            Ok(ran)
+        }
+    }
+}
+
+/// Each stream with its seat.
+fn jobs_of<L: Opening, S: Drop>(
+    alloc: Global,
+    seats: Vec<Seat<L>>,
+    streams: Vec<S>,
+) -> Result<Vec<(Seat<L>, S)>, NoMemory>
+    ensures { IfOk result (λ jobs. jobs.items ≡ zip seats.items streams.items) }
+{
+    let mut jobs = Vec::new(alloc);
+    for job in seats.into_iter().zip(streams) {
+        jobs.push(job)?;
+    }
+    Ok(jobs)
+}
+
+/// Runs streams under their seats, each by a worker of its own.
+fn run_beside<
+    L: Opening + Send + Sync,
+    R: Threads + Wait + Sync,
+    S: Source + Drop + Send,
+    G: Gate + Sync,
+>(
+    rt: &R,
+    shared: &Shared<L>,
+    alloc: Global,
+    gate: &G,
+    jobs: Vec<(Seat<L>, S)>,
+) -> Result<Vec<Ran<L, S>>, NoMemory>
+    requires fresh { All (λ job. job.0.count ≡ 0) jobs.items }
+    requires unfailed { All (λ job. S.failures job.1 ≡ 0) jobs.items }
+    ensures ran { IfOk result (λ ran. HaveRun (source_state S.given S.ended S.rest S.failures)
+        (map (λ job. job.1) jobs.items) (map (λ r. r.told.items) ran.items)
+        (map (λ r. r.report) ran.items)) }
+    ensures counted { IfOk result (λ ran. entries_made (map (λ r. r.seat) ran.items)
+        ≡ sum_by (λ r. accepted r.report) ran.items) }
+{
+    let work = |job: (Seat<L>, S)| -> Ran<L, S>
+        requires { (S.failures job.1 ≡ 0) × (job.0.count ≡ 0) }
+        ensures report { IsStreamBeside (source_state S.given S.ended S.rest S.failures) true
+            result.told.items job.1 result.report }
+        ensures counted { result.seat.count ≡ accepted result.report }
+    { run_worker(rt, alloc, shared, gate, job) };
+    Ok(map_vec(rt, jobs, &work)?)
+}
+
+/// The seats, the tokens and the reports of streams that ran.
+fn parted<L: Opening, S: Drop>(
+    alloc: Global,
+    ran: Vec<Ran<L, S>>,
+) -> Result<(Vec<Seat<L>>, Vec<Vec<Told>>, Vec<Report<S>>), NoMemory>
+    ensures seats { IfOk result (λ parts. parts.0.items ≡ map (λ r. r.seat) ran.items) }
+    ensures told { IfOk result (λ parts. parts.1.items ≡ map (λ r. r.told) ran.items) }
+    ensures reports { IfOk result (λ parts. parts.2.items ≡ map (λ r. r.report) ran.items) }
+{
+    let mut seats = Vec::new(alloc);
+    let mut tokens = Vec::new(alloc);
+    let mut reports = Vec::new(alloc);
+    for one in ran {
+        let Ran { seat, told, report } = one;
+        seats.push(seat)?;
+        tokens.push(told)?;
+        reports.push(report)?;
+    }
+    Ok((seats, tokens, reports))
+}
+
+/// Whether all that was told is confirmed: the history has of each seat just the entries of its tokens, and there is a
+/// verdict where a stream says so.
+fn all_confirmed<L: Opening, S>(
+    closed: &Closed<L>,
+    tokens: &[Vec<Told>],
+    reports: &[Report<S>],
+) -> bool
+    requires same { length tokens.now ≡ length reports.now }
+    requires at_most { length reports.now ≤ 1024 }
+    ensures { MatchBool result (AreConfirmed closed.now (map (λ t. t.items) tokens.now) reports.now)
+        (SomeDenied closed.now (map (λ t. t.items) tokens.now) reports.now) }
+{
+    for seat in 0..reports.len() {
+        if !is_confirmed(closed, seat as u32, &tokens[seat], reports[seat].end) {
+            return false;
+        }
+    }
+    true
+}
+
+/// Whether the entries of a seat are those of these tokens, and there is a verdict where the stream ended by one.
+fn is_confirmed<L: Opening>(closed: &Closed<L>, seat: u32, told: &[Told], end: End) -> bool
+    ensures { MatchBool result ((entries_of seat closed.now.history ≡ told.now)
+        × (end ≡ Stopped → has_verdict closed.now ≡ true)) ((entries_of seat closed.now.history
+        ≢ told.now) ⊎ ((end ≡ Stopped) × (has_verdict closed.now ≡ false))) }
+{
+    if !closed.confirm(seat, told) {
+        return false;
+    }
+    end != End::Stopped || closed.book().verdict().is_some()
+}
