@@ -2,10 +2,11 @@
 use Rattle.std.proofs.Common.{◌≡◌, ap, refl, sym, ◌∙◌, subst, ℕ, ◌+◌, ◌<◌, Bool, true, false, arith}
 use Rattle.std.specs.Prelude.{ℤ, List, [], ◌∷◌, ◌++◌, length, Option, Some, None, not, ◌==◌, ◌||◌, ◌↔◌, IsTrue, if◌then◌else◌, is_some, nat_lt}
 use Rattle.std.specs.List.{list_all}
-use Rattle.std.proofs.lemmas.Bool.{false≢true, and_parts, and_from}
+use Rattle.std.proofs.lemmas.Bool.{false≢true, and_parts, and_from, or_right}
 use Rattle.std.proofs.lemmas.Bool.Decides.{nat_tests}
 use Rattle.std.specs.Ordering.{eq_by_cmp}
 use Rattle.std.specs.FinMap as fin
+use Rattle.std.specs.Cmp.{both_ways}
 use Rattle.lj_clause.specs.Literal.{lit_cmp}
 use Rattle.lj_clause.specs.LiteralSet.{LiteralSet, holds, literals, negations}
 use Rattle.lj_clause.specs.ClauseMap.{ClauseMap}
@@ -42,23 +43,14 @@ all_hold d (l ∷ ls) h q m =
       | false ↦ λ e m. all_hold d ls parts.1 q m
     ] refl m
 
-same_tests : (a b : Bool) → (a ≡ true → b ≡ true) → (b ≡ true → a ≡ true) → a ≡ b
-same_tests true b f g = sym (f refl)
-same_tests false true f g = g refl
-same_tests false false f g = refl
-
 pub same_clauses : (c d : LiteralSet) → is_same c d ≡ true → c ≡ d
 same_clauses c d h =
     let parts = and_parts (list_all (holds d) (literals c)) (list_all (holds c) (literals d)) h in
-    same_set c d (λ q. same_tests (holds c q) (holds d q) (λ e. all_hold d (literals c) parts.0 q (sym (holds-literals c q) ∙ e)) (λ e. all_hold c (literals d) parts.1 q (sym (holds-literals d q) ∙ e)))
+    same_set c d (λ q. both_ways (holds c q) (holds d q) (λ e. all_hold d (literals c) parts.0 q (sym (holds-literals c q) ∙ e)) (λ e. all_hold c (literals d) parts.1 q (sym (holds-literals d q) ∙ e)))
 
 each_holds : (d : LiteralSet) (ls : List ℤ) → ((q : ℤ) → among q ls ≡ true → holds d q ≡ true) → list_all (holds d) ls ≡ true
 each_holds d [] h = refl
-each_holds d (l ∷ ls) h = and_from (holds d l) (list_all (holds d) ls) (h l (ap (λ b. b || among l ls) (itself l))) (each_holds d ls (λ q m. h q (or_later (eq_by_cmp lit_cmp q l) (among q ls) m)))
-  where
-    or_later : (a b : Bool) → b ≡ true → (a || b) ≡ true
-    or_later true b h = refl
-    or_later false b h = h
+each_holds d (l ∷ ls) h = and_from (holds d l) (list_all (holds d) ls) (h l (ap (λ b. b || among l ls) (itself l))) (each_holds d ls (λ q m. h q (or_right (eq_by_cmp lit_cmp q l) (among q ls) m)))
 
 pub same_itself : (c : LiteralSet) → is_same c c ≡ true
 same_itself c =
@@ -67,7 +59,7 @@ same_itself c =
 
 -- what the code's test of two clauses says
 pub same_test : (b : Bool) (c d : LiteralSet) → (IsTrue b ↔ (d ≡ c)) → b ≡ is_same c d
-same_test b c d h = same_tests b (is_same c d) (λ e. ap (is_same c) (h.0 e) ∙ same_itself c) (λ e. h.1 (sym (same_clauses c d e)))
+same_test b c d h = both_ways b (is_same c d) (λ e. ap (is_same c) (h.0 e) ∙ same_itself c) (λ e. h.1 (sym (same_clauses c d e)))
 
 live_as : (p : ClauseMap) (pair : Pair) → is_live_as p pair ≡ true → fin.get p pair.joint ≡ Some pair.clause
 live_as p pair h = go (fin.get p pair.joint) h

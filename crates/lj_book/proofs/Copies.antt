@@ -6,6 +6,7 @@ use Rattle.std.proofs.lemmas.List.{take_more, take_all}
 use Rattle.std.specs.Ordering.{nat_cmp}
 use Rattle.std.specs.Cmp.{nat_cmp_total, unsigned_tied}
 use Rattle.std.specs.FinMap as fin
+use Rattle.std.proofs.lemmas.Bool.{eqb-true}
 use Rattle.lj_clause.specs.LiteralSet.{LiteralSet}
 use Rattle.lj_clause.specs.ClauseMap.{ClauseMap, FormulaValue, formula_map}
 use Rattle.lj_clause.proofs.Formulas.{clause_zero}
@@ -52,23 +53,20 @@ one_later q k h = grind (arith, nat_tests)
 at_last : (q k : ℕ) → (q == k + 1) ≡ true → nat_le q (k + 1) ≡ true
 at_last q k h = grind (arith, nat_tests)
 
-same_here : (a b : ℕ) → (a == b) ≡ true → a ≡ b
-same_here a b e = grind (arith, nat_tests)
-
 pub copied-more : (f : FormulaValue) (m n : ClauseMap) (k : ℕ) (c : LiteralSet) → ((q : ℕ) → fin.get m q ≡ cond (nat_le q k) (fin.get (formula_map f) q) None) → fin.get (formula_map f) (k + 1) ≡ Some c → n ≡ fin.insert m (k + 1) c → (q : ℕ) → fin.get n q ≡ cond (nat_le q (k + 1)) (fin.get (formula_map f) q) None
 copied-more f m n k c before some is q =
     ap (λ (p : ClauseMap). fin.get p q) is
     ∙ fin.get-insert nat_cmp_total m (k + 1) c q
     ∙ ap (λ b. cond b (Some c) (fin.get m q)) (unsigned_tied q (k + 1))
     ∙ elim (q == k + 1) as (λ b. (q == k + 1) ≡ b → cond b (Some c) (fin.get m q) ≡ cond (nat_le q (k + 1)) (fin.get (formula_map f) q) None) [
-      | true ↦ λ e. sym (ap (λ b. cond b (fin.get (formula_map f) q) None) (at_last q k e) ∙ ap (fin.get (formula_map f)) (same_here q (k + 1) e) ∙ some)
+      | true ↦ λ e. sym (ap (λ b. cond b (fin.get (formula_map f) q) None) (at_last q k e) ∙ ap (fin.get (formula_map f)) (eqb-true q (k + 1) e) ∙ some)
       | false ↦ λ e. before q ∙ ap (λ b. cond b (fin.get (formula_map f) q) None) (sym (one_later q k e))
     ] refl
 
 pub copied-missing : (f : FormulaValue) (m : ClauseMap) (k : ℕ) → ((q : ℕ) → fin.get m q ≡ cond (nat_le q k) (fin.get (formula_map f) q) None) → fin.get (formula_map f) (k + 1) ≡ None → (q : ℕ) → fin.get m q ≡ cond (nat_le q (k + 1)) (fin.get (formula_map f) q) None
 copied-missing f m k before none q =
     elim (q == k + 1) as (λ b. (q == k + 1) ≡ b → fin.get m q ≡ cond (nat_le q (k + 1)) (fin.get (formula_map f) q) None) [
-      | true ↦ λ e. before q ∙ nothing (nat_le q k) (fin.get (formula_map f) q) (ap (fin.get (formula_map f)) (same_here q (k + 1) e) ∙ none) ∙ sym (nothing (nat_le q (k + 1)) (fin.get (formula_map f) q) (ap (fin.get (formula_map f)) (same_here q (k + 1) e) ∙ none))
+      | true ↦ λ e. before q ∙ nothing (nat_le q k) (fin.get (formula_map f) q) (ap (fin.get (formula_map f)) (eqb-true q (k + 1) e) ∙ none) ∙ sym (nothing (nat_le q (k + 1)) (fin.get (formula_map f) q) (ap (fin.get (formula_map f)) (eqb-true q (k + 1) e) ∙ none))
       | false ↦ λ e. before q ∙ ap (λ b. cond b (fin.get (formula_map f) q) None) (sym (one_later q k e))
     ] refl
   where

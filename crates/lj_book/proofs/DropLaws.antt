@@ -3,15 +3,16 @@ use Rattle.std.proofs.Common.{◌≡◌, ap, refl, sym, ◌∙◌, inl, inr, sub
 use Rattle.std.specs.Prelude.{T, List, [], ◌∷◌, map, Option, Some, None, filter, filter_map, not, ◌==◌, ◌||◌, ◌&&◌, is_some, nat_lt}
 use Rattle.std.specs.List.{list_any, cons_option, AllByRecursion}
 use Rattle.std.specs.List.Sorted.{IsStrictlySortedBy}
-use Rattle.std.proofs.lemmas.Bool.{false≢true, or_cases, or_left, or_right}
+use Rattle.std.proofs.lemmas.Bool.{false≢true, or_cases, or_left, or_right, eqb-true}
 use Rattle.std.proofs.lemmas.Bool.Decides.{nat_tests}
-use Rattle.std.specs.declared.cmp.Ordering.{Ordering}
-use Rattle.std.specs.declared.cmp.Ordering.TheVariants.{Less, Equal, Greater}
+use Rattle.std.specs.declared.cmp.Ordering.TheVariants.{Less}
 use Rattle.std.specs.Ordering.{nat_cmp, eq_by_cmp, is_lt, is_eq}
 use Rattle.std.specs.Cmp.{nat_cmp_total, unsigned_tied, tied_itself}
 use Rattle.std.specs.FinMap as fin
 use Rattle.std.specs.FinMap.{nat_cmp-IsAntisymmetric}
 use Rattle.std.specs.FinMap.Entries.{find, is_sorted, below_all, where_key, same_entries, is_sorted-where_key}
+use Rattle.lj_clause.proofs.Tests.{both_of, left_of, right_of}
+use Rattle.lj_clause.proofs.SortedEntries.{less, none_below}
 use Rattle.lj_book.specs.Tables.{Table, Tables, table_of, joint_of, is_held, is_among, with_table, without_keys}
 use Rattle.lj_book.specs.State.{State, live}
 use Rattle.lj_book.specs.History.{dead_numbers}
@@ -28,21 +29,14 @@ as_entries ns = map (λ n. (n, tt)) ns
 abbrev pub Rises : List ℕ → Type 0
 Rises ns = T (is_sorted nat_cmp (as_entries ns))
 
-both : (a b : Bool) → T a → T b → T (a && b)
-both true b p q = q
-both false b p q = p
-
-less : (r : Ordering) → r ≡ Less → T (is_lt r)
-less r e = subst (λ o. T (is_lt o)) (sym e) tt
-
 below_entries : (x : ℕ) (ns : List ℕ) → AllByRecursion (λ y. nat_cmp x y ≡ Less) ns → T (below_all nat_cmp x (as_entries ns))
 below_entries x [] h = tt
-below_entries x (n ∷ ns) h = both _ _ (less _ h.0) (below_entries x ns h.1)
+below_entries x (n ∷ ns) h = both_of _ _ (less _ h.0) (below_entries x ns h.1)
 
 pub Rises-sorted : (ns : List ℕ) → IsStrictlySortedBy nat_cmp ns → Rises ns
 unfolding IsStrictlySortedBy
 Rises-sorted [] h = tt
-Rises-sorted (n ∷ ns) h = both _ _ (below_entries n ns h.0) (Rises-sorted ns h.1)
+Rises-sorted (n ∷ ns) h = both_of _ _ (below_entries n ns h.0) (Rises-sorted ns h.1)
 
 filter-entries : (p : ℕ → Bool) (ns : List ℕ) → as_entries (filter p ns) ≡ where_key nat_cmp p (as_entries ns)
 filter-entries p [] = refl
@@ -88,31 +82,11 @@ same_rising xs ys g h is =
 
 -- ---- joint numbers that are bound to some of the numbers
 
-first : (a b : Bool) → T (a && b) → T a
-first true b p = tt
-first false b p = p
-
-second : (a b : Bool) → T (a && b) → T b
-second true b p = p
-second false b p = absurd p
-
-less_not_equal : (r : Ordering) → T (is_lt r) → is_eq r ≡ false
-less_not_equal Less h = refl
-less_not_equal Equal h = absurd h
-less_not_equal Greater h = absurd h
-
-none_below : (x : ℕ) (es : List (ℕ × ℕ)) → T (below_all nat_cmp x es) → find nat_cmp x es ≡ None
-none_below x [] h = refl
-none_below x (e ∷ es) h = ap (λ b. cond b (Some e.1) (find nat_cmp x es)) (less_not_equal (nat_cmp x e.0) (first _ _ h)) ∙ none_below x es (second _ _ h)
-
 -- an own number that passes the test and is bound to the joint number
 record BoundOne (p : ℕ → Bool) (es : List (ℕ × ℕ)) (joint : ℕ) : Type 0 where
   own : ℕ
   passes : p own ≡ true
   bound : find nat_cmp own es ≡ Some joint
-
-same_here : (a b : ℕ) → (a == b) ≡ true → a ≡ b
-same_here a b e = grind (arith, nat_tests)
 
 later : (p : ℕ → Bool) (e : ℕ × ℕ) (es : List (ℕ × ℕ)) (joint : ℕ) → T (below_all nat_cmp e.0 es) → BoundOne p es joint → BoundOne p (e ∷ es) joint
 later p e es joint below one = record {
@@ -120,7 +94,7 @@ later p e es joint below one = record {
   passes = one.passes;
   bound = elim (eq_by_cmp nat_cmp one.own e.0) as (λ b. eq_by_cmp nat_cmp one.own e.0 ≡ b → cond b (Some e.1) (find nat_cmp one.own es) ≡ Some joint) [
     | true ↦ λ t.
-        let is : one.own ≡ e.0 = same_here one.own e.0 (sym (unsigned_tied one.own e.0) ∙ t) in
+        let is : one.own ≡ e.0 = eqb-true one.own e.0 (sym (unsigned_tied one.own e.0) ∙ t) in
         absurd (false≢true (sym (ap is_some (ap (λ n. find nat_cmp n es) is ∙ none_below e.0 es below)) ∙ ap is_some one.bound))
     | false ↦ λ t. one.bound
   ] refl;
@@ -131,17 +105,17 @@ bound_one p [] joint sorted h = absurd (false≢true h)
 bound_one p (e ∷ es) joint sorted h =
     elim (p e.0) as (λ b. p e.0 ≡ b → is_among (map (λ (f : ℕ × ℕ). f.1) (cond b (e ∷ filter (λ f. p f.0) es) (filter (λ f. p f.0) es))) joint ≡ true → BoundOne p (e ∷ es) joint) [
       | true ↦ λ passes g. elim (or_cases (e.1 == joint) (is_among (map (λ (f : ℕ × ℕ). f.1) (filter (λ f. p f.0) es)) joint) g) [
-        | inl is ↦ record { own = e.0; passes = passes; bound = ap (λ r. cond (is_eq r) (Some e.1) (find nat_cmp e.0 es)) (tied_itself nat_cmp_total e.0) ∙ ap Some (same_here e.1 joint is) }
-        | inr there ↦ later p e es joint (first _ _ sorted) (bound_one p es joint (second _ _ sorted) there)
+        | inl is ↦ record { own = e.0; passes = passes; bound = ap (λ r. cond (is_eq r) (Some e.1) (find nat_cmp e.0 es)) (tied_itself nat_cmp_total e.0) ∙ ap Some (eqb-true e.1 joint is) }
+        | inr there ↦ later p e es joint (left_of _ _ sorted) (bound_one p es joint (right_of _ _ sorted) there)
       ]
-      | false ↦ λ fails g. later p e es joint (first _ _ sorted) (bound_one p es joint (second _ _ sorted) g)
+      | false ↦ λ fails g. later p e es joint (left_of _ _ sorted) (bound_one p es joint (right_of _ _ sorted) g)
     ] refl h
 
 among_picked : (f : ℕ → Option ℕ) (ns : List ℕ) (own joint : ℕ) → is_among ns own ≡ true → f own ≡ Some joint → is_among (filter_map f ns) joint ≡ true
 among_picked f [] own joint h e = absurd (false≢true h)
 among_picked f (n ∷ ns) own joint h e =
     elim (or_cases (n == own) (is_among ns own) h) [
-      | inl is ↦ ap (λ o. is_among (cons_option o (filter_map f ns)) joint) (ap f (same_here n own is) ∙ e) ∙ or_left (joint == joint) (is_among (filter_map f ns) joint) (itself joint)
+      | inl is ↦ ap (λ o. is_among (cons_option o (filter_map f ns)) joint) (ap f (eqb-true n own is) ∙ e) ∙ or_left (joint == joint) (is_among (filter_map f ns) joint) (itself joint)
       | inr there ↦ behind (f n) (filter_map f ns) joint (among_picked f ns own joint there e)
     ]
   where
@@ -168,7 +142,7 @@ picked_is_held ts seat joint t (n ∷ ns) at h =
     elim (joint_of ts seat n) as (λ o. joint_of ts seat n ≡ o → is_among (cons_option o (filter_map (joint_of ts seat) ns)) joint ≡ true → is_held ts joint ≡ true) [
       | None ↦ λ e g. picked_is_held ts seat joint t ns at g
       | Some m ↦ λ e g. elim (or_cases (m == joint) (is_among (filter_map (joint_of ts seat) ns) joint) g) [
-        | inl is ↦ bound_is_held ts seat n joint t at (e ∙ ap Some (same_here m joint is))
+        | inl is ↦ bound_is_held ts seat n joint t at (e ∙ ap Some (eqb-true m joint is))
         | inr there ↦ picked_is_held ts seat joint t ns at there
       ]
     ] refl h

@@ -2,7 +2,7 @@
 use Rattle.std.proofs.Common.{◌≡◌, ap, refl, sym, ◌∙◌, inl, inr, subst, ℕ, zero, suc, ◌+◌, ◌*◌, ◌<◌, ◌≤◌, Bool, cond, true, false, arith}
 use Rattle.std.specs.Prelude.{List, [], ◌∷◌, ◌++◌, length, Option, Some, None, filter, not, ◌==◌, ◌||◌, ◌&&◌, if◌then◌else◌, is_some, nat_lt, nat_le, replicate, slice_get}
 use Rattle.std.specs.List.{list_any, cons_option}
-use Rattle.std.proofs.lemmas.Bool.{false≢true, or_cases, or_left, or_right, and_parts}
+use Rattle.std.proofs.lemmas.Bool.{false≢true, or_cases, or_left, or_right, and_parts, eqb-true}
 use Rattle.std.proofs.lemmas.Bool.Decides.{nat_tests}
 use Rattle.std.proofs.lemmas.Option.{slice_get_past}
 use Rattle.std.proofs.lemmas.List.{append-nil}
@@ -15,6 +15,7 @@ use Rattle.std.specs.FinMap.{nat_cmp-IsAntisymmetric}
 use Rattle.lj_clause.specs.Lemma.{LemmaValue}
 use Rattle.lj_clause.specs.ClauseMap.{ClauseMap, FormulaValue, formula_map}
 use Rattle.lj_clause.proofs.Formulas.{clause_zero, clause_at}
+use Rattle.lj_clause.proofs.Tests.{turned}
 use Rattle.lj_text.specs.declared.line.Addition.{Addition}
 use Rattle.lj_text.specs.declared.step.Step.{Step}
 use Rattle.lj_text.specs.declared.step.Step.TheVariants as steps
@@ -123,9 +124,6 @@ live-addition s seat own a sound here free num =
     ∙ ap (cond (eq_by_cmp nat_cmp q a.number) (Some a.lemma.clause)) (sym (get-live s q))
     ∙ sym (fin.get-insert nat_cmp_total (live s) a.number a.lemma.clause q))
   where
-    turned : (a b : ℕ) → (a == b) ≡ (b == a)
-    turned a b = grind (arith, nat_tests)
-
     joined : {X : Type 0} (b h c : Bool) → c ≡ b → (x y : Option X) → cond (b || h) (cond c x y) None ≡ cond c x (cond h y None)
     joined true h true e x y = refl
     joined true h false e x y = absurd (false≢true e)
@@ -155,7 +153,7 @@ sound-addition s seat own a sound here free num accepted =
         | inr e ↦ or_right (next s == q) (fin.contains_key (given_out s) q) (sound.held_given q e)
       ];
       given_below = λ q h. elim (or_cases (next s == q) (fin.contains_key (given_out s) q) (sym (has q) ∙ h)) [
-        | inl e ↦ let more = next-addition s seat own a.lemma a in let is = here_is (next s) q e in omega arith
+        | inl e ↦ let more = next-addition s seat own a.lemma a in let is = eqb-true (next s) q e in omega arith
         | inr e ↦ let more = next-addition s seat own a.lemma a in let low = sound.given_below q e in omega arith
       ];
       replayed =
@@ -164,12 +162,6 @@ sound-addition s seat own a sound here free num accepted =
           ∙ ap Some (sym (live-addition s seat own a sound here free num));
     }
   where
-    turned : (a b : ℕ) → (a == b) ≡ (b == a)
-    turned a b = grind (arith, nat_tests)
-
-    here_is : (a b : ℕ) → (a == b) ≡ true → a ≡ b
-    here_is a b e = grind (arith, nat_tests)
-
     one_more : {X : Type 0} (c b : Bool) → c ≡ b → (x y : Option X) → is_some x ≡ true → is_some (cond c x y) ≡ (b || is_some y)
     one_more true true e x y h = h
     one_more true false e x y h = absurd (false≢true (sym e))
@@ -180,9 +172,6 @@ sound-addition s seat own a sound here free num accepted =
 
 pub remove-get : (p : ClauseMap) (n q : ℕ) → fin.get (fin.remove p n) q ≡ cond (n == q) None (fin.get p q)
 remove-get p n q = fin.get-remove nat_cmp_total p n q ∙ ap (λ b. cond b None (fin.get p q)) (unsigned_tied q n ∙ turned q n)
-  where
-    turned : (a b : ℕ) → (a == b) ≡ (b == a)
-    turned a b = grind (arith, nat_tests)
 
 pub get-without : (p : ClauseMap) (ns : List ℕ) (q : ℕ) → fin.get (without p ns) q ≡ cond (is_among ns q) None (fin.get p q)
 get-without p [] q = refl
@@ -196,13 +185,10 @@ pub among-filter : (p : ℕ → Bool) (ns : List ℕ) (q : ℕ) → is_among (fi
 among-filter p [] q = elim (p q) as (λ b. false ≡ (b && false)) [ true ↦ refl | false ↦ refl ]
 among-filter p (n ∷ ns) q =
     elim (n == q) as (λ c. (n == q) ≡ c → is_among (filter p (n ∷ ns)) q ≡ (p q && (c || is_among ns q))) [
-      | true ↦ λ e. ap (λ k. is_among (cond k (n ∷ filter p ns) (filter p ns)) q) (ap p (here_is n q e)) ∙ chosen (p q) (is_among ns q) n q (filter p ns) e (among-filter p ns q)
+      | true ↦ λ e. ap (λ k. is_among (cond k (n ∷ filter p ns) (filter p ns)) q) (ap p (eqb-true n q e)) ∙ chosen (p q) (is_among ns q) n q (filter p ns) e (among-filter p ns q)
       | false ↦ λ e. skipped (p n) n q (filter p ns) e ∙ among-filter p ns q
     ] refl
   where
-    here_is : (a b : ℕ) → (a == b) ≡ true → a ≡ b
-    here_is a b e = grind (arith, nat_tests)
-
     chosen : (b c : Bool) (n q : ℕ) (ms : List ℕ) → (n == q) ≡ true → is_among ms q ≡ (b && c) → is_among (cond b (n ∷ ms) ms) q ≡ (b && true)
     chosen true c n q ms e h = ap (λ k. k || is_among ms q) e
     chosen false c n q ms e h = h
@@ -214,9 +200,6 @@ among-filter p (n ∷ ns) q =
 pub among_tied : (ns : List ℕ) (q : ℕ) → list_any (eq_by_cmp nat_cmp q) ns ≡ is_among ns q
 among_tied [] q = refl
 among_tied (n ∷ ns) q = λ i. (unsigned_tied q n ∙ turned q n) i || among_tied ns q i
-  where
-    turned : (a b : ℕ) → (a == b) ≡ (b == a)
-    turned a b = grind (arith, nat_tests)
 
 pub among-keys : {X : Type 0} (m : fin.FinMap nat_cmp X) (q : ℕ) → is_among (fin.keys m) q ≡ fin.contains_key m q
 among-keys m q = sym (among_tied (fin.keys m) q) ∙ sym (fin.contains_key-keys m q)
@@ -349,11 +332,8 @@ held-found s seat own None sound here free lives q = refl
 held-found s seat own (Some joint) sound here free lives q =
     let t = has_table s.tables seat here in
     held-bind s.tables seat own joint q t.0 t.1 (free_in_table s.tables seat own t.0 t.1 free)
-    ∙ already (joint == q) (is_held s.tables q) (λ e. sym (ap (is_held s.tables) (here_is joint q e)) ∙ sym (live-held s sound joint) ∙ lives)
+    ∙ already (joint == q) (is_held s.tables q) (λ e. sym (ap (is_held s.tables) (eqb-true joint q e)) ∙ sym (live-held s sound joint) ∙ lives)
   where
-    here_is : (a b : ℕ) → (a == b) ≡ true → a ≡ b
-    here_is a b e = grind (arith, nat_tests)
-
     already : (a b : Bool) → (a ≡ true → b ≡ true) → (a || b) ≡ b
     already true b h = sym (h refl)
     already false b h = refl

@@ -1,6 +1,6 @@
 -- No joint number is held by more own numbers than there are seats and entries: the opening binds each number once for each
 -- seat, and an entry binds at most one own number.
-use Rattle.std.proofs.Common.{◌≡◌, ap, refl, sym, ◌∙◌, subst, ℕ, zero, suc, ◌+◌, ◌*◌, ◌≤◌, Bool, true, false, arith}
+use Rattle.std.proofs.Common.{◌≡◌, ap, refl, subst, ℕ, zero, suc, ◌+◌, ◌*◌, ◌≤◌, Bool, true, false, arith}
 use Rattle.std.specs.Prelude.{List, [], ◌∷◌, ◌++◌, Option, Some, None, length, nat_lt, nat_le, ◌==◌, ◌&&◌, if◌then◌else◌, replicate}
 use Rattle.std.proofs.lemmas.List.{length-append}
 use Rattle.std.specs.FinMap as fin
@@ -9,7 +9,7 @@ use Rattle.lj_clause.specs.ClauseMap.{FormulaValue}
 use Rattle.lj_book.specs.declared.entry.Call.{Call}
 use Rattle.lj_book.specs.declared.entry.Call.TheVariants as calls
 use Rattle.lj_book.specs.declared.entry.Entry.{Entry}
-use Rattle.lj_book.specs.Tables.{Table, Tables, table_of, is_here, is_bound, with_table, with_binding, without_keys, without_seat, up_to}
+use Rattle.lj_book.specs.Tables.{Table, Tables, is_here, is_bound, with_table, with_binding, without_keys, without_seat, up_to}
 use Rattle.lj_book.specs.inner.Holders.{count_in, holders_of}
 use Rattle.lj_book.specs.Lookup.{least_number}
 use Rattle.lj_book.specs.State.{State, next, live, opening}

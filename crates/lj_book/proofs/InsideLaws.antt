@@ -1,8 +1,8 @@
 -- An addition that is tested and entered in one call.
 use Rattle.std.proofs.Common.{◌≡◌, ap, refl, sym, ◌∙◌, subst, ℕ, ◌+◌, ◌<◌, ◌≤◌, Bool, true, false, arith}
 use Rattle.std.specs.Prelude.{ℤ, List, [], ◌∷◌, ◌++◌, map, length, Option, Some, None, not, ◌==◌, ◌||◌, ◌&&◌, if◌then◌else◌, is_some, IfSome, nat_lt, option_and_then, option_map, Result, Ok, Err}
-use Rattle.std.specs.List.{list_any, list_all}
-use Rattle.std.proofs.lemmas.Bool.{false≢true, and_from}
+use Rattle.std.specs.List.{list_all}
+use Rattle.std.proofs.lemmas.Bool.{false≢true, and_from, eqb-true}
 use Rattle.std.proofs.lemmas.Bool.Decides.{nat_tests}
 use Rattle.std.specs.FinMap as fin
 use Rattle.lj_clause.specs.Literal.{variable_of}
@@ -30,7 +30,7 @@ use Rattle.lj_book.specs.Tables.{Table, Tables, is_here, is_bound, is_among, joi
 use Rattle.lj_book.specs.State.{State, steps_of, addition_count, next, live, verdict}
 use Rattle.lj_book.specs.History.{after_entry, IsLegal}
 use Rattle.lj_book.specs.Calls.{IsRefusal, unless_refused, pair_in, if_held, with_pair, pairs_of, with_group_pair, group_pairs_of, repeated_after, is_seen, with_seen, case_with, free_refusal, if_free, take_reply, commit_told}
-use Rattle.lj_book.specs.Inside.{joint_addition, walk_refusal, open_refusal, rat_refusal, or_full, test_refusal, inside_after, inside_reply, inside_step, inside_entry}
+use Rattle.lj_book.specs.Inside.{walk_refusal, open_refusal, rat_refusal, or_full, test_refusal, inside_after, inside_reply, inside_step, inside_entry}
 use Rattle.lj_book.specs.inner.JointLines.{LineParts, if_bound, with_joint, joints_in, with_joint_group, joint_groups_in, parts_with, joint_parts, addition_of_parts, tested_line, line_by, inside_line, line_entry}
 use Rattle.lj_book.specs.inner.Kept.{IsKept, refuted_after}
 use Rattle.lj_book.proofs.HistoryLaws.{IsSound, IsSound-reached, IsReached-after, live-addition, live-held, steps_of-push, additions-append}
@@ -346,9 +346,6 @@ apart joint seen (g ∷ gs) js new h = go (λ j ks n f. apart joint (j ∷ seen)
     fresh j true e h = absurd (false≢true (sym (ap is_some h)))
     fresh j false e h = (e, h)
 
-    here_is : (a b : ℕ) → (a == b) ≡ true → a ≡ b
-    here_is a b e = grind (arith, nat_tests)
-
     go : ((j : ℕ) (ks : List HintGroup) → repeated_after joint (j ∷ seen) gs ≡ None → joint_groups_in joint gs ≡ Ok ks → AreApart (j ∷ seen) ks) → (o : Option ℕ) → joint g.candidate ≡ o → (hs : Result (List ℕ) Refusal) (r : Result (List HintGroup) Refusal) → joint_groups_in joint gs ≡ r → (if is_seen seen o then Some g.candidate else repeated_after joint (with_seen o seen) gs) ≡ None → if_bound g.candidate o (λ j. with_joint_group j hs r) ≡ Ok js → AreApart seen js
     go before None e hs r f new h = absurd (let no : ⊥ = cc in no)
     go before (Some j) e (Err x) r f new h = absurd (let no : ⊥ = cc in no)
@@ -362,7 +359,7 @@ apart joint seen (g ∷ gs) js new h = go (λ j ks n f. apart joint (j ∷ seen)
         subst (AreApart seen) same (record {
           distinct = and_from (not (is_among (candidates_of later) j)) (are_distinct (candidates_of later)) (ap not not_here) rest.distinct;
           unseen = λ m was. elim (j == m) as (λ b. (j == m) ≡ b → (b || is_among (candidates_of later) m) ≡ false) [
-            | true ↦ λ is. absurd (false≢true (sym unseen.0 ∙ ap (is_among seen) (here_is j m is) ∙ was))
+            | true ↦ λ is. absurd (false≢true (sym unseen.0 ∙ ap (is_among seen) (eqb-true j m is) ∙ was))
             | false ↦ λ is. rest.unseen m (ap (λ b. b || is_among seen m) is ∙ was)
           ] refl;
         })

@@ -21,5 +21,7 @@ mod HolderBounds
 pub mod PlayLaws
 mod Slots
 mod OccurrenceLaws
+mod Listings
 pub mod InsideLaws
 pub mod LineLaws
+pub mod Records

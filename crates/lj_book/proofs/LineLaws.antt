@@ -1,7 +1,7 @@
 -- What the test of a line tells of its recorded form.
 use Rattle.std.proofs.Common.{◌≡◌, ap, refl, sym, ◌∙◌, ℕ, take, length}
-use Rattle.std.specs.Prelude.{ℤ, List, [], Option, Result, Ok, Err}
-use Rattle.lj_clause.specs.LiteralSet.{LiteralSet, negations}
+use Rattle.std.specs.Prelude.{List, [], Result, Ok, Err}
+use Rattle.lj_clause.specs.LiteralSet.{negations}
 use Rattle.lj_clause.specs.ClauseMap.{ClauseMap}
 use Rattle.lj_clause.specs.Walk as walks
 use Rattle.lj_clause.specs.Walk.{Walk, hints_in}
@@ -10,12 +10,9 @@ use Rattle.lj_clause.proofs.WalkLaws.{used-first}
 use Rattle.lj_text.specs.declared.line.Addition.{Addition}
 use Rattle.lj_text.specs.Steps.{first_walk, recorded_after}
 use Rattle.lj_hint.specs.declared.rat_refusal.RatRefusal.{RatRefusal}
-use Rattle.lj_hint.specs.declared.live_line.Passed.{Passed}
 use Rattle.lj_hint.specs.declared.live_line.Passed.TheVariants.{Closed}
-use Rattle.lj_hint.specs.declared.live_line.LineRefusal.{LineRefusal}
 use Rattle.lj_hint.specs.RatTest.{rat_reply}
 use Rattle.lj_hint.specs.LineTest.{covered_reply, line_reply}
-use Rattle.lj_book.specs.declared.refusal.Refusal.{Refusal}
 use Rattle.lj_book.specs.Calls.{unless_refused}
 use Rattle.lj_book.specs.Inside.{walk_refusal}
 use Rattle.lj_book.specs.inner.JointLines.{tested_line}

@@ -3,20 +3,21 @@ use Rattle.std.proofs.Common.{◌≡◌, ap, refl, sym, ◌∙◌, inl, inr, sub
 use Rattle.std.specs.Prelude.{T, ℤ, pos, negsuc, List, [], ◌∷◌, ◌++◌, map, filter, length, Option, Some, None, is_some, IfSome, ◌==◌, ◌||◌, ◌&&◌, nat_lt, slice_get}
 use Rattle.std.specs.List.{AllByRecursion, list_any}
 use Rattle.std.specs.List.Sorted.{IsStrictlySortedBy}
-use Rattle.std.proofs.lemmas.Bool.{false≢true, or_cases, or_left, or_right}
+use Rattle.std.proofs.lemmas.Bool.{false≢true, or_cases, or_left, or_right, eqb-true}
 use Rattle.std.proofs.lemmas.Bool.Decides.{nat_tests}
 use Rattle.std.proofs.lemmas.List.{take_more, take_all}
 use Rattle.std.proofs.lemmas.List.Kept.{IsStrictlySortedBy-filter}
-use Rattle.std.specs.declared.cmp.Ordering.{Ordering}
-use Rattle.std.specs.declared.cmp.Ordering.TheVariants.{Less, Equal, Greater}
-use Rattle.std.specs.Ordering.{nat_cmp, eq_by_cmp, is_lt, is_eq}
-use Rattle.std.specs.Cmp.{nat_cmp_total, unsigned_tied}
+use Rattle.std.specs.declared.cmp.Ordering.TheVariants.{Less}
+use Rattle.std.specs.Ordering.{nat_cmp, eq_by_cmp}
+use Rattle.std.specs.Cmp.{nat_cmp_total, unsigned_tied, second_so}
 use Rattle.std.specs.FinMap as fin
 use Rattle.std.specs.FinMap.Entries.{find, is_sorted, below_all}
 use Rattle.lj_clause.specs.Literal.{place_of, lit_cmp}
 use Rattle.lj_clause.specs.LiteralSet.{LiteralSet, holds, literals}
 use Rattle.lj_clause.specs.ClauseMap.{ClauseMap}
 use Rattle.lj_clause.proofs.LiteralSets.{holds-literals}
+use Rattle.lj_clause.proofs.Tests.{left_of, right_of, turned}
+use Rattle.lj_clause.proofs.SortedEntries.{none_below, less_not_equal, is_sorted-filter}
 use Rattle.lj_book.specs.Tables.{is_among}
 use Rattle.lj_book.specs.Lookup.{is_same, is_clause, numbers_where, numbers_holding, least_number}
 use Rattle.lj_book.specs.inner.Occurrences.{Lists, places_of, list_or_empty, list_at, put_if, AreOccurrences, AreListed, AreIndexed}
@@ -26,14 +27,8 @@ use Rattle.lj_book.proofs.HistoryLaws.{among-filter, among_tied}
 use Rattle.lj_book.proofs.DropLaws.{Rises-sorted, sorted-keys, same_rising}
 use Rattle.lj_book.proofs.CommitLaws.{same_clauses}
 
-same_here : (a b : ℕ) → (a == b) ≡ true → a ≡ b
-same_here a b e = grind (arith, nat_tests)
-
 itself : (a : ℕ) → (a == a) ≡ true
 itself a = grind (arith, nat_tests)
-
-turned : (a b : ℕ) → (a == b) ≡ (b == a)
-turned a b = grind (arith, nat_tests)
 
 -- ---- one list changed
 
@@ -60,7 +55,7 @@ none_taken m place none = same_map _ _ (λ q.
     fin.get-remove nat_cmp_total m place q
     ∙ ap (λ b. cond b None (fin.get m q)) (unsigned_tied q place)
     ∙ (elim (q == place) as (λ b. (q == place) ≡ b → cond b None (fin.get m q) ≡ fin.get m q) [
-      | true ↦ λ e. sym (ap (fin.get m) (same_here q place e) ∙ none)
+      | true ↦ λ e. sym (ap (fin.get m) (eqb-true q place e) ∙ none)
       | false ↦ λ e. refl
     ]) refl)
 
@@ -100,11 +95,11 @@ clause_added m after clause later bound n c are room is new others = record {
   rising = λ k. subst (IsStrictlySortedBy nat_cmp) (sym (is k)) (rising_if (is_among (places_of c) k) (list_at m k) n (are.rising k) (λ q e. let b = are.below k q e in omega arith));
   below = λ k q e. elim (or_cases (is_among (list_at m k) q) (is_among (places_of c) k && (n == q)) (sym (among k q) ∙ e)) [
     | inl there ↦ let b = are.below k q there in omega arith
-    | inr last ↦ let b = same_here n q (right (is_among (places_of c) k) (n == q) last) in omega arith
+    | inr last ↦ let b = eqb-true n q (second_so (is_among (places_of c) k) (n == q) last) in omega arith
   ];
   exact = λ q d at k. among k q ∙ elim (n == q) as (λ b. (n == q) ≡ b → (is_among (list_at m k) q || (is_among (places_of c) k && b)) ≡ is_among (places_of d) k) [
     | true ↦ λ e.
-        let here : n ≡ q = same_here n q e in
+        let here : n ≡ q = eqb-true n q e in
         let same : c ≡ d = some_equal (sym new ∙ ap later here ∙ at) in
         fresh (is_among (list_at m k) q) (is_among (places_of c) k) (λ there. let b = are.below k q there in omega arith)
         ∙ ap (λ x. is_among (places_of x) k) same
@@ -114,10 +109,6 @@ clause_added m after clause later bound n c are room is new others = record {
   where
     among : (k q : ℕ) → is_among (list_at after k) q ≡ (is_among (list_at m k) q || (is_among (places_of c) k && (n == q)))
     among k q = ap (λ ns. is_among ns q) (is k) ∙ among_put (is_among (places_of c) k) (list_at m k) n q
-
-    right : (a b : Bool) → (a && b) ≡ true → b ≡ true
-    right true b h = h
-    right false b h = absurd (false≢true h)
 
     fresh : (a b : Bool) → (a ≡ true → ⊥) → (a || (b && true)) ≡ b
     fresh true b = λ no. absurd (no refl)
@@ -165,40 +156,27 @@ list_swept m clause bound place ns are rises keeps fewer = record {
     | false ↦ λ h there. are.below k q there
   ] refl (ap (λ xs. is_among xs q) (sym (list-insert m place ns k)) ∙ e);
   exact = λ q d at k. ap (λ xs. is_among xs q) (list-insert m place ns k) ∙ elim (k == place) as (λ b. (k == place) ≡ b → is_among (cond b ns (list_at m k)) q ≡ is_among (places_of d) k) [
-    | true ↦ λ h. keeps q (ap is_some at) ∙ are.exact q d at place ∙ ap (is_among (places_of d)) (sym (same_here k place h))
+    | true ↦ λ h. keeps q (ap is_some at) ∙ are.exact q d at place ∙ ap (is_among (places_of d)) (sym (eqb-true k place h))
     | false ↦ λ h. are.exact q d at k
   ] refl;
 }
 
 -- ---- the places of a clause, one after another
 
-first : (a b : Bool) → T (a && b) → T a
-first true b p = tt
-first false b p = p
-
-second : (a b : Bool) → T (a && b) → T b
-second true b p = p
-second false b p = absurd p
-
-less_not_equal : (r : Ordering) → T (is_lt r) → is_eq r ≡ false
-less_not_equal Less h = refl
-less_not_equal Equal h = absurd h
-less_not_equal Greater h = absurd h
-
 abbrev keys_in : List (ℤ × Unit {0}) → List ℤ
 keys_in es = map (λ e. e.0) es
 
 below_at : (x : ℤ) (es : List (ℤ × Unit {0})) (i : ℕ) (d : ℤ) → T (below_all lit_cmp x es) → i < length (keys_in es) → (place_of x == place_of (get_or (keys_in es) i d)) ≡ false
 below_at x [] i d h lt = absurd (omega arith)
-below_at x (e ∷ es) zero d h lt = sym (unsigned_tied (place_of x) (place_of e.0)) ∙ less_not_equal (lit_cmp x e.0) (first _ _ h)
-below_at x (e ∷ es) (suc i) d h lt = below_at x es i d (second _ _ h) (grind arith)
+below_at x (e ∷ es) zero d h lt = sym (unsigned_tied (place_of x) (place_of e.0)) ∙ less_not_equal (lit_cmp x e.0) (left_of _ _ h)
+below_at x (e ∷ es) (suc i) d h lt = below_at x es i d (right_of _ _ h) (grind arith)
 
 fresh_place : (es : List (ℤ × Unit {0})) (i : ℕ) (d : ℤ) → T (is_sorted lit_cmp es) → i < length (keys_in es) → is_among (map place_of (take i (keys_in es))) (place_of (get_or (keys_in es) i d)) ≡ false
 fresh_place [] i d h lt = absurd (omega arith)
 fresh_place (e ∷ es) zero d h lt = refl
 fresh_place (e ∷ es) (suc i) d h lt =
-    ap (λ b. b || is_among (map place_of (take i (keys_in es))) (place_of (get_or (keys_in es) i d))) (below_at e.0 es i d (first _ _ h) (grind arith))
-    ∙ fresh_place es i d (second _ _ h) (grind arith)
+    ap (λ b. b || is_among (map place_of (take i (keys_in es))) (place_of (get_or (keys_in es) i d))) (below_at e.0 es i d (left_of _ _ h) (grind arith))
+    ∙ fresh_place es i d (right_of _ _ h) (grind arith)
 
 map-push : (ls : List ℤ) (l : ℤ) → map place_of (ls ++ l ∷ []) ≡ map place_of ls ++ place_of l ∷ []
 map-push [] l = refl
@@ -224,7 +202,7 @@ place_added c m now after i n d lt before is k =
     ∙ list-insert now place (list_at now place ++ n ∷ []) k
     ∙ (elim (k == place) as (λ b. (k == place) ≡ b → cond b (list_at now place ++ n ∷ []) (list_at now k) ≡ put_if (is_among (map place_of (take i (literals c))) k || b) (list_at m k) n) [
       | true ↦ λ e.
-          let here : k ≡ place = same_here k place e in
+          let here : k ≡ place = eqb-true k place e in
           ap (λ ns. ns ++ n ∷ []) (before place ∙ ap (λ b. put_if b (list_at m place) n) fresh ∙ ap (list_at m) (sym here))
           ∙ sym (ap (λ b. put_if b (list_at m k) n) (or_true (is_among (map place_of (take i (literals c))) k)))
       | false ↦ λ e. before k ∙ sym (ap (λ b. put_if b (list_at m k) n) (or_false (is_among (map place_of (take i (literals c))) k)))
@@ -259,7 +237,7 @@ only_place c m after n none is k =
     ap (λ (x : Lists). list_at x k) is
     ∙ list-insert m 1 (list_at m 1 ++ n ∷ []) k
     ∙ (elim (k == 1) as (λ b. (k == 1) ≡ b → cond b (list_at m 1 ++ n ∷ []) (list_at m k) ≡ put_if (b || false) (list_at m k) n) [
-      | true ↦ λ e. ap (λ p. list_at m p ++ n ∷ []) (sym (same_here k 1 e))
+      | true ↦ λ e. ap (λ p. list_at m p ++ n ∷ []) (sym (eqb-true k 1 e))
       | false ↦ λ e. refl
     ]) refl
     ∙ ap (λ b. put_if b (list_at m k) n) (ap (λ b. b || false) (turned k 1) ∙ ap (λ ks. is_among ks k) (sym (one_place c none)))
@@ -275,48 +253,24 @@ abbrev passes : (LiteralSet → Bool) → Option LiteralSet → Bool
 passes test None = false
 passes test (Some c) = test c
 
-none_below : (x : ℕ) (es : List (ℕ × LiteralSet)) → T (below_all nat_cmp x es) → find nat_cmp x es ≡ None
-none_below x [] h = refl
-none_below x (e ∷ es) h = ap (λ b. cond b (Some e.1) (find nat_cmp x es)) (less_not_equal (nat_cmp x e.0) (first _ _ h)) ∙ none_below x es (second _ _ h)
-
 among_where : (test : LiteralSet → Bool) (es : List (ℕ × LiteralSet)) (q : ℕ) → T (is_sorted nat_cmp es) → is_among (map (λ e. e.0) (filter (λ e. test e.1) es)) q ≡ passes test (find nat_cmp q es)
 among_where test [] q h = refl
 among_where test (e ∷ es) q h =
     elim (eq_by_cmp nat_cmp q e.0) as (λ b. eq_by_cmp nat_cmp q e.0 ≡ b → is_among (map (λ (f : ℕ × LiteralSet). f.0) (filter (λ f. test f.1) (e ∷ es))) q ≡ passes test (cond b (Some e.1) (find nat_cmp q es))) [
       | true ↦ λ t.
-          let here : e.0 ≡ q = sym (same_here q e.0 (sym (unsigned_tied q e.0) ∙ t)) in
-          let gone : passes test (find nat_cmp q es) ≡ false = ap (λ n. passes test (find nat_cmp n es)) (sym here) ∙ ap (passes test) (none_below e.0 es (first _ _ h)) in
+          let here : e.0 ≡ q = sym (eqb-true q e.0 (sym (unsigned_tied q e.0) ∙ t)) in
+          let gone : passes test (find nat_cmp q es) ≡ false = ap (λ n. passes test (find nat_cmp n es)) (sym here) ∙ ap (passes test) (none_below e.0 es (left_of _ _ h)) in
           elim (test e.1) as (λ b. is_among (map (λ (f : ℕ × LiteralSet). f.0) (cond b (e ∷ filter (λ f. test f.1) es) (filter (λ f. test f.1) es))) q ≡ b) [
             | true ↦ or_left (e.0 == q) (is_among (map (λ (f : ℕ × LiteralSet). f.0) (filter (λ f. test f.1) es)) q) (ap (λ n. n == q) here ∙ itself q)
-            | false ↦ among_where test es q (second _ _ h) ∙ gone
+            | false ↦ among_where test es q (right_of _ _ h) ∙ gone
           ]
       | false ↦ λ t.
           let apart : (e.0 == q) ≡ false = turned e.0 q ∙ sym (unsigned_tied q e.0) ∙ t in
           elim (test e.1) as (λ b. is_among (map (λ (f : ℕ × LiteralSet). f.0) (cond b (e ∷ filter (λ f. test f.1) es) (filter (λ f. test f.1) es))) q ≡ passes test (find nat_cmp q es)) [
-            | true ↦ ap (λ b. b || is_among (map (λ (f : ℕ × LiteralSet). f.0) (filter (λ f. test f.1) es)) q) apart ∙ among_where test es q (second _ _ h)
-            | false ↦ among_where test es q (second _ _ h)
+            | true ↦ ap (λ b. b || is_among (map (λ (f : ℕ × LiteralSet). f.0) (filter (λ f. test f.1) es)) q) apart ∙ among_where test es q (right_of _ _ h)
+            | false ↦ among_where test es q (right_of _ _ h)
           ]
     ] refl
-
-both_of : (a b : Bool) → T a → T b → T (a && b)
-both_of true b p q = q
-both_of false b p q = p
-
-below_filter : (test : ℕ × LiteralSet → Bool) (x : ℕ) (es : List (ℕ × LiteralSet)) → T (below_all nat_cmp x es) → T (below_all nat_cmp x (filter test es))
-below_filter test x [] h = tt
-below_filter test x (e ∷ es) h =
-    elim (test e) as (λ b. T (below_all nat_cmp x (cond b (e ∷ filter test es) (filter test es)))) [
-      | true ↦ both_of _ _ (first _ _ h) (below_filter test x es (second _ _ h))
-      | false ↦ below_filter test x es (second _ _ h)
-    ]
-
-is_sorted-filter : (test : ℕ × LiteralSet → Bool) (es : List (ℕ × LiteralSet)) → T (is_sorted nat_cmp es) → T (is_sorted nat_cmp (filter test es))
-is_sorted-filter test [] h = tt
-is_sorted-filter test (e ∷ es) h =
-    elim (test e) as (λ b. T (is_sorted nat_cmp (cond b (e ∷ filter test es) (filter test es)))) [
-      | true ↦ both_of _ _ (below_filter test e.0 es (first _ _ h)) (is_sorted-filter test es (second _ _ h))
-      | false ↦ is_sorted-filter test es (second _ _ h)
-    ]
 
 -- a rising list of just the numbers whose clause passes the test
 found_all : (p : ClauseMap) (test : LiteralSet → Bool) (ns : List ℕ) → IsStrictlySortedBy nat_cmp ns → ((q : ℕ) → is_among ns q ≡ passes test (fin.get p q)) → ns ≡ numbers_where test p
@@ -405,7 +359,7 @@ next_listed p m after n c are at is =
 pub next_passed : (p : ClauseMap) (m : Lists) (n : ℕ) → AreOccurrences m (clauses_below p n) n → fin.get p n ≡ None → AreOccurrences m (clauses_below p (n + 1)) (n + 1)
 next_passed p m n are none = fewer_clauses m (clauses_below p n) (clauses_below p (n + 1)) n (n + 1) are (omega arith) (λ q d at.
     elim (n == q) as (λ b. (n == q) ≡ b → clauses_below p n q ≡ Some d) [
-      | true ↦ λ e. absurd (false≢true (ap is_some (sym none ∙ ap (fin.get p) (same_here n q e)) ∙ ap is_some (inside (nat_lt q (n + 1)) (fin.get p q) d at)))
+      | true ↦ λ e. absurd (false≢true (ap is_some (sym none ∙ ap (fin.get p) (eqb-true n q e)) ∙ ap is_some (inside (nat_lt q (n + 1)) (fin.get p q) d at)))
       | false ↦ λ e. ap (λ b. cond b (fin.get p q) None) (sym (as_before q n e)) ∙ at
     ] refl)
   where
@@ -445,7 +399,7 @@ Indexed-none lists p q last are is = record {
 pub Indexed-insert : (before lists : Option Lists) (p after : ClauseMap) (last next n : ℕ) (c : LiteralSet) → AreIndexed before p last → after ≡ fin.insert p n c → AreListed lists (fin.insert p n c) (n + 1) → last ≤ next → n ≤ next → AreIndexed lists after next
 Indexed-insert before lists p after last next n c are is listed le new = record {
   given = λ q there. elim (n == q) as (λ b. (n == q) ≡ b → q ≤ next) [
-    | true ↦ λ e. let same = same_here n q e in omega arith
+    | true ↦ λ e. let same = eqb-true n q e in omega arith
     | false ↦ λ e. let old = are.given q (ap is_some (sym (ap (λ (m : ClauseMap). fin.get m q) is ∙ fin.get-insert nat_cmp_total p n c q ∙ ap (λ b. cond b (Some c) (fin.get p q)) (unsigned_tied q n ∙ turned q n ∙ e))) ∙ there) in omega arith
   ] refl;
   listed = if_some lists _ _ (λ m at. fewer_clauses m (fin.get (fin.insert p n c)) (fin.get after) (n + 1) (next + 1) at (omega arith) (λ q d e. ap (λ (x : ClauseMap). fin.get x q) (sym is) ∙ e)) listed;

@@ -1,5 +1,5 @@
 -- Lists of events, as far as they were played.
-use Rattle.std.proofs.Common.{◌≡◌, ap, refl, sym, ◌∙◌, subst, ℕ, zero, suc, ◌≤◌, take, arith}
+use Rattle.std.proofs.Common.{◌≡◌, ap, refl, ◌∙◌, subst, ℕ, zero, suc, ◌≤◌, take, arith}
 use Rattle.std.specs.Prelude.{List, [], ◌∷◌, ◌++◌, length, slice_index_or, slice_set}
 use Rattle.lj_hint.specs.Case.{CaseValue}
 use Rattle.lj_hint.specs.Receipt.{ReceiptValue}

@@ -1,31 +1,29 @@
 -- What an event leaves: everything that was given out, and the tables and pending things of other seats.
-use Rattle.std.proofs.Common.{◌≡◌, ap, refl, sym, ◌∙◌, inl, inr, subst, ℕ, zero, suc, ◌+◌, ◌<◌, ◌≤◌, Bool, cond, true, false, arith}
-use Rattle.std.specs.Prelude.{T, ◌⊎◌, ◌&&◌, ℤ, List, [], ◌∷◌, ◌++◌, map, filter, length, Option, Some, None, option_map, option_and_then, is_some, ◌==◌, slice_get, slice_index_or, slice_set, replicate, Result, Ok, Err}
-use Rattle.std.specs.List.{cons_option}
+use Rattle.std.proofs.Common.{◌≡◌, ap, refl, sym, ◌∙◌, inl, inr, subst, ℕ, ◌+◌, Bool, cond, true, false, arith}
+use Rattle.std.specs.Prelude.{T, ◌⊎◌, ℤ, List, [], ◌∷◌, map, filter, length, Option, Some, None, is_some, ◌==◌, slice_get, Result, Ok, Err}
 use Rattle.std.proofs.lemmas.Bool.{false≢true}
 use Rattle.std.proofs.lemmas.Bool.Decides.{nat_tests}
-use Rattle.std.specs.declared.cmp.Ordering.{Ordering}
-use Rattle.std.specs.declared.cmp.Ordering.TheVariants.{Less, Equal, Greater}
-use Rattle.std.specs.Ordering.{nat_cmp, eq_by_cmp, is_eq, is_lt}
+use Rattle.std.specs.Ordering.{nat_cmp, eq_by_cmp, is_eq}
 use Rattle.std.specs.Cmp.{nat_cmp_total, unsigned_tied, tied_itself}
 use Rattle.std.specs.FinMap as fin
-use Rattle.std.specs.FinMap.Entries.{find, is_sorted, below_all}
+use Rattle.std.specs.FinMap.Entries.{find, is_sorted}
 use Rattle.lj_clause.specs.LiteralSet.{LiteralSet}
 use Rattle.lj_clause.specs.ClauseMap.{ClauseMap}
 use Rattle.lj_clause.specs.Lemma.{LemmaValue}
 use Rattle.lj_clause.specs.Walk.{Walk, Closed, Open, Stuck}
 use Rattle.lj_clause.specs.Rat.{RatAnswer, Covered, MissingGroup, GroupStuck, GroupOpen, rat}
+use Rattle.lj_clause.proofs.Tests.{left_of, right_of}
+use Rattle.lj_clause.proofs.SortedEntries.{none_below}
 use Rattle.lj_text.specs.declared.line.Addition.{Addition}
 use Rattle.lj_text.specs.declared.step.Step.TheVariants as steps
 use Rattle.lj_text.specs.Steps.{first_walk, with_covered, recorded_on, recorded_after, recorded_form}
-use Rattle.lj_text.specs.Needed.{additions}
 use Rattle.lj_hint.specs.Case.{CaseValue}
 use Rattle.lj_hint.specs.Receipt.{ReceiptValue}
 use Rattle.lj_book.specs.declared.refusal.Refusal.{Refusal}
 use Rattle.lj_book.specs.declared.entry.Added.{Added}
 use Rattle.lj_book.specs.declared.entry.Call.TheVariants as calls
 use Rattle.lj_book.specs.declared.entry.Entry.{Entry}
-use Rattle.lj_book.specs.Tables.{Table, Tables, table_of, joint_of, is_held, with_table, with_binding, without_keys, without_seat}
+use Rattle.lj_book.specs.Tables.{Tables, table_of, joint_of, with_table, with_binding, without_keys, without_seat}
 use Rattle.lj_book.specs.Lookup.{is_same, least_number}
 use Rattle.lj_book.specs.State.{State, next, given_out, live}
 use Rattle.lj_book.specs.History.{dead_numbers, with_found, after_entry}
@@ -33,7 +31,7 @@ use Rattle.lj_book.specs.Inside.{joint_addition, inside_after, inside_step, insi
 use Rattle.lj_book.specs.Calls.{take_reply, commit_entry, drop_entry, adopt_entry, import_entry, leave_entry}
 use Rattle.lj_book.proofs.CommitLaws.{same_clauses}
 use Rattle.lj_book.proofs.SoloTables.{table_of-other, table_of-left_other, length-with_table, length-without_seat, joint_of-binding, joint_of-dropped, joint_of-left}
-use Rattle.lj_book.proofs.SoloStates.{IsGiven, Extends, Extends-same, Extends-insert, AddsNothing, contains-extends, given_out-entry, given_out-same, next-entry, not_given, nothing_added, live-given, some_clause}
+use Rattle.lj_book.proofs.SoloStates.{IsGiven, Extends, Extends-same, Extends-insert, AddsNothing, contains-extends, given_out-entry, given_out-same, next-entry, not_given, nothing_added, live-given}
 
 -- What an entry of a seat leaves.
 pub record Moves (k : ℕ) (s s' : State) : Type 0 where
@@ -41,9 +39,6 @@ pub record Moves (k : ℕ) (s s' : State) : Type 0 where
   pub tables : (seat : ℕ) → (k ≡ seat → ⊥) → table_of s'.tables seat ≡ table_of s.tables seat
   pub seats : length s'.tables ≡ length s.tables
   pub given : IsGiven s'
-
-same_number : (a b : ℕ) → (a == b) ≡ true → a ≡ b
-same_number a b e = grind (arith, nat_tests)
 
 tied_number : (q k : ℕ) → eq_by_cmp nat_cmp q k ≡ true → q ≡ k
 tied_number q k e = let f : (q == k) ≡ true = sym (unsigned_tied q k) ∙ e in grind (arith, nat_tests)
@@ -198,23 +193,6 @@ inside_taken s (Err y) x e = absurd (cc)
 
 -- ---- the least number that has a clause
 
-first : (a b : Bool) → T (a && b) → T a
-first true b p = tt
-first false b p = p
-
-second : (a b : Bool) → T (a && b) → T b
-second true b p = p
-second false b p = absurd p
-
-less_not_equal : (r : Ordering) → T (is_lt r) → is_eq r ≡ false
-less_not_equal Less h = refl
-less_not_equal Equal h = absurd h
-less_not_equal Greater h = absurd h
-
-none_below : {X : Type 0} (x : ℕ) (es : List (ℕ × X)) → T (below_all nat_cmp x es) → find nat_cmp x es ≡ None
-none_below x [] h = refl
-none_below x (e ∷ es) h = ap (λ b. cond b (Some e.1) (find nat_cmp x es)) (less_not_equal (nat_cmp x e.0) (first _ _ h)) ∙ none_below x es (second _ _ h)
-
 -- a number with its clause, which passes the test
 record Found {X : Type 0} (test : X → Bool) (es : List (ℕ × X)) (n : ℕ) : Type 0 where
   clause : X
@@ -233,11 +211,11 @@ found_first {X} test (e ∷ es) n sorted h =
             passes = passes;
           }
       | false ↦ λ fails g.
-          let later = found_first test es n (second _ _ sorted) g in
+          let later = found_first test es n (right_of _ _ sorted) g in
           record {
             clause = later.clause;
             there = elim (eq_by_cmp nat_cmp n e.0) as (λ b. eq_by_cmp nat_cmp n e.0 ≡ b → cond b (Some e.1) (find nat_cmp n es) ≡ Some later.clause) [
-              | true ↦ λ t. absurd (false≢true (sym (ap is_some (ap (λ (k : ℕ). find nat_cmp k es) (tied_number n e.0 t) ∙ none_below e.0 es (first _ _ sorted))) ∙ ap is_some later.there))
+              | true ↦ λ t. absurd (false≢true (sym (ap is_some (ap (λ (k : ℕ). find nat_cmp k es) (tied_number n e.0 t) ∙ none_below e.0 es (left_of _ _ sorted))) ∙ ap is_some later.there))
               | false ↦ λ t. later.there
             ] refl;
             passes = later.passes;

@@ -1,11 +1,10 @@
 -- Runs of events.
-use Rattle.std.proofs.Common.{◌≡◌, ap, refl, sym, ◌∙◌, subst, ℕ, zero, suc, Bool, true, false, arith}
-use Rattle.std.specs.Prelude.{List, [], ◌∷◌, ◌++◌, length, ◌==◌, ◌&&◌, Option, Some, None, if◌then◌else◌, slice_get}
-use Rattle.std.proofs.lemmas.Bool.{false≢true, and_parts}
+use Rattle.std.proofs.Common.{◌≡◌, ap, refl, sym, ◌∙◌, subst, ℕ, Bool, true, false, arith}
+use Rattle.std.specs.Prelude.{List, [], ◌∷◌, ◌++◌, length, ◌==◌, ◌&&◌, Some, None, if◌then◌else◌, slice_get}
+use Rattle.std.proofs.lemmas.Bool.{and_parts, eqb-true}
 use Rattle.std.proofs.lemmas.Bool.Decides.{nat_tests}
 use Rattle.lj_clause.specs.ClauseMap.{ClauseMap}
 use Rattle.lj_hint.specs.Receipt.{ReceiptValue}
-use Rattle.lj_book.specs.declared.refusal.Refusal.{Refusal}
 use Rattle.lj_book.specs.declared.refusal.Refusal.TheVariants.{Stale}
 use Rattle.lj_book.specs.declared.event.Event.{Event}
 use Rattle.lj_book.specs.declared.event.Event.TheVariants as events
@@ -16,7 +15,7 @@ use Rattle.lj_book.specs.declared.event.Pending.TheVariants as pendings
 use Rattle.lj_book.specs.State.{State, given_out}
 use Rattle.lj_book.specs.Events.{seat_of, is_of, events_of, taken_after, taken_after_all, is_in_turn, is_tidy_after}
 use Rattle.lj_book.specs.Worlds.{World, nothing_pending, pending_at, IsAnswered, IsRun}
-use Rattle.lj_book.specs.Solo.{View, Solo, IsSoloAddition, IsSoloCommitOf, IsSoloCommit, IsSoloAnswer, IsSoloRun, view_of, TidySeatsAreAlone, FreshReceiptsAreNotStale}
+use Rattle.lj_book.specs.Solo.{View, Solo, IsSoloCommitOf, IsSoloCommit, IsSoloAnswer, IsSoloRun, view_of, TidySeatsAreAlone, FreshReceiptsAreNotStale}
 use Rattle.lj_book.specs.inner.Solo.{solo_of}
 use Rattle.lj_book.proofs.HistoryLaws.{IsSound-reached}
 use Rattle.lj_book.proofs.SoloStates.{IsGiven-sound, Extends, Extends-refl, Extends-trans}
@@ -32,9 +31,6 @@ runs_more w end (e ∷ es) (r ∷ rs) settled run =
     let left = leaves w run.0 e r settled run.1.0 in
     Extends-trans (given_out w.state) (given_out run.0.state) (given_out end.state) left.more (runs_more run.0 end es rs left.settled run.1.1)
 
-same_number : (a b : ℕ) → (a == b) ≡ true → a ≡ b
-same_number a b e = grind (arith, nat_tests)
-
 apart : (a b : ℕ) → (a == b) ≡ false → a ≡ b → ⊥
 apart a b e f = grind (arith, nat_tests)
 
@@ -44,7 +40,7 @@ ready_next w w' e r taken seat settled ready answered = go (is_of seat e) refl
   where
     go : (b : Bool) → is_of seat e ≡ b → (if b then taken_after taken e else taken) ≡ true → IsReady (solo_of w' seat)
     go true is now =
-        let same = same_number (seat_of e) seat is in
+        let same = eqb-true (seat_of e) seat is in
         subst (λ (k : ℕ). IsReady (solo_of w' k)) same (ready_after w w' e r taken settled (λ t. subst (λ (k : ℕ). IsReady (solo_of w k)) (sym same) (ready t)) answered now)
     go false is now = subst IsReady (sym ((leaves w w' e r settled answered).others seat (apart (seat_of e) seat is))) (ready now)
 
@@ -52,7 +48,7 @@ ready_next w w' e r taken seat settled ready answered = go (is_of seat e) refl
 event_alone : (clauses : ClauseMap) (seat : ℕ) (taken : Bool) (w after end : World) (e : Event) (r : Reply) (es : List Event) (rest : List (Event × Reply)) → IsSettled w → (taken ≡ true → IsReady (solo_of w seat)) → IsAnswered w e r after → Extends (given_out after.state) clauses → ((now : Bool) → (now ≡ true → IsReady (solo_of after seat)) → is_tidy_after now seat es ≡ true → IsSoloRun clauses seat (solo_of after seat) rest (solo_of end seat)) → (b : Bool) → is_of seat e ≡ b → (if b then is_in_turn taken e && is_tidy_after (taken_after taken e) seat es else is_tidy_after taken seat es) ≡ true → IsSoloRun clauses seat (solo_of w seat) (if b then (e, r) ∷ rest else rest) (solo_of end seat)
 event_alone clauses seat taken w after end e r es rest settled ready answered more onward true is tidy =
     let parts = and_parts (is_in_turn taken e) (is_tidy_after (taken_after taken e) seat es) tidy in
-    let same : seat_of e ≡ seat = same_number (seat_of e) seat is in (
+    let same : seat_of e ≡ seat = eqb-true (seat_of e) seat is in (
       solo_of after seat,
       (
         subst (λ (k : ℕ). IsSoloAnswer clauses k (solo_of w k) e r (solo_of after k)) same

@@ -1,6 +1,6 @@
 -- What an entry leaves of the numbers that were given out, and of what is bound.
-use Rattle.std.proofs.Common.{◌≡◌, ap, refl, sym, ◌∙◌, inl, inr, subst, ℕ, zero, suc, ◌+◌, ◌<◌, ◌≤◌, Bool, cond, true, false, arith}
-use Rattle.std.specs.Prelude.{◌⊎◌, List, [], ◌∷◌, ◌++◌, length, Option, Some, None, option_map, option_and_then, is_some, ◌==◌, unwrap_or}
+use Rattle.std.proofs.Common.{◌≡◌, ap, refl, sym, ◌∙◌, ℕ, ◌+◌, ◌<◌, Bool, cond, true, false, arith}
+use Rattle.std.specs.Prelude.{List, [], ◌∷◌, ◌++◌, length, Option, Some, None, option_map, option_and_then, is_some, ◌==◌, unwrap_or}
 use Rattle.std.specs.List.{cons_option}
 use Rattle.std.proofs.lemmas.Bool.{false≢true}
 use Rattle.std.proofs.lemmas.Bool.Decides.{nat_tests}
@@ -11,10 +11,9 @@ use Rattle.lj_clause.specs.LiteralSet.{LiteralSet, no_literals}
 use Rattle.lj_clause.specs.ClauseMap.{ClauseMap, formula_map}
 use Rattle.lj_text.specs.declared.step.Step.{Step}
 use Rattle.lj_text.specs.declared.step.Step.TheVariants as steps
-use Rattle.lj_text.specs.declared.line.Addition.{Addition}
 use Rattle.lj_text.specs.Needed.{additions, if_some}
 use Rattle.lj_book.specs.declared.entry.Entry.{Entry}
-use Rattle.lj_book.specs.Tables.{Table, Tables, table_of, joint_of, is_held, with_binding}
+use Rattle.lj_book.specs.Tables.{Table, Tables, table_of, joint_of, is_held}
 use Rattle.lj_book.specs.State.{State, steps_of, next, with_additions, given_out, live}
 use Rattle.lj_book.specs.History.{after_entry}
 use Rattle.lj_book.specs.Solo.{with_clause, holdings_of, view_of}

@@ -1,6 +1,6 @@
 -- A seat's own event, answered as its solo object decides.
-use Rattle.std.proofs.Common.{◌≡◌, ap, refl, sym, ◌∙◌, inl, inr, subst, ℕ, zero, suc, ◌+◌, ◌-◌, ◌<◌, ◌≤◌, Bool, cond, true, false, arith}
-use Rattle.std.specs.Prelude.{◌⊎◌, ℤ, List, [], ◌∷◌, length, take, nat_lt, Option, Some, None, option_map, option_and_then, is_some, if◌then◌else◌, IfSome, Result, Ok, Err}
+use Rattle.std.proofs.Common.{◌≡◌, ap, refl, sym, ◌∙◌, inl, inr, subst, ℕ, ◌-◌, ◌≤◌, Bool, true, false, arith}
+use Rattle.std.specs.Prelude.{ℤ, List, [], ◌∷◌, length, take, nat_lt, Option, Some, None, option_map, option_and_then, is_some, if◌then◌else◌, IfSome, Result, Ok, Err}
 use Rattle.std.proofs.lemmas.Bool.{false≢true}
 use Rattle.std.specs.FinMap as fin
 use Rattle.lj_clause.specs.LiteralSet.{LiteralSet, negations}
@@ -13,9 +13,9 @@ use Rattle.lj_text.specs.declared.line.Addition.{Addition}
 use Rattle.lj_hint.specs.declared.pair.Pair.{Pair}
 use Rattle.lj_hint.specs.Hints.{named_hints, numbers}
 use Rattle.lj_hint.specs.Case.{CaseValue, walk_of}
-use Rattle.lj_hint.specs.Receipt.{ReceiptValue, receipt_of}
+use Rattle.lj_hint.specs.Receipt.{ReceiptValue}
 use Rattle.lj_book.specs.declared.refusal.Refusal.{Refusal}
-use Rattle.lj_book.specs.declared.refusal.Refusal.TheVariants.{SeatGone, NumberTaken, HintNotUnit, EmptyOpen, MissingGroup, GroupStuck, GroupOpen, NoSuchClause, Full, NoMemory}
+use Rattle.lj_book.specs.declared.refusal.Refusal.TheVariants.{SeatGone, NumberTaken, HintNotUnit, EmptyOpen, MissingGroup, GroupStuck, GroupOpen, NoSuchClause, Full}
 use Rattle.lj_book.specs.declared.entry.Entry.{Entry}
 use Rattle.lj_book.specs.declared.entry.Added.{Added}
 use Rattle.lj_book.specs.declared.entry.Dropped.{Dropped}
@@ -26,23 +26,23 @@ use Rattle.lj_book.specs.declared.event.Reply.{Reply}
 use Rattle.lj_book.specs.declared.event.Reply.TheVariants as replies
 use Rattle.lj_book.specs.declared.event.Pending.{Pending}
 use Rattle.lj_book.specs.declared.event.Pending.TheVariants as pendings
-use Rattle.lj_book.specs.Tables.{Table, Tables, table_of, is_here, is_bound, joint_of, with_table, with_binding, without_keys, without_seat, keys_lost}
-use Rattle.lj_book.specs.Lookup.{is_same, is_clause, least_number}
+use Rattle.lj_book.specs.Tables.{Table, Tables, table_of, is_here, is_bound, with_table, with_binding, without_keys, keys_lost}
+use Rattle.lj_book.specs.Lookup.{is_clause, least_number}
 use Rattle.lj_book.specs.State.{State, addition_count, next, given_out, live}
 use Rattle.lj_book.specs.History.{dead_numbers, after_entry, with_found}
 use Rattle.lj_book.specs.Inside.{joint_addition, rat_refusal, open_refusal, walk_refusal, or_full, inside_after, inside_reply, inside_entry}
-use Rattle.lj_book.specs.Calls.{IsReply, unless_refused, take_reply, is_live_as, first_stale, stale_or, commit_refusal, commit_told, commit_reply, commit_entry, drop_reply, drop_entry, free_refusal, if_free, adopt_reply, adopt_entry, imported_at, import_reply, import_entry, leave_reply, leave_entry}
+use Rattle.lj_book.specs.Calls.{IsReply, unless_refused, take_reply, is_live_as, first_stale, stale_or, commit_refusal, commit_told, commit_reply, commit_entry, drop_reply, drop_entry, free_refusal, if_free, adopt_entry, imported_at, import_entry, leave_reply, leave_entry}
 use Rattle.lj_book.specs.Events.{seat_of, is_in_turn, taken_after}
-use Rattle.lj_book.specs.Worlds.{World, pending_at, with_pending, reply_by, IsCalled, IsTried, case_taken, if_entered, pending_after_test, IsTested, IsNothing, IsTestOf, IsCommitOf, IsAnswered}
-use Rattle.lj_book.specs.Solo.{Holdings, View, Solo, solo_case, solo_refusal, solo_take, IsRefusedSolo, IsRefusedOrShort, IfHere, IfNotTaken, IfFree, with_clause, holdings_of, without_holdings, with_holding, IsSoloAddition, IsSoloCommitOf, IsSoloCommit, IsSoloOpen, IfPivot, IsSoloWalked, IsSoloInside, IsSoloDrop, IsSoloAdoption, IsSoloImport, IsSoloLeave, IsSoloAnswer, view_of}
+use Rattle.lj_book.specs.Worlds.{World, pending_at, with_pending, reply_by, IsCalled, IsTried, case_taken, if_entered, pending_after_test, IsTestOf, IsCommitOf, IsAnswered}
+use Rattle.lj_book.specs.Solo.{Holdings, View, Solo, solo_case, solo_refusal, solo_take, IsRefusedSolo, IsRefusedOrShort, IfHere, IfNotTaken, IfFree, with_clause, holdings_of, without_holdings, IsSoloAddition, IsSoloCommitOf, IsSoloCommit, IsSoloOpen, IfPivot, IsSoloWalked, IsSoloInside, IsSoloDrop, IsSoloAdoption, IsSoloImport, IsSoloLeave, IsSoloAnswer, view_of}
 use Rattle.lj_book.specs.inner.Solo.{solo_of}
 use Rattle.lj_book.proofs.CommitLaws.{same_itself}
-use Rattle.lj_book.proofs.TableLaws.{table_of-with_table, here_in_range, none_from}
-use Rattle.lj_book.proofs.SoloTables.{table_of-left, get-holdings, contains-holdings, holdings-agree, holdings-insert, holdings-without, len-holdings}
+use Rattle.lj_book.proofs.TableLaws.{table_of-with_table, here_in_range}
+use Rattle.lj_book.proofs.SoloTables.{table_of-left, get-holdings, contains-holdings, holdings-insert, holdings-without, len-holdings}
 use Rattle.lj_book.proofs.SoloStates.{IsGiven, Extends, some_clause, with_clause-is, live-bound, live-given, bound_in_table, agree_at, given_out-same, nothing_added}
-use Rattle.lj_book.proofs.SoloMoves.{Moves, moves-drop, moves-adopt, moves-import, moves-commit, given-commit, moves-inside, given-inside}
+use Rattle.lj_book.proofs.SoloMoves.{Moves, moves-adopt, moves-import, moves-commit, given-commit, moves-inside, given-inside}
 use Rattle.lj_book.proofs.SoloTakes.{refusal_alone, book_case, case_alone, take_alone, case_parts, take_fits, AllHeld, IsHolding, AllHeld-take, IsFit}
-use Rattle.lj_book.proofs.SoloWorlds.{called_by, tried_by, tested_by, pending-set, pending_past, IsSettled, IsOwnPending, free_accepted, adopted_lives, imported_lives}
+use Rattle.lj_book.proofs.SoloWorlds.{called_by, tried_by, tested_by, pending-set, pending_past, IsSettled, IsOwnPending, adopted_lives, imported_lives}
 
 -- ---- the view after an event of the seat
 

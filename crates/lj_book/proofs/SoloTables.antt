@@ -1,5 +1,5 @@
 -- The tables of seats one by one, and a seat's holdings.
-use Rattle.std.proofs.Common.{◌≡◌, ap, refl, sym, ◌∙◌, inl, inr, subst, ℕ, zero, suc, ◌+◌, ◌<◌, ◌≤◌, ◌-◌, Bool, cond, true, false, arith}
+use Rattle.std.proofs.Common.{◌≡◌, ap, refl, sym, ◌∙◌, inl, inr, ℕ, zero, suc, ◌<◌, Bool, cond, true, false, arith}
 use Rattle.std.specs.Prelude.{◌⊎◌, List, [], ◌∷◌, map, length, Option, Some, None, option_map, option_and_then, not, is_some, nat_lt, unwrap_or}
 use Rattle.std.proofs.lemmas.Bool.{false≢true}
 use Rattle.std.proofs.lemmas.Bool.Decides.{nat_tests}
@@ -11,8 +11,7 @@ use Rattle.std.specs.FinMap.{nat_cmp-IsAntisymmetric}
 use Rattle.std.specs.FinMap.Entries.{find}
 use Rattle.lj_clause.specs.LiteralSet.{LiteralSet, no_literals}
 use Rattle.lj_clause.specs.ClauseMap.{ClauseMap}
-use Rattle.lj_hint.specs.declared.pair.Pair.{Pair}
-use Rattle.lj_book.specs.Tables.{Table, Tables, table_of, is_here, is_bound, joint_of, with_table, with_binding, without_seat, is_among, without_keys, is_held}
+use Rattle.lj_book.specs.Tables.{Table, Tables, table_of, joint_of, with_table, with_binding, without_seat, is_among, without_keys, is_held}
 use Rattle.lj_book.specs.inner.Holders.{count_in}
 use Rattle.lj_book.specs.Solo.{Holdings, with_clause, holdings_of, without_holdings}
 use Rattle.lj_book.proofs.NumberMaps.{same_map}

@@ -1,18 +1,16 @@
 -- A take, decided by the seat's holdings.
 use Rattle.std.proofs.Common.{◌≡◌, ap, refl, sym, ◌∙◌, subst, ℕ, Bool, true, false, zero, suc}
 use Rattle.std.specs.Prelude.{List, [], ◌∷◌, take, Option, Some, None, option_map, option_and_then, is_some, if◌then◌else◌, Result, Ok, Err}
-use Rattle.std.proofs.lemmas.Bool.{false≢true}
 use Rattle.std.specs.FinMap as fin
 use Rattle.lj_clause.specs.LiteralSet.{LiteralSet}
-use Rattle.lj_clause.specs.ClauseMap.{ClauseMap}
 use Rattle.lj_text.specs.declared.line.Addition.{Addition}
 use Rattle.lj_hint.specs.declared.pair.Pair.{Pair}
 use Rattle.lj_hint.specs.Case.{CaseValue, case_of}
 use Rattle.lj_book.specs.declared.refusal.Refusal.{Refusal}
-use Rattle.lj_book.specs.declared.refusal.Refusal.TheVariants.{SeatGone, NumberTaken, UnknownNumber, GroupRepeated}
-use Rattle.lj_book.specs.Tables.{Table, Tables, table_of, joint_of, is_bound}
+use Rattle.lj_book.specs.declared.refusal.Refusal.TheVariants.{SeatGone, NumberTaken}
+use Rattle.lj_book.specs.Tables.{Table, table_of, joint_of, is_bound}
 use Rattle.lj_book.specs.State.{State, given_out, live}
-use Rattle.lj_book.specs.Calls.{pair_in, pairs_of, group_pairs_of, repeated_after, with_pair, if_held, case_unless, case_with, free_refusal, take_reply}
+use Rattle.lj_book.specs.Calls.{pair_in, pairs_of, group_pairs_of, repeated_after, with_pair, if_held, case_with, free_refusal, take_reply}
 use Rattle.lj_book.specs.Solo.{Holdings, View, with_clause, holdings_of, view_of, solo_case, solo_refusal, solo_take}
 use Rattle.lj_book.proofs.SoloTables.{get-holdings, contains-holdings}
 use Rattle.lj_book.proofs.SoloStates.{IsGiven, some_clause, with_clause-is, live-bound, bound_in_table}

@@ -1,7 +1,6 @@
 -- Worlds: whose the pending things are, and what an event leaves for the other seats.
-use Rattle.std.proofs.Common.{◌≡◌, ap, refl, sym, ◌∙◌, subst, ℕ, zero, suc, ◌+◌, ◌<◌, ◌≤◌, Bool, cond, true, false, arith}
-use Rattle.std.specs.Prelude.{List, [], ◌∷◌, length, Option, Some, None, is_some, if◌then◌else◌, slice_index_or, slice_set, replicate, Result, Ok, Err, IfErr}
-use Rattle.std.proofs.lemmas.Bool.{false≢true}
+use Rattle.std.proofs.Common.{◌≡◌, ap, refl, sym, ◌∙◌, subst, ℕ, zero, suc, ◌≤◌, Bool, true, false, arith}
+use Rattle.std.specs.Prelude.{List, [], ◌∷◌, length, Option, Some, None, if◌then◌else◌, slice_index_or, slice_set, replicate, Result, Ok, Err, IfErr}
 use Rattle.std.specs.FinMap as fin
 use Rattle.lj_clause.specs.LiteralSet.{LiteralSet}
 use Rattle.lj_clause.specs.Memory.{no_memory}
@@ -29,8 +28,8 @@ use Rattle.lj_book.specs.History.{after_entry}
 use Rattle.lj_book.specs.Inside.{inside_reply, inside_entry}
 use Rattle.lj_book.specs.Calls.{IsRefusal, IsReply, take_reply, commit_reply, commit_entry, drop_reply, drop_entry, free_refusal, if_free, adopt_reply, adopt_entry, imported_at, import_reply, import_entry, leave_reply, leave_entry}
 use Rattle.lj_book.specs.Events.{seat_of}
-use Rattle.lj_book.specs.Worlds.{World, nothing_pending, pending_at, with_pending, reply_by, IsCalled, IsTried, case_taken, if_entered, pending_after_test, IsTested, IsNothing, IsTestOf, IsCommitOf, IsAnswered}
-use Rattle.lj_book.specs.Solo.{View, Solo, solo_take, view_of}
+use Rattle.lj_book.specs.Worlds.{World, nothing_pending, pending_at, with_pending, reply_by, IsCalled, IsTried, case_taken, if_entered, pending_after_test, IsTestOf, IsCommitOf, IsAnswered}
+use Rattle.lj_book.specs.Solo.{View, view_of}
 use Rattle.lj_book.specs.inner.Solo.{solo_of}
 use Rattle.lj_book.proofs.SoloStates.{IsGiven, Extends, Extends-refl, Extends-trans, view-same, some_clause}
 use Rattle.lj_book.proofs.SoloMoves.{Moves, moves-drop, moves-leave, moves-adopt, moves-import, moves-commit, moves-inside, inside_taken, least_lives}

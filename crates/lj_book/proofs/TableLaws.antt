@@ -11,6 +11,7 @@ use Rattle.std.specs.Result.{OnOk, OnErr}
 use Rattle.std.specs.declared.result.Result.{Result}
 use Rattle.std.specs.declared.result.Result.TheVariants.{Ok, Err}
 use Rattle.lj_clause.specs.declared.memory.NoMemory.{NoMemory}
+use Rattle.lj_clause.proofs.Tests.{turned}
 use Rattle.std.specs.FinMap.Entries.{find, put, by_order}
 use Rattle.std.specs.FinMap.{nat_cmp-IsAntisymmetric}
 use Rattle.lj_book.specs.Tables.{Table, Tables, table_of, is_here, joint_of, is_bound, with_table, is_among, without_keys, holds_joint, is_held, up_to, keys_lost}
@@ -208,9 +209,6 @@ count_at-insert m j n q =
     ap count_or_none (fin.get-insert nat_cmp_total m j n q)
     ∙ ap (λ b. count_or_none (cond b (Some n) (fin.get m q))) (unsigned_tied q j ∙ turned q j)
     ∙ elim (j == q) as (λ b. count_or_none (cond b (Some n) (fin.get m q)) ≡ cond b n (count_at m q)) [ true ↦ refl | false ↦ refl ]
-  where
-    turned : (a b : ℕ) → (a == b) ≡ (b == a)
-    turned a b = grind (arith, nat_tests)
 
 pub same_here : (j q : ℕ) → (j == q) ≡ true → j ≡ q
 same_here j q e = grind (arith, nat_tests)
@@ -308,9 +306,6 @@ alike p q x e = ap p (sym (nat_cmp-IsAntisymmetric q x e))
 pub get-without_keys : (ns : List ℕ) (t : Table) (q : ℕ) → fin.get (without_keys ns t) q ≡ cond (not (is_among ns q)) (fin.get t q) None
 get-without_keys ns t q = fin.get-retain_keys t (λ own. not (is_among ns own)) q (alike (λ own. not (is_among ns own)) q)
 
-turned_over : (a b : ℕ) → (a == b) ≡ (b == a)
-turned_over a b = grind (arith, nat_tests)
-
 removed_or_kept : (a b : Bool) (o : Option ℕ) → cond (not (a || b)) o None ≡ cond b None (cond (not a) o None)
 removed_or_kept true true o = refl
 removed_or_kept true false o = refl
@@ -322,7 +317,7 @@ without_keys-push ns n t = same_map _ _ (λ q.
     get-without_keys (ns ++ n ∷ []) t q
     ∙ ap (λ b. cond (not b) (fin.get t q) None) (among_push ns n q)
     ∙ removed_or_kept (is_among ns q) (n == q) (fin.get t q)
-    ∙ sym (fin.get-remove nat_cmp_total (without_keys ns t) n q ∙ ap (λ b. cond b None (fin.get (without_keys ns t) q)) (unsigned_tied q n ∙ turned_over q n) ∙ ap (cond (n == q) None) (get-without_keys ns t q)))
+    ∙ sym (fin.get-remove nat_cmp_total (without_keys ns t) n q ∙ ap (λ b. cond b None (fin.get (without_keys ns t) q)) (unsigned_tied q n ∙ turned q n) ∙ ap (cond (n == q) None) (get-without_keys ns t q)))
 
 pub without_keys-none : (t : Table) → without_keys [] t ≡ t
 without_keys-none t = same_map _ _ (λ q. get-without_keys [] t q)

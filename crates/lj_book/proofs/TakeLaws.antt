@@ -1,13 +1,12 @@
 -- Additions in joint numbers.
-use Rattle.std.proofs.Common.{◌≡◌, ap, refl, sym, ◌∙◌, ℕ, suc, ◌+◌, ◌<◌, Bool, cond, true, false, add-one, get_or, drop, drop-cons}
-use Rattle.std.specs.Prelude.{List, [], ◌∷◌, length, Option, Some, None, Result, Err, ◌==◌, ◌||◌, if◌then◌else◌, is_some}
-use Rattle.std.proofs.lemmas.Bool.Decides.{nat_tests}
-use Rattle.std.proofs.Common.{arith}
+use Rattle.std.proofs.Common.{◌≡◌, ap, sym, ◌∙◌, ℕ, suc, ◌+◌, ◌<◌, true, false, add-one, get_or, drop, drop-cons}
+use Rattle.std.specs.Prelude.{List, [], ◌∷◌, length, Option, Some, None, Result, Err, ◌||◌, if◌then◌else◌, is_some}
 use Rattle.std.specs.Ordering.{nat_cmp, eq_by_cmp}
 use Rattle.std.specs.Cmp.{nat_cmp_total, unsigned_tied}
 use Rattle.std.specs.FinMap as fin
 use Rattle.lj_clause.specs.ClauseMap.{ClauseMap}
 use Rattle.lj_clause.specs.Rat.{HintGroup}
+use Rattle.lj_clause.proofs.Tests.{turned, marked}
 use Rattle.lj_text.specs.declared.line.Addition.{Addition}
 use Rattle.lj_hint.specs.Case.{CaseValue}
 use Rattle.lj_book.specs.declared.refusal.Refusal.{Refusal}
@@ -49,10 +48,3 @@ seen-more m n before j has is q =
     ∙ ap is_some (fin.get-insert nat_cmp_total m j tt q)
     ∙ marked (eq_by_cmp nat_cmp q j) (fin.get m q)
     ∙ (λ i. (unsigned_tied q j ∙ turned q j) i || has q i)
-  where
-    turned : (a b : ℕ) → (a == b) ≡ (b == a)
-    turned a b = grind (arith, nat_tests)
-
-    marked : (b : Bool) (o : Option (Unit {0})) → is_some (cond b (Some tt) o) ≡ (b || is_some o)
-    marked true o = refl
-    marked false o = refl

@@ -211,7 +211,8 @@ abbrev pub entry_with : ℕ → ReceiptValue → Entry
 entry_with number r = record {
   seat = r.seat;
   call = calls.Add r.own r.lemma;
-  step = Some (steps.Add (record { number = number; lemma = r.lemma; hints = numbers r.listed; groups = [] }));
+  step = Some (steps.Add (record
+      { number = number; lemma = r.lemma; hints = numbers r.listed; groups = [] }));
 }
 
 -- a lemma that enters takes the next number

@@ -54,7 +54,8 @@ IsAdditionOf s lemma (Some (steps.Add a)) =
     × ((is_accepted (live s) (steps.Add a) ≡ true) × IsRecorded (live s) a))
 
 -- An addition is legal where the seat is there, its own number is unbound, and there is room for its step.
-pub record IsLegalAddition (s : State) (seat own : ℕ) (lemma : LemmaValue) (step : Option Step) : Type 0 where
+pub record IsLegalAddition (s : State) (seat own : ℕ) (lemma : LemmaValue)
+    (step : Option Step) : Type 0 where
   pub here : is_here s.tables seat ≡ true
   pub unbound : is_bound s.tables seat own ≡ false
   pub room : addition_count s.history < s.max_steps
@@ -67,7 +68,8 @@ pub record IsLegalDrop (s : State) (seat : ℕ) (numbers : List ℕ) (step : Opt
 
 -- An own number is bound to a joint number legally where the seat is there, its own number is unbound, the joint
 -- number lives, and there is no step.
-pub record IsLegalBinding (s : State) (seat own : ℕ) (joint : Option ℕ) (step : Option Step) : Type 0 where
+pub record IsLegalBinding (s : State) (seat own : ℕ) (joint : Option ℕ)
+    (step : Option Step) : Type 0 where
   pub here : is_here s.tables seat ≡ true
   pub unbound : is_bound s.tables seat own ≡ false
   pub lives : some_lives s joint ≡ true

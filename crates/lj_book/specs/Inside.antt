@@ -1,5 +1,5 @@
 -- An addition that is tested and entered in one call: its reply, and its entry.
-use Rattle.std.specs.Prelude.{ℕ, nat_lt, List, map, ℤ, Option, Some, None, if◌then◌else◌, Result, Ok, Err}
+use Rattle.std.specs.Prelude.{ℕ, nat_lt, map, ℤ, Option, Some, None, if◌then◌else◌, Result, Ok, Err}
 use Rattle.lj_clause.specs.LiteralSet.{LiteralSet}
 use Rattle.lj_clause.specs.ClauseMap.{ClauseMap}
 use Rattle.lj_clause.specs.Walk.{Walk, Closed, Open, Stuck}

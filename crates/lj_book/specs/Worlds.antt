@@ -1,9 +1,6 @@
 -- What a list of events answers and leaves.
 use Rattle.std.specs.Prelude.{◌≡◌, ℕ, List, [], ◌∷◌, length, replicate, slice_index_or, slice_set, Option, IfSome, Result, Ok, Err, IfErr}
-use Rattle.lj_clause.specs.LiteralSet.{LiteralSet}
-use Rattle.lj_text.specs.declared.line.Addition.{Addition}
 use Rattle.lj_hint.specs.Case.{CaseValue, walk_of}
-use Rattle.lj_hint.specs.Receipt.{ReceiptValue}
 use Rattle.lj_hint.specs.Tested.{tested_of, IfAnswered, IfNoMemory}
 use Rattle.lj_hint.specs.declared.tested.Tested.{Tested}
 use Rattle.lj_hint.specs.declared.tested.Tested.TheVariants as tests
@@ -47,7 +44,8 @@ reply_by told (Err e) = replies.Refused e
 
 -- The call answers its reply, where NoMemory may come in place of an answer that isn't a refusal. The event tells what
 -- it answered, and leaves what comes after that answer.
-pub record IsCalled {A B : Type 0} (call : Result A Refusal) (told : A → Reply) (left : Result A Refusal → B) (reply : Reply) (after : B) : Type 0 where
+pub record IsCalled {A B : Type 0} (call : Result A Refusal) (told : A → Reply)
+    (left : Result A Refusal → B) (reply : Reply) (after : B) : Type 0 where
   pub answer : Result A Refusal
   pub answers : IsReply answer call
   pub refused : IfErr call (λ e. answer ≡ Err e)
@@ -56,7 +54,8 @@ pub record IsCalled {A B : Type 0} (call : Result A Refusal) (told : A → Reply
 
 -- The same for a call that takes memory to find its refusals: NoMemory may come in place of any answer but that of the
 -- refusal that is found first, if there is one.
-pub record IsTried {A B : Type 0} (first : Option Refusal) (call : Result A Refusal) (told : A → Reply) (left : Result A Refusal → B) (reply : Reply) (after : B) : Type 0 where
+pub record IsTried {A B : Type 0} (first : Option Refusal) (call : Result A Refusal)
+    (told : A → Reply) (left : Result A Refusal → B) (reply : Reply) (after : B) : Type 0 where
   pub answer : Result A Refusal
   pub answers : IsReply answer call
   pub refused : IfSome first (λ e. answer ≡ Err e)
@@ -90,7 +89,8 @@ pending_after_test (tests.Stuck place) = pendings.Nothing
 pending_after_test (tests.NoMemory c e) = pendings.Case c
 
 -- The test of a case answers how its walk ends, or NoMemory with the case.
-pub record IsTested {B : Type 0} (c : CaseValue) (left : Pending → B) (reply : Reply) (after : B) : Type 0 where
+pub record IsTested {B : Type 0} (c : CaseValue) (left : Pending → B) (reply : Reply)
+    (after : B) : Type 0 where
   pub answer : Tested
   pub walk : IfAnswered answer (λ a. a ≡ tested_of c (walk_of c))
   pub no_memory : IfNoMemory answer (λ d. d ≡ c)

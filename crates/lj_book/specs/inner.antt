@@ -1,8 +1,10 @@
 -- What invariants, private functions and proofs say. No public contract names any of it.
+pub mod Records
 pub mod Codes
 pub mod Tables
 pub mod Holders
 pub mod JointLines
+pub mod Ready
 pub mod Kept
 pub mod Fronts
 pub mod Solo

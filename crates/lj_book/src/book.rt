@@ -1,5 +1,5 @@
 //! The book.
-ghost use Rattle.std.specs.Prelude.{◌≡◌, ◌<◌, ◌+◌, length, OnOk, OnErr, IfOk, IfErr, Err, option_copied, slice_get, is_some, IfSome, None, Some};
+ghost use Rattle.std.specs.Prelude.{◌≡◌, ◌<◌, ◌+◌, length, ◌↔◌, IsTrue, OnOk, OnErr, IfOk, IfErr, Err, option_copied, option_map, slice_get, is_some, IfSome, None, Some};
 ghost use Rattle.std.specs.FinMap as fin;
 ghost use Rattle.lj_clause.specs.ClauseMap.{formula_map};
 ghost use Rattle.lj_text.specs.Steps.{replay, refutes};
@@ -7,6 +7,7 @@ ghost use Rattle.lj_text.specs.Needed.{if_some};
 ghost use Rattle.lj_book.specs.Lookup.{numbers_holding};
 ghost use Rattle.lj_book.specs.State.{State, opening, live, steps_of, verdict};
 ghost use Rattle.lj_book.specs.History.{after_entry};
+ghost use Rattle.lj_book.specs.inner.Ready.{IsStepOf};
 ghost use Rattle.lj_book.specs.Calls.{IsReply, drop_reply, drop_entry, commit_refusal, commit_told, commit_reply, commit_entry, answer_alone, take_reply, free_refusal};
 
 mod adopting;
@@ -16,10 +17,12 @@ mod leaving;
 mod playing;
 mod telling;
 
-use crate::committing::{enter_clause, entry_with, first_stale, refuted_at};
+use crate::committing::{enter_clause, first_stale, refuted_at, step_of};
 use crate::dying::{bury, no_longer_held, rising};
-use crate::entry::{Added, Call, Dropped, Entry};
+use crate::entry::{Added, Dropped, Entry};
+use crate::history::History;
 use crate::indexed_clauses::IndexedClauses;
+use crate::made::MadeCall;
 use crate::refusal::Refusal;
 use crate::seat_tables::SeatTables;
 use crate::taking::case_of;
@@ -40,7 +43,7 @@ pub struct Book {
     tables: SeatTables,
     /// The clause of each number that some seat holds.
     clauses: IndexedClauses,
-    history: Vec<Entry>,
+    history: History,
     /// The number of additions in the history.
     added: u32,
     /// The place of the first entry that adds the empty clause.
@@ -56,9 +59,19 @@ impl Model for Book {
 
     ghost coded = { state_code };
 
-    ghost view = { λ b. record { formula = b.formula; max_steps = b.max_steps; tables = b.tables; history = b.history.items } };
+    ghost view = { λ b. record {
+      formula = b.formula;
+      max_steps = b.max_steps;
+      tables = b.tables;
+      history = b.history.entries;
+    } };
 
-    ghost invariant = { λ b. IsKept (record { formula = b.formula; max_steps = b.max_steps; tables = b.tables; history = b.history.items }) b.clauses b.added b.refuted };
+    ghost invariant = { λ b. IsKept (record {
+      formula = b.formula;
+      max_steps = b.max_steps;
+      tables = b.tables;
+      history = b.history.entries;
+    }) b.clauses b.added b.refuted };
 }
 
 impl Book {
@@ -83,7 +96,7 @@ impl Book {
             max_steps,
             tables,
             clauses,
-            history: Vec::new(alloc),
+            history: History::new(alloc),
             added: 0,
             refuted: None,
         })
@@ -104,7 +117,7 @@ impl Book {
     pub fn candidates(&self, lit: Lit) -> Result<Vec<u64>, NoMemory>
         ensures { IfOk result (λ numbers. numbers.items ≡ numbers_holding (live self.now) lit) }
     {
-        let alloc = *self.history.allocator();
+        let alloc = self.history.allocator();
         self.clauses.numbers_holding(alloc, lit)
     }
 
@@ -119,14 +132,32 @@ impl Book {
     pub fn history_len(&self) -> u64
         ensures { result ≡ length self.now.history }
     {
-        self.history.len() as u64
+        self.history.len()
     }
 
-    /// The entry at a place of the history, counted from 0.
-    pub fn entry(&self, place: u64) -> Option<&Entry>
-        ensures { option_copied result ≡ slice_get self.now.history place }
+    /// A copy of the entry at a place of the history, counted from 0. Takes time linear in its contents.
+    ///
+    /// # Errors
+    /// [`NoMemory`] where a growth was refused.
+    pub fn entry(&self, place: u64) -> Result<Option<Entry>, NoMemory>
+        ensures { IfOk result (λ entry. entry ≡ slice_get self.now.history place) }
     {
-        self.history.get(place as usize)
+        self.history.entry(place)
+    }
+
+    /// The seat of the entry at a place of the history, counted from 0.
+    pub fn seat_at(&self, place: u64) -> Option<u32>
+        ensures { result ≡ option_map (λ e. e.seat) (slice_get self.now.history place) }
+    {
+        self.history.seat(place)
+    }
+
+    /// Whether the entry at a place of the history, counted from 0, is this one. Takes time linear in its contents, and
+    /// no memory.
+    pub fn is_entry(&self, place: u64, entry: &Entry) -> bool
+        ensures { IsTrue result ↔ (slice_get self.now.history place ≡ Some entry.now) }
+    {
+        self.history.is_entry(place, entry)
     }
 
     /// The place of the first entry that adds the empty clause.
@@ -153,24 +184,11 @@ impl Book {
         Ok(Some(Verified::new(self.formula.copy()?)))
     }
 
-    /// The steps of the history, in order, by value.
-    ///
-    /// # Errors
-    /// [`NoMemory`] where a growth was refused.
-    pub fn into_steps(self) -> Result<Vec<Step>, NoMemory>
-        ensures steps { IfOk result (λ steps. steps.items ≡ steps_of self.history) }
+    /// The steps of the history, in order, by value. Takes no memory: the tables and the live clauses are let go of.
+    pub fn into_steps(self) -> Vec<Step>
+        ensures { result.items ≡ steps_of self.history }
     {
-        let history = self.into_history();
-        let alloc = *history.allocator();
-        let steps = history.into_iter().filter_map(|entry| entry.step);
-        Ok(steps.collect(alloc)?)
-    }
-
-    /// The history alone: the tables and the live clauses are let go of.
-    fn into_history(self) -> Vec<Entry>
-        ensures { result.items ≡ self.history }
-    {
-        self.history
+        self.history.into_steps()
     }
 
     /// An addition under the seat's numbers as a case in joint numbers, with the clauses that they name. It can be
@@ -190,7 +208,7 @@ impl Book {
         if self.tables.is_bound(seat, addition.number) {
             return Err(Refusal::NumberTaken);
         }
-        let alloc = *self.history.allocator();
+        let alloc = self.history.allocator();
         case_of(alloc, &self.tables, &self.clauses, seat, addition)
     }
 
@@ -209,14 +227,18 @@ impl Book {
         if let Some(refusal) = self.commit_refusal(&receipt) {
             return Err((refusal, receipt));
         }
-        match self.enter(&receipt) {
+        let step = match step_of(self.history.allocator(), &receipt) {
+            Ok(step) => step,
+            Err(e) => return Err((Refusal::NoMemory(e), receipt)),
+        };
+        match self.enter(&receipt, step) {
             Ok(added) => Ok(added),
             Err(e) => Err((Refusal::NoMemory(e), receipt)),
         }
     }
 
     /// The first refusal of a commit that holds.
-    fn commit_refusal(&self, receipt: &Receipt) -> Option<Refusal>
+    pub(crate) fn commit_refusal(&self, receipt: &Receipt) -> Option<Refusal>
         ensures { result ≡ commit_refusal self.now receipt.now }
     {
         if !self.tables.is_here(receipt.seat()) {
@@ -234,22 +256,30 @@ impl Book {
         None
     }
 
-    /// Enters the lemma of a receipt that isn't refused.
-    fn enter(&mut self, receipt: &Receipt) -> Result<Added, NoMemory>
-        requires { commit_refusal self.old receipt.now ≡ None }
+    /// Enters the lemma of a receipt that isn't refused, with its step.
+    fn enter(&mut self, receipt: &Receipt, step: Addition) -> Result<Added, NoMemory>
+        requires unrefused { commit_refusal self.old receipt.now ≡ None }
+        requires step { IsStepOf receipt.now step }
         ensures told { IfOk result (λ added. added ≡ commit_told self.old) }
         ensures ok { OnOk result
             (self.new ≡ after_entry self.old (commit_entry self.old receipt.now)) }
         ensures err { OnErr result (self.new ≡ self.old) }
     {
         let joint = self.formula.len() as u64 + 1 + u64::from(self.added);
-        let entry = entry_with(*self.history.allocator(), joint, receipt)?;
-        self.history.reserve(1)?;
+        let step = Addition {
+            number: joint,
+            lemma: step.lemma,
+            hints: step.hints,
+            groups: step.groups,
+        };
+        self.history.reserve()?;
+        let place = self.history.len();
         enter_clause(&mut self.clauses, &mut self.tables, joint, receipt)?;
-        let place = self.history.len() as u64;
         self.refuted = refuted_at(self.refuted, place, receipt.lemma().clause());
         self.added += 1;
-        self.history.push(entry).unwrap();
+        let made = MadeCall::Add { own: receipt.own() };
+        self.history
+            .push(receipt.seat(), made, Some(Step::Add(step)));
         Ok(Added { place, joint })
     }
 
@@ -258,7 +288,7 @@ impl Book {
     ///
     /// # Errors
     /// [`Refusal::SeatGone`], and [`Refusal::NoMemory`] where a growth was refused.
-    pub fn drop_numbers(&mut self, seat: u32, numbers: &[u64]) -> Result<Dropped, Refusal>
+    pub fn drop_numbers(&mut self, seat: u32, numbers: &Numbers) -> Result<Dropped, Refusal>
         ensures reply { IsReply result (drop_reply self.old seat numbers.now) }
         ensures refused { IfErr (drop_reply self.old seat numbers.now) (λ e. result ≡ Err e) }
         ensures ok { OnOk result
@@ -268,18 +298,18 @@ impl Book {
         if !self.tables.is_here(seat) {
             return Err(Refusal::SeatGone);
         }
-        let alloc = *self.history.allocator();
-        let call = Call::Drop {
-            numbers: Numbers::from_slice(alloc, numbers)?,
-        };
+        let alloc = self.history.allocator();
+        let own = numbers.copy()?;
+        let given = Box::new(alloc, own)?;
         let joints = rising(self.tables.joints(alloc, seat, numbers)?);
-        self.history.reserve(1)?;
-        let place = self.history.len() as u64;
+        self.history.reserve()?;
+        let place = self.history.len();
         let count = self.tables.unbind_all(seat, numbers);
         let died = no_longer_held(&self.tables, joints);
         bury(&mut self.clauses, &died);
         let step = deletion_of(died);
-        self.history.push(Entry { seat, call, step }).unwrap();
+        let made = MadeCall::Drop { numbers: given };
+        self.history.push(seat, made, step);
         Ok(Dropped { place, count })
     }
 }

@@ -3,19 +3,19 @@ ghost use Rattle.std.specs.Prelude.{◌≡◌, OnOk, OnErr, IfOk, None, true, fa
 ghost use Rattle.std.specs.FinMap as fin;
 ghost use Rattle.lj_hint.specs.Hints.{numbers};
 ghost use Rattle.lj_book.specs.Tables.{is_here, is_bound, is_held, with_table};
-ghost use Rattle.lj_book.specs.Calls.{is_live_as, first_stale, entry_with};
+ghost use Rattle.lj_book.specs.Calls.{is_live_as, first_stale};
+ghost use Rattle.lj_book.specs.inner.Ready.{IsStepOf};
 ghost use Rattle.lj_book.specs.inner.Kept.{refuted_after};
 
-use crate::entry::{Call, Entry};
 use crate::indexed_clauses::IndexedClauses;
 use crate::seat_tables::SeatTables;
 use lj_clause::{Clause, NoMemory};
 use lj_hint::{Pair, Receipt};
-use lj_text::{Addition, Groups, Numbers, Step};
+use lj_text::{Addition, Groups, Numbers};
 use std::alloc::Global;
 
 /// The number of the first pair that doesn't live with that very clause.
-pub fn first_stale(clauses: &IndexedClauses, listed: &[Pair]) -> Option<u64>
+pub(crate) fn first_stale(clauses: &IndexedClauses, listed: &[Pair]) -> Option<u64>
     ensures { result ≡ first_stale clauses.now listed.now }
 {
     for pair in listed {
@@ -36,41 +36,37 @@ fn is_live_as(clauses: &IndexedClauses, pair: &Pair) -> bool
     }
 }
 
-/// The entry of a receipt's lemma under this number.
+/// The step of a receipt's lemma, but for its number.
 ///
 /// # Errors
 /// [`NoMemory`] where a growth was refused.
-pub fn entry_with(alloc: Global, number: u64, receipt: &Receipt) -> Result<Entry, NoMemory>
-    ensures { IfOk result (λ entry. entry ≡ entry_with number receipt.now) }
+pub(crate) fn step_of(alloc: Global, receipt: &Receipt) -> Result<Addition, NoMemory>
+    ensures { IfOk result (IsStepOf receipt.now) }
 {
-    let addition = Addition {
-        number,
+    Ok(Addition {
+        number: 0,
         lemma: receipt.lemma().copy()?,
-        hints: Numbers::new(numbers_of(alloc, receipt.listed())?),
+        hints: numbers_of(alloc, receipt.listed())?,
         groups: Groups::new(Vec::new(alloc)),
-    };
-    Ok(Entry {
-        seat: receipt.seat(),
-        call: Call::Add {
-            own: receipt.own(),
-            lemma: receipt.lemma().copy()?,
-        },
-        step: Some(Step::Add(addition)),
     })
 }
 
 /// The numbers of these pairs.
-fn numbers_of(alloc: Global, pairs: &[Pair]) -> Result<Vec<u64>, NoMemory>
-    ensures { IfOk result (λ v. v.items ≡ numbers pairs.now) }
+fn numbers_of(alloc: Global, pairs: &[Pair]) -> Result<Numbers, NoMemory>
+    ensures { IfOk result (λ list. list ≡ numbers pairs.now) }
 {
-    Ok(pairs.iter().map(|pair| pair.joint).collect(alloc)?)
+    let mut list = Numbers::with_capacity(alloc, pairs.len())?;
+    for pair in pairs {
+        list.push(pair.joint)?;
+    }
+    Ok(list)
 }
 
 /// Gives the clause of a receipt's lemma this new number, and binds the receipt's own number to it: both, or neither.
 ///
 /// # Errors
 /// [`NoMemory`] where a growth was refused.
-pub fn enter_clause(
+pub(crate) fn enter_clause(
     clauses: &mut IndexedClauses,
     tables: &mut SeatTables,
     joint: u64,
@@ -101,7 +97,7 @@ pub fn enter_clause(
 ///
 /// # Errors
 /// [`NoMemory`] where a growth was refused.
-pub fn bind_clause(
+pub(crate) fn bind_clause(
     clauses: &mut IndexedClauses,
     tables: &mut SeatTables,
     joint: u64,
@@ -127,7 +123,7 @@ pub fn bind_clause(
 }
 
 /// The place of the first empty clause, where this clause enters at that place.
-pub fn refuted_at(refuted: Option<u64>, place: u64, clause: &Clause) -> Option<u64>
+pub(crate) fn refuted_at(refuted: Option<u64>, place: u64, clause: &Clause) -> Option<u64>
     ensures { result ≡ refuted_after refuted place clause.now }
 {
     match refuted {

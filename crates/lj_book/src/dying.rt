@@ -10,7 +10,7 @@ use crate::seat_tables::SeatTables;
 use lj_clause::Clause;
 
 /// The numbers, each once, rising.
-pub fn rising(mut numbers: Vec<u64>) -> Vec<u64>
+pub(crate) fn rising(mut numbers: Vec<u64>) -> Vec<u64>
     ensures rising { IsStrictlySortedBy nat_cmp result.items }
     ensures same { (n : ℕ) → is_among result.items n ≡ is_among numbers.items n }
 {
@@ -20,7 +20,7 @@ pub fn rising(mut numbers: Vec<u64>) -> Vec<u64>
 }
 
 /// Those of the numbers that no seat holds, in their order.
-pub fn no_longer_held(tables: &SeatTables, mut numbers: Vec<u64>) -> Vec<u64>
+pub(crate) fn no_longer_held(tables: &SeatTables, mut numbers: Vec<u64>) -> Vec<u64>
     ensures { result.items ≡ filter (λ n. not (is_held tables.now n)) numbers.items }
 {
     numbers.retain(|n| !tables.is_held(*n));
@@ -28,7 +28,7 @@ pub fn no_longer_held(tables: &SeatTables, mut numbers: Vec<u64>) -> Vec<u64>
 }
 
 /// Takes the clauses of these numbers out.
-pub fn bury(clauses: &mut IndexedClauses, numbers: &[u64])
+pub(crate) fn bury(clauses: &mut IndexedClauses, numbers: &[u64])
     ensures { clauses.new ≡ without clauses.old numbers.now }
 {
     for &n in numbers {

@@ -13,7 +13,7 @@ use std::marker::Model;
 
 /// Clauses under their numbers, seen as a finite map, with the lists of those that hold a literal once these are made.
 #[derive(Drop)]
-pub struct IndexedClauses {
+pub(crate) struct IndexedClauses {
     clauses: NumberMap<Clause>,
     /// `None` where nobody asked yet, or a growth was refused: then all clauses are looked through.
     lists: Option<OccurrenceLists>,
@@ -37,7 +37,7 @@ impl Model for IndexedClauses {
 
 impl IndexedClauses {
     /// No clauses.
-    pub fn new(alloc: Global) -> Self
+    pub(crate) fn new(alloc: Global) -> Self
         ensures { result ≡ fin.empty }
     {
         IndexedClauses {
@@ -48,14 +48,14 @@ impl IndexedClauses {
     }
 
     /// The clause of a number.
-    pub fn get(&self, number: u64) -> Option<&Clause>
+    pub(crate) fn get(&self, number: u64) -> Option<&Clause>
         ensures { option_copied result ≡ fin.get self.now number }
     {
         self.clauses.get(number)
     }
 
     /// Whether a number has a clause.
-    pub fn contains_key(&self, number: u64) -> bool
+    pub(crate) fn contains_key(&self, number: u64) -> bool
         ensures { result ≡ fin.contains_key self.now number }
     {
         self.clauses.contains_key(number)
@@ -65,13 +65,15 @@ impl IndexedClauses {
     ///
     /// # Errors
     /// [`NoMemory`] where a growth was refused.
-    pub fn insert(&mut self, number: u64, clause: Clause) -> Result<(), NoMemory>
+    pub(crate) fn insert(&mut self, number: u64, clause: Clause) -> Result<(), NoMemory>
         ensures ok { OnOk result (self.new ≡ fin.insert self.old number clause) }
         ensures err { OnErr result (self.new ≡ self.old) }
     {
-        let lists = with_clause(self.lists.take(), self.last, number, &clause);
-        self.clauses.insert(number, clause)?;
-        self.lists = lists;
+        list_clause(&mut self.lists, self.last, number, &clause);
+        if let Err(refused) = self.clauses.insert(number, clause) {
+            self.lists = None;
+            return Err(refused);
+        }
         if number > self.last {
             self.last = number;
         }
@@ -79,18 +81,18 @@ impl IndexedClauses {
     }
 
     /// Takes the clause of a number out. Takes constant time for each of its literals, amortized.
-    pub fn remove(&mut self, number: u64)
+    pub(crate) fn remove(&mut self, number: u64)
         ensures removed { self.new ≡ fin.remove self.old number }
     {
-        let Some(clause) = self.clauses.remove(number) else {
-            return;
-        };
-        self.lists = without_clause(self.lists.take(), &self.clauses, &clause);
+        if let Some(clause) = self.clauses.remove(number) {
+            count_death(&mut self.lists, &self.clauses, &clause);
+            drop(clause);
+        }
     }
 
     /// Makes the lists, where they aren't made yet and no growth is refused. Takes constant time for each literal of the
     /// clauses, amortized.
-    pub fn make_lists(&mut self, alloc: Global)
+    pub(crate) fn make_lists(&mut self, alloc: Global)
         ensures { self.new ≡ self.old }
     {
         if self.lists.is_some() {
@@ -106,7 +108,7 @@ impl IndexedClauses {
     ///
     /// # Errors
     /// [`NoMemory`] where a growth was refused.
-    pub fn numbers_holding(&self, alloc: Global, lit: Lit) -> Result<Vec<u64>, NoMemory>
+    pub(crate) fn numbers_holding(&self, alloc: Global, lit: Lit) -> Result<Vec<u64>, NoMemory>
         ensures { IfOk result (λ numbers. numbers.items ≡ numbers_holding self.now lit) }
     {
         match &self.lists {
@@ -117,7 +119,7 @@ impl IndexedClauses {
 
     /// The least number whose clause is exactly this one. Takes time linear in the clauses that hold that literal of it
     /// which the fewest hold, where the lists are made, and otherwise in all clauses.
-    pub fn least_number(&self, wanted: &Clause) -> Option<u64>
+    pub(crate) fn least_number(&self, wanted: &Clause) -> Option<u64>
         ensures { result ≡ least_number self.now wanted.now }
     {
         match &self.lists {
@@ -127,42 +129,62 @@ impl IndexedClauses {
     }
 }
 
-/// The lists with a clause more, whose number isn't in them: none where it isn't beyond all others or takes more than
-/// four bytes, and where a growth was refused.
-fn with_clause(
-    lists: Option<OccurrenceLists>,
-    last: u64,
-    number: u64,
-    clause: &Clause,
-) -> Option<OccurrenceLists>
-    ensures { (p : ClauseMap) → AreListed lists p (last + 1)
-        → AreListed result (fin.insert p number clause.now) (number + 1) }
+/// Lists a clause more, whose number isn't listed. The lists are given up where the number isn't beyond all others or
+/// takes more than four bytes, and where a growth was refused.
+fn list_clause(lists: &mut Option<OccurrenceLists>, last: u64, number: u64, clause: &Clause)
+    ensures { (p : ClauseMap) → AreListed lists.old p (last + 1)
+        → AreListed lists.new (fin.insert p number clause.now) (number + 1) }
 {
-    let mut lists = lists?;
-    if number <= last {
-        return None;
-    }
-    let Ok(short) = u32::try_from(number) else {
-        return None;
+    let is_kept = match lists {
+        Some(kept) => is_listed(kept, last, number, clause),
+        None => return,
     };
-    match lists.add_clause(short, clause) {
-        Ok(()) => Some(lists),
-        Err(_) => None,
+    if !is_kept {
+        *lists = None;
     }
 }
 
-/// The lists after the death of a clause, or none where a growth was refused.
-fn without_clause(
-    lists: Option<OccurrenceLists>,
-    clauses: &NumberMap<Clause>,
-    clause: &Clause,
-) -> Option<OccurrenceLists>
-    ensures { (bound : ℕ) → AreListed lists clauses.now bound → AreListed result clauses.now bound }
+/// Puts the number of a clause into its lists. Answers whether it could be put there; where it couldn't, the lists are
+/// of no use.
+fn is_listed(lists: &mut OccurrenceLists, last: u64, number: u64, clause: &Clause) -> bool
+    ensures { (p : ClauseMap) → AreOccurrences lists.old (fin.get p) (last + 1) → result ≡ true
+        → AreOccurrences lists.new (fin.get (fin.insert p number clause.now)) (number + 1) }
 {
-    let mut lists = lists?;
+    if number <= last {
+        return false;
+    }
+    let Ok(short) = u32::try_from(number) else {
+        return false;
+    };
+    match lists.add_clause(short, clause) {
+        Ok(()) => true,
+        Err(_) => false,
+    }
+}
+
+/// Counts the death of a clause in the lists, which are given up where a growth was refused.
+fn count_death(lists: &mut Option<OccurrenceLists>, clauses: &NumberMap<Clause>, clause: &Clause)
+    ensures { (bound : ℕ) → AreListed lists.old clauses.now bound
+        → AreListed lists.new clauses.now bound }
+{
+    let is_kept = match lists {
+        Some(kept) => is_counted(kept, clauses, clause),
+        None => return,
+    };
+    if !is_kept {
+        *lists = None;
+    }
+}
+
+/// Counts the death of a clause in its lists. Answers whether it could be counted; where it couldn't, the lists are of
+/// no use.
+fn is_counted(lists: &mut OccurrenceLists, clauses: &NumberMap<Clause>, clause: &Clause) -> bool
+    ensures { (bound : ℕ) → AreOccurrences lists.old (fin.get clauses.now) bound → result ≡ true
+        → AreOccurrences lists.new (fin.get clauses.now) bound }
+{
     match lists.clause_died(clauses, clause) {
-        Ok(()) => Some(lists),
-        Err(_) => None,
+        Ok(()) => true,
+        Err(_) => false,
     }
 }
 

@@ -6,28 +6,27 @@ ghost use Rattle.lj_book.specs.inner.JointLines.{joints_in, joint_groups_in, joi
 use crate::refusal::Refusal;
 use crate::seat_tables::SeatTables;
 use crate::taking::repeated_group;
-use lj_hint::JointGroup;
 use lj_text::{Addition, Group, Numbers};
 use std::alloc::Global;
 
 /// The hints and the groups of an addition in joint numbers.
 #[derive(Drop)]
-pub struct JointLine {
-    pub hints: Vec<u64>,
-    pub groups: Vec<JointGroup>,
+pub(crate) struct JointLine {
+    pub hints: Numbers,
+    pub groups: Vec<Group>,
 }
 
 /// The hints and the groups of a seat's addition in joint numbers. Each own number is looked up once.
 ///
 /// # Errors
 /// [`Refusal::UnknownNumber`], [`Refusal::GroupRepeated`], and [`Refusal::NoMemory`] where a growth was refused.
-pub fn joint_line(
+pub(crate) fn joint_line(
     alloc: Global,
     tables: &SeatTables,
     seat: u32,
     addition: &Addition,
 ) -> Result<JointLine, Refusal>
-    ensures { IsReplyBy (λ line. (line.hints.items, line.groups.items)) result
+    ensures { IsReplyBy (λ line. (line.hints, line.groups.items)) result
         (joint_parts (joint_of tables.now seat) addition.now) }
 {
     let hints = match joints_of(alloc, tables, seat, &addition.hints) {
@@ -54,10 +53,10 @@ fn joints_of(
     tables: &SeatTables,
     seat: u32,
     numbers: &Numbers,
-) -> Result<Vec<u64>, Refusal>
-    ensures { IsReplyBy (λ v. v.items) result (joints_in (joint_of tables.now seat) numbers.now) }
+) -> Result<Numbers, Refusal>
+    ensures { IsReplyBy (λ v. v) result (joints_in (joint_of tables.now seat) numbers.now) }
 {
-    let mut joints = Vec::with_capacity(alloc, numbers.len())?;
+    let mut joints = Numbers::with_capacity(alloc, numbers.len())?;
     for own in numbers.iter() {
         let Some(joint) = tables.joint(seat, own) else {
             return Err(Refusal::UnknownNumber(own));
@@ -76,7 +75,7 @@ fn joint_groups_of(
     tables: &SeatTables,
     seat: u32,
     groups: &[Group],
-) -> Result<Vec<JointGroup>, Refusal>
+) -> Result<Vec<Group>, Refusal>
     ensures { IsReplyBy (λ v. v.items) result
         (joint_groups_in (joint_of tables.now seat) groups.now) }
 {
@@ -86,7 +85,7 @@ fn joint_groups_of(
             return Err(Refusal::UnknownNumber(group.candidate));
         };
         match joints_of(alloc, tables, seat, &group.hints) {
-            Ok(hints) => joints.push(JointGroup::new(candidate, hints))?,
+            Ok(hints) => joints.push(Group { candidate, hints })?,
             Err(refusal) => return Err(refusal),
         }
     }

@@ -17,7 +17,7 @@ use std::alloc::Global;
 
 /// The live clauses of a book, lent.
 #[derive(Drop)]
-pub struct LiveClauses<'a> {
+pub(crate) struct LiveClauses<'a> {
     alloc: Global,
     clauses: &'a IndexedClauses,
 }
@@ -40,23 +40,23 @@ impl Live for LiveClauses<'_> {
 ///
 /// # Errors
 /// The refusal of its test, and [`Refusal::NoMemory`] where a growth was refused.
-pub fn tested_line(
+pub(crate) fn tested_line(
     alloc: Global,
     clauses: &mut IndexedClauses,
     number: u64,
     lemma: &Lemma,
-    line: &JointLine,
+    line: JointLine,
     marks: &mut Marks,
 ) -> Result<Addition, Refusal>
     ensures reply { IsReply result (tested_line clauses.old
-        (addition_of_parts number lemma.now (line.now.hints.items, line.now.groups.items))) }
+        (addition_of_parts number lemma.now (line.hints, line.groups.items))) }
     ensures same { clauses.new ≡ clauses.old }
 {
-    match test_over(alloc, clauses, lemma, line, marks) {
+    match test_over(alloc, clauses, lemma, &line, marks) {
         Ok(Passed::Closed(read)) => Ok(Addition {
             number,
             lemma: lemma.copy()?,
-            hints: Numbers::from_slice(alloc, first(line.hints.as_slice(), read))?,
+            hints: first(line.hints, read),
             groups: Groups::new(Vec::new(alloc)),
         }),
         Ok(Passed::Covered(groups)) => {
@@ -64,7 +64,7 @@ pub fn tested_line(
             Ok(Addition {
                 number,
                 lemma: lemma.copy()?,
-                hints: Numbers::from_slice(alloc, line.hints.as_slice())?,
+                hints: line.hints,
                 groups,
             })
         }
@@ -88,21 +88,19 @@ fn test_over(
     marks: &mut Marks,
 ) -> Result<Passed, LineRefusal>
     ensures { IsLineReply result (line_reply clauses.now lemma.now.pivot line.now.groups.items
-        (walk clauses.now (negations lemma.now.clause) line.now.hints.items)) }
+        (walk clauses.now (negations lemma.now.clause) line.now.hints)) }
 {
     let live = LiveClauses { alloc, clauses };
-    let hints = line.hints.as_slice();
-    test_line(alloc, &live, lemma, hints, line.groups.as_slice(), marks)
+    let groups = line.groups.as_slice();
+    test_line(alloc, &live, lemma, &line.hints, groups, marks)
 }
 
 /// The first numbers, so many.
-fn first(numbers: &[u64], count: usize) -> &[u64]
-    ensures { result.now ≡ take count numbers.now }
+fn first(mut numbers: Numbers, count: usize) -> Numbers
+    ensures { result ≡ take count numbers }
 {
-    match numbers.get(..count) {
-        Some(first) => first,
-        None => numbers,
-    }
+    numbers.truncate(count);
+    numbers
 }
 
 /// The book's word for a refusal by the pivot.

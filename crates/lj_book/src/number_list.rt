@@ -1,5 +1,5 @@
 //! Lists of numbers that take four bytes each.
-ghost use Rattle.std.specs.Prelude.{◌≡◌, ℕ, [], ◌∷◌, ◌++◌, OnOk, IfOk, true, length, filter, slice_get};
+ghost use Rattle.std.specs.Prelude.{◌≡◌, ℕ, [], ◌∷◌, ◌++◌, OnOk, OnErr, IfOk, true, length, filter, slice_get};
 ghost use Rattle.std.specs.List.Sorted.{IsStrictlySortedBy};
 ghost use Rattle.std.specs.Ordering.{nat_cmp};
 ghost use Rattle.std.specs.FinMap as fin;
@@ -13,7 +13,7 @@ use std::marker::Model;
 
 /// Numbers of clauses, some of which may be dead. Each takes four bytes.
 #[derive(Drop)]
-pub struct NumberList {
+pub(crate) struct NumberList {
     numbers: Vec<u32>,
     /// How many of their clauses have died since the dead ones were last taken out.
     dead: u32,
@@ -32,7 +32,7 @@ impl Model for NumberList {
 
 impl NumberList {
     /// The list without a number.
-    pub fn new(alloc: Global) -> Self
+    pub(crate) fn new(alloc: Global) -> Self
         ensures { result ≡ [] }
     {
         NumberList {
@@ -42,7 +42,7 @@ impl NumberList {
     }
 
     /// How many numbers it has, those of dead clauses among them.
-    pub fn len(&self) -> usize
+    pub(crate) fn len(&self) -> usize
         ensures { result ≡ length self.now }
     {
         self.numbers.len()
@@ -52,8 +52,10 @@ impl NumberList {
     ///
     /// # Errors
     /// [`NoMemory`] where a growth was refused.
-    pub fn add(&mut self, number: u32) -> Result<(), NoMemory>
-        ensures { OnOk result (self.new ≡ self.old ++ number ∷ []) }
+    #[inline]
+    pub(crate) fn add(&mut self, number: u32) -> Result<(), NoMemory>
+        ensures ok { OnOk result (self.new ≡ self.old ++ number ∷ []) }
+        ensures err { OnErr result (self.new ≡ self.old) }
     {
         self.numbers.push(number)?;
         Ok(())
@@ -61,7 +63,7 @@ impl NumberList {
 
     /// Counts the death of one of the clauses. Once more than half of them have died, takes the numbers out that have no
     /// clause any more, so that a death takes constant time, amortized.
-    pub fn one_died(&mut self, clauses: &NumberMap<Clause>)
+    pub(crate) fn one_died(&mut self, clauses: &NumberMap<Clause>)
         ensures rising { IsStrictlySortedBy nat_cmp self.old → IsStrictlySortedBy nat_cmp self.new }
         ensures living { (n : ℕ) → fin.contains_key clauses.now n ≡ true
             → is_among self.new n ≡ is_among self.old n }
@@ -78,7 +80,11 @@ impl NumberList {
     ///
     /// # Errors
     /// [`NoMemory`] where a growth was refused.
-    pub fn living(&self, alloc: Global, clauses: &NumberMap<Clause>) -> Result<Vec<u64>, NoMemory>
+    pub(crate) fn living(
+        &self,
+        alloc: Global,
+        clauses: &NumberMap<Clause>,
+    ) -> Result<Vec<u64>, NoMemory>
         ensures { IfOk result
             (λ v. v.items ≡ filter (λ n. fin.contains_key clauses.now n) self.now) }
     {
@@ -93,7 +99,7 @@ impl NumberList {
     }
 
     /// The first number whose clause is this one.
-    pub fn first_same(&self, clauses: &NumberMap<Clause>, wanted: &Clause) -> Option<u64>
+    pub(crate) fn first_same(&self, clauses: &NumberMap<Clause>, wanted: &Clause) -> Option<u64>
         ensures { result
             ≡ slice_get (filter (λ n. is_clause wanted.now (fin.get clauses.now n)) self.now) 0 }
     {

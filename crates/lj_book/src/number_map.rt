@@ -3,6 +3,7 @@ ghost use Rattle.std.specs.Prelude.{◌≡◌, ◌<◌, ◌≤◌, OnOk, OnErr, 
 ghost use Rattle.std.specs.FinMap as fin;
 ghost use Rattle.lj_book.specs.inner.Slots.{slot_map};
 
+mod listing;
 mod scanning;
 
 use lj_clause::NoMemory;
@@ -13,7 +14,7 @@ use std::marker::Model;
 /// to the greatest that was ever set. Each call takes constant time, but that setting a greater number makes the slots
 /// up to it.
 #[derive(Drop)]
-pub struct NumberMap<V> {
+pub(crate) struct NumberMap<V> {
     slots: Vec<Option<V>>,
 }
 
@@ -32,7 +33,7 @@ impl<V> Model for NumberMap<V> {
 
 impl<V: Drop> NumberMap<V> {
     /// The map without an entry.
-    pub fn new(alloc: Global) -> Self
+    pub(crate) fn new(alloc: Global) -> Self
         ensures { result ≡ fin.empty }
     {
         NumberMap {
@@ -41,7 +42,7 @@ impl<V: Drop> NumberMap<V> {
     }
 
     /// The value at the key.
-    pub fn get(&self, key: u64) -> Option<&V>
+    pub(crate) fn get(&self, key: u64) -> Option<&V>
         ensures { option_copied result ≡ fin.get self.now key }
     {
         match self.slots.get(key as usize) {
@@ -51,7 +52,7 @@ impl<V: Drop> NumberMap<V> {
     }
 
     /// Whether there is a value at the key.
-    pub fn contains_key(&self, key: u64) -> bool
+    pub(crate) fn contains_key(&self, key: u64) -> bool
         ensures { result ≡ fin.contains_key self.now key }
     {
         self.get(key).is_some()
@@ -61,7 +62,7 @@ impl<V: Drop> NumberMap<V> {
     ///
     /// # Errors
     /// [`NoMemory`] where a growth was refused.
-    pub fn insert(&mut self, key: u64, value: V) -> Result<(), NoMemory>
+    pub(crate) fn insert(&mut self, key: u64, value: V) -> Result<(), NoMemory>
         ensures ok { OnOk result (self.new ≡ fin.insert self.old key value) }
         ensures err { OnErr result (self.new ≡ self.old) }
         ensures absent { OnErr result (fin.get self.old key ≡ None) }
@@ -73,7 +74,7 @@ impl<V: Drop> NumberMap<V> {
     }
 
     /// Takes the key out, and gives back the value that was there.
-    pub fn remove(&mut self, key: u64) -> Option<V>
+    pub(crate) fn remove(&mut self, key: u64) -> Option<V>
         ensures before { result ≡ fin.get self.old key }
         ensures removed { self.new ≡ fin.remove self.old key }
     {

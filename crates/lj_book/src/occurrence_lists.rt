@@ -18,7 +18,7 @@ const EMPTY_PLACE: u64 = 1;
 /// For each literal the numbers that were given to clauses which hold it, under its place, and for the empty clauses
 /// theirs.
 #[derive(Drop)]
-pub struct OccurrenceLists {
+pub(crate) struct OccurrenceLists {
     alloc: Global,
     lists: OwnMap<NumberList>,
 }
@@ -37,7 +37,7 @@ impl Model for OccurrenceLists {
 
 impl OccurrenceLists {
     /// The lists without a number.
-    pub fn new(alloc: Global) -> Self
+    pub(crate) fn new(alloc: Global) -> Self
         ensures { result ≡ fin.empty }
     {
         OccurrenceLists {
@@ -50,7 +50,7 @@ impl OccurrenceLists {
     ///
     /// # Errors
     /// [`NoMemory`] where a growth was refused. The lists are of no use then.
-    pub fn add_clause(&mut self, number: u32, clause: &Clause) -> Result<(), NoMemory>
+    pub(crate) fn add_clause(&mut self, number: u32, clause: &Clause) -> Result<(), NoMemory>
         ensures { OnOk result ((k : ℕ) → list_at self.new k
             ≡ put_if (is_among (places_of clause.now) k) (list_at self.old k) number) }
     {
@@ -68,7 +68,7 @@ impl OccurrenceLists {
     ///
     /// # Errors
     /// [`NoMemory`] where a growth was refused. The lists are of no use then.
-    pub fn clause_died(
+    pub(crate) fn clause_died(
         &mut self,
         clauses: &NumberMap<Clause>,
         clause: &Clause,
@@ -90,7 +90,7 @@ impl OccurrenceLists {
     ///
     /// # Errors
     /// [`NoMemory`] where a growth was refused.
-    pub fn living(
+    pub(crate) fn living(
         &self,
         alloc: Global,
         place: u64,
@@ -106,7 +106,7 @@ impl OccurrenceLists {
     }
 
     /// The first number under a place whose clause is this one.
-    pub fn first_same(
+    pub(crate) fn first_same(
         &self,
         place: u64,
         clauses: &NumberMap<Clause>,
@@ -124,7 +124,7 @@ impl OccurrenceLists {
     }
 
     /// The place of the shortest list of a clause.
-    pub fn shortest(&self, clause: &Clause) -> u64
+    pub(crate) fn shortest(&self, clause: &Clause) -> u64
         ensures { is_among (places_of clause.now) result ≡ true }
     {
         let lits = clause.lits();
@@ -162,17 +162,12 @@ impl OccurrenceLists {
         ensures { OnOk result
             (self.new ≡ fin.insert self.old place (list_at self.old place ++ number ∷ [])) }
     {
-        match self.lists.remove(place) {
-            Some(mut list) => {
-                list.add(number)?;
-                self.lists.put(place, list)
-            }
-            None => {
-                let mut list = NumberList::new(self.alloc);
-                list.add(number)?;
-                self.lists.insert(place, list)
-            }
+        if self.lists.add(place, number)? {
+            return Ok(());
         }
+        let mut list = NumberList::new(self.alloc);
+        list.add(number)?;
+        self.lists.insert(place, list)
     }
 
     /// Counts the death of a clause in one of its lists.
@@ -183,12 +178,7 @@ impl OccurrenceLists {
         ensures { (bound : ℕ) → AreOccurrences self.old (fin.get clauses.now) bound
             → OnOk result (AreOccurrences self.new (fin.get clauses.now) bound) }
     {
-        match self.lists.remove(place) {
-            Some(mut list) => {
-                list.one_died(clauses);
-                self.lists.put(place, list)
-            }
-            None => Ok(()),
-        }
+        self.lists.one_died(place, clauses)?;
+        Ok(())
     }
 }

@@ -3,6 +3,8 @@ ghost use Rattle.std.specs.Prelude.{◌≡◌, OnOk, OnErr, IfOk, option_copied,
 ghost use Rattle.std.specs.FinMap as fin;
 ghost use Rattle.lj_book.specs.inner.Slots.{AreApart};
 
+mod listing;
+
 use crate::dying::rising;
 use crate::number_map::NumberMap;
 use crate::tree_map::TreeMap;
@@ -87,7 +89,7 @@ impl<V: Drop> OwnMap<V> {
     ///
     /// # Errors
     /// [`NoMemory`] where a growth was refused.
-    pub fn put(&mut self, key: u64, value: V) -> Result<(), NoMemory>
+    pub(crate) fn put(&mut self, key: u64, value: V) -> Result<(), NoMemory>
         ensures ok { OnOk result (self.new ≡ fin.insert self.old key value) }
         ensures err { OnErr result (self.new ≡ self.old) }
         ensures absent { OnErr result (fin.get self.old key ≡ None) }
@@ -102,7 +104,7 @@ impl<V: Drop> OwnMap<V> {
     ///
     /// # Errors
     /// [`NoMemory`] where a growth was refused.
-    pub fn keys(&self, alloc: Global) -> Result<Vec<u64>, NoMemory>
+    pub(crate) fn keys(&self, alloc: Global) -> Result<Vec<u64>, NoMemory>
         ensures { IfOk result (λ keys. keys.items ≡ fin.keys self.now) }
     {
         let mut keys = self.near.keys(alloc)?;

@@ -8,12 +8,13 @@ ghost use Rattle.lj_book.specs.inner.Holders.{count_at, holders_of, one_if_at, a
 use crate::number_map::NumberMap;
 use crate::own_map::OwnMap;
 use lj_clause::NoMemory;
+use lj_text::Numbers;
 use std::alloc::Global;
 use std::marker::Model;
 
 /// The table of each seat, from own numbers to joint numbers, and none for a seat that has left.
 #[derive(Drop)]
-pub struct SeatTables {
+pub(crate) struct SeatTables {
     seats: Vec<Option<OwnMap<u64>>>,
     /// How many own numbers of all seats are bound to each joint number, so that none has to be looked for.
     holders: NumberMap<u64>,
@@ -39,7 +40,7 @@ impl SeatTables {
     ///
     /// # Errors
     /// [`NoMemory`] where a growth was refused.
-    pub fn open(alloc: Global, seats: u32, clauses: u64) -> Result<SeatTables, NoMemory>
+    pub(crate) fn open(alloc: Global, seats: u32, clauses: u64) -> Result<SeatTables, NoMemory>
         requires { clauses < 2 ^ 63 }
         ensures { IfOk result (λ tables. tables ≡ replicate seats (Some (up_to clauses))) }
     {
@@ -50,21 +51,21 @@ impl SeatTables {
     }
 
     /// The number of seats, also of those that have left.
-    pub fn len(&self) -> usize
+    pub(crate) fn len(&self) -> usize
         ensures { result ≡ length self.now }
     {
         self.seats.len()
     }
 
     /// Whether there is such a seat, and it hasn't left.
-    pub fn is_here(&self, seat: u32) -> bool
+    pub(crate) fn is_here(&self, seat: u32) -> bool
         ensures { result ≡ is_here self.now seat }
     {
         table_in(&self.seats, seat).is_some()
     }
 
     /// The joint number that the seat's own number is bound to.
-    pub fn joint(&self, seat: u32, own: u64) -> Option<u64>
+    pub(crate) fn joint(&self, seat: u32, own: u64) -> Option<u64>
         ensures { result ≡ joint_of self.now seat own }
     {
         let table = table_in(&self.seats, seat)?;
@@ -72,14 +73,14 @@ impl SeatTables {
     }
 
     /// Whether the seat's own number is bound.
-    pub fn is_bound(&self, seat: u32, own: u64) -> bool
+    pub(crate) fn is_bound(&self, seat: u32, own: u64) -> bool
         ensures { result ≡ is_bound self.now seat own }
     {
         self.joint(seat, own).is_some()
     }
 
     /// Whether some own number of a seat that hasn't left is bound to the joint number.
-    pub fn is_held(&self, joint: u64) -> bool
+    pub(crate) fn is_held(&self, joint: u64) -> bool
         ensures { result ≡ is_held self.now joint }
     {
         count(&self.holders, joint) > 0
@@ -89,7 +90,7 @@ impl SeatTables {
     ///
     /// # Errors
     /// [`NoMemory`] where a growth was refused.
-    pub fn bind(&mut self, seat: u32, own: u64, joint: u64) -> Result<(), NoMemory>
+    pub(crate) fn bind(&mut self, seat: u32, own: u64, joint: u64) -> Result<(), NoMemory>
         requires here { is_here self.old seat ≡ true }
         requires unbound { is_bound self.old seat own ≡ false }
         requires room { holders_of self.old joint < length self.old + 2 ^ 63 }
@@ -106,7 +107,7 @@ impl SeatTables {
     }
 
     /// Gives an own number up. Answers whether it was bound.
-    pub fn unbind(&mut self, seat: u32, own: u64) -> bool
+    pub(crate) fn unbind(&mut self, seat: u32, own: u64) -> bool
         requires here { is_here self.old seat ≡ true }
         ensures bound { result ≡ is_bound self.old seat own }
         ensures removed { self.new ≡ with_table (λ t. fin.remove t own) self.old seat }
@@ -119,15 +120,17 @@ impl SeatTables {
     }
 
     /// Gives these own numbers up, and answers how many were bound. A number that stands twice counts once.
-    pub fn unbind_all(&mut self, seat: u32, numbers: &[u64]) -> u64
+    pub(crate) fn unbind_all(&mut self, seat: u32, numbers: &Numbers) -> u64
         requires here { is_here self.old seat ≡ true }
         ensures removed { self.new ≡ with_table (without_keys numbers.now) self.old seat }
         ensures count { result ≡ keys_lost numbers.now (table_of self.old seat) }
     {
         let mut count = 0;
-        for &own in numbers {
-            if self.unbind(seat, own) {
-                count += 1;
+        for index in 0..numbers.len() {
+            if let Some(own) = numbers.get(index) {
+                if self.unbind(seat, own) {
+                    count += 1;
+                }
             }
         }
         count
@@ -137,7 +140,7 @@ impl SeatTables {
     ///
     /// # Errors
     /// [`NoMemory`] where a growth was refused.
-    pub fn own_numbers(&self, alloc: Global, seat: u32) -> Result<Vec<u64>, NoMemory>
+    pub(crate) fn own_numbers(&self, alloc: Global, seat: u32) -> Result<Vec<u64>, NoMemory>
         ensures { IfOk result (λ numbers. numbers.items ≡ own_numbers (table_of self.now seat)) }
     {
         match table_in(&self.seats, seat) {
@@ -147,7 +150,7 @@ impl SeatTables {
     }
 
     /// Gives the seat up, with all its own numbers, which are these.
-    pub fn leave(&mut self, seat: u32, numbers: &[u64])
+    pub(crate) fn leave(&mut self, seat: u32, numbers: &Numbers)
         requires here { is_here self.old seat ≡ true }
         requires all { numbers.now ≡ own_numbers (table_of self.old seat) }
         ensures { self.new ≡ without_seat self.old seat }
@@ -169,12 +172,17 @@ impl SeatTables {
     ///
     /// # Errors
     /// [`NoMemory`] where a growth was refused.
-    pub fn joints(&self, alloc: Global, seat: u32, numbers: &[u64]) -> Result<Vec<u64>, NoMemory>
+    pub(crate) fn joints(
+        &self,
+        alloc: Global,
+        seat: u32,
+        numbers: &Numbers,
+    ) -> Result<Vec<u64>, NoMemory>
         ensures { IfOk result
             (λ joints. joints.items ≡ filter_map (joint_of self.now seat) numbers.now) }
     {
         let mut joints = Vec::new(alloc);
-        for &own in numbers {
+        for own in numbers.iter() {
             if let Some(joint) = self.joint(seat, own) {
                 joints.push(joint)?;
             }

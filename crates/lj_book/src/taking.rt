@@ -17,7 +17,7 @@ use std::alloc::Global;
 ///
 /// # Errors
 /// [`Refusal::UnknownNumber`], [`Refusal::GroupRepeated`], and [`Refusal::NoMemory`] where a growth was refused.
-pub fn case_of(
+pub(crate) fn case_of(
     alloc: Global,
     tables: &SeatTables,
     clauses: &IndexedClauses,

@@ -10,7 +10,7 @@ use std::marker::Model;
 /// A map from numbers however far apart, seen as a finite map: one node of a tree for each. Each call takes O(log n)
 /// time.
 #[derive(Drop)]
-pub struct TreeMap<V> {
+pub(crate) struct TreeMap<V> {
     entries: BTreeMap<u64, V>,
 }
 
@@ -28,7 +28,7 @@ impl<V> Model for TreeMap<V> {
 
 impl<V: Drop> TreeMap<V> {
     /// The map without an entry.
-    pub fn new(alloc: Global) -> Self
+    pub(crate) fn new(alloc: Global) -> Self
         ensures { result ≡ fin.empty }
     {
         TreeMap {
@@ -37,14 +37,14 @@ impl<V: Drop> TreeMap<V> {
     }
 
     /// The value at the key.
-    pub fn get(&self, key: u64) -> Option<&V>
+    pub(crate) fn get(&self, key: u64) -> Option<&V>
         ensures { option_copied result ≡ fin.get self.now key }
     {
         self.entries.get(&key)
     }
 
     /// Whether there is a value at the key.
-    pub fn contains_key(&self, key: u64) -> bool
+    pub(crate) fn contains_key(&self, key: u64) -> bool
         ensures { result ≡ fin.contains_key self.now key }
     {
         self.entries.contains_key(&key)
@@ -54,7 +54,7 @@ impl<V: Drop> TreeMap<V> {
     ///
     /// # Errors
     /// [`NoMemory`] where a growth was refused.
-    pub fn insert(&mut self, key: u64, value: V) -> Result<(), NoMemory>
+    pub(crate) fn insert(&mut self, key: u64, value: V) -> Result<(), NoMemory>
         ensures ok { OnOk result (self.new ≡ fin.insert self.old key value) }
         ensures err { OnErr result (self.new ≡ self.old) }
         ensures absent { OnErr result (fin.get self.old key ≡ None) }
@@ -67,7 +67,7 @@ impl<V: Drop> TreeMap<V> {
     ///
     /// # Errors
     /// [`NoMemory`] where a growth was refused.
-    pub fn keys(&self, alloc: Global) -> Result<Vec<u64>, NoMemory>
+    pub(crate) fn keys(&self, alloc: Global) -> Result<Vec<u64>, NoMemory>
         ensures { IfOk result (λ keys. keys.items ≡ fin.keys self.now) }
     {
         let mut keys = Vec::new(alloc);
@@ -78,7 +78,7 @@ impl<V: Drop> TreeMap<V> {
     }
 
     /// Takes the key out, and gives back the value that was there.
-    pub fn remove(&mut self, key: u64) -> Option<V>
+    pub(crate) fn remove(&mut self, key: u64) -> Option<V>
         ensures before { result ≡ fin.get self.old key }
         ensures removed { self.new ≡ fin.remove self.old key }
     {

@@ -1,6 +1,9 @@
+pub mod Tests
+pub mod SortedEntries
 pub mod Literals
 pub mod Turns
 pub mod LiteralSets
+pub mod ShortLists
 pub mod Searches
 pub mod Formulas
 pub mod Lemmas

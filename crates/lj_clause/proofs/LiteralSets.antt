@@ -1,13 +1,12 @@
 -- What sets of literals hold, and how they are listed.
-use Rattle.std.proofs.Common.{◌≡◌, ap, refl, sym, ◌∙◌, subst}
+use Rattle.std.proofs.Common.{◌≡◌, ap, refl, sym, ◌∙◌}
 use Rattle.std.specs.Prelude.{ℤ, Bool, true, false, cond, T, ◌||◌, ◌&&◌, List, [], ◌∷◌, map, is_some, Option, Some, None}
 use Rattle.std.specs.List.{list_any, dedup, dedup_from, AllByRecursion}
 use Rattle.std.specs.List.Sorted.{IsStrictlySortedBy}
-use Rattle.std.specs.Ordering.{eq_by_cmp, is_lt, is_eq}
+use Rattle.std.specs.Ordering.{eq_by_cmp, is_eq}
 use Rattle.std.specs.Cmp.{tied_itself}
-use Rattle.std.proofs.lemmas.Bool.{false≢true}
+use Rattle.std.proofs.lemmas.Bool.{false≢true, and_parts}
 use lib.Pointwise.{pointwise}
-use Rattle.std.specs.declared.cmp.Ordering.{Ordering}
 use Rattle.std.specs.declared.cmp.Ordering.TheVariants.{Less}
 use Rattle.std.specs.FinMap as fin
 use Rattle.std.specs.FinMap.Entries.{same_entries, is_sorted, below_all, find}
@@ -15,10 +14,8 @@ use Rattle.lj_clause.specs.Literal.{lit_cmp}
 use Rattle.lj_clause.specs.inner.Literal.{lit_cmp_total}
 use Rattle.lj_clause.specs.LiteralSet.{LiteralSet, no_literals, holds, with_literal, literals, from_literals}
 use Rattle.lj_clause.proofs.Literals.{lit_cmp-antisymmetric, same_literal}
-
-marked : (b : Bool) (x : Option (Unit {0})) → is_some (cond b (Some tt) x) ≡ (b || is_some x)
-marked true x = refl
-marked false x = refl
+use Rattle.lj_clause.proofs.Tests.{marked, both_of}
+use Rattle.lj_clause.proofs.SortedEntries.{less}
 
 pub holds-no_literals : (q : ℤ) → holds no_literals q ≡ false
 holds-no_literals q = ap is_some (fin.get-empty lit_cmp q)
@@ -45,21 +42,14 @@ same_set s t is = fin.same_map lit_cmp_total lit_cmp-antisymmetric s t (λ q. ma
 abbrev as_entries : List ℤ → List (ℤ × Unit {0})
 as_entries ls = map (λ l. (l, tt)) ls
 
-less : (r : Ordering) → r ≡ Less → T (is_lt r)
-less r e = subst (λ o. T (is_lt o)) (sym e) tt
-
-both : (a b : Bool) → T a → T b → T (a && b)
-both true b p q = q
-both false b p q = p
-
 below_entries : (x : ℤ) (ls : List ℤ) → AllByRecursion (λ y. lit_cmp x y ≡ Less) ls → T (below_all lit_cmp x (as_entries ls))
 below_entries x [] h = tt
-below_entries x (l ∷ ls) h = both _ _ (less _ h.0) (below_entries x ls h.1)
+below_entries x (l ∷ ls) h = both_of _ _ (less _ h.0) (below_entries x ls h.1)
 
 rising_entries : (ls : List ℤ) → IsStrictlySortedBy lit_cmp ls → T (is_sorted lit_cmp (as_entries ls))
 unfolding IsStrictlySortedBy
 rising_entries [] h = tt
-rising_entries (l ∷ ls) h = both _ _ (below_entries l ls h.0) (rising_entries ls h.1)
+rising_entries (l ∷ ls) h = both_of _ _ (below_entries l ls h.0) (rising_entries ls h.1)
 
 get-from_literals : (ls : List ℤ) (q : ℤ) → fin.get (from_literals ls) q ≡ find lit_cmp q (as_entries ls)
 get-from_literals [] q = fin.get-empty lit_cmp q
@@ -96,16 +86,12 @@ pub list_any-dedup : {X : Type 0} (same : X → X → Bool) (p : X → Bool) →
 list_any-dedup same p alike [] = refl
 list_any-dedup same p alike (x ∷ xs) = list_any-dedup_from same p alike x xs
 
-both_true : (a b : Bool) → (a && b) ≡ true → (a ≡ true) × (b ≡ true)
-both_true true b e = (refl, e)
-both_true false b e = absurd (false≢true e)
-
 pub pointwise_same : (xs ys : List ℤ) → pointwise (eq_by_cmp lit_cmp) xs ys ≡ true → xs ≡ ys
 pointwise_same [] [] e = refl
 pointwise_same [] (y ∷ ys) e = absurd (false≢true e)
 pointwise_same (x ∷ xs) [] e = absurd (false≢true e)
 pointwise_same (x ∷ xs) (y ∷ ys) e =
-    let parts = both_true (eq_by_cmp lit_cmp x y) (pointwise (eq_by_cmp lit_cmp) xs ys) e in
+    let parts = and_parts (eq_by_cmp lit_cmp x y) (pointwise (eq_by_cmp lit_cmp) xs ys) e in
     λ i. same_literal x y parts.0 i ∷ pointwise_same xs ys parts.1 i
 
 pub pointwise_itself : (xs : List ℤ) → pointwise (eq_by_cmp lit_cmp) xs xs ≡ true

@@ -24,6 +24,8 @@ use Rattle.lj_clause.proofs.LiteralSets.{holds-literals}
 use Rattle.lj_clause.proofs.Among.{among, itself, any_at, any_found, passed}
 use Rattle.lj_clause.proofs.TruthLaws.{is_true-neg_ℤ, neg_nonzero, satisfies_by, true_literal, false_literal, holds-with_negations, SatisfiesAll-insert}
 use Rattle.lj_clause.proofs.WalkLaws.{AllTrue, not_all_true, all_true, AllTrue-negations, SatisfiesHints-hints_in, walk-used, used-first, list_all-each, used-all_in}
+use Rattle.lj_clause.proofs.Tests.{left_of, right_of}
+use Rattle.lj_clause.proofs.SortedEntries.{is_sorted-filter, none_below}
 
 -- ---- a covered pivot, candidate by candidate
 
@@ -150,18 +152,6 @@ abbrev Apart : List (ℕ × LiteralSet) → Type 0
 Apart [] = Unit {0}
 Apart (e ∷ es) = AllByRecursion (λ (f : ℕ × LiteralSet). (e.0 == f.0) ≡ false) es × Apart es
 
-left_of : (a b : Bool) → T (a && b) → T a
-left_of true b h = tt
-left_of false b h = absurd h
-
-right_of : (a b : Bool) → T (a && b) → T b
-right_of true b h = h
-right_of false b h = absurd h
-
-both_of : (a b : Bool) → T a → T b → T (a && b)
-both_of true b g h = h
-both_of false b g h = g
-
 less : (o : Ordering) → T (is_lt o) → o ≡ Less
 less Less h = refl
 less Equal h = absurd h
@@ -189,22 +179,6 @@ rising_numbers : (es : List (ℕ × LiteralSet)) → T (is_sorted nat_cmp es) �
 unfolding IsStrictlySortedBy
 rising_numbers [] h = tt
 rising_numbers (e ∷ es) h = (below_numbers e.0 es (left_of _ _ h), rising_numbers es (right_of _ _ h))
-
-below_filter : (test : ℕ × LiteralSet → Bool) (n : ℕ) (es : List (ℕ × LiteralSet)) → T (below_all nat_cmp n es) → T (below_all nat_cmp n (filter test es))
-below_filter test n [] h = tt
-below_filter test n (e ∷ es) h =
-    elim (test e) as (λ b. T (below_all nat_cmp n (cond b (e ∷ filter test es) (filter test es)))) [
-      | true ↦ both_of _ _ (left_of _ _ h) (below_filter test n es (right_of _ _ h))
-      | false ↦ below_filter test n es (right_of _ _ h)
-    ]
-
-is_sorted-filter : (test : ℕ × LiteralSet → Bool) (es : List (ℕ × LiteralSet)) → T (is_sorted nat_cmp es) → T (is_sorted nat_cmp (filter test es))
-is_sorted-filter test [] h = tt
-is_sorted-filter test (e ∷ es) h =
-    elim (test e) as (λ b. T (is_sorted nat_cmp (cond b (e ∷ filter test es) (filter test es)))) [
-      | true ↦ both_of _ _ (below_filter test e.0 es (left_of _ _ h)) (is_sorted-filter test es (right_of _ _ h))
-      | false ↦ is_sorted-filter test es (right_of _ _ h)
-    ]
 
 is_sorted-candidates : (p : ClauseMap) (pivot : ℤ) → T (is_sorted nat_cmp (candidates p pivot))
 is_sorted-candidates p pivot = is_sorted-filter (λ e. holds e.1 (neg_ℤ pivot)) (fin.entries p) (fin.entries_sorted p)
@@ -248,14 +222,10 @@ IsRecordedForm-rat p s pivot groups gs e = record {
 }
 
 -- each candidate is a clause of the map that holds the pivot's negation
-find_below : (n : ℕ) (es : List (ℕ × LiteralSet)) → T (below_all nat_cmp n es) → find nat_cmp n es ≡ None
-find_below n [] h = refl
-find_below n (e ∷ es) h = ap (λ r. cond (is_eq r) (Some e.1) (find nat_cmp n es)) (less (nat_cmp n e.0) (left_of _ _ h)) ∙ find_below n es (right_of _ _ h)
-
 later_found : (q : ℕ) (e : ℕ × LiteralSet) (es : List (ℕ × LiteralSet)) (d : LiteralSet) → T (below_all nat_cmp e.0 es) → find nat_cmp q es ≡ Some d → find nat_cmp q (e ∷ es) ≡ Some d
 later_found q e es d h is =
     elim (eq_by_cmp nat_cmp q e.0) as (λ b. eq_by_cmp nat_cmp q e.0 ≡ b → cond b (Some e.1) (find nat_cmp q es) ≡ Some d) [
-      | true ↦ λ t. let none = find_below e.0 es h in let same : q ≡ e.0 = nat_cmp-IsAntisymmetric q e.0 ((Equal-is (nat_cmp q e.0)).0 t) in let gone : find nat_cmp q es ≡ None = ap (λ k. find nat_cmp k es) same ∙ none in cc
+      | true ↦ λ t. let none = none_below e.0 es h in let same : q ≡ e.0 = nat_cmp-IsAntisymmetric q e.0 ((Equal-is (nat_cmp q e.0)).0 t) in let gone : find nat_cmp q es ≡ None = ap (λ k. find nat_cmp k es) same ∙ none in cc
       | false ↦ λ t. is
     ] refl
 

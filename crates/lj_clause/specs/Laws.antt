@@ -34,7 +34,8 @@ hints_given n [] = []
 hints_given n (g ∷ gs) = if g.candidate == n then g.hints else hints_given n gs
 
 -- The groups that cover the candidates of a pivot.
-pub record IsRecordedForm (p : ClauseMap) (s : LiteralSet) (pivot : ℤ) (groups recorded : List HintGroup) : Type 0 where
+pub record IsRecordedForm (p : ClauseMap) (s : LiteralSet) (pivot : ℤ)
+    (groups recorded : List HintGroup) : Type 0 where
   -- they are one for each candidate
   pub numbers : map (λ (g : HintGroup). g.candidate) recorded
       ≡ map (λ (e : ℕ × LiteralSet). e.0) (candidates p pivot)

@@ -2,3 +2,4 @@
 pub mod Literal
 pub mod LitCode
 pub mod Codes
+pub mod LiteralList

@@ -5,32 +5,32 @@ ghost use Rattle.lj_clause.specs.Literal.{lit_cmp};
 ghost use Rattle.lj_clause.specs.LiteralSet.{holds, literals, from_literals};
 
 use crate::lit::Lit;
+use crate::literal_list::LiteralList;
 use crate::memory::NoMemory;
 use std::alloc::Global;
 use std::marker::Model;
-use std::sync::Arc;
 
 /// A clause: the finite set of its literals. It may hold a literal and its negation.
 #[derive(Debug, Drop)]
 pub struct Clause {
-    /// Each literal once, in strict order. Whoever holds a copy of the clause shares them.
-    lits: Arc<Vec<Lit>>,
+    /// Each literal once, in strict order.
+    lits: LiteralList,
 }
 
 impl Model for Clause {
     ghost use Rattle.std.specs.List.Sorted.{IsStrictlySortedBy};
-    ghost use Rattle.std.specs.Arc.{arc_value};
     ghost use Rattle.lj_clause.specs.Literal.{lit_cmp};
     ghost use Rattle.lj_clause.specs.LiteralSet.{LiteralSet, from_literals};
     ghost use Rattle.lj_clause.specs.inner.Codes.{literal_set_code};
+    ghost use Rattle.lj_clause.specs.inner.LiteralList.{literals_in};
 
     ghost Value = { LiteralSet };
 
     ghost coded = { literal_set_code };
 
-    ghost view = { λ c. from_literals (arc_value c.lits).items };
+    ghost view = { λ c. from_literals (literals_in c.lits) };
 
-    ghost invariant = { λ c. IsStrictlySortedBy lit_cmp (arc_value c.lits).items };
+    ghost invariant = { λ c. IsStrictlySortedBy lit_cmp (literals_in c.lits) };
 }
 
 impl Clause {
@@ -41,31 +41,33 @@ impl Clause {
     pub fn from_lits(alloc: Global, lits: &[Lit]) -> Result<Clause, NoMemory>
         ensures { IfOk result (λ clause. clause ≡ from_literals lits.now) }
     {
-        let lits = in_order(alloc, lits)?;
-        Ok(Clause {
-            lits: Arc::new(alloc, lits)?,
-        })
+        let lits = match LiteralList::few(lits) {
+            Some(few) => few,
+            None => LiteralList::many(alloc, in_order(alloc, lits)?)?,
+        };
+        Ok(Clause { lits })
     }
 
     /// Whether the literal is in the clause. Takes O(log n) time.
     pub fn holds(&self, lit: Lit) -> bool
         ensures { result ≡ holds self.now lit }
     {
-        found(&self.lits, lit)
+        found(self.lits.as_slice(), lit)
     }
 
     /// Whether the two clauses are the same set.
     pub fn same(&self, other: &Clause) -> bool
         ensures { IsTrue result ↔ (self.now ≡ other.now) }
     {
-        self.lits == other.lits
+        are_same(self.lits.as_slice(), other.lits.as_slice())
     }
 
     /// The literals, each once, in their order.
+    #[inline]
     pub fn lits(&self) -> &[Lit]
         ensures { result.now ≡ literals self.now }
     {
-        &self.lits
+        self.lits.as_slice()
     }
 
     /// The same clause for another holder, which shares its literals. Takes constant time.
@@ -76,7 +78,7 @@ impl Clause {
         ensures { IfOk result (λ clause. clause ≡ self.now) }
     {
         Ok(Clause {
-            lits: Arc::try_clone(&self.lits)?,
+            lits: self.lits.copy()?,
         })
     }
 }
@@ -98,4 +100,12 @@ fn found(lits: &[Lit], lit: Lit) -> bool
     ensures { result ≡ holds (from_literals lits.now) lit }
 {
     lits.binary_search(&lit).is_ok()
+}
+
+/// Whether the two lists are the same.
+#[inline]
+fn are_same(lits: &[Lit], others: &[Lit]) -> bool
+    ensures { IsTrue result ↔ (lits.now ≡ others.now) }
+{
+    lits == others
 }

@@ -29,7 +29,8 @@ impl Model for Formula {
 
     ghost view = { λ f. record { variables = f.variables; clauses = f.clauses.items } };
 
-    ghost invariant = { λ f. IsFormula (record { variables = f.variables; clauses = f.clauses.items }) };
+    ghost invariant = { λ f. IsFormula (record
+        { variables = f.variables; clauses = f.clauses.items }) };
 }
 
 impl Formula {

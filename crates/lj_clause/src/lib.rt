@@ -7,6 +7,7 @@ mod formula;
 pub mod laws;
 mod lemma;
 mod lit;
+mod literal_list;
 mod memory;
 
 pub use clause::Clause;

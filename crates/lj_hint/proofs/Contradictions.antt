@@ -3,6 +3,7 @@ use Rattle.std.proofs.Common.{◌≡◌, zero, suc, ◌<◌, ap, refl, sym, ◌�
 use Rattle.std.specs.Prelude.{ℤ, pos, negsuc, neg_ℤ, int_lt, Bool, true, false, ◌||◌, ◌&&◌, ◌⊎◌}
 use Rattle.std.specs.Ordering.{eq_by_cmp}
 use Rattle.std.proofs.lemmas.Bool.{false≢true, and_parts, and_from, or_cases, or_left, or_right, lt-ltb}
+use Rattle.std.specs.Cmp.{both_ways}
 use lib.IntN.{neg_ℤ-neg_ℤ}
 use Rattle.lj_clause.specs.Literal.{lit_cmp, variable_of}
 use Rattle.lj_clause.specs.LiteralSet.{LiteralSet, no_literals, holds, with_literal, literals}
@@ -37,11 +38,6 @@ positive_not_negation : (l : ℤ) → int_lt (pos 0) l ≡ true → eq_by_cmp li
 positive_not_negation (pos zero) h e = h
 positive_not_negation (pos (suc n)) h e = let same : negsuc n ≡ pos (suc n) = same_literal (negsuc n) (pos (suc n)) e in cc
 positive_not_negation (negsuc n) h e = h
-
-same_tests : (a b : Bool) → (a ≡ true → b ≡ true) → (b ≡ true → a ≡ true) → a ≡ b
-same_tests true b f g = sym (f refl)
-same_tests false true f g = g refl
-same_tests false false f g = refl
 
 held_still : (a : LiteralSet) (l q : ℤ) → holds a q ≡ true → holds (with_literal a l) q ≡ true
 held_still a l q h = holds-with_literal a l q ∙ or_right (eq_by_cmp lit_cmp q l) (holds a q) h
@@ -80,7 +76,15 @@ still_contradictory a l nonzero h =
 
 -- one literal more makes a set contradictory exactly where it was so or holds the negation
 pub is_contradictory-with_literal : (a : LiteralSet) (l : ℤ) → 0 < variable_of l → is_contradictory (with_literal a l) ≡ (is_contradictory a || holds a (neg_ℤ l))
-is_contradictory-with_literal a l nonzero = same_tests _ _ (more_contradictory a l) (still_contradictory a l nonzero)
+is_contradictory-with_literal a l nonzero = both_ways _ _ (more_contradictory a l) (still_contradictory a l nonzero)
 
 pub is_contradictory-no_literals : is_contradictory no_literals ≡ false
-is_contradictory-no_literals = same_tests _ _ (λ h. let found = both_held no_literals h in sym (holds-no_literals found.0) ∙ found.1.held) (λ h. absurd (false≢true h))
+is_contradictory-no_literals = both_ways _ _ (λ h. let found = both_held no_literals h in sym (holds-no_literals found.0) ∙ found.1.held) (λ h. absurd (false≢true h))
+
+-- and not where its negation isn't there
+pub is_contradictory-unopposed : (a : LiteralSet) (l : ℤ) → 0 < variable_of l → holds a (neg_ℤ l) ≡ false → is_contradictory (with_literal a l) ≡ is_contradictory a
+is_contradictory-unopposed a l nonzero e = is_contradictory-with_literal a l nonzero ∙ ap (λ b. is_contradictory a || b) e ∙ or_false (is_contradictory a)
+  where
+    or_false : (b : Bool) → (b || false) ≡ b
+    or_false true = refl
+    or_false false = refl

@@ -8,3 +8,4 @@ pub mod StampLaws
 pub mod NearLaws
 pub mod TrailLaws
 pub mod RatTests
+pub mod NumberHints

@@ -4,7 +4,7 @@ use Rattle.std.specs.Prelude.{◌==◌, nat_lt, slice_index, if◌then◌else◌
 use Rattle.std.proofs.lemmas.Bool.Decides.{nat_tests}
 use Rattle.lj_hint.specs.inner.Stamps.{Stamped, page_stamp, stamp_at}
 
-below : (a b : ℕ) → nat_lt a b ≡ true → a < b
+pub below : (a b : ℕ) → nat_lt a b ≡ true → a < b
 below a b e = grind (arith, nat_tests)
 
 above : (a b : ℕ) → nat_lt a b ≡ false → b ≤ a

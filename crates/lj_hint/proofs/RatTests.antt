@@ -1,14 +1,15 @@
 -- The test of candidates, one after the other.
 use Rattle.std.proofs.Common.{◌≡◌, ap, refl, sym, ◌∙◌, ℕ, zero, suc, ◌+◌, ◌<◌, ◌≤◌, Bool, true, false, cond, arith, add-one, append_assoc, get_or, drop, drop-cons, length, subst}
 use Rattle.std.proofs.lemmas.List.{drop_all, append-nil}
-use Rattle.std.specs.Prelude.{ℤ, List, [], ◌∷◌, ◌++◌, map, Option, Some, None, option_map, option_copied, is_some, slice_get, ◌==◌, if◌then◌else◌, Result, Ok, Err}
+use Rattle.std.specs.Prelude.{ℤ, neg_ℤ, List, [], ◌∷◌, ◌++◌, map, filter, Option, Some, None, option_map, option_copied, is_some, slice_get, ◌==◌, if◌then◌else◌, Result, Ok, Err}
 use Rattle.std.specs.Borrow.{Bor}
 use Rattle.std.specs.List.{AllByRecursion}
-use Rattle.std.proofs.lemmas.Bool.{false≢true}
 use Rattle.std.specs.FinMap as fin
-use Rattle.lj_clause.specs.LiteralSet.{LiteralSet}
-use Rattle.lj_clause.specs.Walk.{Walk, Closed, Open, Stuck, Hint, walk_over, is_contradictory}
-use Rattle.lj_clause.specs.Rat.{HintGroup, NamedGroup, RatAnswer, Covered, MissingGroup, GroupStuck, GroupOpen, group_of, by_candidate, candidate_walk, rat_over}
+use Rattle.lj_clause.specs.LiteralSet.{LiteralSet, holds}
+use Rattle.lj_clause.specs.ClauseMap.{ClauseMap}
+use Rattle.lj_clause.specs.Walk.{Walk, Closed, Open, Stuck, Hint}
+use Rattle.lj_clause.specs.Rat.{HintGroup, NamedGroup, RatAnswer, candidates, Covered, MissingGroup, GroupStuck, GroupOpen, group_of, by_candidate, candidate_walk, rat_over}
+use Rattle.lj_clause.proofs.RatLaws.{candidates-get}
 use Rattle.lj_hint.specs.declared.rat_refusal.RatRefusal.{RatRefusal}
 use Rattle.lj_hint.specs.declared.rat.LentGroup.{LentGroup}
 use Rattle.lj_hint.specs.declared.rat_refusal.RatRefusal.TheVariants as refusals
@@ -110,6 +111,21 @@ candidate_at P (e ∷ es) (suc i) n lt is all =
     let found = candidate_at P es i n (omega arith) is all.1 in
     let step : suc (i + 1) ≡ suc i + 1 = omega arith in
     (found.0, record { next = found.1.next ∙ ap (λ (m : ℕ). (n, found.0) ∷ drop m (e ∷ es)) step }, found.2)
+
+-- the numbers of the clauses that hold a pivot's negation are the candidates'
+pub candidate_numbers : (live : ClauseMap) (q l : ℤ) (ns : List ℕ) → l ≡ neg_ℤ q → ns ≡ map (λ (e : ℕ × LiteralSet). e.0) (filter (λ (e : ℕ × LiteralSet). holds e.1 l) (fin.entries live))
+    → ns ≡ map (λ (e : ℕ × LiteralSet). e.0) (candidates live q)
+candidate_numbers live q l ns is are = are ∙ ap (λ (m : ℤ). map (λ (e : ℕ × LiteralSet). e.0) (filter (λ (e : ℕ × LiteralSet). holds e.1 m) (fin.entries live))) is
+
+-- the candidate whose number stands at a place is the clause that lives there
+pub candidate_is : (live : ClauseMap) (q : ℤ) (i n : ℕ) (d : LiteralSet) → i < length (candidates live q) → n ≡ get_or (map (λ (e : ℕ × LiteralSet). e.0) (candidates live q)) i 0 → Some d ≡ fin.get live n
+    → IsCandidate (candidates live q) i n d
+candidate_is live q i n d within number lives =
+    let es = candidates live q in
+    let found = candidate_at (λ (e : ℕ × LiteralSet). (fin.get live e.0 ≡ Some e.1) × (holds e.1 (neg_ℤ q) ≡ true)) es i n within number (candidates-get live q) in
+    let clauses : Some d ≡ Some found.0 = lives ∙ found.2.0 in
+    let same : found.0 ≡ d = cc in
+    subst (IsCandidate es i n) same found.1
 
 -- a refusal of one candidate is that of all
 pub refusal_told : (e : RatRefusal) (one : Result HintGroup RatRefusal) (whole : Result (List HintGroup) RatRefusal) → ((x : RatRefusal) → one ≡ Err x → whole ≡ Err x) → IsCandidateRefusal e one → IsRatRefusal e whole

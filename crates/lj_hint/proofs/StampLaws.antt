@@ -1,10 +1,11 @@
 -- Stamps in pages.
-use Rattle.std.proofs.Common.{◌≡◌, ◌≢◌, ap, refl, sym, ◌∙◌, ℕ, zero, suc, ◌+◌, ◌-◌, ◌<◌, ◌≤◌, ◌/◌, ◌%◌, Bool, true, false, cond, arith, get_or, set, take, length}
+use Rattle.std.proofs.Common.{◌≡◌, ap, refl, sym, ◌∙◌, ℕ, zero, suc, ◌-◌, ◌<◌, ◌≤◌, ◌/◌, ◌%◌, true, false, cond, arith, get_or, take, length}
 use Rattle.std.specs.Prelude.{◌==◌, List, [], ◌∷◌, ◌++◌, replicate, slice_index, slice_index_or, slice_set, if◌then◌else◌}
 use Rattle.std.proofs.lemmas.Bool.Decides.{nat_tests}
 use Rattle.std.proofs.lemmas.List.{get_or-set_other, get_or_read, get_or_past, set-get_or, take_all}
 use Rattle.std.proofs.lemmas.Grind.{get_or-set_at}
 use Rattle.std.specs.Prelude.{Result, Ok, Err, OnErr}
+use Rattle.std.proofs.lemmas.Bool.{eqb-true, eqb-false}
 use Rattle.lj_hint.specs.inner.Stamps.{page_at, page_stamp}
 
 zero_at : (m q : ℕ) → slice_index (replicate m 0) q ≡ 0
@@ -25,15 +26,9 @@ resized xs ys n q is le = ap (λ zs. slice_index zs q) (is ∙ ap (λ zs. zs ++ 
 pub written : (xs : List ℕ) (at v q : ℕ) → at < length xs → slice_index (slice_set xs at v) q ≡ (if q == at then v else slice_index xs q)
 written xs at v q lt =
     elim (q == at) as (λ b. (q == at) ≡ b → slice_index (slice_set xs at v) q ≡ cond b v (slice_index xs q)) [
-      | true ↦ λ e. get_or-set_at xs at q v 0 (same q at e) lt
-      | false ↦ λ e. get_or-set_other xs at q v 0 (differ q at e)
+      | true ↦ λ e. get_or-set_at xs at q v 0 (eqb-true q at e) lt
+      | false ↦ λ e. get_or-set_other xs at q v 0 (eqb-false q at e)
     ] refl
-  where
-    same : (a b : ℕ) → (a == b) ≡ true → a ≡ b
-    same a b e = grind (arith, nat_tests)
-
-    differ : (a b : ℕ) → (a == b) ≡ false → a ≢ b
-    differ a b e = grind (arith, nat_tests)
 
 -- pages that are the same one by one have the same stamps
 pub same_stamps : (old new : List (List ℕ)) → ((k : ℕ) → slice_index_or new k [] ≡ slice_index_or old k []) → (q : ℕ) → page_stamp new q ≡ page_stamp old q
@@ -46,21 +41,15 @@ unfolding page_stamp
 stamped pages place v before after lt is h q =
     elim (q / 8192 == place / 8192) as (λ b. (q / 8192 == place / 8192) ≡ b → slice_index (page_at (slice_set pages (place / 8192) after) (q / 8192)) (q % 8192) ≡ (if q == place then v else slice_index (page_at pages (q / 8192)) (q % 8192))) [
       | true ↦ λ e.
-          let there : q / 8192 ≡ place / 8192 = same (q / 8192) (place / 8192) e in
+          let there : q / 8192 ≡ place / 8192 = eqb-true (q / 8192) (place / 8192) e in
           ap (λ page. slice_index page (q % 8192)) (get_or-set_at pages (place / 8192) (q / 8192) after [] there lt)
           ∙ h (q % 8192)
           ∙ (λ i. if same_place q place there i then v else slice_index ((is ∙ before_is there) i) (q % 8192))
       | false ↦ λ e.
-          ap (λ page. slice_index page (q % 8192)) (get_or-set_other pages (place / 8192) (q / 8192) after [] (differ (q / 8192) (place / 8192) e))
+          ap (λ page. slice_index page (q % 8192)) (get_or-set_other pages (place / 8192) (q / 8192) after [] (eqb-false (q / 8192) (place / 8192) e))
           ∙ ap (λ b. if b then v else slice_index (page_at pages (q / 8192)) (q % 8192)) (sym (elsewhere q place e))
     ] refl
   where
-    same : (a b : ℕ) → (a == b) ≡ true → a ≡ b
-    same a b e = grind (arith, nat_tests)
-
-    differ : (a b : ℕ) → (a == b) ≡ false → a ≢ b
-    differ a b e = grind (arith, nat_tests)
-
     same_place : (q p : ℕ) → q / 8192 ≡ p / 8192 → (q % 8192 == p % 8192) ≡ (q == p)
     same_place q p e = grind (arith, nat_tests)
 
@@ -84,12 +73,9 @@ past_pages pages place le = ap (λ page. slice_index page (place % 8192)) (get_o
 pub none_erased : (pages : List (List ℕ)) (place : ℕ) → length pages ≤ place / 8192 → (q : ℕ) → page_stamp pages q ≡ (if q == place then 0 else page_stamp pages q)
 none_erased pages place le q =
     elim (q == place) as (λ b. (q == place) ≡ b → page_stamp pages q ≡ cond b 0 (page_stamp pages q)) [
-      | true ↦ λ e. ap (page_stamp pages) (same q place e) ∙ past_pages pages place le
+      | true ↦ λ e. ap (page_stamp pages) (eqb-true q place e) ∙ past_pages pages place le
       | false ↦ λ e. refl
     ] refl
-  where
-    same : (a b : ℕ) → (a == b) ≡ true → a ≡ b
-    same a b e = grind (arith, nat_tests)
 
 -- a stamp that is read
 pub stamp_read : (pages : List (List ℕ)) (place : ℕ) (page : List ℕ) → page ≡ page_at pages (place / 8192) → slice_index page (place % 8192) ≡ page_stamp pages place

@@ -1,18 +1,20 @@
 -- Literals on a trail, and their stamps.
-use Rattle.std.proofs.Common.{◌≡◌, ap, refl, sym, ◌∙◌, subst, inl, inr, ℕ, zero, suc, ◌+◌, ◌<◌, ◌≤◌, Bool, true, false, arith, get_or, take, length, length-append, append_assoc}
-use Rattle.std.specs.Prelude.{ℤ, pos, ◌==◌, ◌||◌, ◌⊎◌, List, [], ◌∷◌, ◌++◌, if◌then◌else◌}
+use Rattle.std.proofs.Common.{◌≡◌, ap, refl, sym, ◌∙◌, inl, inr, ℕ, ◌+◌, ◌<◌, ◌≤◌, Bool, true, false, arith, get_or, take, length, length-append, append_assoc}
+use Rattle.std.specs.Prelude.{ℤ, pos, neg_ℤ, ◌==◌, ◌||◌, ◌⊎◌, List, [], ◌∷◌, ◌++◌, if◌then◌else◌}
 use Rattle.std.specs.List.{list_any}
-use Rattle.std.specs.Ordering.{nat_cmp, eq_by_cmp}
+use Rattle.std.specs.Ordering.{eq_by_cmp}
 use Rattle.std.specs.Cmp.{unsigned_tied}
-use Rattle.std.proofs.lemmas.Bool.{false≢true}
 use Rattle.std.proofs.lemmas.Bool.Decides.{nat_tests}
 use Rattle.std.proofs.lemmas.List.{take-append-le, append-nil}
 use Rattle.std.proofs.Math.ListN.{get_or-append}
 use Rattle.std.proofs.Math.Seq.{take-append_seam, get_or-append_seam}
-use Rattle.lj_clause.specs.Literal.{lit_cmp, place_of}
+use Rattle.std.proofs.lemmas.Bool.{eqb-true}
+use Rattle.lj_clause.specs.Literal.{lit_cmp, place_of, variable_of}
 use Rattle.lj_clause.specs.LiteralSet.{LiteralSet, holds, with_literal, from_literals}
 use Rattle.lj_clause.proofs.Literals.{same_literal}
 use Rattle.lj_clause.proofs.LiteralSets.{same_set, holds-from_literals, holds-with_literal, holds-no_literals}
+use Rattle.lj_clause.specs.Walk.{is_contradictory}
+use Rattle.lj_hint.proofs.Contradictions.{is_contradictory-unopposed}
 use Rattle.lj_hint.specs.inner.Stamps.{Stamped, stamp_at, AreMarks}
 use Rattle.lj_hint.specs.inner.Trail.{with_mark, Extends}
 
@@ -52,9 +54,6 @@ with_literal-there s l h = same_set _ _ (λ q.
     ] refl)
 
 -- ---- the stamps of a trail
-
-same : (a b : ℕ) → (a == b) ≡ true → a ≡ b
-same a b e = grind (arith, nat_tests)
 
 lower : (k n : ℕ) → k < n + 1 → (k == n) ≡ false → k < n
 lower k n lt e = grind (arith, nat_tests)
@@ -103,7 +102,7 @@ pushed_marks stamps others stamp trail l new is m = record {
     chosen false old h e = e
 
     less_or_last : (k n : ℕ) → k < n + 1 → (k < n) ⊎ (k ≡ n)
-    less_or_last k n lt = elim (k == n) as (λ b. (k == n) ≡ b → (k < n) ⊎ (k ≡ n)) [ true ↦ λ e. inr (same k n e) | false ↦ λ e. inl (lower k n lt e) ] refl
+    less_or_last k n lt = elim (k == n) as (λ b. (k == n) ≡ b → (k < n) ⊎ (k ≡ n)) [ true ↦ λ e. inr (eqb-true k n e) | false ↦ λ e. inl (lower k n lt e) ] refl
 
 -- where the last literal is taken out, its stamp is
 pub popped_marks : (stamps others : Stamped) (stamp : ℕ) (trail : List ℤ) (l : ℤ) → ((place : ℕ) → stamp_at others place ≡ (if place == place_of l then 0 else stamp_at stamps place)) → AreMarks stamps stamp (trail ++ l ∷ []) → AreMarks others stamp trail
@@ -156,3 +155,7 @@ Extends-with_mark trail l = elim (holds (from_literals trail) l) as (λ b. Exten
 -- what an extended trail began with
 pub take-Extends : (old new : List ℤ) → Extends old new → take (length old) new ≡ old
 take-Extends old new h = ap (take (length old)) h.1 ∙ take-append_seam old h.0
+
+-- a literal whose negation isn't there makes no trail contradictory
+pub pushed_unopposed : (trail new : List ℤ) (l : ℤ) → new ≡ trail ++ l ∷ [] → 0 < variable_of l → holds (from_literals trail) (neg_ℤ l) ≡ false → is_contradictory (from_literals new) ≡ is_contradictory (from_literals trail)
+pushed_unopposed trail new l is nonzero e = ap is_contradictory (ap from_literals is ∙ from_literals-push trail l) ∙ is_contradictory-unopposed (from_literals trail) l nonzero e

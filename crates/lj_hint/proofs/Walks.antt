@@ -1,12 +1,18 @@
 -- A walk, told from the hints that it has read and what is left.
-use Rattle.std.proofs.Common.{◌≡◌, ℕ, suc, ◌+◌, ◌<◌, ◌≤◌, ap, refl, sym, ◌∙◌, length, take, drop, get_or, arith, add-one, length-append, drop-cons}
-use Rattle.std.specs.Prelude.{ℤ, true, false, cond, List, [], ◌∷◌, ◌++◌, map, Option, Some, None}
+use Rattle.std.proofs.Common.{◌≡◌, ℕ, suc, ◌+◌, ◌<◌, ◌≤◌, ap, refl, sym, subst, ◌∙◌, length, take, drop, get_or, arith, add-one, length-append, drop-cons}
+use Rattle.std.specs.Prelude.{ℤ, neg_ℤ, Bool, true, false, not, cond, All, List, [], ◌∷◌, ◌++◌, Option, Some, None, filter}
 use Rattle.std.proofs.lemmas.List.{take_more, length-take-le, length-map, drop_all, map-append}
-use Rattle.lj_clause.specs.LiteralSet.{LiteralSet, with_literal}
+use Rattle.std.proofs.lemmas.List.Elements.{All-head, filter_passes}
+use Rattle.std.proofs.lemmas.Bool.{not-true}
+use Rattle.std.specs.Ordering.{eq_by_cmp}
+use Rattle.lj_clause.specs.LiteralSet.{LiteralSet, with_literal, holds, literals, from_literals, with_negations}
 use Rattle.lj_clause.specs.Walk.{Walk, Closed, Open, Stuck, Hint, rest, is_contradictory, after_hint, by_rest, by_hint, walk_over}
+use Rattle.lj_clause.specs.Rat.{others}
+use Rattle.lj_clause.specs.Literal.{lit_cmp}
 use Rattle.lj_hint.specs.declared.walk.Rest.TheVariants.{Nothing, One, More}
 use Rattle.lj_hint.specs.declared.walk.Ending.TheVariants.{ClosedAfter, StuckAt}
 use Rattle.lj_hint.specs.inner.Hints.{no_hint, hint_number, clause_at, hint_numbers}
+use Rattle.lj_hint.specs.inner.Trail.{Extends}
 use Rattle.lj_hint.specs.inner.Rest.{rest_seen}
 use Rattle.lj_hint.specs.inner.Ending.{ending_of}
 
@@ -34,6 +40,12 @@ after_hints-Stuck (n ∷ ns) place = let e : suc (length ns + place) ≡ suc (le
 -- the walk of a over the hints from this index on, after those before it
 abbrev pub walk_from : LiteralSet → List Hint → ℕ → Walk
 walk_from a hs i = after_hints (hint_numbers (take i hs)) (walk_over a (drop i hs))
+
+-- What a walk from the old trail over these hints has come to before the hint of this index.
+pub record HasWalked (old now : List ℤ) (hs : List Hint) (i : ℕ) : Type 0 where
+  pub walked : walk_over (from_literals old) hs ≡ walk_from (from_literals now) hs i
+  pub extends : Extends old now
+  pub consistent : is_contradictory (from_literals now) ≡ false
 
 pub closed_at_once : (a : LiteralSet) (hs : List Hint) → is_contradictory a ≡ true → walk_over a hs ≡ Closed []
 unfolding walk_over
@@ -98,6 +110,12 @@ left_one [] l e = cc
 left_one (k ∷ []) l e = let same : l ≡ k = cc in ap (λ m. m ∷ []) (sym same)
 left_one (k ∷ m ∷ ls) l e = cc
 
+-- the negation of the one literal that is left isn't held
+pub left_unopposed : (a d : LiteralSet) (l : ℤ) → One l ≡ rest_seen (rest d a) → holds a (neg_ℤ l) ≡ false
+left_unopposed a d l e =
+    let passes : ℤ → Bool = λ m. not (holds a (neg_ℤ m)) in
+    not-true (holds a (neg_ℤ l)) (All-head (λ m. passes m ≡ true) l [] (subst (All (λ m. passes m ≡ true)) (left_one (rest d a) l e) (filter_passes passes (literals d))))
+
 left_more : (ls : List ℤ) (n : ℕ) (onward : ℤ → Walk) → More ≡ rest_seen ls → by_rest n ls onward ≡ Stuck 1
 left_more [] n onward e = cc
 left_more (l ∷ []) n onward e = cc
@@ -132,3 +150,10 @@ goes_on a hs i d l r e =
     ∙ ap (λ ls. after_hints (hint_numbers (take i hs)) (by_rest (hint_number hs i) ls (onward a hs i))) (left_one (rest d a) l e)
     ∙ sym (after_hints-append (hint_numbers (take i hs)) (hint_number hs i) (walk_over (with_literal a l) (drop (i + 1) hs)))
     ∙ ap (λ ns. after_hints ns (walk_over (with_literal a l) (drop (i + 1) hs))) (numbers_more hs i r.within)
+
+-- ---- candidates
+
+-- what a candidate's walk begins with: the negations of its literals other than the pivot's
+pub with_others : (a new d : LiteralSet) (q l : ℤ) (ls : List ℤ) → l ≡ neg_ℤ q → ls ≡ literals d → new ≡ with_negations a (filter (λ (m : ℤ). not (eq_by_cmp lit_cmp m l)) ls)
+    → new ≡ with_negations a (others d (neg_ℤ q))
+with_others a new d q l ls is all told = told ∙ (λ i. with_negations a (filter (λ (m : ℤ). not (eq_by_cmp lit_cmp m (is i))) (all i)))

@@ -1,6 +1,5 @@
 -- The test of a line in joint numbers.
-use Rattle.std.specs.Prelude.{◌≡◌, ℕ, ℤ, List, length, Option, Result, Ok, Err, MatchResult}
-use Rattle.lj_clause.specs.LiteralSet.{LiteralSet}
+use Rattle.std.specs.Prelude.{◌≡◌, ℤ, List, length, Option, Result, Ok, Err, MatchResult}
 use Rattle.lj_clause.specs.ClauseMap.{ClauseMap}
 use Rattle.lj_clause.specs.Walk as walks
 use Rattle.lj_clause.specs.Rat.{HintGroup, groups_in}
@@ -11,10 +10,6 @@ use Rattle.lj_hint.specs.declared.live_line.Passed.TheVariants.{Closed, Covered}
 use Rattle.lj_hint.specs.declared.live_line.LineRefusal.{LineRefusal}
 use Rattle.lj_hint.specs.declared.live_line.LineRefusal.TheVariants.{Stuck, Rat}
 use Rattle.lj_hint.specs.RatTest.{rat_reply}
-
--- a group of a line in joint numbers
-abbrev pub group_of_joints : ℕ → List ℕ → HintGroup
-group_of_joints candidate hints = record { candidate = candidate; hints = hints }
 
 -- the reply to a line by that to its candidates
 abbrev pub covered_reply : Result (List HintGroup) RatRefusal → Result Passed LineRefusal

@@ -1,16 +1,14 @@
 -- The test of the candidates of a lemma's pivot, and of a whole line.
-use Rattle.std.specs.Prelude.{◌≡◌, ℕ, ℤ, List, [], ◌++◌, map, length, Option, Some, None, Vec, Result, Ok, Err, MatchResult}
+use Rattle.std.specs.Prelude.{◌≡◌, ℤ, List, map, Option, Some, None, Vec, Result, Ok, Err, MatchResult}
 use Rattle.std.specs.declared.alloc.Global.{Global}
 use Rattle.lj_clause.specs.LiteralSet.{LiteralSet}
 use Rattle.lj_clause.specs.ClauseMap.{ClauseMap}
-use Rattle.lj_clause.specs.Walk as walks
 use Rattle.lj_clause.specs.Rat as rats
 use Rattle.lj_clause.specs.Rat.{HintGroup, NamedGroup, candidates, rat_over}
 use Rattle.lj_hint.specs.declared.pair.Pair.{Pair}
 use Rattle.lj_hint.specs.declared.rat_refusal.RatRefusal.{RatRefusal}
 use Rattle.lj_hint.specs.declared.rat_refusal.RatRefusal.TheVariants.{EmptyOpen, MissingGroup, GroupStuck, GroupOpen, NoMemory}
 use Rattle.lj_hint.specs.Hints.{named_hints}
-use Rattle.lj_hint.specs.Case.{CaseValue}
 
 -- the groups of a case: each hint names its own clause
 abbrev pub named_groups : List (Pair × List Pair) → List NamedGroup

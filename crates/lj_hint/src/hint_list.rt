@@ -8,7 +8,7 @@ use crate::pair::Pair;
 use lj_clause::Clause;
 
 /// A list of hints, each of which names a clause.
-pub trait HintList {
+pub(crate) trait HintList {
     ghost hints: { Self → List Hint };
 
     /// The number of hints.
@@ -26,7 +26,7 @@ pub trait HintList {
 
 /// The hints of a case, which has their clauses.
 #[derive(Drop)]
-pub struct PairHints<'a> {
+pub(crate) struct PairHints<'a> {
     pub pairs: &'a [Pair],
 }
 

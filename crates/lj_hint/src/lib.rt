@@ -3,7 +3,6 @@
 
 mod case;
 mod hint_list;
-mod joint_group;
 mod laws;
 mod live;
 mod live_line;
@@ -22,7 +21,6 @@ mod true_lits;
 mod walk;
 
 pub use case::Case;
-pub use joint_group::JointGroup;
 pub use laws::receipt_implies;
 pub use live::Live;
 pub use live_line::{LineRefusal, Passed, test_line};

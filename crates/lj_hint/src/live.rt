@@ -7,6 +7,7 @@ ghost use Rattle.lj_clause.specs.Walk.{Hint, hints_in};
 
 use crate::hint_list::HintList;
 use lj_clause::{Clause, Lit, NoMemory};
+use lj_text::Numbers;
 
 /// The clauses that live, under their joint numbers.
 pub trait Live {
@@ -29,7 +30,7 @@ pub trait Live {
 #[derive(Drop)]
 pub(crate) struct LiveHints<'a, L> {
     pub live: &'a L,
-    pub numbers: &'a [u64],
+    pub numbers: &'a Numbers,
 }
 
 impl<L: Live> HintList for LiveHints<'_, L> {
@@ -42,13 +43,13 @@ impl<L: Live> HintList for LiveHints<'_, L> {
 
     #[inline]
     fn number(&self, index: usize) -> u64 {
-        self.numbers.get(index).copied().unwrap_or(0)
+        self.numbers.get(index).unwrap_or(0)
     }
 
     #[inline]
     fn clause(&self, index: usize) -> Option<&Clause> {
         match self.numbers.get(index) {
-            Some(number) => self.live.clause(*number),
+            Some(number) => self.live.clause(number),
             None => None,
         }
     }

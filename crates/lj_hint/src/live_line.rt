@@ -7,7 +7,6 @@ ghost use Rattle.lj_hint.specs.inner.Lent.{lent_groups};
 ghost use Rattle.lj_hint.specs.RatTest.{rat_reply, IsRatReply};
 ghost use Rattle.lj_hint.specs.LineTest.{line_reply, IsLineReply};
 
-use crate::joint_group::JointGroup;
 use crate::live::{Live, LiveHints};
 use crate::marks::Marks;
 use crate::rat::{LentGroup, cover};
@@ -15,7 +14,7 @@ use crate::rat_refusal::RatRefusal;
 use crate::true_lits::TrueLits;
 use crate::walk::{Ending, walk_negation};
 use lj_clause::{Lemma, Lit, NoMemory};
-use lj_text::{Group, Groups};
+use lj_text::{Group, Groups, Numbers};
 use std::alloc::Global;
 
 /// How the test of a line passed.
@@ -50,8 +49,8 @@ pub fn test_line<L: Live>(
     alloc: Global,
     live: &L,
     lemma: &Lemma,
-    hints: &[u64],
-    groups: &[JointGroup],
+    hints: &Numbers,
+    groups: &[Group],
     marks: &mut Marks,
 ) -> Result<Passed, LineRefusal>
     ensures { IsLineReply result (line_reply (L.live live.now) lemma.now.pivot groups.now
@@ -82,7 +81,7 @@ fn test_open<L: Live>(
     alloc: Global,
     live: &L,
     pivot: Option<Lit>,
-    groups: &[JointGroup],
+    groups: &[Group],
     held: &mut TrueLits,
 ) -> Result<Vec<Group>, RatRefusal>
     requires { is_contradictory (from_literals held.old) ≡ false }
@@ -103,7 +102,7 @@ fn test_open<L: Live>(
 fn lent_numbers<'a, L: Live>(
     alloc: Global,
     live: &'a L,
-    groups: &'a [JointGroup],
+    groups: &'a [Group],
 ) -> Result<Vec<LentGroup<LiveHints<'a, L>>>, NoMemory>
     ensures { IfOk result (λ lent. lent_groups (λ h. hints_in (L.live h.live.now) h.numbers.now)
         lent.items ≡ groups_in (L.live live.now) groups.now) }
@@ -111,10 +110,10 @@ fn lent_numbers<'a, L: Live>(
     let mut lent = Vec::new(alloc);
     for group in groups {
         lent.push(LentGroup {
-            candidate: group.candidate(),
+            candidate: group.candidate,
             hints: LiveHints {
                 live,
-                numbers: group.hints(),
+                numbers: &group.hints,
             },
         })?;
     }

@@ -8,12 +8,12 @@ use std::alloc::Global;
 use std::marker::Model;
 
 /// The number of stamps in a page: those of the literals of 4,096 variables.
-pub const PAGE: usize = 8192;
+pub(crate) const PAGE: usize = 8192;
 
 /// A stamp for each place of a literal, 0 where none was set. A page takes memory once a stamp is set in it, so that a
 /// great variable alone costs little.
 #[derive(Drop)]
-pub struct Pages {
+pub(crate) struct Pages {
     pages: Vec<Page>,
 }
 
@@ -27,7 +27,7 @@ impl Model for Pages {
 
 impl Pages {
     /// No stamp anywhere. Takes no memory.
-    pub fn new(alloc: Global) -> Pages
+    pub(crate) fn new(alloc: Global) -> Pages
         ensures { (q : ℕ) → page_stamp result q ≡ 0 }
     {
         Pages {
@@ -37,7 +37,7 @@ impl Pages {
 
     /// The stamp at a place. Takes constant time.
     #[inline]
-    pub fn get(&self, place: usize) -> u32
+    pub(crate) fn get(&self, place: usize) -> u32
         ensures { result ≡ page_stamp self.now place }
     {
         match self.pages.get(place / PAGE) {
@@ -51,7 +51,7 @@ impl Pages {
     /// # Errors
     /// [`NoMemory`] where a growth was refused.
     #[inline]
-    pub fn set(&mut self, place: usize, stamp: u32) -> Result<(), NoMemory>
+    pub(crate) fn set(&mut self, place: usize, stamp: u32) -> Result<(), NoMemory>
         ensures ok { OnOk result ((q : ℕ) → page_stamp self.new q
             ≡ (if q == place then stamp else page_stamp self.old q)) }
         ensures err { OnErr result ((q : ℕ) → page_stamp self.new q ≡ page_stamp self.old q) }
@@ -64,7 +64,7 @@ impl Pages {
 
     /// Sets the stamp at a place to 0. Takes constant time.
     #[inline]
-    pub fn erase(&mut self, place: usize)
+    pub(crate) fn erase(&mut self, place: usize)
         ensures { (q : ℕ)
             → page_stamp self.new q ≡ (if q == place then 0 else page_stamp self.old q) }
     {
@@ -78,7 +78,7 @@ impl Pages {
     /// Clears every page.
     #[cold]
     #[tactic(auto, using(crate::proofs::StampLaws::no_stamps))]
-    pub fn clear(&mut self)
+    pub(crate) fn clear(&mut self)
         ensures { (q : ℕ) → page_stamp self.new q ≡ 0 }
     {
         self.pages.clear();

@@ -23,7 +23,7 @@ use std::collections::BTreeMap;
 
 /// A candidate's hints, with the clauses that they name.
 #[derive(Drop)]
-pub struct LentGroup<H> {
+pub(crate) struct LentGroup<H> {
     pub candidate: u64,
     pub hints: H,
 }
@@ -33,7 +33,7 @@ pub struct LentGroup<H> {
 ///
 /// # Errors
 /// The first candidate that isn't covered, and [`RatRefusal::NoMemory`] where a growth was refused.
-pub fn cover<L: Live, H: HintList>(
+pub(crate) fn cover<L: Live, H: HintList>(
     alloc: Global,
     live: &L,
     held: &mut TrueLits,
@@ -94,11 +94,9 @@ fn test_candidate<H: HintList>(
     held.take_back(len);
     match ending {
         Ending::ClosedAfter(read) => {
-            let read = first_numbers(alloc, hints, read)?;
-            Ok(Group {
-                candidate: number,
-                hints: Numbers::new(read),
-            })
+            let hints = first_numbers(alloc, hints, read)?;
+            let candidate = number;
+            Ok(Group { candidate, hints })
         }
         Ending::StaysOpen => match hints {
             Some(_) => Err(RatRefusal::GroupOpen(number)),
@@ -146,14 +144,14 @@ fn first_numbers<H: HintList>(
     alloc: Global,
     hints: Option<&H>,
     count: usize,
-) -> Result<Vec<u64>, NoMemory>
+) -> Result<Numbers, NoMemory>
     requires { count ≤ length (lent_hints (option_map H.hints (option_copied hints))) }
-    ensures { IfOk result (λ numbers. numbers.items
+    ensures { IfOk result (λ numbers. numbers
         ≡ hint_numbers (take count (lent_hints (option_map H.hints (option_copied hints.entry))))) }
 {
     match hints {
         Some(hints) => numbers_of(alloc, hints, count),
-        None => Ok(Vec::new(alloc)),
+        None => Ok(Numbers::with_capacity(alloc, 0)?),
     }
 }
 
@@ -161,12 +159,12 @@ fn first_numbers<H: HintList>(
 ///
 /// # Errors
 /// [`NoMemory`] where a growth was refused.
-fn numbers_of<H: HintList>(alloc: Global, hints: &H, count: usize) -> Result<Vec<u64>, NoMemory>
+fn numbers_of<H: HintList>(alloc: Global, hints: &H, count: usize) -> Result<Numbers, NoMemory>
     requires { count ≤ length (H.hints hints.now) }
     ensures { IfOk result
-        (λ numbers. numbers.items ≡ hint_numbers (take count (H.hints hints.now))) }
+        (λ numbers. numbers ≡ hint_numbers (take count (H.hints hints.now))) }
 {
-    let mut numbers = Vec::with_capacity(alloc, count)?;
+    let mut numbers = Numbers::with_capacity(alloc, count)?;
     for index in 0..count {
         numbers.push(hints.number(index))?;
     }

@@ -1,5 +1,5 @@
 //! Stamps of literals by their place.
-ghost use Rattle.std.specs.Prelude.{◌≡◌, ◌==◌, ◌<◌, ℕ, OnOk, OnErr, if◌then◌else◌};
+ghost use Rattle.std.specs.Prelude.{◌≡◌, ◌==◌, ◌<◌, ◌≤◌, ℕ, OnOk, OnErr, if◌then◌else◌};
 ghost use Rattle.lj_hint.specs.inner.Stamps.{stamp_at};
 
 use crate::page::Page;
@@ -9,7 +9,7 @@ use std::alloc::Global;
 use std::marker::Model;
 
 /// How many places have their stamps in one list: those of the literals of 524,287 variables, in four megabytes.
-pub const NEAR: usize = 1_048_576;
+pub(crate) const NEAR: usize = 1_048_576;
 
 /// The least number of places that the list takes more than it has to.
 const SPARE: usize = 1024;
@@ -17,22 +17,24 @@ const SPARE: usize = 1024;
 /// A stamp for each place of a literal, 0 where none was set. Those of the first places stand in one list, which grows
 /// with the greatest of them that was set, and the others in pages, so that a great variable alone costs little.
 #[derive(Drop)]
-pub struct Stamps {
+pub(crate) struct Stamps {
     near: Page,
     far: Pages,
 }
 
 impl Model for Stamps {
-    ghost use Rattle.lj_hint.specs.inner.Stamps.{Stamped};
+    ghost use Rattle.lj_hint.specs.inner.Stamps.{Stamped, IsNearList};
 
     ghost Value = { Stamped };
 
     ghost view = { λ s. (s.near, s.far) };
+
+    ghost invariant = { λ s. IsNearList s.near };
 }
 
 impl Stamps {
     /// No stamp anywhere. Takes no memory.
-    pub fn new(alloc: Global) -> Stamps
+    pub(crate) fn new(alloc: Global) -> Stamps
         ensures { (q : ℕ) → stamp_at result q ≡ 0 }
     {
         Stamps {
@@ -43,7 +45,19 @@ impl Stamps {
 
     /// The stamp at a place. Takes constant time.
     #[inline]
-    pub fn get(&self, place: usize) -> u32
+    pub(crate) fn get(&self, place: usize) -> u32
+        ensures { result ≡ stamp_at self.now place }
+    {
+        if self.near.reaches(place) {
+            return self.near.get(place);
+        }
+        self.get_beyond(place)
+    }
+
+    /// The stamp at a place, as [`Stamps::get`] tells it: for a place beyond the list.
+    #[cold]
+    #[inline(never)]
+    fn get_beyond(&self, place: usize) -> u32
         ensures { result ≡ stamp_at self.now place }
     {
         if place >= NEAR {
@@ -57,7 +71,25 @@ impl Stamps {
     /// # Errors
     /// [`NoMemory`] where a growth was refused.
     #[inline]
-    pub fn set(&mut self, place: usize, stamp: u32) -> Result<(), NoMemory>
+    pub(crate) fn set(&mut self, place: usize, stamp: u32) -> Result<(), NoMemory>
+        ensures ok { OnOk result ((q : ℕ) → stamp_at self.new q
+            ≡ (if q == place then stamp else stamp_at self.old q)) }
+        ensures err { OnErr result ((q : ℕ) → stamp_at self.new q ≡ stamp_at self.old q) }
+    {
+        if self.near.reaches(place) {
+            self.near.write(place, stamp);
+            return Ok(());
+        }
+        self.set_beyond(place, stamp)
+    }
+
+    /// Sets the stamp at a place, as [`Stamps::set`] does: for a place beyond the list.
+    ///
+    /// # Errors
+    /// [`NoMemory`] where a growth was refused.
+    #[cold]
+    #[inline(never)]
+    fn set_beyond(&mut self, place: usize, stamp: u32) -> Result<(), NoMemory>
         ensures ok { OnOk result ((q : ℕ) → stamp_at self.new q
             ≡ (if q == place then stamp else stamp_at self.old q)) }
         ensures err { OnErr result ((q : ℕ) → stamp_at self.new q ≡ stamp_at self.old q) }
@@ -70,7 +102,7 @@ impl Stamps {
 
     /// Sets the stamp at a place to 0. Takes constant time.
     #[inline]
-    pub fn erase(&mut self, place: usize)
+    pub(crate) fn erase(&mut self, place: usize)
         ensures { (q : ℕ) → stamp_at self.new q ≡ (if q == place then 0 else stamp_at self.old q) }
     {
         if place >= NEAR {
@@ -82,7 +114,7 @@ impl Stamps {
 
     /// Clears every stamp.
     #[cold]
-    pub fn clear(&mut self)
+    pub(crate) fn clear(&mut self)
         ensures { (q : ℕ) → stamp_at self.new q ≡ 0 }
     {
         self.near.clear();
@@ -94,7 +126,8 @@ impl Stamps {
 #[inline]
 fn room_for(place: usize) -> usize
     requires { place < NEAR }
-    ensures { place < result }
+    ensures enough { place < result }
+    ensures near { result ≤ NEAR }
 {
     (2 * place + SPARE).min(NEAR)
 }

@@ -9,7 +9,7 @@ use std::marker::Model;
 
 /// Literals in the order in which they came in, each once, with constant time for the question whether one is there.
 #[derive(Drop)]
-pub struct Trail {
+pub(crate) struct Trail {
     stamps: Stamps,
     /// The stamp of the literals on the trail: an older one means nothing any more.
     stamp: u32,
@@ -29,7 +29,7 @@ impl Model for Trail {
 
 impl Trail {
     /// No literal, and this stamp for the first that comes in. Takes no memory.
-    pub fn starting_at(alloc: Global, stamp: u32) -> Trail
+    pub(crate) fn starting_at(alloc: Global, stamp: u32) -> Trail
         requires { 0 < stamp }
         ensures { result ≡ [] }
     {
@@ -42,7 +42,7 @@ impl Trail {
 
     /// Takes every literal out, by a new stamp. Takes constant time, but for one call in 4,294,967,295, which clears
     /// all stamps.
-    pub fn clear(&mut self)
+    pub(crate) fn clear(&mut self)
         ensures { self.new ≡ [] }
     {
         if self.stamp == u32::MAX {
@@ -56,7 +56,7 @@ impl Trail {
 
     /// The number of literals.
     #[inline]
-    pub fn len(&self) -> usize
+    pub(crate) fn len(&self) -> usize
         ensures { result ≡ length self.now }
     {
         self.lits.len()
@@ -64,7 +64,7 @@ impl Trail {
 
     /// Whether the literal is there. Takes constant time.
     #[inline]
-    pub fn holds(&self, lit: Lit) -> bool
+    pub(crate) fn holds(&self, lit: Lit) -> bool
         ensures { result ≡ holds (from_literals self.now) lit }
     {
         self.stamps.get(lit.place()) == self.stamp
@@ -74,21 +74,24 @@ impl Trail {
     ///
     /// # Errors
     /// [`NoMemory`] where a growth was refused.
-    #[inline]
-    pub fn push(&mut self, lit: Lit) -> Result<(), NoMemory>
+    #[inline(always)]
+    pub(crate) fn push(&mut self, lit: Lit) -> Result<(), NoMemory>
         requires { holds (from_literals self.old) lit ≡ false }
         ensures ok { OnOk result (self.new ≡ self.old ++ lit ∷ []) }
         ensures err { OnErr result (self.new ≡ self.old) }
     {
-        self.lits.reserve(1)?;
-        self.stamps.set(lit.place(), self.stamp)?;
-        self.lits.push(lit).unwrap();
+        let len = self.lits.len();
+        self.lits.push(lit)?;
+        if let Err(refused) = self.stamps.set(lit.place(), self.stamp) {
+            self.lits.truncate(len);
+            return Err(refused);
+        }
         Ok(())
     }
 
     /// Takes the last literal out. Takes constant time.
     #[inline]
-    pub fn pop(&mut self)
+    pub(crate) fn pop(&mut self)
         ensures { self.new ≡ take (length self.old - 1) self.old }
     {
         if let Some(lit) = self.lits.pop() {

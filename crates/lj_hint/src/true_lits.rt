@@ -13,7 +13,7 @@ use std::marker::Model;
 
 /// A set of literals, which knows whether it holds a literal and its negation, and can be taken back to what it was.
 #[derive(Drop)]
-pub struct TrueLits {
+pub(crate) struct TrueLits {
     trail: Trail,
     contradictory: bool,
 }
@@ -32,7 +32,7 @@ impl Model for TrueLits {
 
 impl TrueLits {
     /// The set without a literal, where the first that come in take this stamp. Takes no memory.
-    pub fn starting_at(alloc: Global, stamp: u32) -> TrueLits
+    pub(crate) fn starting_at(alloc: Global, stamp: u32) -> TrueLits
         requires { 0 < stamp }
         ensures { result ≡ [] }
     {
@@ -43,7 +43,7 @@ impl TrueLits {
     }
 
     /// Takes every literal out.
-    pub fn clear(&mut self)
+    pub(crate) fn clear(&mut self)
         ensures { self.new ≡ [] }
     {
         self.trail.clear();
@@ -51,7 +51,7 @@ impl TrueLits {
     }
 
     /// The number of literals.
-    pub fn len(&self) -> usize
+    pub(crate) fn len(&self) -> usize
         ensures { result ≡ length self.now }
     {
         self.trail.len()
@@ -59,7 +59,7 @@ impl TrueLits {
 
     /// Whether the literal is in the set. Takes constant time.
     #[inline]
-    pub fn holds(&self, lit: Lit) -> bool
+    pub(crate) fn holds(&self, lit: Lit) -> bool
         ensures { result ≡ holds (from_literals self.now) lit }
     {
         self.trail.holds(lit)
@@ -67,7 +67,7 @@ impl TrueLits {
 
     /// Whether a literal and its negation are in the set.
     #[inline]
-    pub fn is_contradictory(&self) -> bool
+    pub(crate) fn is_contradictory(&self) -> bool
         ensures { result ≡ is_contradictory (from_literals self.now) }
     {
         self.contradictory
@@ -78,8 +78,8 @@ impl TrueLits {
     ///
     /// # Errors
     /// [`NoMemory`] where a growth was refused.
-    #[inline]
-    pub fn insert(&mut self, lit: Lit) -> Result<(), NoMemory>
+    #[inline(always)]
+    pub(crate) fn insert(&mut self, lit: Lit) -> Result<(), NoMemory>
         ensures ok { OnOk result (self.new ≡ with_mark self.old lit) }
         ensures err { OnErr result (self.new ≡ self.old) }
         ensures there { holds (from_literals self.old) lit ≡ true → IsOk result }
@@ -94,11 +94,31 @@ impl TrueLits {
         Ok(())
     }
 
+    /// Puts a literal into the set whose negation isn't there, as [`TrueLits::insert`] does.
+    ///
+    /// # Errors
+    /// [`NoMemory`] where a growth was refused.
+    #[inline(always)]
+    pub(crate) fn insert_unopposed(&mut self, lit: Lit) -> Result<(), NoMemory>
+        requires { holds (from_literals self.old) (neg_ℤ lit) ≡ false }
+        ensures ok { OnOk result (self.new ≡ with_mark self.old lit) }
+        ensures err { OnErr result (self.new ≡ self.old) }
+        ensures contradictory { is_contradictory (from_literals self.new)
+            ≡ is_contradictory (from_literals self.old) }
+    {
+        if self.trail.holds(lit) {
+            return Ok(());
+        }
+        prove!(lit.variable() > 0);
+        self.trail.push(lit)?;
+        Ok(())
+    }
+
     /// Puts the negation of each of these literals into the set.
     ///
     /// # Errors
     /// [`NoMemory`] where a growth was refused.
-    pub fn insert_negations(&mut self, lits: &[Lit]) -> Result<(), NoMemory>
+    pub(crate) fn insert_negations(&mut self, lits: &[Lit]) -> Result<(), NoMemory>
         ensures ok { OnOk result
             (from_literals self.new ≡ with_negations (from_literals self.old) lits.now) }
         ensures extends { Extends self.old self.new }
@@ -113,7 +133,7 @@ impl TrueLits {
     ///
     /// # Errors
     /// [`NoMemory`] where a growth was refused.
-    pub fn insert_negations_but(&mut self, lits: &[Lit], but: Lit) -> Result<(), NoMemory>
+    pub(crate) fn insert_negations_but(&mut self, lits: &[Lit], but: Lit) -> Result<(), NoMemory>
         ensures ok { OnOk result (from_literals self.new ≡ with_negations (from_literals self.old)
             (filter (λ m. not (eq_by_cmp lit_cmp m but)) lits.now)) }
         ensures extends { Extends self.old self.new }
@@ -128,7 +148,7 @@ impl TrueLits {
 
     /// Takes the set back to what it was with so many literals, where it held no literal and its negation. Takes
     /// constant time for each literal that came in since.
-    pub fn take_back(&mut self, len: usize)
+    pub(crate) fn take_back(&mut self, len: usize)
         requires { is_contradictory (from_literals (take len self.old)) ≡ false }
         ensures { self.new ≡ take len self.old }
     {

@@ -12,7 +12,7 @@ use lj_clause::{Clause, Lit, NoMemory};
 
 /// The literals of a clause that a walk leaves open, seen up to two.
 #[derive(Clone, Copy)]
-pub enum Rest {
+pub(crate) enum Rest {
     /// The clause is false.
     Nothing,
     /// The clause is unit: this literal has to be true.
@@ -23,7 +23,7 @@ pub enum Rest {
 
 /// How a walk ended.
 #[derive(Clone, Copy)]
-pub enum Ending {
+pub(crate) enum Ending {
     /// Closed, after it read so many hints.
     ClosedAfter(usize),
     /// Open after the last hint.
@@ -36,7 +36,7 @@ pub enum Ending {
 ///
 /// # Errors
 /// [`NoMemory`] where a growth was refused.
-pub fn walk_negation<H: HintList>(
+pub(crate) fn walk_negation<H: HintList>(
     held: &mut TrueLits,
     clause: &Clause,
     hints: &H,
@@ -53,12 +53,13 @@ pub fn walk_negation<H: HintList>(
     walk(held, hints)
 }
 
-/// The walk of the literals that are held over the hints. Each clause is read once.
+/// The walk of the literals that are held over the hints. Each clause is read once. No hint makes what is held
+/// contradictory: the one literal that it leaves is one whose negation isn't held.
 ///
 /// # Errors
 /// [`NoMemory`] where a growth was refused.
 #[inline(never)]
-pub fn walk<H: HintList>(held: &mut TrueLits, hints: &H) -> Result<Ending, NoMemory>
+pub(crate) fn walk<H: HintList>(held: &mut TrueLits, hints: &H) -> Result<Ending, NoMemory>
     ensures ending { IfOk result
         (λ ending. ending ≡ ending_of (walk_over (from_literals held.old) (H.hints hints.now))) }
     ensures held { result ≡ Ok Ending.StaysOpen
@@ -67,28 +68,24 @@ pub fn walk<H: HintList>(held: &mut TrueLits, hints: &H) -> Result<Ending, NoMem
         → is_contradictory (from_literals held.new) ≡ false }
     ensures extends { Extends held.old held.new }
 {
-    let count = hints.count();
-    for index in 0..count {
-        if held.is_contradictory() {
-            return Ok(Ending::ClosedAfter(index));
-        }
+    if held.is_contradictory() {
+        return Ok(Ending::ClosedAfter(0));
+    }
+    for index in 0..hints.count() {
         let Some(clause) = hints.clause(index) else {
             return Ok(Ending::StuckAt(index as u64 + 1));
         };
         match rest_of(held, clause) {
             Rest::Nothing => return Ok(Ending::ClosedAfter(index + 1)),
-            Rest::One(lit) => held.insert(lit)?,
+            Rest::One(lit) => held.insert_unopposed(lit)?,
             Rest::More => return Ok(Ending::StuckAt(index as u64 + 1)),
         }
-    }
-    if held.is_contradictory() {
-        return Ok(Ending::ClosedAfter(count));
     }
     Ok(Ending::StaysOpen)
 }
 
 /// The literals of the clause whose negation isn't held.
-pub fn rest_of(held: &TrueLits, clause: &Clause) -> Rest
+pub(crate) fn rest_of(held: &TrueLits, clause: &Clause) -> Rest
     ensures { result ≡ rest_seen (rest clause.now (from_literals held.now)) }
 {
     let mut found = Rest::Nothing;

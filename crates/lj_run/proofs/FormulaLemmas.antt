@@ -1,5 +1,5 @@
 -- The steps of reading a formula.
-use Rattle.std.proofs.Common.{◌≡◌, List, [], Result, Ok, Err, sym, subst}
+use Rattle.std.proofs.Common.{◌≡◌, [], Result, Ok, Err, sym, subst}
 use Rattle.std.specs.Prelude.{IfOk, IfErr}
 use Rattle.lj_clause.specs.ClauseMap.{FormulaValue}
 use Rattle.lj_text.specs.Cnf.{Spells, HasFault}
@@ -8,7 +8,7 @@ use Rattle.lj_text.specs.Streams.{SourceState, HasEnded, HasGiven}
 use Rattle.lj_run.specs.declared.outcome.RunFault.{RunFault}
 use Rattle.lj_run.specs.declared.outcome.RunFault.TheVariants.{Formula, FormulaRead, NoMemory, Unconfirmed}
 use Rattle.lj_run.specs.inner.FormulaReading.{FormulaReadOn, IsFaultAtEnd}
-use Rattle.lj_run.specs.FormulaReading.{IsFormulaFault, GaveAll, GaveFormula, GaveFault}
+use Rattle.lj_run.specs.FormulaReading.{IsFormulaFault, GaveAll, GaveFormula}
 use Rattle.lj_run.proofs.GivenLemmas.{given_none, given_on}
 use Rattle.lj_clause.specs.declared.lit.TheConstants.{MAX_VARIABLE}
 

@@ -1,6 +1,6 @@
 -- The outcome of streams that ran in turn.
-use Rattle.std.proofs.Common.{◌≡◌, ℕ, suc, ◌+◌, Bool, List, [], ◌∷◌, ◌++◌, length, Option, Some, None, refl, sym, ap, ◌∙◌, subst, arith, add-zero}
-use Rattle.std.specs.Prelude.{true, false, ◌&&◌, IfSome, is_some, if◌then◌else◌}
+use Rattle.std.proofs.Common.{◌≡◌, ℕ, suc, ◌+◌, List, [], ◌∷◌, ◌++◌, length, Option, Some, refl, sym, ap, ◌∙◌, subst, arith, add-zero}
+use Rattle.std.specs.Prelude.{◌&&◌, IfSome, is_some}
 use Rattle.lj_clause.specs.ClauseMap.{FormulaValue, formula_map}
 use Rattle.std.specs.List.{list_any}
 use Rattle.lj_text.specs.declared.step.Step.{Step}
@@ -11,10 +11,8 @@ use Rattle.lj_book.specs.State.{State, opening, live, steps_of}
 use Rattle.lj_book.specs.History.{IsReached}
 use Rattle.lj_run.specs.declared.outcome.Outcome.{Outcome}
 use Rattle.lj_run.specs.declared.outcome.Report.{Report}
-use Rattle.lj_run.specs.FormulaReading.{GaveFormula}
-use Rattle.lj_run.specs.InTurn.{IsOutcome, IsReport, IsRunAnswer, RunInTurn}
-use Rattle.lj_run.specs.Proof.{SinkState, IsProof}
-use Rattle.lj_run.proofs.ProofLemmas.{written_refutes}
+use Rattle.lj_run.specs.InTurn.{IsOutcome, IsReport, RunInTurn}
+use Rattle.lj_run.proofs.WayLemmas.{verified_is}
 
 -- one stream more
 pub one_more_run : {S : Type 0} (seen : S → SourceState) (seat : ℕ) (streams : List S) (stream : S) (s mid final : State) (reports : List (Report S)) (report : Report S)
@@ -28,11 +26,6 @@ one_more_run seen seat (x ∷ streams) stream s mid final (r ∷ reports) report
   where
     further : (n k : ℕ) → n + (suc k) ≡ (n + 1) + k
     further n k = omega arith
-
--- what is told of the verdict, as one value
-verified_is : (v : Option FormulaValue) (f g : FormulaValue) (b : Bool) → g ≡ f → is_some v ≡ b → IfSome v (λ h. h ≡ g) → v ≡ (if b then Some f else None)
-verified_is None f g b same some is = ap (λ c. if c then Some f else None) some
-verified_is (Some h) f g b same some is = ap Some (is ∙ same) ∙ ap (λ c. if c then Some f else None) some
 
 pub outcome_is : {S : Type 0} (seen : S → SourceState) (f : FormulaValue) (max : ℕ) (streams : List S) (start final : State) (outcome : Outcome S)
     → start ≡ opening f (length streams) max → final.formula ≡ start.formula → RunInTurn seen 0 streams start outcome.reports.items final
@@ -53,18 +46,3 @@ outcome_is seen f max streams start final outcome opened kept run reached steps 
 -- where the replay is defined, the formula is refuted exactly where some step adds the empty clause
 pub refutes_any : (v : Option FormulaValue) (f : FormulaValue) (ss : List Step) (p : ClauseMap) → is_some v ≡ refutes f ss → replay (formula_map f) ss ≡ Some p → is_some v ≡ list_any adds_empty ss
 refutes_any v f ss p is e = is ∙ ap (λ o. is_some o && list_any adds_empty ss) e
-
-refuted_by : (f : FormulaValue) (v : Option FormulaValue) (b : Bool) → v ≡ (if b then Some f else None) → v ≡ Some f → b ≡ true
-refuted_by f v true e is = refl
-refuted_by f v false e is = let bad : None ≡ Some f = sym e ∙ is in cc
-
-pub run_answer : {S W : Type 0} (before after : SourceState) (seen : S → SourceState) (sink : W → SinkState) (f : FormulaValue) (max : ℕ) (trims : Bool) (streams : List S) (old new : Option W) (outcome : Outcome S) (final : State)
-    → GaveFormula before after f → IsOutcome seen f max streams outcome → IsReached final → final.formula ≡ f → outcome.steps.items ≡ steps_of final.history
-    → IsProof sink f trims outcome.steps.items old new outcome.proof → IsRunAnswer before after seen sink max trims streams old new outcome
-run_answer before after seen sink f max trims streams old new outcome final gave is reached same steps proof = record {
-  formula = f;
-  gave = gave;
-  comes = is;
-  proof = proof;
-  refuted = λ e. written_refutes final f trims outcome.steps.items reached same steps (refuted_by f outcome.verified (refutes f outcome.steps.items) is.verified e);
-}

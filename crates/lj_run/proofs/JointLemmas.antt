@@ -1,21 +1,16 @@
 -- The run of one stream on a shared book.
-use Rattle.std.proofs.Common.{◌≡◌, ℕ, suc, ◌+◌, Bool, true, false, List, [], ◌∷◌, ◌++◌, length, map, filter, take, drop, Option, None, Some, Result, Ok, Err, refl, sym, ap, ◌∙◌, subst, arith, add-one, length-append}
-use Rattle.std.specs.Prelude.{slice_get, if◌then◌else◌}
-use Rattle.std.proofs.lemmas.List.{append-nil}
+use Rattle.std.proofs.Common.{◌≡◌, ℕ, suc, ◌+◌, Bool, true, false, List, [], ◌∷◌, ◌++◌, length, map, filter, take, drop, None, Some, Ok, refl, sym, ap, ◌∙◌, subst, arith, add-one}
+use Rattle.std.specs.Prelude.{if◌then◌else◌}
 use Rattle.lj_text.specs.declared.line.Line.{Line}
 use Rattle.lj_text.specs.declared.line.Line.TheVariants.{Add, Delete, Import}
-use Rattle.lj_text.specs.Lines.{Said, whole_said, all_said}
-use Rattle.lj_text.proofs.Fronts.{all_said-front}
+use Rattle.lj_text.specs.Lines.{Said, all_said}
 use Rattle.lj_text.specs.LinesRead.{LinesRead, LineReaderStandsAt}
 use Rattle.lj_text.specs.Streams.{SourceState, HasGiven}
-use Rattle.lj_book.specs.declared.entry.Call.{Call}
 use Rattle.lj_book.specs.declared.entry.Entry.{Entry}
 use Rattle.lj_share.specs.Entries.{call_of}
-use Rattle.lj_run.specs.declared.outcome.End.{End}
 use Rattle.lj_run.specs.declared.outcome.End.TheVariants.{Ended, Stopped, Line as AtLine}
-use Rattle.lj_run.specs.declared.outcome.LineEnd.TheVariants.{Fault, Refused, ReadFailed}
+use Rattle.lj_run.specs.declared.outcome.LineEnd.TheVariants.{Refused}
 use Rattle.lj_run.specs.declared.stream.Count.{Count}
-use Rattle.lj_run.specs.declared.stream.Count.TheVariants.{Addition, Deletion, Importing}
 use Rattle.lj_run.specs.declared.stream.Tally.{Tally}
 use Rattle.lj_run.specs.declared.reading.Miss.{Miss}
 use Rattle.lj_run.specs.declared.reading.Miss.TheVariants.{Failed, AtFault}
@@ -25,7 +20,7 @@ use Rattle.lj_run.specs.inner.Joint.{report_of}
 use Rattle.lj_run.specs.inner.Reading.{LineRead, LineMissed, IsMiss, reads_failed}
 use Rattle.lj_run.specs.Reading.{IsRoomRefused, FailsAt}
 use Rattle.lj_run.specs.inner.Run.{IsCounted}
-use Rattle.lj_run.specs.Run.{MeetsLine, IfReadFailed, failed_reads}
+use Rattle.lj_run.specs.Run.{IfReadFailed}
 use Rattle.lj_run.specs.inner.Tally.{with_count, with_end, missed_at, IsToldOf}
 use Rattle.lj_run.proofs.GivenLemmas.{given_none, given_on}
 use Rattle.lj_run.proofs.RunLemmas.{take_next, first_left, none_left, meets_fault, no_end_missed, reads_missed, room_missed}

@@ -1,6 +1,6 @@
 -- The run of streams beside one another, on one opening.
-use Rattle.std.proofs.Common.{◌≡◌, ℕ, zero, suc, ◌+◌, ◌<◌, Bool, true, false, List, [], ◌∷◌, ◌++◌, length, map, Option, None, Some, refl, sym, ap, ◌∙◌, subst, arith, add-zero, zero-add, length-append, rules, inl, inr}
-use Rattle.std.specs.Prelude.{slice_get, slice_index_or, All, IfSome, is_some, ◌==◌, if◌then◌else◌, ◌⊎◌}
+use Rattle.std.proofs.Common.{◌≡◌, ℕ, zero, suc, ◌+◌, ◌<◌, Bool, true, false, List, [], ◌∷◌, ◌++◌, length, map, Option, None, Some, refl, sym, ap, ◌∙◌, subst, arith, add-zero, zero-add, length-append, inl, inr}
+use Rattle.std.specs.Prelude.{slice_get, slice_index_or, All, IfSome, is_some, ◌==◌, ◌⊎◌}
 use Rattle.std.specs.Int.{from_bool}
 use Rattle.std.specs.List.{zip, sum_by}
 use Rattle.std.proofs.lemmas.Bool.Decides.{nat_tests}
@@ -20,14 +20,12 @@ use Rattle.lj_run.specs.declared.outcome.End.TheVariants.{Ended, Stopped, Line a
 use Rattle.lj_run.specs.declared.outcome.LineEnd.TheVariants.{Fault, Refused, ReadFailed}
 use Rattle.lj_run.specs.declared.outcome.Outcome.{Outcome}
 use Rattle.lj_run.specs.declared.outcome.Report.{Report}
-use Rattle.lj_run.specs.FormulaReading.{GaveFormula}
 use Rattle.lj_run.specs.InTurn.{streams_by_seat}
-use Rattle.lj_run.specs.Joint.{EndsBeside, IsStreamBeside, RunBeside, IsDenied, IsUnconfirmed, IsBookOfRun, IsJointOutcome, IsJointAnswer, accepted}
+use Rattle.lj_run.specs.Joint.{EndsBeside, IsStreamBeside, RunBeside, IsUnconfirmed, IsBookOfRun, IsJointOutcome, accepted_count}
 use Rattle.lj_run.specs.inner.Joint.{HaveRun, IsConfirmed, AreConfirmed, SomeDenied}
-use Rattle.lj_run.specs.Proof.{SinkState, IsProof}
 use Rattle.lj_run.specs.Run.{has_verdict}
 use Rattle.lj_run.proofs.JointLemmas.{map_snoc}
-use Rattle.lj_run.proofs.ProofLemmas.{written_refutes}
+use Rattle.lj_run.proofs.WayLemmas.{verified_is}
 
 -- ---- seats
 
@@ -140,7 +138,7 @@ module _ {S : Type 0} (seen : S → SourceState) where
   one_more_beside (x ∷ xs) (t ∷ ts) (r ∷ rs) stream told report ran is = (ran.0, one_more_beside xs ts rs stream told report ran.1 is)
 
   pub book_of_run : (f : FormulaValue) (max : ℕ) (streams : List S) (tokens : List (List Entry)) (reports : List (Report S)) (s : State)
-      → IsOpenedAs f (length streams) max s → IsReached s → length s.history ≡ sum_by accepted reports → HaveRun seen streams tokens reports → AreConfirmed s tokens reports
+      → IsOpenedAs f (length streams) max s → IsReached s → length s.history ≡ sum_by accepted_count reports → HaveRun seen streams tokens reports → AreConfirmed s tokens reports
       → IsBookOfRun seen f max streams (has_verdict s) reports s
   book_of_run f max streams tokens reports s opened legal counted ran are = record {
     opened = opened;
@@ -168,10 +166,6 @@ module _ {S : Type 0} (seen : S → SourceState) where
 
 -- ---- the outcome
 
-verified_is : (v : Option FormulaValue) (f g : FormulaValue) (b : Bool) → g ≡ f → is_some v ≡ b → IfSome v (λ h. h ≡ g) → v ≡ (if b then Some f else None)
-verified_is None f g b same some is = ap (λ c. if c then Some f else None) some
-verified_is (Some h) f g b same some is = ap Some (is ∙ same) ∙ ap (λ c. if c then Some f else None) some
-
 pub joint_outcome_is : {S : Type 0} (seen : S → SourceState) (f : FormulaValue) (max : ℕ) (streams : List S) (final : State) (outcome : Outcome S)
     → IsBookOfRun seen f max streams (has_verdict final) outcome.reports.items final → outcome.steps.items ≡ steps_of final.history → replay (formula_map final.formula) (steps_of final.history) ≡ Some (live final)
     → is_some outcome.verified ≡ has_verdict final → is_some outcome.verified ≡ refutes final.formula (steps_of final.history) → IfSome outcome.verified (λ g. g ≡ final.formula) → IsJointOutcome seen f max streams outcome
@@ -185,20 +179,6 @@ joint_outcome_is seen f max streams final outcome book steps replayed some refut
       replayed = ap (λ g. replay (formula_map g) outcome.steps.items) (sym same) ∙ ap (replay (formula_map final.formula)) steps ∙ replayed;
       verified = verified_is outcome.verified f final.formula (refutes f outcome.steps.items) same refuted_is verified;
     }
-
-refuted_by : (f : FormulaValue) (v : Option FormulaValue) (b : Bool) → v ≡ (if b then Some f else None) → v ≡ Some f → b ≡ true
-refuted_by f v true e is = refl
-refuted_by f v false e is = let bad : None ≡ Some f = sym e ∙ is in cc
-
-pub joint_answer : {S W : Type 0} (before after : SourceState) (seen : S → SourceState) (sink : W → SinkState) (f : FormulaValue) (max : ℕ) (trims : Bool) (streams : List S) (old new : Option W) (outcome : Outcome S)
-    → GaveFormula before after f → IsJointOutcome seen f max streams outcome → IsProof sink f trims outcome.steps.items old new outcome.proof → IsJointAnswer before after seen sink max trims streams old new outcome
-joint_answer before after seen sink f max trims streams old new outcome gave is proof = record {
-  formula = f;
-  gave = gave;
-  comes = is;
-  proof = proof;
-  refuted = λ e. written_refutes is.final f trims outcome.steps.items is.leaves.legal is.leaves.opened.formula_is is.steps (refuted_by f outcome.verified (refutes f outcome.steps.items) is.verified e);
-}
 
 -- ---- reading by index
 

@@ -12,4 +12,5 @@ mod ReadingLemmas
 mod RunLemmas
 mod StartLemmas
 mod TextLemmas
+mod WayLemmas
 mod WordsLemmas

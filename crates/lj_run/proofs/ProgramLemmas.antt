@@ -1,5 +1,5 @@
 -- What the program tells, and how it ends.
-use Rattle.std.proofs.Common.{suc, ◌≡◌, ◌<◌, ◌≤◌, ℕ, List, [], ◌∷◌, ◌++◌, ◌+◌, length, map, take, get_or, Option, Some, None, refl, sym, ap, ◌∙◌, subst, append-nil, length-append, ◌⊎◌, inl, inr, Bool, true, false, arith}
+use Rattle.std.proofs.Common.{suc, ◌≡◌, ◌<◌, ◌≤◌, ℕ, List, [], ◌∷◌, ◌++◌, ◌+◌, length, map, take, get_or, Option, Some, None, refl, sym, ap, ◌∙◌, subst, append-nil, length-append, ◌⊎◌, inl, inr, Bool, true, arith}
 use Rattle.std.specs.Prelude.{All, Contains, IfOk, IfErr, IfSome, IsErrAnd, Result, Ok, Err, option_map}
 use Rattle.std.specs.Io.KnownBytes.{Consumes, IsAtEnd, Keeps}
 use Rattle.std.specs.Borrow.{Bor}
@@ -26,7 +26,11 @@ use Rattle.lj_run.specs.declared.checking.Verdict.TheVariants.{Verified, NotVeri
 use Rattle.lj_run.specs.declared.fault.Fault.{Fault}
 use Rattle.lj_run.specs.declared.fault.Fault.TheVariants as faults
 use Rattle.lj_run.specs.declared.outcome.RunFault.TheVariants as run_faults
+use Rattle.lj_run.specs.declared.outcome.Way.{Way}
 use Rattle.lj_run.specs.declared.status.Status.{Status}
+use Rattle.lj_run.proofs.WayLemmas.{formula_fault}
+use Rattle.lj_run.specs.inner.CommandLine.{line_asked}
+use Rattle.lj_run.specs.declared.command_line.CommandLine.{CommandLine}
 use Rattle.lj_clause.specs.declared.lit.TheConstants.{MAX_VARIABLE}
 
 -- ---- files
@@ -105,6 +109,19 @@ pub streams_before : {I : Type 0} (seen : I → SourceState) (before content las
 streams_before seen before content last paths items path inputs closing is same same_last h h_last =
     with_closing seen before (map (λ p. p.now) items) (option_map (λ p. p.now) path) inputs closing (inputs_before seen before content paths items inputs is same h)
     (closing_before seen before last path closing (λ other. same_last other ∙ same other) h_last)
+
+-- the files of a run, by what is told of them as they were
+abbrev pub run_inputs : {I : Type 0} (seen : I → SourceState) (before content last : List ℕ → Option (List ℕ)) (line : CommandLine) (paths : List (Bor (List ℕ))) (opened after : I) (inputs : List I)
+    (closing : Option I) → paths ≡ line.proofs.items → ((other : List ℕ) → content other ≡ before other) → ((other : List ℕ) → last other ≡ content other)
+    → IsOpened (before line.formula.now) (seen opened) → HasInputs seen (map (λ p. content p.now) paths) inputs
+    → HasInputs seen (map (λ p. last p.now) (streams_by_seat [] line.closing)) (streams_by_seat [] closing) → RunInputs seen before (line_asked line)
+run_inputs seen before content last line paths opened after inputs closing is same same_last formula streams end = record {
+  opened = opened;
+  after = after;
+  streams = streams_by_seat inputs closing;
+  formula_is = formula;
+  streams_are = streams_before seen before content last paths line.proofs.items line.closing inputs closing is same same_last streams end;
+}
 
 length-by_seat : {S : Type 0} (streams : List S) (closing : Option S) → (length streams ≤ length (streams_by_seat streams closing)) × (length (streams_by_seat streams closing) ≤ length streams + 1)
 length-by_seat streams None = (omega arith, omega arith)
@@ -198,23 +215,24 @@ of_content P content before after text opened all h =
 
 -- what is told of a check that has no answer
 pub check_fault : {I W : Type 0} (seen : I → SourceState) (sink : W → SinkState) (run : AskedRun) (content : List ℕ → Option (List ℕ)) (path : Bor (List ℕ)) (inputs : RunInputs seen content run)
-    (old new : List ℕ) (fault : CheckFault) → path.now ≡ run.formula → IsCheckFault (seen inputs.opened) (seen inputs.after) seen run.max_steps inputs.streams old new fault
+    (old new : List ℕ) (fault : CheckFault) → path.now ≡ run.formula → IsCheckFault run.way (seen inputs.opened) (seen inputs.after) seen run.max_steps inputs.streams old new fault
     → IsFaultOf seen sink (a_run run) content (fault_at path fault)
 check_fault seen sink run content path inputs old new (check_faults.Run (run_faults.Formula fault)) is h =
-    (is, of_content (λ text. HasFault MAX_VARIABLE text fault) (content run.formula) (seen inputs.opened) (seen inputs.after) h.0.text inputs.formula_is h.0.all h.0.has, record { inputs = inputs; fault_is = h.0 })
+    let gave = formula_fault run.way (seen inputs.opened) (seen inputs.after) seen run.max_steps inputs.streams fault h.0 in
+    (is, of_content (λ text. HasFault MAX_VARIABLE text fault) (content run.formula) (seen inputs.opened) (seen inputs.after) gave.text inputs.formula_is gave.all gave.has, record { inputs = inputs; fault_is = h.0 })
 check_fault seen sink run content path inputs old new (check_faults.Run run_faults.FormulaRead) is h = inr (is, record { inputs = inputs; fault_is = h.0 })
 check_fault seen sink run content path inputs old new (check_faults.Run (run_faults.NoMemory e)) is h = tt
-check_fault seen sink run content path inputs old new (check_faults.Run run_faults.Unconfirmed) is h = absurd h.0
+check_fault seen sink run content path inputs old new (check_faults.Run run_faults.Unconfirmed) is h = record { inputs = inputs; fault_is = h.0 }
 check_fault seen sink run content path inputs old new check_faults.CannotWrite is h = λ e. cc
 
 -- the check whose output failed
-pub check_cut : {I : Type 0} (seen : I → SourceState) (formula : Bor (List ℕ)) (before after : SourceState) (max : ℕ) (streams : List I) (old new : List ℕ) (fault : CheckFault)
-    → IsCheckFault before after seen max streams old new fault → fault_at formula fault ≡ faults.CannotWrite → IsCutText before after seen max streams old new
-check_cut seen formula before after max streams old new (check_faults.Run (run_faults.Formula fault)) h e = cc
-check_cut seen formula before after max streams old new (check_faults.Run run_faults.FormulaRead) h e = cc
-check_cut seen formula before after max streams old new (check_faults.Run (run_faults.NoMemory refused)) h e = cc
-check_cut seen formula before after max streams old new (check_faults.Run run_faults.Unconfirmed) h e = cc
-check_cut seen formula before after max streams old new check_faults.CannotWrite h e = h
+pub check_cut : {I : Type 0} (way : Way) (seen : I → SourceState) (formula : Bor (List ℕ)) (before after : SourceState) (max : ℕ) (streams : List I) (old new : List ℕ) (fault : CheckFault)
+    → IsCheckFault way before after seen max streams old new fault → fault_at formula fault ≡ faults.CannotWrite → IsCutText way before after seen max streams old new
+check_cut way seen formula before after max streams old new (check_faults.Run (run_faults.Formula fault)) h e = cc
+check_cut way seen formula before after max streams old new (check_faults.Run run_faults.FormulaRead) h e = cc
+check_cut way seen formula before after max streams old new (check_faults.Run (run_faults.NoMemory refused)) h e = cc
+check_cut way seen formula before after max streams old new (check_faults.Run run_faults.Unconfirmed) h e = cc
+check_cut way seen formula before after max streams old new check_faults.CannotWrite h e = h
 
 -- ---- verdicts
 

@@ -1,6 +1,6 @@
 -- The steps of reading a stream's lines.
-use Rattle.std.proofs.Common.{◌≡◌, ℕ, ◌+◌, Bool, true, false, List, [], ◌∷◌, ◌++◌, length, take, Option, None, Some, Result, Ok, Err, refl, sym, ap, ◌∙◌, subst, append_assoc, add-zero, inl, inr}
-use Rattle.std.specs.Prelude.{◌⊎◌, slice_get, MatchBool, IfErr, IsErrAnd, IsOk}
+use Rattle.std.proofs.Common.{◌≡◌, ℕ, ◌+◌, true, false, List, [], ◌∷◌, ◌++◌, length, take, Option, None, Some, Result, Ok, Err, refl, sym, ap, ◌∙◌, subst, append_assoc, add-zero, inl, inr}
+use Rattle.std.specs.Prelude.{slice_get, MatchBool, IfErr, IsErrAnd, IsOk}
 use Rattle.std.proofs.lemmas.List.{append-nil}
 use Rattle.std.proofs.lemmas.Bool.{false≢true}
 use Rattle.lj_text.specs.declared.line.Line.{Line}

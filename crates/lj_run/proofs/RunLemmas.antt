@@ -1,5 +1,5 @@
 -- The steps of a stream's run.
-use Rattle.std.proofs.Common.{◌≡◌, ℕ, zero, suc, ◌+◌, Bool, true, false, cond, List, [], ◌∷◌, ◌++◌, length, take, drop, Option, None, Some, Result, Ok, Err, refl, sym, ap, ◌∙◌, arith, add-one, length-append}
+use Rattle.std.proofs.Common.{◌≡◌, ℕ, zero, suc, ◌+◌, true, false, cond, List, [], ◌∷◌, ◌++◌, length, take, drop, None, Some, Result, Ok, Err, refl, sym, ap, ◌∙◌, arith, add-one, length-append}
 use Rattle.std.specs.Prelude.{slice_get, option_and_then}
 use Rattle.std.proofs.lemmas.List.{append-nil}
 use Rattle.lj_text.specs.declared.line.Line.{Line}
@@ -28,7 +28,7 @@ use Rattle.lj_run.specs.declared.reading.Miss.{Miss}
 use Rattle.lj_run.specs.declared.reading.Miss.TheVariants.{Failed, AtFault}
 use Rattle.lj_run.specs.declared.stream.Tally.{Tally}
 use Rattle.lj_run.specs.inner.Tally.{with_count, missed_at}
-use Rattle.lj_run.specs.Run.{if_accepted, reply_to_line, Progress, progress_of, with_line, has_verdict, progress_if_entered, progress_after_line, progress_after_lines, MeetsFault, MeetsRefused, MeetsRefusal, EndsAtLine, EndsWith, IsRunOfLines, IsStreamRun, IfReadFailed, IfRoomRefused, IsFailedRead, failed_reads}
+use Rattle.lj_run.specs.Run.{if_accepted, reply_to_line, Progress, progress_of, with_line, has_verdict, progress_if_entered, progress_after_line, progress_after_lines, MeetsFault, MeetsRefused, MeetsRefusal, EndsAtLine, EndsWith, IsStreamRun, IfReadFailed, IfRoomRefused, IsFailedRead, failed_reads}
 use Rattle.lj_run.specs.inner.Run.{IsCounted, IsLineEnd}
 use Rattle.lj_run.proofs.GivenLemmas.{given_none, given_on}
 use Rattle.lj_clause.specs.declared.lit.TheConstants.{MAX_VARIABLE}

@@ -25,7 +25,8 @@ use Rattle.clap.specs.Simple.{App, app_of, HasMatchesOf, is_simple, matches_of, 
 use Rattle.clap.specs.Walk.{Rule, all_of, first_of, rows_of}
 use Rattle.clap.proofs.WalkLemmas.{first_value-rows, raw_values-rows}
 use Rattle.lj_text.specs.Bytes.{decimal_value}
-use Rattle.lj_run.specs.CommandLine.{Asked, a_run, asked_by_rows, is_given, is_run_of, limit_of, program_app, run_asked, run_by_rows, steps_of_value, the_usage, with_proof}
+use Rattle.lj_run.specs.CommandLine.{Asked, a_run, asked_by_rows, is_given, is_run_of, limit_of, program_app, run_asked, run_by_rows, steps_of_value, the_usage, way_of, with_proof}
+use Rattle.lj_run.specs.declared.outcome.Way.{Way}
 use Rattle.lj_run.specs.inner.CommandLine.{HasRule}
 
 -- ---- the command line
@@ -77,33 +78,33 @@ is_third a b x e f = rw (e, f) refl
 -- ---- what is asked for
 
 -- what values ask for without a FORMULA, for too many streams, and for a limit that is none
-pub without_formula : (formula : Option (List ℕ)) (proofs : List (List ℕ)) (closing steps : Option (List ℕ)) → formula ≡ None → the_usage ≡ run_asked formula proofs closing steps
-without_formula None proofs closing steps e = refl
-without_formula (Some formula) proofs closing steps e = cc
+pub without_formula : (formula : Option (List ℕ)) (proofs : List (List ℕ)) (closing steps : Option (List ℕ)) (way : Way) → formula ≡ None → the_usage ≡ run_asked formula proofs closing steps way
+without_formula None proofs closing steps way e = refl
+without_formula (Some formula) proofs closing steps way e = cc
 
-pub too_many : (formula : Option (List ℕ)) (proofs : List (List ℕ)) (closing steps : Option (List ℕ)) → is_run_of proofs ≡ false → the_usage ≡ run_asked formula proofs closing steps
-too_many None proofs closing steps e = refl
-too_many (Some formula) proofs closing steps e = rw e refl
+pub too_many : (formula : Option (List ℕ)) (proofs : List (List ℕ)) (closing steps : Option (List ℕ)) (way : Way) → is_run_of proofs ≡ false → the_usage ≡ run_asked formula proofs closing steps way
+too_many None proofs closing steps way e = refl
+too_many (Some formula) proofs closing steps way e = rw e refl
 
-pub without_limit : (formula : Option (List ℕ)) (proofs : List (List ℕ)) (closing steps : Option (List ℕ)) → steps_of_value steps ≡ None → the_usage ≡ run_asked formula proofs closing steps
-without_limit None proofs closing steps e = refl
-without_limit (Some formula) proofs closing steps e = go (is_run_of proofs) refl
+pub without_limit : (formula : Option (List ℕ)) (proofs : List (List ℕ)) (closing steps : Option (List ℕ)) (way : Way) → steps_of_value steps ≡ None → the_usage ≡ run_asked formula proofs closing steps way
+without_limit None proofs closing steps way e = refl
+without_limit (Some formula) proofs closing steps way e = go (is_run_of proofs) refl
   where
-    go : (b : Bool) → is_run_of proofs ≡ b → the_usage ≡ run_asked (Some formula) proofs closing steps
+    go : (b : Bool) → is_run_of proofs ≡ b → the_usage ≡ run_asked (Some formula) proofs closing steps way
     go false t = rw t refl
     go true t = rw (t, e) refl
 
-asks_run : (formula : List ℕ) (proofs : List (List ℕ)) (closing steps : Option (List ℕ)) (limit : ℕ) → is_run_of proofs ≡ true → steps_of_value steps ≡ Some limit
-    → a_run (record { formula = formula; proofs = proofs; closing = closing; max_steps = limit; proof = None; trims = false }) ≡ run_asked (Some formula) proofs closing steps
-asks_run formula proofs closing steps limit t e = rw (t, e) refl
+asks_run : (formula : List ℕ) (proofs : List (List ℕ)) (closing steps : Option (List ℕ)) (limit : ℕ) (way : Way) → is_run_of proofs ≡ true → steps_of_value steps ≡ Some limit
+    → a_run (record { formula = formula; proofs = proofs; closing = closing; max_steps = limit; way = way; proof = None; trims = false }) ≡ run_asked (Some formula) proofs closing steps way
+asks_run formula proofs closing steps limit way t e = rw (t, e) refl
 
 -- and what they ask for else
-pub asks_given : (formula : Option (Bor (List ℕ))) (path : Bor (List ℕ)) (proofs items : List (Bor (List ℕ))) (closing steps : Option (Bor (List ℕ))) (limit : ℕ)
+pub asks_given : (formula : Option (Bor (List ℕ))) (path : Bor (List ℕ)) (proofs items : List (Bor (List ℕ))) (closing steps : Option (Bor (List ℕ))) (limit : ℕ) (way : Way)
     → formula ≡ Some path → items ≡ proofs → is_run_of (map (λ p. p.now) proofs) ≡ true → steps_of_value (option_map (λ p. p.now) steps) ≡ Some limit
-    → a_run (record { formula = path.now; proofs = map (λ p. p.now) items; closing = option_map (λ p. p.now) closing; max_steps = limit; proof = None; trims = false })
-    ≡ run_asked (option_map (λ p. p.now) formula) (map (λ p. p.now) proofs) (option_map (λ p. p.now) closing) (option_map (λ p. p.now) steps)
-asks_given formula path proofs items closing steps limit is same t e =
-    rw (is, same) (asks_run path.now (map (λ p. p.now) proofs) (option_map (λ p. p.now) closing) (option_map (λ p. p.now) steps) limit t e)
+    → a_run (record { formula = path.now; proofs = map (λ p. p.now) items; closing = option_map (λ p. p.now) closing; max_steps = limit; way = way; proof = None; trims = false })
+    ≡ run_asked (option_map (λ p. p.now) formula) (map (λ p. p.now) proofs) (option_map (λ p. p.now) closing) (option_map (λ p. p.now) steps) way
+asks_given formula path proofs items closing steps limit way is same t e =
+    rw (is, same) (asks_run path.now (map (λ p. p.now) proofs) (option_map (λ p. p.now) closing) (option_map (λ p. p.now) steps) limit way t e)
 
 -- the values of an argument, which may have none
 pub values_are : (f : Found) (id : List ℕ) (o : Option (Bor (List (Bor (List ℕ))))) (none : Bor (List (Bor (List ℕ)))) → none.now ≡ []
@@ -128,13 +129,14 @@ asks_with_proof f asked request proof trims is_request is_proof is_trim h =
     ∙ ap (with_proof (run_by_rows (rows_of f)) (first_of (codes "proof") (rows_of f))) is_trim
 
 -- what is found asks for what these values ask for, but for the proof
-pub asks_found : (f : Found) (formula closing steps : Option (List ℕ)) (proofs : List (List ℕ)) → formula ≡ first_value f (codes "FORMULA")
+pub asks_found : (f : Found) (formula closing steps : Option (List ℕ)) (proofs : List (List ℕ)) (way : Way) → formula ≡ first_value f (codes "FORMULA")
     → proofs ≡ unwrap_or (all_of (codes "PROOF") (rows_of f)) [] → closing ≡ first_value f (codes "close") → steps ≡ first_value f (codes "max-steps")
-    → run_asked formula proofs closing steps ≡ run_by_rows (rows_of f)
-asks_found f formula closing steps proofs is_formula are_proofs is_closing is_steps =
-    ap₂ (λ a b. run_asked a b closing steps) (is_formula ∙ first_value-rows f (codes "FORMULA")) are_proofs
-    ∙ ap₂ (λ a b. run_asked (first_of (codes "FORMULA") (rows_of f)) (unwrap_or (all_of (codes "PROOF") (rows_of f)) []) a b)
+    → way ≡ way_of (is_given (codes "in-turn") (rows_of f)) (length (unwrap_or (all_of (codes "PROOF") (rows_of f)) [])) → run_asked formula proofs closing steps way ≡ run_by_rows (rows_of f)
+asks_found f formula closing steps proofs way is_formula are_proofs is_closing is_steps is_way =
+    ap₂ (λ a b. run_asked a b closing steps way) (is_formula ∙ first_value-rows f (codes "FORMULA")) are_proofs
+    ∙ ap₂ (λ a b. run_asked (first_of (codes "FORMULA") (rows_of f)) (unwrap_or (all_of (codes "PROOF") (rows_of f)) []) a b way)
     (is_closing ∙ first_value-rows f (codes "close")) (is_steps ∙ first_value-rows f (codes "max-steps"))
+    ∙ ap (run_asked (first_of (codes "FORMULA") (rows_of f)) (unwrap_or (all_of (codes "PROOF") (rows_of f)) []) (first_of (codes "close") (rows_of f)) (first_of (codes "max-steps") (rows_of f))) is_way
 
 -- ---- limits
 

@@ -8,8 +8,9 @@ use Rattle.lj_run.specs.declared.checking.CheckFault.TheVariants.{Run, CannotWri
 use Rattle.lj_run.specs.declared.checking.Verdict.{Verdict}
 use Rattle.lj_run.specs.declared.checking.Verdict.TheVariants.{Verified, NotVerified}
 use Rattle.lj_run.specs.declared.outcome.Outcome.{Outcome}
-use Rattle.lj_run.specs.FormulaReading.{GaveFormula, IsFormulaFault}
-use Rattle.lj_run.specs.InTurn.{IsOutcome, IsRunAnswer}
+use Rattle.lj_run.specs.declared.outcome.Way.{Way}
+use Rattle.lj_run.specs.FormulaReading.{GaveFormula}
+use Rattle.lj_run.specs.Ways.{IsOutcomeBy, IsAnswerBy, IsFaultBy}
 use Rattle.lj_run.specs.Proof.{SinkState}
 use Rattle.lj_run.specs.declared.checking.Checked.{Checked}
 use Rattle.lj_run.specs.declared.outcome.RunFault.TheVariants.{Formula, FormulaRead, NoMemory, Unconfirmed}
@@ -20,14 +21,15 @@ abbrev pub verdict_of : Option FormulaValue → Verdict
 verdict_of (Some formula) = Verified
 verdict_of None = NotVerified
 
--- What is printed of a check with this verdict, of streams, over a formula's source that was first in one state and then in the
--- other: it is the text of an outcome of the run of the streams on the formula that the source's bytes spell. Where the verdict is
--- that it is verified, no assignment satisfies that formula.
-pub record IsPrinted {S : Type 0} (before after : SourceState) (seen : S → SourceState) (max_steps : ℕ) (streams : List S) (verdict : Verdict) (text : List ℕ) : Type 0 where
+-- What is printed of a check with this verdict, of streams that are run in this way, over a formula's source that was first in one
+-- state and then in the other: it is the text of an outcome of the run of the streams on the formula that the source's bytes spell.
+-- Where the verdict is that it is verified, no assignment satisfies that formula.
+pub record IsPrinted {S : Type 0} (way : Way) (before after : SourceState) (seen : S → SourceState)
+    (max_steps : ℕ) (streams : List S) (verdict : Verdict) (text : List ℕ) : Type 0 where
   pub formula : FormulaValue
   pub gave : GaveFormula before after formula
   pub outcome : Outcome S
-  pub comes : IsOutcome seen formula max_steps streams outcome
+  pub comes : IsOutcomeBy way seen formula max_steps streams outcome
   pub answers : verdict ≡ verdict_of outcome.verified
   pub unsatisfiable : verdict ≡ Verified → IsUnsatisfiable formula
   pub prints : text ≡ outcome_text outcome
@@ -35,41 +37,48 @@ pub record IsPrinted {S : Type 0} (before after : SourceState) (seen : S → Sou
 -- What a check answers where this text is printed, over a sink of the proof that may have been handed in: the run of the streams on the
 -- formula that the source's bytes spell has an outcome whose text and whose verdict these are, and the proof is what the run made of it.
 -- Where the verdict is that it is verified, no assignment satisfies that formula.
-pub record IsChecked {S W : Type 0} (before after : SourceState) (seen : S → SourceState) (sink : W → SinkState) (max_steps : ℕ) (trims : Bool) (streams : List S) (proof_old proof_new : Option W) (checked : Checked) (text : List ℕ) : Type 0 where
+pub record IsChecked {S W : Type 0} (way : Way) (before after : SourceState)
+    (seen : S → SourceState) (sink : W → SinkState) (max_steps : ℕ) (trims : Bool)
+    (streams : List S) (proof_old proof_new : Option W) (checked : Checked)
+    (text : List ℕ) : Type 0 where
   pub outcome : Outcome S
-  pub runs : IsRunAnswer before after seen sink max_steps trims streams proof_old proof_new outcome
+  pub runs : IsAnswerBy way before after seen sink max_steps trims streams proof_old proof_new
+      outcome
   pub answers : checked.verdict ≡ verdict_of outcome.verified
   pub proof : checked.proof ≡ outcome.proof
   pub unsatisfiable : checked.verdict ≡ Verified → IsUnsatisfiable runs.formula
   pub prints : text ≡ outcome_text outcome
 
 -- the run has an outcome, and the proof is what the run made of it
-abbrev pub HasOutcome : {S W : Type 0} → SourceState → SourceState → (S → SourceState)
+abbrev pub HasOutcome : {S W : Type 0} → Way → SourceState → SourceState → (S → SourceState)
     → (W → SinkState) → ℕ → Bool → List S → Option W → Option W → Type 0
-HasOutcome {S} before after seen sink max_steps trims streams proof_old proof_new = (outcome : Outcome S) × IsRunAnswer before after seen sink max_steps trims streams proof_old proof_new outcome
+HasOutcome {S} way before after seen sink max_steps trims streams proof_old proof_new =
+    (outcome : Outcome S)
+    × IsAnswerBy way before after seen sink max_steps trims streams proof_old proof_new outcome
 
--- the formula is at fault, or a read of it failed
-abbrev pub IsInputFault : CheckFault → Type 0
-IsInputFault (Run (Formula fault)) = Unit {0}
-IsInputFault (Run FormulaRead) = Unit {0}
-IsInputFault (Run (NoMemory _)) = ⊥
-IsInputFault (Run Unconfirmed) = ⊥
-IsInputFault CannotWrite = ⊥
+-- the formula is at fault, a read of it failed, or the run can't be confirmed: no proof is written then
+abbrev pub IsEarlyFault : CheckFault → Type 0
+IsEarlyFault (Run (Formula fault)) = Unit {0}
+IsEarlyFault (Run FormulaRead) = Unit {0}
+IsEarlyFault (Run (NoMemory _)) = ⊥
+IsEarlyFault (Run Unconfirmed) = Unit {0}
+IsEarlyFault CannotWrite = ⊥
 
 -- What was taken is a beginning of what is printed of a check, and not all of it.
-pub record IsCutText {S : Type 0} (before after : SourceState) (seen : S → SourceState) (max_steps : ℕ) (streams : List S) (old new : List ℕ) : Type 0 where
+pub record IsCutText {S : Type 0} (way : Way) (before after : SourceState) (seen : S → SourceState)
+    (max_steps : ℕ) (streams : List S) (old new : List ℕ) : Type 0 where
   pub verdict : Verdict
   pub text : List ℕ
-  pub printed : IsPrinted before after seen max_steps streams verdict text
+  pub printed : IsPrinted way before after seen max_steps streams verdict text
   pub count : ℕ
   pub not_all : count < length text
   pub took : new ≡ old ++ take count text
 
--- Why a check has no answer: the formula's fault, a failed read of it or want of memory, and nothing was taken; or the output
--- failed, and took a beginning.
-abbrev pub IsCheckFault : {S : Type 0} → SourceState → SourceState → (S → SourceState) → ℕ → List S
-    → List ℕ → List ℕ → CheckFault → Type 0
-IsCheckFault before after seen max_steps streams old new (Run fault) = IsFormulaFault before after
-    fault × (new ≡ old)
-IsCheckFault before after seen max_steps streams old new CannotWrite = IsCutText before after seen
-    max_steps streams old new
+-- Why a check has no answer: the run has no outcome, or memory ran out, and nothing was taken; or the output failed, and took a
+-- beginning.
+abbrev pub IsCheckFault : {S : Type 0} → Way → SourceState → SourceState → (S → SourceState) → ℕ
+    → List S → List ℕ → List ℕ → CheckFault → Type 0
+IsCheckFault way before after seen max_steps streams old new (Run fault) = IsFaultBy way before
+    after seen max_steps streams fault × (new ≡ old)
+IsCheckFault way before after seen max_steps streams old new CannotWrite = IsCutText way before
+    after seen max_steps streams old new

@@ -11,6 +11,8 @@ use Rattle.clap.specs.declared.builder.action.ArgAction.TheVariants.{Append, Set
 use Rattle.clap.specs.declared.error.kind.ErrorKind.{ErrorKind}
 use Rattle.clap.specs.declared.error.kind.ErrorKind.TheVariants.{DisplayHelp, DisplayVersion}
 use Rattle.lj_text.specs.Bytes.{digits_value}
+use Rattle.lj_run.specs.declared.outcome.Way.{Way}
+use Rattle.lj_run.specs.declared.outcome.Way.TheVariants.{OnThreads, InTurn}
 use Rattle.lj_run.specs.InTurn.{streams_by_seat}
 use Rattle.lj_clause.specs.declared.formula.TheConstants.{MAX_CLAUSES}
 
@@ -42,7 +44,7 @@ abbrev pub paths_app : App
 paths_app = with_rule (with_rule bare_app (path_rule (codes "FORMULA")))
     (paths_rule (codes "PROOF"))
 
--- FORMULA, each PROOF and the options. `--in-turn` is taken, and asks for what is done without it.
+-- FORMULA, each PROOF and the options
 abbrev pub program_app : App
 program_app = with_rule
     (with_rule
@@ -53,12 +55,13 @@ program_app = with_rule
 -- ---- what words ask for
 
 -- What a run is asked for: the paths of the formula, of the streams in their order, and of the closing stream, the most
--- additions that it accepts, the path that the proof is written to, and whether it is trimmed.
+-- additions that it accepts, the way in which the streams are run, the path that the proof is written to, and whether it is trimmed.
 pub record AskedRun : Type 0 where
   pub formula : List ℕ
   pub proofs : List (List ℕ)
   pub closing : Option (List ℕ)
   pub max_steps : ℕ
+  pub way : Way
   pub proof : Option (List ℕ)
   pub trims : Bool
 
@@ -94,25 +97,31 @@ steps_of_value (Some text) = limit_of text
 abbrev pub is_run_of : List (List ℕ) → Bool
 is_run_of proofs = nat_lt 0 (length proofs) && nat_lt (length proofs) 65
 
--- the run of these paths, where the limit of additions is one
-abbrev pub run_within : List ℕ → List (List ℕ) → Option (List ℕ) → Option ℕ → Asked
-run_within formula proofs closing (Some max_steps) =
+-- one after the other where that is asked, and where there is one PROOF, beside which nothing runs; else on threads
+abbrev pub way_of : Bool → ℕ → Way
+way_of in_turn proofs = if in_turn || nat_lt proofs 2 then InTurn else OnThreads
+
+-- the run of these paths in this way, where the limit of additions is one
+abbrev pub run_within : List ℕ → List (List ℕ) → Option (List ℕ) → Option ℕ → Way → Asked
+run_within formula proofs closing (Some max_steps) way =
     a_run (record {
       formula = formula;
       proofs = proofs;
       closing = closing;
       max_steps = max_steps;
+      way = way;
       proof = None;
       trims = false;
     })
-run_within formula proofs closing None = the_usage
+run_within formula proofs closing None way = the_usage
 
--- the values of FORMULA and PROOF, of --close and --max-steps; right words have a FORMULA
-abbrev pub run_asked : Option (List ℕ) → List (List ℕ) → Option (List ℕ) → Option (List ℕ) → Asked
-run_asked (Some formula) proofs closing max_steps =
-    if is_run_of proofs then run_within formula proofs closing (steps_of_value max_steps)
+-- the values of FORMULA and PROOF, of --close and --max-steps, and the way; right words have a FORMULA
+abbrev pub run_asked : Option (List ℕ) → List (List ℕ) → Option (List ℕ) → Option (List ℕ) → Way
+    → Asked
+run_asked (Some formula) proofs closing max_steps way =
+    if is_run_of proofs then run_within formula proofs closing (steps_of_value max_steps) way
     else the_usage
-run_asked None proofs closing max_steps = the_usage
+run_asked None proofs closing max_steps way = the_usage
 
 -- whether a run reads the file at this path: paths are taken as written
 abbrev pub is_input : AskedRun → List ℕ → Bool
@@ -142,6 +151,8 @@ abbrev pub run_by_rows : List Row → Asked
 run_by_rows rows = run_asked (first_of (codes "FORMULA") rows)
     (unwrap_or (all_of (codes "PROOF") rows) [])
     (first_of (codes "close") rows) (first_of (codes "max-steps") rows)
+    (way_of (is_given (codes "in-turn") rows)
+    (length (unwrap_or (all_of (codes "PROOF") rows) [])))
 
 -- what is asked for by what the words give
 abbrev pub asked_by_rows : List Row → Asked

@@ -1,5 +1,5 @@
 -- What comes of a run of streams one after the other.
-use Rattle.std.specs.Prelude.{◌≡◌, ℕ, ◌+◌, List, [], ◌∷◌, ◌++◌, Bool, true, length, Option, Some, None, if◌then◌else◌}
+use Rattle.std.specs.Prelude.{◌≡◌, ℕ, ◌+◌, List, [], ◌∷◌, ◌++◌, length, Option, Some, None, if◌then◌else◌}
 use Rattle.lj_clause.specs.ClauseMap.{FormulaValue, formula_map}
 use Rattle.lj_text.specs.Steps.{replay, refutes}
 use Rattle.lj_text.specs.Streams.{SourceState}
@@ -7,8 +7,6 @@ use Rattle.lj_book.specs.State.{State, opening, live, steps_of}
 use Rattle.lj_book.specs.History.{IsReached}
 use Rattle.lj_run.specs.declared.outcome.Outcome.{Outcome}
 use Rattle.lj_run.specs.declared.outcome.Report.{Report}
-use Rattle.lj_run.specs.FormulaReading.{GaveFormula}
-use Rattle.lj_run.specs.Proof.{SinkState, IsProof, written_steps}
 use Rattle.lj_run.specs.Run.{IsStreamRun, Progress, progress_of}
 
 -- the streams of a run by their seats: the closing one has the last
@@ -40,7 +38,8 @@ RunInTurn seen seat (stream ∷ streams) s (report ∷ reports) final = (next : 
 -- The outcome of a run of these streams on a formula. They lead in turn from a new book, with a seat for each, to a final state. Its
 -- history is legal, the steps are those of the history, and the live clauses are their replay. It is verified, with this formula,
 -- exactly where the steps refute it.
-pub record IsOutcome {S : Type 0} (seen : S → SourceState) (formula : FormulaValue) (max_steps : ℕ) (streams : List S) (outcome : Outcome S) : Type 0 where
+pub record IsOutcome {S : Type 0} (seen : S → SourceState) (formula : FormulaValue) (max_steps : ℕ)
+    (streams : List S) (outcome : Outcome S) : Type 0 where
   pub final : State
   pub runs : RunInTurn seen 0 streams (opening formula (length streams) max_steps)
       outcome.reports.items final
@@ -50,14 +49,3 @@ pub record IsOutcome {S : Type 0} (seen : S → SourceState) (formula : FormulaV
   pub replayed : replay (formula_map formula) outcome.steps.items ≡ Some (live final)
   pub verified : outcome.verified
       ≡ (if refutes formula outcome.steps.items then Some formula else None)
-
--- What a run answers, over a formula's source that was first in one state and then in the other, and a sink of the proof that may have
--- been handed in and was so before and after: an outcome of the formula that the source gave, and what became of the proof. Where the
--- outcome is verified, the steps that are written refute the formula.
-pub record IsRunAnswer {S W : Type 0} (before after : SourceState) (seen : S → SourceState) (sink : W → SinkState) (max_steps : ℕ) (trims : Bool) (streams : List S) (out_old out_new : Option W) (outcome : Outcome S) : Type 0 where
-  pub formula : FormulaValue
-  pub gave : GaveFormula before after formula
-  pub comes : IsOutcome seen formula max_steps streams outcome
-  pub proof : IsProof sink formula trims outcome.steps.items out_old out_new outcome.proof
-  pub refuted : outcome.verified ≡ Some formula
-      → refutes formula (written_steps formula trims outcome.steps.items) ≡ true

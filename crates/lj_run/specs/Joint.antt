@@ -22,7 +22,6 @@ use Rattle.lj_run.specs.declared.outcome.Report.{Report}
 use Rattle.lj_run.specs.declared.outcome.RunFault.{RunFault}
 use Rattle.lj_run.specs.declared.outcome.RunFault.TheVariants.{Formula, FormulaRead, NoMemory, Unconfirmed}
 use Rattle.lj_run.specs.FormulaReading.{GaveFormula, IsFormulaFault}
-use Rattle.lj_run.specs.Proof.{SinkState, IsProof, written_steps}
 use Rattle.lj_run.specs.Reading.{FailsAt, IsRoomRefused}
 use Rattle.lj_run.specs.Run.{has_verdict, MeetsFault, MeetsLine, IfReadFailed, IfRoomRefused, failed_reads}
 use Rattle.lj_clause.specs.declared.lit.TheConstants.{MAX_VARIABLE}
@@ -78,7 +77,8 @@ EndsBeside refuted rest (AtLine n ReadFailed) = Unit {0}
 -- The report is right of this stream, whose entries these are, on a book that is refuted or not. What its source gave meanwhile are its
 -- lines: all of them where it ended, as the source has then, and the first ones else. The entries are those of its first lines. A read
 -- failed exactly where that is how it ended. Where memory was refused to the reading of a line see IsRoomRefused.
-pub record IsStreamBeside {S : Type 0} (seen : S → SourceState) (refuted : Bool) (entries : List Entry) (stream : S) (report : Report S) : Type 0 where
+pub record IsStreamBeside {S : Type 0} (seen : S → SourceState) (refuted : Bool)
+    (entries : List Entry) (stream : S) (report : Report S) : Type 0 where
   pub text : List ℕ
   pub gave : HasGiven (seen stream) (seen report.source) text
   pub count : ℕ
@@ -102,22 +102,25 @@ RunBeside seen refuted history seat (stream ∷ streams) (report ∷ reports) =
     × RunBeside seen refuted history (seat + 1) streams reports
 
 -- how many lines of a stream were accepted
-abbrev pub accepted : {S : Type 0} → Report S → ℕ
-accepted report = report.added + report.deleted + report.imported
+abbrev pub accepted_count : {S : Type 0} → Report S → ℕ
+accepted_count report = report.added + report.deleted + report.imported
 
 -- ---- the run
 
 -- What a run of these streams beside one another leaves of a new book of a formula, with a seat for each stream and this limit: a legal
 -- history leads to the final state. It has an entry for each line that the reports count, and each report is right of its stream.
-pub record IsBookOfRun {S : Type 0} (seen : S → SourceState) (formula : FormulaValue) (max_steps : ℕ) (streams : List S) (refuted : Bool) (reports : List (Report S)) (final : State) : Type 0 where
+pub record IsBookOfRun {S : Type 0} (seen : S → SourceState) (formula : FormulaValue)
+    (max_steps : ℕ) (streams : List S) (refuted : Bool) (reports : List (Report S))
+    (final : State) : Type 0 where
   pub opened : IsOpenedAs formula (length streams) max_steps final
   pub legal : IsReached final
-  pub counted : length final.history ≡ sum_by accepted reports
+  pub counted : length final.history ≡ sum_by accepted_count reports
   pub runs : RunBeside seen refuted final.history 0 streams reports
 
 -- The outcome of a run of these streams beside one another on a formula. The steps are those of the history that the run leaves, and the
 -- live clauses are their replay. It is verified, with this formula, exactly where the steps refute it.
-pub record IsJointOutcome {S : Type 0} (seen : S → SourceState) (formula : FormulaValue) (max_steps : ℕ) (streams : List S) (outcome : Outcome S) : Type 0 where
+pub record IsJointOutcome {S : Type 0} (seen : S → SourceState) (formula : FormulaValue)
+    (max_steps : ℕ) (streams : List S) (outcome : Outcome S) : Type 0 where
   pub final : State
   pub leaves : IsBookOfRun seen formula max_steps streams (refutes formula outcome.steps.items)
       outcome.reports.items final
@@ -125,17 +128,6 @@ pub record IsJointOutcome {S : Type 0} (seen : S → SourceState) (formula : For
   pub replayed : replay (formula_map formula) outcome.steps.items ≡ Some (live final)
   pub verified : outcome.verified
       ≡ (if refutes formula outcome.steps.items then Some formula else None)
-
--- What a run answers, over a formula's source that was first in one state and then in the other, and a sink of the proof that may have
--- been handed in and was so before and after: an outcome of the formula that the source gave, and what became of the proof. Where the
--- outcome is verified, the steps that are written refute the formula.
-pub record IsJointAnswer {S W : Type 0} (before after : SourceState) (seen : S → SourceState) (sink : W → SinkState) (max_steps : ℕ) (trims : Bool) (streams : List S) (out_old out_new : Option W) (outcome : Outcome S) : Type 0 where
-  pub formula : FormulaValue
-  pub gave : GaveFormula before after formula
-  pub comes : IsJointOutcome seen formula max_steps streams outcome
-  pub proof : IsProof sink formula trims outcome.steps.items out_old out_new outcome.proof
-  pub refuted : outcome.verified ≡ Some formula
-      → refutes formula (written_steps formula trims outcome.steps.items) ≡ true
 
 -- ---- what the workers leave
 
@@ -148,7 +140,8 @@ IsDenied s seat told report = (entries_of seat s.history ≢ told)
 
 -- A run on a formula can't be confirmed: there is a stream with its report and the entries that were told of its lines, and a final state of
 -- a book of the formula, in which the entries of the stream's seat are others, or which has no verdict though the stream says that it does.
-pub record IsUnconfirmed {S : Type 0} (seen : S → SourceState) (formula : FormulaValue) (max_steps : ℕ) (streams : List S) : Type 0 where
+pub record IsUnconfirmed {S : Type 0} (seen : S → SourceState) (formula : FormulaValue)
+    (max_steps : ℕ) (streams : List S) : Type 0 where
   pub final : State
   pub opened : IsOpenedAs formula (length streams) max_steps final
   pub legal : IsReached final
@@ -161,7 +154,8 @@ pub record IsUnconfirmed {S : Type 0} (seen : S → SourceState) (formula : Form
   pub denied : IsDenied final seat told report
 
 -- The run of the formula that the source gave can't be confirmed.
-pub record IsUnconfirmedRun {S : Type 0} (before after : SourceState) (seen : S → SourceState) (max_steps : ℕ) (streams : List S) : Type 0 where
+pub record IsUnconfirmedRun {S : Type 0} (before after : SourceState) (seen : S → SourceState)
+    (max_steps : ℕ) (streams : List S) : Type 0 where
   pub formula : FormulaValue
   pub gave : GaveFormula before after formula
   pub unconfirmed : IsUnconfirmed seen formula max_steps streams

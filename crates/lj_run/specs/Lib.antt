@@ -3,10 +3,11 @@ pub mod Proof
 pub mod Reading
 pub mod Run
 pub mod InTurn
+pub mod Joint
+pub mod Ways
 pub mod OutcomeText
 pub mod Checking
 pub mod Files
-pub mod Joint
 pub mod CommandLine
 pub mod Program
 pub mod Starting

@@ -8,7 +8,7 @@ use Rattle.lj_text.specs.FaultNames.{cnf_fault_name}
 use Rattle.lj_text.specs.Streams.{SourceState}
 use Rattle.lj_clause.specs.Truth.{IsUnsatisfiable}
 use Rattle.lj_run.specs.Checking.{IsChecked, IsCutText}
-use Rattle.lj_run.specs.FormulaReading.{IsFormulaFault}
+use Rattle.lj_run.specs.Ways.{IsFaultBy}
 use Rattle.lj_run.specs.Proof.{SinkState}
 use Rattle.lj_run.specs.declared.checking.Checked.{Checked}
 use Rattle.lj_run.specs.declared.outcome.ProofEnd.{ProofEnd}
@@ -99,7 +99,8 @@ HasInputs seen (content ∷ contents) (input ∷ inputs) = IsOpened content (see
 
 -- The files of a run: that of the formula, as it was opened and once it was read, and those of the streams by their seats, as they
 -- were opened.
-pub record RunInputs {I : Type 0} (seen : I → SourceState) (content : List ℕ → Option (List ℕ)) (run : AskedRun) : Type 0 where
+pub record RunInputs {I : Type 0} (seen : I → SourceState) (content : List ℕ → Option (List ℕ))
+    (run : AskedRun) : Type 0 where
   pub opened : I
   pub after : I
   pub streams : List I
@@ -118,22 +119,27 @@ IsCreated sink (Some path) (Some created) = ((sink created).taken ≡ [])
 
 -- What is printed of a run that was asked for so, where the check answers this. The sink of the proof was created for it, and holds what
 -- the run made of the proof.
-pub record IsRunPrinted {I W : Type 0} (seen : I → SourceState) (sink : W → SinkState) (content : List ℕ → Option (List ℕ)) (run : AskedRun) (checked : Checked) (text : List ℕ) : Type 0 where
+pub record IsRunPrinted {I W : Type 0} (seen : I → SourceState) (sink : W → SinkState)
+    (content : List ℕ → Option (List ℕ)) (run : AskedRun) (checked : Checked)
+    (text : List ℕ) : Type 0 where
   pub inputs : RunInputs seen content run
   pub created : Option W
   pub written : Option W
   pub created_is : IsCreated sink run.proof created
-  pub printed : IsChecked (seen inputs.opened) (seen inputs.after) seen sink run.max_steps run.trims
-      inputs.streams created written checked text
+  pub printed : IsChecked run.way (seen inputs.opened) (seen inputs.after) seen sink run.max_steps
+      run.trims inputs.streams created written checked text
 
 -- A beginning of what is printed of a run that was asked for so was taken, and not all.
-pub record IsRunCut {I : Type 0} (seen : I → SourceState) (content : List ℕ → Option (List ℕ)) (run : AskedRun) (old new : List ℕ) : Type 0 where
+pub record IsRunCut {I : Type 0} (seen : I → SourceState) (content : List ℕ → Option (List ℕ))
+    (run : AskedRun) (old new : List ℕ) : Type 0 where
   pub inputs : RunInputs seen content run
-  pub cut : IsCutText (seen inputs.opened) (seen inputs.after) seen run.max_steps inputs.streams old
-      new
+  pub cut : IsCutText run.way (seen inputs.opened) (seen inputs.after) seen run.max_steps
+      inputs.streams old new
 
 -- What was taken is what is printed of a run that was asked for so, and this is the status of what the check answers.
-pub record IsRunAnswered {I W : Type 0} (seen : I → SourceState) (sink : W → SinkState) (content : List ℕ → Option (List ℕ)) (run : AskedRun) (old new : List ℕ) (status : ℕ) : Type 0 where
+pub record IsRunAnswered {I W : Type 0} (seen : I → SourceState) (sink : W → SinkState)
+    (content : List ℕ → Option (List ℕ)) (run : AskedRun) (old new : List ℕ)
+    (status : ℕ) : Type 0 where
   pub checked : Checked
   pub text : List ℕ
   pub printed : IsRunPrinted seen sink content run checked text
@@ -141,12 +147,15 @@ pub record IsRunAnswered {I W : Type 0} (seen : I → SourceState) (sink : W →
   pub status_is : status ≡ status_code (checked_status checked)
 
 -- The run that was asked for has no outcome for this reason, once all of its files that are read were opened.
-pub record HasNoOutcome {I : Type 0} (seen : I → SourceState) (content : List ℕ → Option (List ℕ)) (run : AskedRun) (fault : RunFault) : Type 0 where
+pub record HasNoOutcome {I : Type 0} (seen : I → SourceState) (content : List ℕ → Option (List ℕ))
+    (run : AskedRun) (fault : RunFault) : Type 0 where
   pub inputs : RunInputs seen content run
-  pub fault_is : IsFormulaFault (seen inputs.opened) (seen inputs.after) fault
+  pub fault_is : IsFaultBy run.way (seen inputs.opened) (seen inputs.after) seen run.max_steps
+      inputs.streams fault
 
 -- What is printed of a run that was asked for so was made, and its proof failed for this reason.
-pub record HasLostProof {I W : Type 0} (seen : I → SourceState) (sink : W → SinkState) (content : List ℕ → Option (List ℕ)) (run : AskedRun) (fault : ProofFault) : Type 0 where
+pub record HasLostProof {I W : Type 0} (seen : I → SourceState) (sink : W → SinkState)
+    (content : List ℕ → Option (List ℕ)) (run : AskedRun) (fault : ProofFault) : Type 0 where
   pub checked : Checked
   pub text : List ℕ
   pub printed : IsRunPrinted seen sink content run checked text
@@ -225,7 +234,9 @@ failed_outputs faults.CannotWrite = 1
 failed_outputs fault = 0
 
 -- A right fault was told, and this is its status.
-pub record IsFaultTold {I W : Type 0} (seen : I → SourceState) (sink : W → SinkState) (asked : Asked) (content : List ℕ → Option (List ℕ)) (failures : ℕ) (old new : List ℕ) (status : ℕ) : Type 0 where
+pub record IsFaultTold {I W : Type 0} (seen : I → SourceState) (sink : W → SinkState)
+    (asked : Asked) (content : List ℕ → Option (List ℕ)) (failures : ℕ) (old new : List ℕ)
+    (status : ℕ) : Type 0 where
   pub fault : Fault
   pub right : IsFaultOf seen sink asked content fault
   pub output : failures ≡ failed_outputs fault

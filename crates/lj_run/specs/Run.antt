@@ -84,7 +84,8 @@ MeetsFault n (kinds.NoMemory _) rest = Unit {0}
 MeetsFault n kind rest = slice_get rest 0 ≡ Some (record { line = n; says = Err kind })
 
 -- The first of the lines is this one, and it isn't accepted for this reason.
-pub record MeetsRefusal (seat : ℕ) (s : State) (n : ℕ) (end : LineEnd) (rest : List Said) : Type 0 where
+pub record MeetsRefusal (seat : ℕ) (s : State) (n : ℕ) (end : LineEnd)
+    (rest : List Said) : Type 0 where
   pub line : Line
   pub first : slice_get rest 0 ≡ Some (record { line = n; says = Ok line })
   pub refused : reply_to_line s seat line ≡ Err end
@@ -114,7 +115,8 @@ EndsWith seat s rest (AtLine n end) = (has_verdict s ≡ false) × EndsAtLine se
 
 -- A seat's stream of these lines leads from one progress to the other, and ends so: its first lines are entered, each of them
 -- before the verdict, and the next one isn't.
-pub record IsRunOfLines (seat : ℕ) (lines : List Said) (start final : Progress) (end : End) : Type 0 where
+pub record IsRunOfLines (seat : ℕ) (lines : List Said) (start final : Progress)
+    (end : End) : Type 0 where
   pub count : ℕ
   pub enters : progress_after_lines seat start (take count lines) ≡ Some final
   pub ends : EndsWith seat final.state (drop count lines) end
@@ -148,7 +150,8 @@ IfRoomRefused (AtLine n end) P = Unit {0}
 
 -- A stream under this seat led from one progress to the other, and ended so. What its source gave meanwhile are its lines: all of
 -- them where it ended, as the source has then, and the first ones else. A read failed exactly where that is how it ended.
-pub record IsStreamRun (seat : ℕ) (before after : SourceState) (start final : Progress) (end : End) : Type 0 where
+pub record IsStreamRun (seat : ℕ) (before after : SourceState) (start final : Progress)
+    (end : End) : Type 0 where
   pub text : List ℕ
   pub gave : HasGiven before after text
   pub runs : IsRunOfLines seat (all_said MAX_VARIABLE text) start final end

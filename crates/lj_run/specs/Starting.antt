@@ -9,8 +9,9 @@ use Rattle.lj_run.specs.CommandLine.{Asked}
 
 -- The program ended with this status where this was asked for: what standard output and standard error took is right of what is told
 -- of the files, which stay but for that of the proof.
-pub record ProgramEnds {I W : Type 0} (seen : I → SourceState) (sink : W → SinkState) (before after : List ℕ → Option (List ℕ)) (asked : Asked) (out_old out_new : List ℕ) (failures : ℕ)
-    (err_old err_new : List ℕ) (errors status : ℕ) : Type 0 where
+pub record ProgramEnds {I W : Type 0} (seen : I → SourceState) (sink : W → SinkState)
+    (before after : List ℕ → Option (List ℕ)) (asked : Asked) (out_old out_new : List ℕ)
+    (failures : ℕ) (err_old err_new : List ℕ) (errors status : ℕ) : Type 0 where
   pub may_end : MayEnd asked status
   pub printed : status < 2
       → IfRun asked (λ run. IsRunAnswered seen sink before run out_old out_new status)

@@ -9,7 +9,7 @@ ghost use Rattle.lj_run.specs.Proof.{sink_state};
 ghost use Rattle.lj_run.specs.declared.fault.Fault.TheVariants as faults;
 ghost use Rattle.lj_run.specs.declared.status.Status.TheVariants as statuses;
 
-use crate::checking::{Checked, check};
+use crate::checking::{Checked, check_with_steps};
 use crate::command_line::{CommandLine, Request};
 use crate::fault::{Fault, fault_of};
 use crate::files::Files;
@@ -20,11 +20,13 @@ use crate::words::read_words;
 use lj_text::{Sink, Source, write_all};
 use std::alloc::Global;
 use std::convert::AsStr;
+use std::mem;
 use std::sync::Wait;
+use std::thread::Threads;
 
 /// Does what the words ask for, and answers the status that the program is to end with. The words are those after
-/// the program's own name.
-pub fn program<R: Wait, S: AsStr, F: Files, O: Sink, E: Sink>(
+/// the program's own name. The memory of a run's steps is left to the system, which takes it back when the program ends.
+pub fn program<R: Threads + Wait + Sync, S: AsStr, F: Files, O: Sink, E: Sink>(
     rt: &R,
     alloc: Global,
     words: &[S],
@@ -72,7 +74,7 @@ pub fn program<R: Wait, S: AsStr, F: Files, O: Sink, E: Sink>(
 }
 
 /// Answers what the words ask for.
-fn answer<'a, R: Wait, S: AsStr, F: Files, O: Sink>(
+fn answer<'a, R: Threads + Wait + Sync, S: AsStr, F: Files, O: Sink>(
     rt: &R,
     alloc: Global,
     words: &'a [S],
@@ -125,7 +127,7 @@ fn print<'a, O: Sink>(text: &str, out: &mut O) -> Result<Status, Fault<'a>>
 }
 
 /// Runs the streams, and prints what came of them.
-fn run<'a, R: Wait, F: Files, O: Sink>(
+fn run<'a, R: Threads + Wait + Sync, F: Files, O: Sink>(
     rt: &R,
     alloc: Global,
     line: &CommandLine<'a>,
@@ -164,17 +166,22 @@ fn run<'a, R: Wait, F: Files, O: Sink>(
         max_steps: line.max_steps,
         trim: line.trim,
     };
-    match check(
+    match check_with_steps(
         rt,
         alloc,
         &mut formula,
         streams,
         closing,
         &options,
+        line.way,
         &mut proof,
         out,
     ) {
-        Ok(checked) => ended(checked, line.proof),
+        Ok((checked, steps)) => {
+            // Nothing is left to do: the system takes the memory as a whole, and needs no time for each step.
+            mem::forget(steps);
+            ended(checked, line.proof)
+        }
         Err(fault) => Err(fault_of(line.formula, fault)),
     }
 }
@@ -192,6 +199,3 @@ fn ended<'a>(checked: Checked, path: Option<&'a str>) -> Result<Status, Fault<'a
         _ => Ok(checked.verdict.into()),
     }
 }
-
-#[cfg(test)]
-mod tests;

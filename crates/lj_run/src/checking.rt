@@ -6,18 +6,19 @@ ghost use Rattle.lj_text.specs.Streams.{source_state};
 ghost use Rattle.lj_clause.specs.Truth.{IsUnsatisfiable};
 ghost use Rattle.lj_run.specs.FormulaReading.{GaveFormula};
 ghost use Rattle.lj_run.specs.InTurn.{streams_by_seat};
-ghost use Rattle.lj_run.specs.Checking.{IsChecked, IsCheckFault, IsInputFault, HasOutcome, verdict_of};
+ghost use Rattle.lj_run.specs.Checking.{IsChecked, IsCheckFault, IsEarlyFault, HasOutcome, verdict_of};
 ghost use Rattle.lj_run.specs.Proof.{sink_state};
 ghost use Rattle.lj_run.specs.declared.checking.CheckFault.TheVariants as check_faults;
 ghost use Rattle.lj_run.specs.declared.checking.Verdict.TheVariants.{Verified};
 ghost use Rattle.lj_run.specs.declared.outcome.RunFault.TheVariants as run_faults;
 
-use crate::in_turn::run_in_turn;
-use crate::outcome::{Options, Outcome, ProofEnd, RunFault};
+use crate::outcome::{Options, Outcome, ProofEnd, RunFault, Way};
 use crate::printing::text_of;
-use lj_text::{Sink, Source, write_all};
+use crate::running::run_by;
+use lj_text::{Sink, Source, Step, write_all};
 use std::alloc::{AllocError, Global};
 use std::sync::Wait;
+use std::thread::Threads;
 use thiserror::Error;
 
 /// The answer of a check.
@@ -64,21 +65,23 @@ impl From<AllocError> for CheckFault {
     }
 }
 
-/// Reads a formula, runs the streams on it one after the other, the closing one last, and prints a line for each stream and then
-/// the verdict. What is printed is made whole before any of it is written. Where a sink of the proof is handed in, the proof is
+/// Reads a formula, runs the streams on it in this way, the closing one last, and prints a line for each stream and then the
+/// verdict. What is printed is made whole before any of it is written. Where a sink of the proof is handed in, the proof is
 /// written before that; that it fails changes nothing of what is printed.
 ///
 /// Takes the time of the run, and of the text that is printed.
 ///
 /// # Errors
-/// The fault of the formula's text, a read of it that failed, want of memory outside the streams, or an output that failed.
-pub fn check<R: Wait, F: Source, S: Source + Drop, P: Sink, O: Sink>(
+/// The fault of the formula's text, a read of it that failed, want of memory outside the streams, on threads
+/// [`RunFault::Unconfirmed`], or an output that failed.
+pub fn check<R: Threads + Wait + Sync, F: Source, S: Source + Drop + Send, P: Sink, O: Sink>(
     rt: &R,
     alloc: Global,
     formula: &mut F,
     streams: Vec<S>,
     closing: Option<S>,
     options: &Options,
+    way: Way,
     proof: &mut Option<P>,
     out: &mut O,
 ) -> Result<Checked, CheckFault>
@@ -92,7 +95,7 @@ pub fn check<R: Wait, F: Source, S: Source + Drop, P: Sink, O: Sink>(
 
     ensures printed { IfOk result (λ checked. (text : List ℕ)
         × (O.taken out.new ≡ O.taken out.old ++ text)
-        × IsChecked (source_state F.given F.ended F.rest F.failures formula.old)
+        × IsChecked way (source_state F.given F.ended F.rest F.failures formula.old)
         (source_state F.given F.ended F.rest F.failures formula.new)
         (source_state S.given S.ended S.rest S.failures)
         (sink_state P.taken P.failures) options.now.max_steps options.now.trim
@@ -104,7 +107,7 @@ pub fn check<R: Wait, F: Source, S: Source + Drop, P: Sink, O: Sink>(
     ensures ok { OnOk result (O.failures out.new ≡ 0) }
 
     ensures fault { IfErr result
-        (IsCheckFault (source_state F.given F.ended F.rest F.failures formula.old)
+        (IsCheckFault way (source_state F.given F.ended F.rest F.failures formula.old)
         (source_state F.given F.ended F.rest F.failures formula.new)
         (source_state S.given S.ended S.rest S.failures) options.now.max_steps
         (streams_by_seat streams.items closing) (O.taken out.old) (O.taken out.new)) }
@@ -112,20 +115,84 @@ pub fn check<R: Wait, F: Source, S: Source + Drop, P: Sink, O: Sink>(
         (λ fault. fault ≢ check_faults.CannotWrite → out.new ≡ out.old) }
     ensures failed { result ≡ Err check_faults.CannotWrite → O.failures out.new ≡ 1 }
     ensures written { result ≡ Err check_faults.CannotWrite
-        → HasOutcome (source_state F.given F.ended F.rest F.failures formula.old)
+        → HasOutcome way (source_state F.given F.ended F.rest F.failures formula.old)
         (source_state F.given F.ended F.rest F.failures formula.new)
         (source_state S.given S.ended S.rest S.failures)
         (sink_state P.taken P.failures) options.now.max_steps options.now.trim
         (streams_by_seat streams.items closing) proof.old proof.new }
-    ensures unread { IfErr result (λ fault. IsInputFault fault → proof.new ≡ proof.old) }
+    ensures early { IfErr result (λ fault. IsEarlyFault fault → proof.new ≡ proof.old) }
 {
-    let outcome = run_in_turn(rt, alloc, formula, streams, closing, options, proof)?;
+    let (checked, _) = check_with_steps(
+        rt, alloc, formula, streams, closing, options, way, proof, out,
+    )?;
+    Ok(checked)
+}
+
+/// As [`check`], and hands out the steps of the run, so that its caller says when they are let go of.
+pub(crate) fn check_with_steps<
+    R: Threads + Wait + Sync,
+    F: Source,
+    S: Source + Drop + Send,
+    P: Sink,
+    O: Sink,
+>(
+    rt: &R,
+    alloc: Global,
+    formula: &mut F,
+    streams: Vec<S>,
+    closing: Option<S>,
+    options: &Options,
+    way: Way,
+    proof: &mut Option<P>,
+    out: &mut O,
+) -> Result<(Checked, Vec<Step>), CheckFault>
+    requires some { 0 < length (streams_by_seat streams.items closing) }
+    requires at_most { length (streams_by_seat streams.items closing) ≤ 1024 }
+    requires unfailed { F.failures formula.old ≡ 0 }
+    requires streams_unfailed { All (λ stream. S.failures stream ≡ 0)
+        (streams_by_seat streams.items closing) }
+    requires proof_unfailed { IfSome proof.old (λ sink. P.failures sink ≡ 0) }
+    requires out_unfailed { O.failures out.old ≡ 0 }
+
+    ensures printed { IfOk result (λ told. (text : List ℕ)
+        × (O.taken out.new ≡ O.taken out.old ++ text)
+        × IsChecked way (source_state F.given F.ended F.rest F.failures formula.old)
+        (source_state F.given F.ended F.rest F.failures formula.new)
+        (source_state S.given S.ended S.rest S.failures)
+        (sink_state P.taken P.failures) options.now.max_steps options.now.trim
+        (streams_by_seat streams.items closing) proof.old proof.new told.0 text) }
+    ensures refuted { IfOk result (λ told. told.0.verdict ≡ Verified
+        → (f : FormulaValue) × IsUnsatisfiable f
+        × GaveFormula (source_state F.given F.ended F.rest F.failures formula.old)
+        (source_state F.given F.ended F.rest F.failures formula.new) f) }
+    ensures ok { OnOk result (O.failures out.new ≡ 0) }
+
+    ensures fault { IfErr result
+        (IsCheckFault way (source_state F.given F.ended F.rest F.failures formula.old)
+        (source_state F.given F.ended F.rest F.failures formula.new)
+        (source_state S.given S.ended S.rest S.failures) options.now.max_steps
+        (streams_by_seat streams.items closing) (O.taken out.old) (O.taken out.new)) }
+    ensures untouched { IfErr result
+        (λ fault. fault ≢ check_faults.CannotWrite → out.new ≡ out.old) }
+    ensures failed { result ≡ Err check_faults.CannotWrite → O.failures out.new ≡ 1 }
+    ensures written { result ≡ Err check_faults.CannotWrite
+        → HasOutcome way (source_state F.given F.ended F.rest F.failures formula.old)
+        (source_state F.given F.ended F.rest F.failures formula.new)
+        (source_state S.given S.ended S.rest S.failures)
+        (sink_state P.taken P.failures) options.now.max_steps options.now.trim
+        (streams_by_seat streams.items closing) proof.old proof.new }
+    ensures early { IfErr result (λ fault. IsEarlyFault fault → proof.new ≡ proof.old) }
+{
+    let outcome = run_by(rt, alloc, formula, streams, closing, options, way, proof)?;
     let text = text_of(alloc, &outcome)?;
     match write_all(out, text.as_bytes()) {
-        Ok(()) => Ok(Checked {
-            verdict: verdict_on(&outcome),
-            proof: outcome.proof,
-        }),
+        Ok(()) => {
+            let checked = Checked {
+                verdict: verdict_on(&outcome),
+                proof: outcome.proof,
+            };
+            Ok((checked, outcome.steps))
+        }
         Err(_) => Err(CheckFault::CannotWrite),
     }
 }
@@ -139,6 +206,3 @@ fn verdict_on<S>(outcome: &Outcome<S>) -> Verdict
         None => Verdict::NotVerified,
     }
 }
-
-#[cfg(test)]
-mod tests;

@@ -1,6 +1,8 @@
 //! What the words ask for.
 ghost use Rattle.std.specs.Prelude.{◌<◌, ◌≤◌, vec_len};
 
+use crate::outcome::Way;
+
 /// The most PROOF files of a run.
 pub(crate) const MAX_PROOFS: usize = 64;
 
@@ -28,6 +30,8 @@ pub(crate) struct CommandLine<'a> {
     pub closing: Option<&'a str>,
     /// The most additions that the run accepts.
     pub max_steps: u32,
+    /// The way in which the streams are run.
+    pub way: Way,
     /// The path of the file that the proof is written into.
     pub proof: Option<&'a str>,
     /// Whether the proof is to hold only what the empty clause needs.

@@ -43,7 +43,7 @@ impl<T: Drop> From<AllocFailed<T>> for FileFault {
 
 /// Opens paths as sources and creates them as sinks.
 pub trait Files {
-    type Input: Source + Drop;
+    type Input: Source + Drop + Send;
 
     type Output: Sink + Drop;
 
@@ -70,7 +70,10 @@ pub trait Files {
 #[derive(Drop)]
 pub struct MachineFiles<'a, R>(pub &'a R);
 
-impl<'a, R: std::rt::Files> Files for MachineFiles<'a, R> {
+impl<'a, R: std::rt::Files> Files for MachineFiles<'a, R>
+where
+    R::File: Send,
+{
     type Input = ReaderSource<R::File>;
 
     type Output = WriterSink<R::File>;
@@ -227,6 +230,3 @@ impl Files for MemoryFiles {
         Ok(MemoryFile { sink, slot })
     }
 }
-
-#[cfg(test)]
-mod tests;

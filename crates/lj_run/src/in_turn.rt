@@ -2,8 +2,10 @@
 ghost use Rattle.std.specs.Prelude.{◌≡◌, ◌<◌, ◌≤◌, length, All, IfOk, IfErr, IfSome, OnErr};
 ghost use Rattle.lj_text.specs.Streams.{source_state};
 ghost use Rattle.lj_run.specs.FormulaReading.{IsFormulaFault};
-ghost use Rattle.lj_run.specs.InTurn.{IsReport, IsRunAnswer, RunInTurn, streams_by_seat};
+ghost use Rattle.lj_run.specs.InTurn.{IsReport, RunInTurn, streams_by_seat};
 ghost use Rattle.lj_run.specs.Proof.{sink_state};
+ghost use Rattle.lj_run.specs.Ways.{IsAnswerBy};
+ghost use Rattle.lj_run.specs.declared.outcome.Way.TheVariants.{InTurn};
 
 use crate::outcome::{Options, Outcome, Report, RunFault};
 use crate::proving::prove;
@@ -38,7 +40,7 @@ pub fn run_in_turn<R: Wait, F: Source, S: Source + Drop, W: Sink>(
         (streams_by_seat streams.items closing) }
     requires out_unfailed { IfSome out.old (λ sink. W.failures sink ≡ 0) }
 
-    ensures outcome { IfOk result (IsRunAnswer
+    ensures outcome { IfOk result (IsAnswerBy InTurn
         (source_state F.given F.ended F.rest F.failures formula.old)
         (source_state F.given F.ended F.rest F.failures formula.new)
         (source_state S.given S.ended S.rest S.failures)
@@ -57,7 +59,7 @@ pub fn run_in_turn<R: Wait, F: Source, S: Source + Drop, W: Sink>(
     history_is_legal(&book);
     live_is_the_replay(&book);
     let verified = book.verified()?;
-    let steps = book.into_steps()?;
+    let steps = book.into_steps();
     let proof = prove(alloc, clauses, &verified, options.trim, &steps, out);
     Ok(Outcome {
         reports,

@@ -2,8 +2,10 @@
 ghost use Rattle.std.specs.Prelude.{◌≡◌, ◌<◌, ◌≤◌, length, All, IfOk, IfErr, IfSome, OnErr};
 ghost use Rattle.lj_text.specs.Streams.{source_state};
 ghost use Rattle.lj_run.specs.InTurn.{streams_by_seat};
-ghost use Rattle.lj_run.specs.Joint.{IsJointAnswer, IsJointFault};
+ghost use Rattle.lj_run.specs.Joint.{IsJointFault};
 ghost use Rattle.lj_run.specs.Proof.{sink_state};
+ghost use Rattle.lj_run.specs.Ways.{IsAnswerBy};
+ghost use Rattle.lj_run.specs.declared.outcome.Way.TheVariants.{OnThreads};
 
 mod opened;
 mod worker;
@@ -26,7 +28,8 @@ use std::thread::Threads;
 /// line. Where a sink is handed in, the proof is written into it: the lines of the steps up to the first addition of the
 /// empty clause, trimmed where the options ask for it, and of all steps where none adds it.
 ///
-/// The workers run on threads beside one another; one for which no thread can be made runs on its caller's.
+/// The workers run on threads of their own beside one another, and that of the closing stream on the caller's. Where a thread is
+/// refused, the run answers want of memory once the workers that were started have ended.
 ///
 /// # Errors
 /// The fault of the formula's text, a read of it that failed, want of memory outside the streams, or
@@ -54,7 +57,7 @@ pub fn run_joint<
         (streams_by_seat streams.items closing) }
     requires out_unfailed { IfSome out.old (λ sink. W.failures sink ≡ 0) }
 
-    ensures outcome { IfOk result (IsJointAnswer
+    ensures outcome { IfOk result (IsAnswerBy OnThreads
         (source_state F.given F.ended F.rest F.failures formula.old)
         (source_state F.given F.ended F.rest F.failures formula.new)
         (source_state S.given S.ended S.rest S.failures)
@@ -84,7 +87,7 @@ pub fn run_joint<
     history_is_legal(&book);
     live_is_the_replay(&book);
     let verified = book.verified()?;
-    let steps = book.into_steps()?;
+    let steps = book.into_steps();
     let proof = prove(alloc, clauses, &verified, options.trim, &steps, out);
     Ok(Outcome {
         reports,

@@ -19,6 +19,15 @@ pub struct Options {
     pub trim: bool,
 }
 
+/// The way in which the streams of a run are run.
+#[derive(Clone, Copy, Debug, PartialEq, Eq)]
+pub enum Way {
+    /// Beside one another on one shared book, each by a worker on a thread of its own.
+    OnThreads,
+    /// One after the other on one book, on one thread and without a lock.
+    InTurn,
+}
+
 /// What came of a run that read its formula.
 #[derive(Debug, Drop)]
 pub struct Outcome<S> {

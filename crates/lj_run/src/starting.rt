@@ -14,10 +14,11 @@ use std::alloc::Global;
 use std::io::{self, ErrorKind};
 use std::process::ExitCode;
 use std::sync::Wait;
+use std::thread::Threads;
 
 /// Does what the arguments ask for that the system gave, of which the first is the program's own name, as [`program`] does, and
 /// answers how the program is to end. Arguments that aren't text are told as usage.
-pub fn start<R: Wait, F: Files, O: Sink, E: Sink>(
+pub fn start<R: Threads + Wait + Sync, F: Files, O: Sink, E: Sink>(
     rt: &R,
     alloc: Global,
     arguments: io::Result<Vec<String>>,
@@ -75,6 +76,3 @@ fn unread(kind: ErrorKind) -> (&'static str, u8)
         ),
     }
 }
-
-#[cfg(test)]
-mod tests;

@@ -149,7 +149,6 @@ fn delete(book: &mut Book, seat: u32, numbers: &Numbers) -> Result<(), Refusal>
         (λ refusal. (book.new ≡ book.old)
         × IsLineEnd (Refused refusal) (reply_to_line book.old seat (Delete numbers.now))) }
 {
-    let list = numbers.to_vec()?;
-    book.drop_numbers(seat, &list)?;
+    book.drop_numbers(seat, numbers)?;
     Ok(())
 }

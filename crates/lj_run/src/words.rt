@@ -8,10 +8,11 @@ ghost use Rattle.clap.specs.Walk.{rows_of};
 ghost use Rattle.clap.specs.Matches.{found_of};
 ghost use Rattle.clap.specs.declared.error.kind.ErrorKind.TheVariants.{OutOfMemory};
 ghost use Rattle.lj_run.specs.inner.CommandLine.{HasRule, line_asked, request_asked};
-ghost use Rattle.lj_run.specs.CommandLine.{asked_by, asked_by_rows, bare_app, flag_rule, is_input, is_run_of, kind_asked, limit_of, option_rule, path_rule, paths_rule, program_app, run_asked, run_with_proof, steps_of_value, the_usage, with_proof};
+ghost use Rattle.lj_run.specs.CommandLine.{asked_by, asked_by_rows, bare_app, flag_rule, is_given, is_input, is_run_of, kind_asked, limit_of, option_rule, path_rule, paths_rule, program_app, run_asked, run_with_proof, steps_of_value, the_usage, way_of, with_proof};
 ghost use Rattle.lj_run.specs.declared.words.WordsFault.TheVariants as words_faults;
 
 use crate::command_line::{CommandLine, MAX_PROOFS, Request};
+use crate::outcome::Way;
 use clap::error::ErrorKind;
 use clap::{Arg, ArgAction, ArgMatches, Command, Error};
 use lj_clause::NoMemory;
@@ -147,15 +148,36 @@ fn run_of<'a>(alloc: Global, matches: &ArgMatches<'a>) -> Result<Request<'a>, Al
     ensures { IfOk result (λ request.
         request_asked request ≡ asked_by_rows (rows_of (found_of matches.now))) }
 {
+    let proofs = matches.get_raw("PROOF").unwrap_or(&[]);
+    let in_turn = is_given(matches, "in-turn");
     let request = request_of(
         alloc,
         matches.get_str("FORMULA"),
-        matches.get_raw("PROOF").unwrap_or(&[]),
+        proofs,
         matches.get_str("close"),
         matches.get_str("max-steps"),
+        way_of(in_turn, proofs.len()),
     )?;
-    let trim = matches.get_str("trim") == Some("true");
+    let trim = is_given(matches, "trim");
     with_proof(alloc, request, matches.get_str("proof"), trim)
+}
+
+/// Whether the flag of this name is given.
+fn is_given<'a>(matches: &ArgMatches<'a>, name: &str) -> bool
+    ensures { result ≡ is_given name.now (rows_of (found_of matches.now)) }
+{
+    matches.get_str(name) == Some("true")
+}
+
+/// The way in which the streams of so many PROOF files are run: nothing runs beside a single one.
+fn way_of(in_turn: bool, proofs: usize) -> Way
+    ensures { result ≡ way_of in_turn proofs }
+{
+    if in_turn || proofs < 2 {
+        Way::InTurn
+    } else {
+        Way::OnThreads
+    }
 }
 
 /// The run that values ask for, or usage where there are too many streams or the limit is none.
@@ -165,11 +187,12 @@ fn request_of<'a>(
     proofs: &[&'a str],
     closing: Option<&'a str>,
     max_steps: Option<&str>,
+    way: Way,
 ) -> Result<Request<'a>, AllocError>
     ensures { IfOk result (λ request. request_asked request
         ≡ run_asked (option_map (λ path. path.now) formula.entry)
         (map (λ path. path.now) proofs.now) (option_map (λ path. path.now) closing.entry)
-        (option_map (λ text. text.now) max_steps.entry)) }
+        (option_map (λ text. text.now) max_steps.entry) way) }
 {
     let Some(formula) = formula else {
         return usage(alloc, "FORMULA wasn't provided");
@@ -188,6 +211,7 @@ fn request_of<'a>(
         proofs: proofs.to_vec(alloc)?,
         closing,
         max_steps,
+        way,
         proof: None,
         trim: false,
     }))

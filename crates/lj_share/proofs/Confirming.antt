@@ -1,24 +1,18 @@
 -- Which tokens the entries of a seat have to be.
 use Rattle.std.proofs.Common.{◌≡◌, ap, refl, sym, ◌∙◌, ℕ, suc, ◌+◌, ◌<◌, Bool, cond, true, false, arith}
-use Rattle.std.specs.Prelude.{List, [], ◌∷◌, ◌↔◌, ◌==◌, drop, length, Option, Some, None, slice_get}
+use Rattle.std.specs.Prelude.{List, [], ◌∷◌, ◌↔◌, ◌==◌, drop, length, Option, Some, None, slice_get, option_map}
 use Rattle.std.specs.Option.{MatchOption}
-use Rattle.std.proofs.lemmas.Bool.Decides.{nat_tests}
 use Rattle.std.proofs.Math.Seq.{drop-cons}
 use Rattle.std.proofs.lemmas.Option.{slice_get_within, get_or_from_slice_get, slice_get-get_or}
+use Rattle.std.proofs.lemmas.Bool.{eqb-true, eq-eqb}
 use Rattle.lj_book.specs.declared.entry.Entry.{Entry}
 use Rattle.lj_share.specs.Entries.{entries_of}
-
-is_equal : (a b : ℕ) → a ≡ b → (a == b) ≡ true
-is_equal a b h = grind (arith, nat_tests)
-
-are_equal : (a b : ℕ) → (a == b) ≡ true → a ≡ b
-are_equal a b h = grind (arith, nat_tests)
 
 is_other : (a b : ℕ) → (a ≡ b → ⊥) → (a == b) ≡ false
 is_other a b h = go (a == b) refl
   where
     go : (x : Bool) → (a == b) ≡ x → x ≡ false
-    go true e = absurd (h (are_equal a b e))
+    go true e = absurd (h (eqb-true a b e))
     go false e = refl
 
 -- the entry at a place stands before those behind it
@@ -44,13 +38,13 @@ passed_by es seat place e rest left so_far is other left_is =
 -- an entry of the seat is the next token's
 pub matched : {A : Type 0} (es : List Entry) (seat place : ℕ) (e f : Entry) (rest others left : List Entry) → A ↔ (entries_of seat (drop place es) ≡ rest) → slice_get es place ≡ Some e → e.seat ≡ seat → e ≡ f → rest ≡ f ∷ others → left ≡ others → A ↔ (entries_of seat (drop (place + 1) es) ≡ left)
 matched es seat place e f rest others left so_far is same equal rest_is left_is =
-    let front = front_of es seat place e true is (is_equal e.seat seat same) in
+    let front = front_of es seat place e true is (eq-eqb e.seat seat same) in
     let behind : List Entry = entries_of seat (drop (place + 1) es) in
     (λ a. ap (drop 1) (sym front ∙ so_far.0 a ∙ rest_is) ∙ sym left_is, λ h. so_far.1 (front ∙ ap (λ x. x ∷ behind) equal ∙ ap (λ xs. f ∷ xs) (h ∙ left_is) ∙ sym rest_is))
 
 -- where the seat's entries are all tokens, an entry of the seat is the first of those that are left
 pub is_first : {A : Type 0} (es : List Entry) (seat place : ℕ) (e : Entry) (rest : List Entry) → A ↔ (entries_of seat (drop place es) ≡ rest) → slice_get es place ≡ Some e → e.seat ≡ seat → A → rest ≡ e ∷ entries_of seat (drop (place + 1) es)
-is_first es seat place e rest so_far is same a = sym (so_far.0 a) ∙ front_of es seat place e true is (is_equal e.seat seat same)
+is_first es seat place e rest so_far is same a = sym (so_far.0 a) ∙ front_of es seat place e true is (eq-eqb e.seat seat same)
 
 pub same_first : (e f : Entry) (xs ys : List Entry) → e ∷ xs ≡ f ∷ ys → e ≡ f
 same_first e f xs ys is = cc
@@ -61,12 +55,23 @@ not_empty e xs ys is none = let long = ap length is in absurd (omega arith)
 is_none : {X : Type 0} (x : X) → Some x ≡ None → ⊥
 is_none x h = cc
 
+pub some_same : {X : Type 0} (x y : X) → Some x ≡ Some y → x ≡ y
+some_same x y h = cc
+
 -- the fact of an option that is none
 pub where_none : {X : Type 0} {N : Type 0} (S : X → Type 0) (o : Option X) → MatchOption o N S → o ≡ None → N
 where_none S None fact is = fact
 where_none S (Some x) fact is = absurd (is_none x is)
 
--- no place of a list is without an entry
-pub some_entry : (es : List Entry) (place : ℕ) → place < length es → slice_get es place ≡ None → ⊥
+-- where a seat is told at a place, there is an entry of it
+pub entry_there : (es : List Entry) (place by : ℕ) → option_map (λ (e : Entry). e.seat) (slice_get es place) ≡ Some by → (e : Entry) × ((slice_get es place ≡ Some e) × (e.seat ≡ by))
+entry_there es place by h = go (slice_get es place) refl h
+  where
+    go : (o : Option Entry) → slice_get es place ≡ o → option_map (λ (e : Entry). e.seat) o ≡ Some by → (e : Entry) × ((slice_get es place ≡ Some e) × (e.seat ≡ by))
+    go None is h = absurd (is_none by (sym h))
+    go (Some e) is h = (e, (is, some_same e.seat by h))
+
+-- no place of a list is without a seat
+pub some_entry : (es : List Entry) (place : ℕ) → place < length es → option_map (λ (e : Entry). e.seat) (slice_get es place) ≡ None → ⊥
 some_entry [] place within is = absurd (omega arith)
-some_entry (e ∷ es) place within is = is_none _ (sym (slice_get-get_or (e ∷ es) place e within) ∙ is)
+some_entry (e ∷ es) place within is = is_none _ (sym (ap (option_map (λ (f : Entry). f.seat)) (slice_get-get_or (e ∷ es) place e within)) ∙ is)

@@ -9,6 +9,7 @@ use Rattle.lj_book.specs.State.{State, live}
 use Rattle.lj_book.specs.History.{after_entry, tables_after, with_found}
 use Rattle.lj_book.specs.Tables.{Table, Tables, with_table, without_seat}
 use Rattle.lj_share.specs.Seats.{IsOpenedAs}
+use Rattle.lj_share.specs.inner.Seats.{IsDesk}
 
 length-with_table : (change : Table → Table) (ts : Tables) (seat : ℕ) → length (with_table change ts seat) ≡ length ts
 length-with_table change [] seat = refl
@@ -36,3 +37,12 @@ pub opened_on : (f : FormulaValue) (seats max : ℕ) (s t : State) (e : Entry) �
 opened_on f seats max s t e is opened =
     let kept : IsOpenedAs f seats max (after_entry s e) = record { formula_is = opened.formula_is; seats_are = seats_kept s e.seat e.call ∙ opened.seats_are; limit_is = opened.limit_is } in
     subst (λ u. IsOpenedAs f seats max u) (sym is) kept
+
+-- what lies under the lock after an entry that its ledger counts
+pub desk_on : (f : FormulaValue) (seats max : ℕ) (s t : State) (e : Entry) (before total parts amount : ℕ) → t ≡ after_entry s e → total ≡ length t.history → IsDesk f seats max s before parts amount
+    → IsDesk f seats max t total parts amount
+desk_on f seats max s t e before total parts amount is counted d = record { opened = opened_on f seats max s t e is d.opened; counted = sym counted; no_part = d.no_part; no_amount = d.no_amount }
+
+-- what lies under the lock where the book stayed
+pub desk_kept : (f : FormulaValue) (seats max : ℕ) (s t : State) (total parts amount : ℕ) → t ≡ s → IsDesk f seats max s total parts amount → IsDesk f seats max t total parts amount
+desk_kept f seats max s t total parts amount is d = subst (λ b. IsDesk f seats max b total parts amount) (sym is) d

@@ -4,7 +4,6 @@ ghost use Rattle.lj_share.specs.Entries.{entries_of};
 ghost use Rattle.lj_share.specs.Seats.{IsOpenedAs};
 
 use crate::opening::Opening;
-use crate::same::same_entry;
 use crate::told::Told;
 use lj_book::Book;
 use std::marker::{Model, PhantomData};
@@ -65,10 +64,12 @@ impl<L: Opening> Closed<L> {
     {
         let mut rest = told;
         for place in 0..self.book.history_len() {
-            if let Some(entry) = self.book.entry(place) {
-                if entry.seat == seat {
+            if let Some(by) = self.book.seat_at(place) {
+                if by == seat {
                     match rest.split_first() {
-                        Some((first, others)) if same_entry(entry, &first.entry) => rest = others,
+                        Some((first, others)) if self.book.is_entry(place, &first.entry) => {
+                            rest = others;
+                        }
                         _ => return false,
                     }
                 }

@@ -9,16 +9,16 @@ ghost use Rattle.lj_share.specs.Refusals.{CanMeet};
 use crate::opening::Opening;
 use crate::seat::Seat;
 use crate::told::Told;
-use lj_book::{Book, Entry, Refusal};
+use lj_book::{Book, Entry, Ready, Refusal};
 use lj_clause::Clause;
 use lj_hint::Receipt;
-use lj_text::Addition;
+use lj_text::{Addition, Numbers};
 use std::marker::Model;
 use std::sync::ledger::{Book as Tally, Share};
 
 /// The book, and the ledger of its opening, whose total is the number of entries.
 #[derive(Drop)]
-pub struct Desk<L: Opening> {
+pub(crate) struct Desk<L: Opening> {
     book: Book,
     entries: Tally<L>,
     /// What no seat has of the ledger: nothing.
@@ -33,12 +33,13 @@ impl<L: Opening> Model for Desk<L> {
 
     ghost view = { λ d. tt };
 
-    ghost invariant = { λ d. IsDesk L.formula L.seats L.max_steps d.book d.entries.total d.rest.parts d.rest.amount };
+    ghost invariant = { λ d. IsDesk L.formula L.seats L.max_steps d.book d.entries.total
+        d.rest.parts d.rest.amount };
 }
 
 impl<L: Opening> Desk<L> {
     /// A new book under a ledger all of whose parts the seats have.
-    pub fn new(book: Book, entries: Tally<L>, rest: Share<L>) -> Desk<L>
+    pub(crate) fn new(book: Book, entries: Tally<L>, rest: Share<L>) -> Desk<L>
         requires { IsDesk L.formula L.seats L.max_steps book entries.total rest.parts rest.amount }
     {
         Desk {
@@ -49,12 +50,12 @@ impl<L: Opening> Desk<L> {
     }
 
     /// The book.
-    pub fn book(&self) -> &Book {
+    pub(crate) fn book(&self) -> &Book {
         &self.book
     }
 
     /// The book, the ledger, and what no seat has of it.
-    pub fn into_parts(self) -> (Book, Tally<L>, Share<L>)
+    pub(crate) fn into_parts(self) -> (Book, Tally<L>, Share<L>)
         ensures { IsDesk L.formula L.seats L.max_steps result.0 result.1.total result.2.parts
             result.2.amount }
     {
@@ -67,7 +68,7 @@ impl<L: Opening> Desk<L> {
     }
 
     /// Commits a receipt of the seat.
-    pub fn commit(
+    pub(crate) fn commit(
         &mut self,
         seat: &mut Seat<L>,
         receipt: Receipt,
@@ -89,8 +90,34 @@ impl<L: Opening> Desk<L> {
         }
     }
 
+    /// Commits a receipt of the seat that has what its entry takes, and gives the receipt back.
+    pub(crate) fn commit_ready(
+        &mut self,
+        seat: &mut Seat<L>,
+        ready: Ready,
+    ) -> Result<(Told, Receipt), (Refusal, Receipt)>
+        ensures told { IfOk result
+            (λ made. IsEntryOf ready.seat (calls.Add ready.own ready.lemma) made.0) }
+        ensures counted { OnOk result (seat.new ≡ counting_one seat.old) }
+        ensures kept { OnErr result (seat.new ≡ seat.old) }
+    {
+        let Desk {
+            book,
+            entries,
+            rest: _,
+        } = self;
+        match book.commit_ready(ready) {
+            Ok((_, entry, receipt)) => Ok((tell(book, entries, seat, entry), receipt)),
+            Err(refused) => Err(refused),
+        }
+    }
+
     /// Tests a seat's addition, and enters it.
-    pub fn add_inside(&mut self, seat: &mut Seat<L>, addition: &Addition) -> Result<Told, Refusal>
+    pub(crate) fn add_inside(
+        &mut self,
+        seat: &mut Seat<L>,
+        addition: &Addition,
+    ) -> Result<Told, Refusal>
         ensures told { IfOk result (λ told. IsEntryOf seat.old.number
             (calls.Add addition.now.number addition.now.lemma) told) }
         ensures counted { OnOk result (seat.new ≡ counting_one seat.old) }
@@ -110,7 +137,11 @@ impl<L: Opening> Desk<L> {
 
     /// Gives own numbers of the seat up.
     #[tactic(auto, using(crate::proofs::Refusing::drop_refused))]
-    pub fn drop_numbers(&mut self, seat: &mut Seat<L>, numbers: &[u64]) -> Result<Told, Refusal>
+    pub(crate) fn drop_numbers(
+        &mut self,
+        seat: &mut Seat<L>,
+        numbers: &Numbers,
+    ) -> Result<Told, Refusal>
         ensures told { IfOk result
             (λ told. IsEntryOf seat.old.number (calls.Drop numbers.now) told) }
         ensures counted { OnOk result (seat.new ≡ counting_one seat.old) }
@@ -130,7 +161,12 @@ impl<L: Opening> Desk<L> {
 
     /// Binds the seat's own number to a live clause with exactly these literals.
     #[tactic(auto, using(crate::proofs::Refusing::import_refused))]
-    pub fn import(&mut self, seat: &mut Seat<L>, own: u64, clause: &Clause) -> Result<Told, Refusal>
+    pub(crate) fn import(
+        &mut self,
+        seat: &mut Seat<L>,
+        own: u64,
+        clause: &Clause,
+    ) -> Result<Told, Refusal>
         ensures told { IfOk result
             (λ told. IsEntryOf seat.old.number (calls.Import own clause.now) told) }
         ensures counted { OnOk result (seat.new ≡ counting_one seat.old) }
@@ -143,14 +179,22 @@ impl<L: Opening> Desk<L> {
             rest: _,
         } = self;
         match book.import_telling(seat.number(), own, clause) {
-            Ok((_, entry)) => Ok(tell(book, entries, seat, entry)),
+            Ok((imported, entry)) => {
+                seat.bind(own, imported.joint, clause);
+                Ok(tell(book, entries, seat, entry))
+            }
             Err(refusal) => Err(refusal),
         }
     }
 
     /// Binds the seat's own number to a joint number that lives.
     #[tactic(auto, using(crate::proofs::Refusing::adopt_refused))]
-    pub fn adopt(&mut self, seat: &mut Seat<L>, own: u64, joint: u64) -> Result<Told, Refusal>
+    pub(crate) fn adopt(
+        &mut self,
+        seat: &mut Seat<L>,
+        own: u64,
+        joint: u64,
+    ) -> Result<Told, Refusal>
         ensures told { IfOk result
             (λ told. IsEntryOf seat.old.number (calls.Adopt own joint) told) }
         ensures counted { OnOk result (seat.new ≡ counting_one seat.old) }
@@ -163,14 +207,19 @@ impl<L: Opening> Desk<L> {
             rest: _,
         } = self;
         match book.adopt_telling(seat.number(), own, joint) {
-            Ok((_, entry)) => Ok(tell(book, entries, seat, entry)),
+            Ok((_, entry)) => {
+                if let Some(clause) = book.clause(joint) {
+                    seat.bind(own, joint, clause);
+                }
+                Ok(tell(book, entries, seat, entry))
+            }
             Err(refusal) => Err(refusal),
         }
     }
 
     /// Ends the seat's bindings in the book.
     #[tactic(auto, using(crate::proofs::Refusing::leave_refused))]
-    pub fn leave(&mut self, seat: &mut Seat<L>) -> Result<Told, Refusal>
+    pub(crate) fn leave(&mut self, seat: &mut Seat<L>) -> Result<Told, Refusal>
         ensures told { IfOk result (λ told. IsEntryOf seat.old.number calls.Leave told) }
         ensures counted { OnOk result (seat.new ≡ counting_one seat.old) }
         ensures kept { OnErr result (seat.new ≡ seat.old) }

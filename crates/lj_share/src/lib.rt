@@ -5,11 +5,9 @@ mod closed;
 mod desk;
 mod gate;
 mod opening;
-mod same;
+mod own_clauses;
 mod seat;
 mod shared;
-#[cfg(test)]
-mod tests;
 mod told;
 
 pub use closed::Closed;

@@ -1,9 +1,13 @@
 //! Seats.
-ghost use Rattle.std.specs.Prelude.{◌≡◌, ◌+◌, ◌<◌};
+ghost use Rattle.std.specs.Prelude.{◌≡◌, ◌+◌, ◌<◌, IfSome};
 ghost use Rattle.lj_share.specs.Seats.{new_seat, counting_one};
 
 use crate::opening::Opening;
-use lj_hint::Marks;
+use crate::own_clauses::OwnClauses;
+use lj_book::Entry;
+use lj_clause::{Clause, Formula};
+use lj_hint::{Case, Marks};
+use lj_text::Addition;
 use std::alloc::Global;
 use std::marker::Model;
 use std::sync::ledger::{Book as Tally, Share};
@@ -14,6 +18,8 @@ pub struct Seat<L: Opening> {
     number: u32,
     count: u64,
     pub(crate) marks: Marks,
+    /// The clauses that it holds, none where it doesn't know them by itself.
+    own: Option<OwnClauses>,
     /// One part of the opening's ledger, and as great an amount as there are entries.
     share: Share<L>,
 }
@@ -43,6 +49,7 @@ impl<L: Opening> Seat<L> {
             number,
             count: 0,
             marks: Marks::new(alloc),
+            own: Some(OwnClauses::new(alloc)),
             share,
         }
     }
@@ -70,6 +77,51 @@ impl<L: Opening> Seat<L> {
         entries.add(&mut self.share, 1);
         entries.audit(&mut self.share);
         self.count += 1;
+    }
+
+    /// The case of an addition over the clauses that the seat holds as it knows by itself: none where it has groups, where
+    /// its number may be bound, where one that it names isn't known, or where a growth was refused.
+    pub(crate) fn case(&mut self, formula: &Formula, addition: &Addition) -> Option<Case>
+        ensures seat { IfSome result (λ case. case.seat ≡ self.old.number) }
+        ensures own { IfSome result (λ case. case.own ≡ addition.now.number) }
+        ensures lemma { IfSome result (λ case. case.lemma ≡ addition.now.lemma) }
+        ensures kept { self.new ≡ self.old }
+    {
+        let seat = self.number;
+        let own = match &mut self.own {
+            Some(own) => own,
+            None => return None,
+        };
+        match own.case(formula, seat, addition) {
+            Ok(case) => case,
+            Err(_refused) => None,
+        }
+    }
+
+    /// Takes up what an entry of the seat has bound and given up; of an adoption and an import it doesn't say what was bound.
+    pub(crate) fn follow(&mut self, formula: &Formula, entry: &Entry)
+        ensures { self.new ≡ self.old }
+    {
+        let held = match &mut self.own {
+            Some(own) => own.follow(formula, entry),
+            None => return,
+        };
+        if !held {
+            self.own = None;
+        }
+    }
+
+    /// Takes up the joint number with its clause that the seat's own number was bound to.
+    pub(crate) fn bind(&mut self, own: u64, joint: u64, clause: &Clause)
+        ensures { self.new ≡ self.old }
+    {
+        let held = match &mut self.own {
+            Some(clauses) => clauses.bind(own, joint, clause).is_ok(),
+            None => return,
+        };
+        if !held {
+            self.own = None;
+        }
     }
 
     /// The seat's share of the ledger.

@@ -1,5 +1,5 @@
 //! The shared book.
-ghost use Rattle.std.specs.Prelude.{◌≡◌, ◌==◌, ◌+◌, ◌<◌, length, is_ok, OnOk, OnErr, IfOk, IfErr, Ok, Err};
+ghost use Rattle.std.specs.Prelude.{◌≡◌, ◌==◌, ◌+◌, ◌<◌, length, is_ok, OnOk, OnErr, IfOk, IfErr, IfSome, None, Ok, Err};
 ghost use Rattle.lj_book.specs.declared.entry.Call.TheVariants as calls;
 ghost use Rattle.lj_book.specs.History.{IsReached};
 ghost use Rattle.lj_share.specs.Seats.{new_seats, counting_one, entries_made};
@@ -13,19 +13,31 @@ use crate::opening::Opening;
 use crate::seat::Seat;
 use crate::told::Told;
 use lj_book::laws::history_is_legal;
-use lj_book::{Book, Entry, Refusal};
+use lj_book::{Book, Entry, Ready, Refusal};
 use lj_clause::{Formula, NoMemory};
 use lj_hint::{Case, Receipt, Tested};
-use lj_text::{Addition, Line};
+use lj_text::{Addition, Line, Numbers};
 use std::alloc::Global;
+use std::sync::atomic::{AtomicU64, Ordering};
 use std::sync::ledger::{Blank, Share};
-use std::sync::{Mutex, Wait};
+use std::sync::{Mutex, MutexGuard, Wait};
+
+/// How often the lock is tried before a thread sleeps for it.
+const TRIES: u32 = 64;
+
+/// How many looks at the verdict lie between two tries.
+const LOOKS: u32 = 64;
 
 /// A book that its seats share, on as many threads as they are on. Lines are tested outside its lock.
 #[derive(Drop)]
 pub struct Shared<L: Opening> {
     desk: Mutex<Desk<L>>,
+    /// One more than the place of the first entry that adds the empty clause, and 0 while there is none.
+    refuted: AtomicU64,
     seats: u32,
+    /// The formula once more, so that its clauses are read without the lock.
+    formula: Formula,
+    alloc: Global,
     ghost seats_are: { seats ≡ L.seats },
 }
 
@@ -56,11 +68,18 @@ impl<L: Opening> Shared<L> {
         requires limit { max_steps ≡ L.max_steps }
         ensures seats { IfOk result (λ opened. opened.1.items ≡ new_seats seats) }
     {
+        let shown = formula.copy()?;
         let book = Book::open(alloc, formula, seats, max_steps)?;
         let (entries, mut rest) = blank.open::<L>();
         let out = seats_of(alloc, &mut rest, seats)?;
-        let desk = Mutex::new(Desk::new(book, entries, rest));
-        Ok((Shared { desk, seats }, out))
+        let shared = Shared {
+            desk: Mutex::new(Desk::new(book, entries, rest)),
+            refuted: AtomicU64::new(0),
+            seats,
+            formula: shown,
+            alloc,
+        };
+        Ok((shared, out))
     }
 
     /// Hands a line of the seat's prover to the book, and gives the token of its entry. An addition is tested outside the
@@ -97,11 +116,14 @@ impl<L: Opening> Shared<L> {
     {
         let number = seat.number();
         let answer = match line {
-            Line::Add(addition) => return self.submit_addition(rt, seat, addition, at, gate),
+            Line::Add(addition) => {
+                let told = self.submit_addition(rt, seat, addition, at, gate)?;
+                seat.follow(&self.formula, &told.entry);
+                return Ok(told);
+            }
             Line::Delete(numbers) => {
-                let numbers = numbers.to_vec()?;
                 gate.pass(number, at);
-                self.desk.lock(rt).drop_numbers(seat, &numbers)
+                self.drop_numbers(rt, seat, numbers)
             }
             Line::Import {
                 number: own,
@@ -113,6 +135,60 @@ impl<L: Opening> Shared<L> {
         };
         gate.answered(number, at);
         answer
+    }
+
+    /// Gives own numbers of the seat up.
+    fn drop_numbers<R: Wait>(
+        &self,
+        rt: &R,
+        seat: &mut Seat<L>,
+        numbers: &Numbers,
+    ) -> Result<Told, Refusal>
+        ensures told { IfOk result
+            (λ told. IsEntryOf seat.old.number (calls.Drop numbers.now) told) }
+        ensures counted { OnOk result (seat.new ≡ counting_one seat.old) }
+        ensures kept { OnErr result (seat.new ≡ seat.old) }
+        ensures refusal { IfErr result (λ e. CanMeet (calls.Drop numbers.now) e) }
+    {
+        let told = self.desk(rt).drop_numbers(seat, numbers)?;
+        seat.follow(&self.formula, &told.entry);
+        Ok(told)
+    }
+
+    /// Tests an addition over the clauses that the seat holds as it knows by itself, and enters it; or answers nothing, where
+    /// it has to be taken from the book.
+    fn submit_alone<R: Wait, G: Gate>(
+        &self,
+        rt: &R,
+        seat: &mut Seat<L>,
+        addition: &Addition,
+        at: u64,
+        gate: &G,
+    ) -> Option<Result<Told, Refusal>>
+        ensures told { IfSome result (λ answer. IfOk answer (λ told. IsEntryOf seat.old.number
+            (calls.Add addition.now.number addition.now.lemma) told)) }
+        ensures counted { IfSome result
+            (λ answer. OnOk answer (seat.new ≡ counting_one seat.old)) }
+        ensures kept { IfSome result (λ answer. OnErr answer (seat.new ≡ seat.old)) }
+        ensures nothing { result ≡ None → seat.new ≡ seat.old }
+    {
+        let number = seat.number();
+        let case = seat.case(&self.formula, addition)?;
+        let receipt = match case.test(&mut seat.marks) {
+            Tested::Closed(receipt) => receipt,
+            Tested::Stuck(place) => return Some(Err(Refusal::HintNotUnit(place))),
+            Tested::Open(_) | Tested::NoMemory(_, _) => return None,
+        };
+        let Ok(ready) = Ready::new(self.alloc, receipt) else {
+            return None;
+        };
+        gate.pass(number, at);
+        let answer = match self.commit_ready(rt, seat, ready) {
+            Ok((told, _receipt)) => Ok(told),
+            Err((refusal, _receipt)) => Err(refusal),
+        };
+        gate.answered(number, at);
+        Some(answer)
     }
 
     /// Takes an addition, tests it, and enters it.
@@ -129,6 +205,9 @@ impl<L: Opening> Shared<L> {
         ensures counted { OnOk result (seat.new ≡ counting_one seat.old) }
         ensures kept { OnErr result (seat.new ≡ seat.old) }
     {
+        if let Some(answer) = self.submit_alone(rt, seat, addition, at, gate) {
+            return answer;
+        }
         let number = seat.number();
         let case = self.take(rt, seat, addition)?;
         let answer = match case.test(&mut seat.marks) {
@@ -141,7 +220,10 @@ impl<L: Opening> Shared<L> {
             }
             Tested::Open(_case) => {
                 gate.pass(number, at);
-                self.desk.lock(rt).add_inside(seat, addition)
+                let mut desk = self.desk.lock(rt);
+                let told = desk.add_inside(seat, addition);
+                self.publish(desk.book());
+                told
             }
             Tested::Stuck(place) => return Err(Refusal::HintNotUnit(place)),
             Tested::NoMemory(_case, refused) => return Err(Refusal::NoMemory(refused)),
@@ -184,7 +266,47 @@ impl<L: Opening> Shared<L> {
         ensures kept { OnErr result (seat.new ≡ seat.old) }
         ensures back { IfErr result (λ e. e.1 ≡ receipt) }
     {
-        self.desk.lock(rt).commit(seat, receipt)
+        let told = self.commit_taken(rt, seat, receipt)?;
+        seat.follow(&self.formula, &told.entry);
+        Ok(told)
+    }
+
+    /// Enters the lemma of a receipt of this seat.
+    fn commit_taken<R: Wait>(
+        &self,
+        rt: &R,
+        seat: &mut Seat<L>,
+        receipt: Receipt,
+    ) -> Result<Told, (Refusal, Receipt)>
+        ensures told { IfOk result
+            (λ told. IsEntryOf receipt.seat (calls.Add receipt.own receipt.lemma) told) }
+        ensures counted { OnOk result (seat.new ≡ counting_one seat.old) }
+        ensures kept { OnErr result (seat.new ≡ seat.old) }
+        ensures back { IfErr result (λ e. e.1 ≡ receipt) }
+    {
+        let mut desk = self.desk.lock(rt);
+        let told = desk.commit(seat, receipt);
+        self.publish(desk.book());
+        told
+    }
+
+    /// Enters the lemma of a receipt that has what its entry takes. The receipt comes back, so that it is let go of
+    /// outside the lock.
+    fn commit_ready<R: Wait>(
+        &self,
+        rt: &R,
+        seat: &mut Seat<L>,
+        ready: Ready,
+    ) -> Result<(Told, Receipt), (Refusal, Receipt)>
+        ensures told { IfOk result
+            (λ made. IsEntryOf ready.seat (calls.Add ready.own ready.lemma) made.0) }
+        ensures counted { OnOk result (seat.new ≡ counting_one seat.old) }
+        ensures kept { OnErr result (seat.new ≡ seat.old) }
+    {
+        let mut desk = self.desk(rt);
+        let told = desk.commit_ready(seat, ready);
+        self.publish(desk.book());
+        told
     }
 
     /// Binds the seat's own number to a joint number that lives.
@@ -217,7 +339,9 @@ impl<L: Opening> Shared<L> {
         ensures kept { OnErr result (seat.new ≡ seat.old) }
         ensures refusal { IfErr result (λ e. CanMeet calls.Leave e) }
     {
-        self.desk.lock(rt).leave(seat)
+        let told = self.desk.lock(rt).leave(seat)?;
+        seat.follow(&self.formula, &told.entry);
+        Ok(told)
     }
 
     /// The entry that a token of this book stands for, the same one for good. Waits for nobody.
@@ -227,10 +351,36 @@ impl<L: Opening> Shared<L> {
         &told.entry
     }
 
-    /// The place of the first entry that adds the empty clause, if there is one by now. It has no clause: nothing learnt of
-    /// what lies under a plain lock outlives the guard. What it told is seen once the book is closed.
-    pub fn verdict_now<R: Wait>(&self, rt: &R) -> Option<u64> {
-        self.desk.lock(rt).book().verdict()
+    /// The place of the first entry that adds the empty clause, if there is one by now. Waits for nobody. It has no clause:
+    /// nothing learnt of what lies under a plain lock outlives the guard. What it told is seen once the book is closed.
+    pub fn verdict_now(&self) -> Option<u64> {
+        self.refuted.load(Ordering::Acquire).checked_sub(1)
+    }
+
+    /// What lies under the lock. It is held for about a microsecond, so it is tried for a while before a thread sleeps for it.
+    fn desk<R: Wait>(&self, rt: &R) -> MutexGuard<'_, Desk<L>> {
+        for _ in 0..TRIES {
+            if let Some(desk) = self.desk.try_lock() {
+                return desk;
+            }
+            self.pause();
+        }
+        self.desk.lock(rt)
+    }
+
+    /// Lets a few hundred cycles pass, in which nothing is written that others read.
+    fn pause(&self) {
+        for _ in 0..LOOKS {
+            let _ = self.refuted.load(Ordering::Acquire);
+        }
+    }
+
+    /// Lets all see the verdict of the book, if it has one.
+    fn publish(&self, book: &Book) {
+        if let Some(place) = book.verdict() {
+            self.refuted
+                .store(place.saturating_add(1), Ordering::Release);
+        }
     }
 
     /// Gives the book out of the lock, where all seats are handed in. Takes no memory.

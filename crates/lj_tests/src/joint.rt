@@ -1,115 +1,115 @@
 //! Streams that run beside one another on one shared book, each on a thread of its own.
-use lj_run::{End, Options, Outcome, run_joint};
-use lj_share::{Gate, NoGate};
+mod confirmed;
+mod gates;
+
+use crate::tables::BINARY_TEXT;
+use lj_run::{Options, Outcome, run_joint};
+use lj_share::Gate;
 use lj_text::{MemorySink, MemorySource};
 use std::alloc::{AllocError, Global};
 use std::process::Abort;
 use std::sync::Wait;
-use std::sync::atomic::{AtomicBool, Ordering};
 use std::test::Fail;
-use std::thread::{Threads, yield_now};
+use std::thread::Threads;
 
-/// The clauses `1 2`, `-1 2`, `1 -2` and `-1 -2`.
-const BINARY: &str = "p cnf 2 4\n1 2 0\n-1 2 0\n1 -2 0\n-1 -2 0\n";
+/// Streams on a formula, what is reported of each, and the proofs of which one is written.
+#[derive(Clone, Copy)]
+struct Run<'a> {
+    formula: &'a str,
+    streams: &'a [&'a str],
+    closing: Option<&'a str>,
+    trim: bool,
+    reports: &'a [&'a str],
+    proofs: &'a [&'a str],
+}
 
-/// How often a gate gives its turn away before it lets go.
-const TURNS: u32 = 1_000_000;
+/// No stream on the four binary clauses.
+const PLAIN: Run = Run {
+    formula: BINARY_TEXT,
+    streams: &[],
+    closing: None,
+    trim: false,
+    reports: &[],
+    proofs: &[],
+};
+
+/// Two provers on the binary clauses, the one of which finds 2 and the other -2, and a closing stream that imports both.
+const PORTFOLIO: Run = Run {
+    streams: &["5 2 0 1 2 0\n", "5 -2 0 3 4 0\n"],
+    closing: Some("7 i 2 0\n8 i -2 0\n9 0 7 8 0\n"),
+    reports: &[
+        "1 added, 0 deleted, 0 imported, ended",
+        "1 added, 0 deleted, 0 imported, ended",
+        "1 added, 0 deleted, 2 imported, stopped",
+    ],
+    proofs: &[
+        "5 2 0 1 2 0\n6 -2 0 3 4 0\n7 0 5 6 0\n",
+        "5 -2 0 3 4 0\n6 2 0 1 2 0\n7 0 6 5 0\n",
+    ],
+    ..PLAIN
+};
 
 fn source(alloc: Global, text: &str) -> Result<MemorySource, AllocError> {
     Ok(MemorySource::new(Vec::from_slice(alloc, text.as_bytes())?))
 }
 
-/// Two provers on the binary clauses, the one of which finds 2 and the other -2, and a closing stream that imports both.
-fn portfolio<R: Threads + Wait + Abort + Sync, G: Gate + Sync>(
+/// Runs the streams, and gives the outcome and the sink of the proof.
+fn outcome_of<R: Threads + Wait + Abort + Sync, G: Gate + Sync>(
     rt: &R,
     alloc: Global,
+    run: &Run,
     gate: &G,
-) -> Result<Outcome<MemorySource>, Fail> {
-    let mut formula = source(alloc, BINARY)?;
+) -> Result<(Outcome<MemorySource>, MemorySink), Fail> {
+    let mut formula = source(alloc, run.formula)?;
     let mut streams = Vec::new(alloc);
-    streams.push(source(alloc, "5 2 0 1 2 0\n")?)?;
-    streams.push(source(alloc, "5 -2 0 3 4 0\n")?)?;
-    let closing = source(alloc, "7 i 2 0\n8 i -2 0\n9 0 7 8 0\n")?;
+    for text in run.streams {
+        streams.push(source(alloc, text)?)?;
+    }
+    assert!(rt; !streams.is_empty() && streams.len() < 9);
+    let closing = match run.closing {
+        Some(text) => Some(source(alloc, text)?),
+        None => None,
+    };
     let options = Options {
         max_steps: u32::MAX,
-        trim: false,
+        trim: run.trim,
     };
-    let mut out: Option<MemorySink> = None;
+    let mut out = Some(MemorySink::new(alloc));
     match run_joint(
         rt,
         alloc,
         &mut formula,
         streams,
-        Some(closing),
+        closing,
         &options,
         gate,
         &mut out,
     ) {
-        Ok(outcome) => Ok(outcome),
+        Ok(outcome) => Ok((outcome, out.ok_or("no sink")?)),
         Err(_) => panic!(rt; "the run has no outcome"),
     }
 }
 
-/// What comes of the portfolio, whichever of the provers comes first.
-fn expect_verified(rt: &impl Abort, outcome: &Outcome<MemorySource>) {
-    assert!(rt; outcome.verified.is_some());
-    assert!(rt; outcome.steps.len() == 3);
-    let [first, second, closing] = outcome.reports.as_slice() else {
-        panic!(rt; "there are not three reports");
-    };
-    assert!(rt; first.added == 1 && first.deleted == 0 && first.imported == 0);
-    assert!(rt; first.end == End::Ended);
-    assert!(rt; second.added == 1 && second.deleted == 0 && second.imported == 0);
-    assert!(rt; second.end == End::Ended);
-    assert!(rt; closing.added == 1 && closing.deleted == 0 && closing.imported == 2);
-    assert!(rt; closing.end == End::Stopped);
-}
-
-#[test]
-fn two_provers_and_a_closing_stream_on_threads(rt: HostRuntime) -> Result<(), Fail> {
-    for _ in 0..1_000 {
-        let outcome = portfolio(&rt, rt.alloc(), &NoGate)?;
-        expect_verified(&rt, &outcome);
+/// Runs the streams, and asserts that they are reported and proved as listed, and verified where one of them stopped.
+fn assert_runs<R: Threads + Wait + Abort + Sync, G: Gate + Sync>(
+    rt: &R,
+    alloc: Global,
+    run: &Run,
+    gate: &G,
+) -> Result<(), Fail> {
+    let (outcome, sink) = outcome_of(rt, alloc, run, gate)?;
+    assert!(rt; outcome.reports.len() == run.reports.len());
+    let mut stopped = false;
+    for (report, listed) in outcome.reports.iter().zip(run.reports) {
+        let text = format!(in alloc; "{report}")?;
+        assert_eq!(rt; text.as_str(), *listed);
+        stopped |= listed.ends_with("stopped");
     }
-    Ok(())
-}
-
-/// Holds line 1 of seat 0 until line 1 of seat 1 was answered, or its turns are used up.
-#[derive(Drop)]
-struct Holding {
-    answered: AtomicBool,
-    let_go: AtomicBool,
-}
-
-impl Gate for Holding {
-    fn pass(&self, seat: u32, line: u64) {
-        if seat != 0 || line != 1 {
-            return;
-        }
-        for _ in 0..TURNS {
-            if self.answered.load(Ordering::SeqCst) {
-                return;
-            }
-            yield_now();
-        }
-        self.let_go.store(true, Ordering::SeqCst);
-    }
-
-    fn answered(&self, seat: u32, line: u64) {
-        if seat == 1 && line == 1 {
-            self.answered.store(true, Ordering::SeqCst);
-        }
-    }
-}
-
-#[test]
-fn workers_run_beside_one_another(rt: HostRuntime) -> Result<(), Fail> {
-    let gate = Holding {
-        answered: AtomicBool::new(false),
-        let_go: AtomicBool::new(false),
-    };
-    let outcome = portfolio(&rt, rt.alloc(), &gate)?;
-    assert!(rt; !gate.let_go.load(Ordering::SeqCst));
-    expect_verified(&rt, &outcome);
+    assert!(rt; outcome.verified.is_some() == stopped);
+    assert!(rt;
+        run.proofs
+            .iter()
+            .any(|proof| proof.as_bytes() == sink.bytes())
+    );
     Ok(())
 }

@@ -7,7 +7,13 @@ mod book;
 #[cfg(test)]
 mod clauses;
 #[cfg(test)]
+mod fakes;
+#[cfg(test)]
 mod joint;
+#[cfg(test)]
+mod runs;
+#[cfg(test)]
+mod scans;
 #[cfg(test)]
 mod shared;
 #[cfg(test)]

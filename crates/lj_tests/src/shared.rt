@@ -1,5 +1,6 @@
 //! Examples by the calls of the shared book: each entry is told by its token, and each refusal is the right one.
 mod entered;
+mod provers;
 
 use crate::tables::{Line, ListedStep, addition, assert_numbers, assert_step, clause};
 use lj_book::{Call, Entry, Refusal};

@@ -1,9 +1,9 @@
 //! Inputs above the sizes at which a body that is careful of memory might give up, with memory at hand.
+use crate::tables::formula_of;
 use lj_book::Book;
-use lj_clause::Formula;
 use lj_hint::{Marks, Tested};
 use lj_run::{MemoryFiles, program};
-use lj_text::{CnfReader, Line, LineReader, MemorySink, Sink, write_proof};
+use lj_text::{Line, LineReader, MemorySink, Sink, write_proof};
 use std::alloc::{AllocError, Global};
 use std::process::Abort;
 use std::test::Fail;
@@ -55,13 +55,6 @@ fn proof_text(alloc: Global) -> Result<String, AllocError> {
     Ok(text)
 }
 
-/// The formula of a text that comes in one piece.
-fn formula_of(alloc: Global, text: &str) -> Result<Formula, Fail> {
-    let mut reader = CnfReader::new(alloc, lj_clause::MAX_VARIABLE);
-    reader.feed(text.as_bytes())?;
-    Ok(reader.finish()?)
-}
-
 /// Enters a line for seat 0, an addition by the three parts of its test.
 fn enter(rt: &impl Abort, book: &mut Book, line: Line, marks: &mut Marks) -> Result<(), Fail> {
     match line {
@@ -73,7 +66,7 @@ fn enter(rt: &impl Abort, book: &mut Book, line: Line, marks: &mut Marks) -> Res
             assert!(rt; book.commit(receipt).is_ok());
         }
         Line::Delete(numbers) => {
-            let dropped = book.drop_numbers(0, &numbers.to_vec()?)?;
+            let dropped = book.drop_numbers(0, &numbers)?;
             assert!(rt; dropped.count == numbers.len() as u64);
         }
         Line::Import { .. } => panic!(rt; "an import"),
@@ -102,7 +95,7 @@ fn a_long_proof_is_read_entered_and_written(rt: HostRuntime) -> Result<(), Fail>
     assert!(rt; book.verified()?.is_some());
     let mut sink = MemorySink::new(alloc);
     assert!(rt; sink.put(b"")? == 0);
-    write_proof(&mut sink, 14_001, &book.into_steps()?)?;
+    write_proof(&mut sink, 14_001, &book.into_steps())?;
     assert!(rt; sink.bytes() == text.as_bytes());
     Ok(())
 }

@@ -9,6 +9,12 @@ use std::test::Fail;
 /// The clauses `1 2`, `-1 2`, `1 -2` and `-1 -2`.
 pub const BINARY: [&[i32]; 4] = [&[1, 2], &[-1, 2], &[1, -2], &[-1, -2]];
 
+/// Their formula, as a text.
+pub const BINARY_TEXT: &str = "p cnf 2 4\n1 2 0\n-1 2 0\n1 -2 0\n-1 -2 0\n";
+
+/// The same with a third variable.
+pub const FOUR_TEXT: &str = "p cnf 3 4\n1 2 0\n-1 2 0\n1 -2 0\n-1 -2 0\n";
+
 /// An addition as a table lists it: its own number, its lemma, its hints, and its groups, each its candidate and then
 /// its hints.
 #[derive(Clone, Copy)]
@@ -101,7 +107,7 @@ pub fn assert_lits(rt: &impl Abort, lits: &[Lit], wanted: &[i32]) {
 pub fn assert_entries(rt: &impl Abort, book: &Book, entries: &[(u32, ListedStep)]) {
     assert!(rt; book.history_len() == entries.len() as u64);
     for (place, (seat, wanted)) in entries.iter().enumerate() {
-        let Some(entry) = book.entry(place as u64) else {
+        let Ok(Some(entry)) = book.entry(place as u64) else {
             panic!(rt; "no entry");
         };
         assert!(rt; entry.seat == *seat);

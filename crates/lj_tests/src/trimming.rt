@@ -1,13 +1,10 @@
 //! Worked examples of trimming. Each outcome is computed by hand.
-use crate::tables::formula_of;
+use crate::tables::{FOUR_TEXT, formula_of};
 use lj_clause::MAX_VARIABLE;
 use lj_text::{Line, LineReader, MemorySink, Step, write_proof};
 use lj_trim::{TrimRefusal, trim};
 use std::alloc::Global;
 use std::test::Fail;
-
-/// The four binary clauses over variables 1 and 2, with a third variable.
-const FOUR: &str = "p cnf 3 4\n1 2 0\n-1 2 0\n1 -2 0\n-1 -2 0\n";
 
 /// The additions and deletions that lines spell, as steps.
 fn steps_of(alloc: Global, lines: &str) -> Result<Vec<Step>, Fail> {
@@ -48,7 +45,7 @@ fn only_what_is_needed_stays(rt: HostRuntime) -> Result<(), Fail> {
             "900000000000 2 0 1 2 0\n5 0 900000000000 3 4 0\n",
         ),
     ];
-    let formula = formula_of(rt.alloc(), FOUR)?;
+    let formula = formula_of(rt.alloc(), FOUR_TEXT)?;
     for (lines, text) in cases {
         let steps = steps_of(rt.alloc(), lines)?;
         let kept = trim(rt.alloc(), &formula, &steps)?;
@@ -61,7 +58,7 @@ fn only_what_is_needed_stays(rt: HostRuntime) -> Result<(), Fail> {
 
 #[test]
 fn steps_without_the_empty_clause_refute_nothing(rt: HostRuntime) -> Result<(), Fail> {
-    let formula = formula_of(rt.alloc(), FOUR)?;
+    let formula = formula_of(rt.alloc(), FOUR_TEXT)?;
     for lines in ["", "5 2 0 1 2 0\n"] {
         let steps = steps_of(rt.alloc(), lines)?;
         let kept = trim(rt.alloc(), &formula, &steps);

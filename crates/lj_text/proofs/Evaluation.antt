@@ -13,6 +13,7 @@ use Rattle.lj_clause.specs.Listed.{ListedClause, listed_clauses}
 use Rattle.lj_clause.specs.Walk.{Closed, is_closed}
 use Rattle.lj_clause.specs.Rat.{HintGroup}
 use Rattle.lj_clause.proofs.Evaluation.{get-listed, entries-from_literals, in_order, walk_listed, walk-evaluated, negations_listed, listed, hints_listed}
+use Rattle.lj_clause.proofs.Tests.{marked}
 use Rattle.lj_text.specs.declared.line.Addition.{Addition}
 use Rattle.lj_text.specs.declared.step.Step.{Step}
 use Rattle.lj_text.specs.declared.step.Step.TheVariants.{Add, Delete}
@@ -100,10 +101,6 @@ numbers_of ns = with_numbers fin.empty ns
 
 abbrev has_listed : List ℕ → ℕ → Bool
 has_listed ns n = list_any (eq_by_cmp nat_cmp n) ns
-
-marked : (b : Bool) (x : Option (Unit {0})) → is_some (cond b (Some tt) x) ≡ (b || is_some x)
-marked true x = refl
-marked false x = refl
 
 has-listed : (ns : List ℕ) (n : ℕ) → has (numbers_of ns) n ≡ has_listed ns n
 has-listed [] n = ap is_some (fin.get-empty nat_cmp n)

@@ -11,6 +11,7 @@ mod PassLemmas
 mod ReaderLemmas
 pub mod StandLemmas
 mod TakeLemmas
+mod ShortLemmas
 mod TokenLemmas
 pub mod Fronts
 pub mod WritingLemmas
@@ -18,3 +19,4 @@ mod WordLemmas
 mod WrittenWords
 mod WrittenNumbers
 mod ReadAgainLemmas
+mod RunLemmas

@@ -5,29 +5,23 @@ use Rattle.std.specs.List.{AllByRecursion}
 use Rattle.std.specs.Ordering.{nat_cmp, eq_by_cmp, is_eq}
 use Rattle.std.specs.Cmp.{nat_cmp_total, tied_itself, Equal-is}
 use Rattle.std.specs.FinMap.{nat_cmp-IsAntisymmetric}
-use Rattle.std.proofs.lemmas.Bool.{false≢true}
+use Rattle.std.proofs.lemmas.Bool.{false≢true, or_left, or_right}
 use Rattle.std.specs.FinMap as fin
+use Rattle.lj_clause.proofs.Tests.{marked}
 use Rattle.lj_text.specs.declared.line.Addition.{Addition}
 use Rattle.lj_text.specs.Needed.{NumberSet, has, with_numbers, up_to_empty, additions, all_hints, pick, with_other, by_pick, closure, empty_numbers, needed_numbers}
 use Rattle.lj_text.specs.Laws.{NeededIsLeast}
 
-marked : (b : Bool) (x : Option (Unit {0})) → is_some (cond b (Some tt) x) ≡ (b || is_some x)
-marked true x = refl
-marked false x = refl
-
 pub has-insert : (s : NumberSet) (m n : ℕ) → has (fin.insert s m tt) n ≡ (eq_by_cmp nat_cmp n m || has s n)
 has-insert s m n = ap is_some (fin.get-insert nat_cmp_total s m tt n) ∙ marked (eq_by_cmp nat_cmp n m) (fin.get s n)
 
-or_left : (a b : Bool) → a ≡ true → (a || b) ≡ true
-or_left a b e = ap (λ c. c || b) e
-
-or_right : (a b : Bool) → b ≡ true → (a || b) ≡ true
-or_right true b e = refl
-or_right false b e = e
+-- a set has only numbers that pass a test
+abbrev pub IsWhere : NumberSet → (ℕ → Bool) → Type 0
+IsWhere s test = (n : ℕ) → has s n ≡ true → test n ≡ true
 
 -- one set is part of another
 abbrev pub IsPart : NumberSet → NumberSet → Type 0
-IsPart s t = (n : ℕ) → has s n ≡ true → has t n ≡ true
+IsPart s t = IsWhere s (has t)
 
 abbrev pub HasAll : NumberSet → List ℕ → Type 0
 HasAll s ns = AllByRecursion (λ n. has s n ≡ true) ns
@@ -47,13 +41,12 @@ has_all-with_numbers s (n ∷ ns) = (
   all_in_part (with_numbers s ns) (with_numbers s (n ∷ ns)) ns (λ m e. has-insert (with_numbers s ns) n m ∙ or_right (eq_by_cmp nat_cmp m n) (has (with_numbers s ns) m) e) (has_all-with_numbers s ns),
 )
 
--- a set with all the numbers holds the set and the numbers
-with_numbers_part : (s t : NumberSet) (ns : List ℕ) → IsPart s t → HasAll t ns → IsPart (with_numbers s ns) t
-with_numbers_part s t [] part h n e = part n e
-with_numbers_part s t (m ∷ ms) part h n e =
-    elim (eq_by_cmp nat_cmp n m) as (λ b. eq_by_cmp nat_cmp n m ≡ b → (b || has (with_numbers s ms) n) ≡ true → has t n ≡ true) [
-      | true ↦ λ is _. ap (has t) (nat_cmp-IsAntisymmetric n m ((Equal-is (nat_cmp n m)).0 is)) ∙ h.0
-      | false ↦ λ is later. with_numbers_part s t ms part h.1 n later
+pub with_numbers_where : (s : NumberSet) (test : ℕ → Bool) (ns : List ℕ) → IsWhere s test → AllByRecursion (λ n. test n ≡ true) ns → IsWhere (with_numbers s ns) test
+with_numbers_where s test [] part h n e = part n e
+with_numbers_where s test (m ∷ ms) part h n e =
+    elim (eq_by_cmp nat_cmp n m) as (λ b. eq_by_cmp nat_cmp n m ≡ b → (b || has (with_numbers s ms) n) ≡ true → test n ≡ true) [
+      | true ↦ λ is _. ap test (nat_cmp-IsAntisymmetric n m ((Equal-is (nat_cmp n m)).0 is)) ∙ h.0
+      | false ↦ λ is later. with_numbers_where s test ms part h.1 n later
     ] refl (sym (has-insert (with_numbers s ms) m n) ∙ e)
 
 -- the set covers an addition: with its number it has all its hints
@@ -120,38 +113,42 @@ closes (suc n) s adds le =
           }
     ] refl
 
--- what a pick took, in a set that covers each addition
-record Taken (s t : NumberSet) (found : Found) : Type 0 where
-  hints : IsPart s t → HasAll t (all_hints found.0)
-  rest : AllByRecursion (Covers t) found.1
+-- a test that an addition's hints pass if its number does
+abbrev CoversBy : (ℕ → Bool) → Addition → Type 0
+CoversBy test a = test a.number ≡ true → AllByRecursion (λ n. test n ≡ true) (all_hints a)
 
-other_taken : (s t : NumberSet) (x : Addition) (o : Option Found) (found : Found) → Covers t x → ((f : Found) → o ≡ Some f → Taken s t f) → with_other x o ≡ Some found → Taken s t found
-other_taken s t x None found cover later e = cc
-other_taken s t x (Some f) found cover later e =
+-- what a pick took, by a test that covers each addition
+record Taken (s : NumberSet) (test : ℕ → Bool) (found : Found) : Type 0 where
+  hints : IsWhere s test → AllByRecursion (λ n. test n ≡ true) (all_hints found.0)
+  rest : AllByRecursion (CoversBy test) found.1
+
+other_taken : (s : NumberSet) (test : ℕ → Bool) (x : Addition) (o : Option Found) (found : Found) → CoversBy test x → ((f : Found) → o ≡ Some f → Taken s test f) → with_other x o ≡ Some found → Taken s test found
+other_taken s test x None found cover later e = cc
+other_taken s test x (Some f) found cover later e =
     let was = later f refl in
-    subst (Taken s t) (same_found (f.0, x ∷ f.1) found e) (record { hints = was.hints; rest = (cover, was.rest) })
+    subst (Taken s test) (same_found (f.0, x ∷ f.1) found e) (record { hints = was.hints; rest = (cover, was.rest) })
 
-taken : (s t : NumberSet) (adds : List Addition) (found : Found) → AllByRecursion (Covers t) adds → pick s adds ≡ Some found → Taken s t found
-taken s t [] found cover e = cc
-taken s t (x ∷ xs) found cover e =
-    elim (has s x.number) as (λ b. has s x.number ≡ b → cond b (Some (x, xs)) (with_other x (pick s xs)) ≡ Some found → Taken s t found) [
-      | true ↦ λ here is. subst (Taken s t) (same_found (x, xs) found is) (record { hints = λ part. cover.0 (part x.number here); rest = cover.1 })
-      | false ↦ λ here is. other_taken s t x (pick s xs) found cover.0 (λ f e. taken s t xs f cover.1 e) is
+taken : (s : NumberSet) (test : ℕ → Bool) (adds : List Addition) (found : Found) → AllByRecursion (CoversBy test) adds → pick s adds ≡ Some found → Taken s test found
+taken s test [] found cover e = cc
+taken s test (x ∷ xs) found cover e =
+    elim (has s x.number) as (λ b. has s x.number ≡ b → cond b (Some (x, xs)) (with_other x (pick s xs)) ≡ Some found → Taken s test found) [
+      | true ↦ λ here is. subst (Taken s test) (same_found (x, xs) found is) (record { hints = λ part. cover.0 (part x.number here); rest = cover.1 })
+      | false ↦ λ here is. other_taken s test x (pick s xs) found cover.0 (λ f e. taken s test xs f cover.1 e) is
     ] refl e
 
--- a set that covers each addition and has s as a part has its closure as a part
-closure_part : (n : ℕ) (s t : NumberSet) (adds : List Addition) → IsPart s t → AllByRecursion (Covers t) adds → IsPart (closure n s adds) t
-closure_part zero s t adds part cover = part
-closure_part (suc n) s t adds part cover =
-    elim (pick s adds) as (λ o. pick s adds ≡ o → IsPart (by_pick (closure n) s o) t) [
+-- where a test covers each addition, and each number of a set passes it, each number of its closure does
+pub closure_where : (n : ℕ) (s : NumberSet) (test : ℕ → Bool) (adds : List Addition) → IsWhere s test → AllByRecursion (CoversBy test) adds → IsWhere (closure n s adds) test
+closure_where zero s test adds part cover = part
+closure_where (suc n) s test adds part cover =
+    elim (pick s adds) as (λ o. pick s adds ≡ o → IsWhere (by_pick (closure n) s o) test) [
       | None ↦ λ is. part
       | Some found ↦ λ is.
-          let was = taken s t adds found cover is in
-          closure_part n (with_numbers s (all_hints found.0)) t found.1 (with_numbers_part s t (all_hints found.0) part (was.hints part)) was.rest
+          let was = taken s test adds found cover is in
+          closure_where n (with_numbers s (all_hints found.0)) test found.1 (with_numbers_where s test (all_hints found.0) part (was.hints part)) was.rest
     ] refl
 
-no_numbers : (t : NumberSet) → IsPart fin.empty t
-no_numbers t n e = absurd (false≢true (sym (ap is_some (fin.get-empty nat_cmp n)) ∙ e))
+pub no_numbers : (test : ℕ → Bool) → IsWhere fin.empty test
+no_numbers test n e = absurd (false≢true (sym (ap is_some (fin.get-empty nat_cmp n)) ∙ e))
 
 pub needed_least : NeededIsLeast
 needed_least steps =
@@ -162,5 +159,5 @@ needed_least steps =
         empty_clause = all_in_part first (needed_numbers steps) (empty_numbers (up_to_empty steps)) all.part (has_all-with_numbers fin.empty (empty_numbers (up_to_empty steps)));
         hints = all.covers;
       },
-      λ s closed. closure_part (length adds) first s adds (with_numbers_part fin.empty s (empty_numbers (up_to_empty steps)) (no_numbers s) closed.empty_clause) closed.hints,
+      λ s closed. closure_where (length adds) first (has s) adds (with_numbers_where fin.empty (has s) (empty_numbers (up_to_empty steps)) (no_numbers (has s)) closed.empty_clause) closed.hints,
     )

@@ -1,7 +1,7 @@
 -- What a reader of lines answers at each text at which it stands.
-use Rattle.std.proofs.Common.{◌≡◌, ℕ, ◌+◌, ◌-◌, Bool, true, false, cond, List, [], ◌∷◌, ◌++◌, length, take, drop, Option, None, Some, Ok, refl, sym, ap, ◌∙◌, subst, append_assoc, arith, length-append}
-use Rattle.std.proofs.lemmas.List.{append-nil}
-use Rattle.std.specs.List.{AllByRecursion, slice_get}
+use Rattle.std.proofs.Common.{◌≡◌, ℕ, ◌+◌, ◌-◌, Bool, true, false, cond, List, [], ◌++◌, length, take, drop, get_or, Option, None, Some, Ok, refl, sym, ap, ◌∙◌, subst, arith, length-append}
+use Rattle.std.proofs.lemmas.List.{append-nil, get_or_append_left}
+use Rattle.std.specs.List.{slice_get}
 use Rattle.std.specs.Prelude.{MatchOption, MatchBool, is_some}
 use Rattle.lj_text.specs.declared.line.Line.{Line}
 use Rattle.lj_text.specs.declared.lines.fault.LineFault.{LineFault}
@@ -13,6 +13,7 @@ use Rattle.lj_text.specs.inner.LinesHeld.{IsAhead, reader_past, reader_with_faul
 use Rattle.lj_text.specs.inner.Looking.{Looked, LookedBehind, said_of}
 use Rattle.lj_text.proofs.StandLemmas.{both, joined_both, whole-joined, all-joined, whole-none, get-behind, said_from-append, cut-joined, cut-none}
 use Rattle.lj_text.proofs.PassLemmas.{none-open, after_is}
+use Rattle.lj_text.proofs.RunLemmas.{text-ends}
 
 -- the whole lines that were not handed out are those ahead
 pub whole-at : (r : LinesRead) (text : List ℕ) (given : ℕ) (s : StandsWithin r text given)
@@ -114,6 +115,12 @@ ahead-found max k ahead found p =
     let P : List ℕ → Type 0 = λ r. HasNoLineEnd (take found.searched r) in
     record {
       left = omega (arith, p.left_is, ap length p.ahead_is, length-append (text_of_lines p.lines) p.after);
+      begins = λ some moved.
+          let place : length ahead - found.left ≡ length (text_of_lines p.lines) = omega (arith, p.left_is, ap length p.ahead_is, length-append (text_of_lines p.lines) p.after) in
+          ap (λ bs. get_or bs (length ahead - found.left - 1) 0) p.ahead_is
+          ∙ get_or_append_left (text_of_lines p.lines) p.after 0 (length ahead - found.left - 1) (omega arith)
+          ∙ ap (λ n. get_or (text_of_lines p.lines) (n - 1) 0) place
+          ∙ text-ends p.lines (omega arith);
       searched = p.searched_is;
       none_before = subst P (sym after) p.none_before;
       before = k + length p.lines;
@@ -170,6 +177,7 @@ place-some r text given found s p some =
 pub ahead-behind : (max k : ℕ) (ahead : List ℕ) (found : Found) → LookedBehind max k ahead found → IsAhead ahead found
 ahead-behind max k ahead found p = record {
   left = omega (arith, p.left_is);
+  begins = λ some. absurd (omega (arith, p.left_is));
   searched = omega (arith, p.left_is, p.searched_is);
   none_before = let P : ℕ → Type 0 = λ n. HasNoLineEnd (take n (drop (length ahead - found.left) ahead)) in subst P (sym p.searched_is) (λ i d h. absurd (omega arith));
   before = k + length (all_but_last (lines_of ahead));

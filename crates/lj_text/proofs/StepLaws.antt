@@ -9,7 +9,7 @@ use Rattle.std.specs.Cmp.{nat_cmp_total, tied_itself}
 use Rattle.std.proofs.lemmas.Cmp.{ranked}
 use Rattle.std.proofs.lemmas.Bool.Decides.{nat_tests}
 use borrow.Author.Tests.{eqb-true}
-use Rattle.std.proofs.lemmas.Bool.{false≢true}
+use Rattle.std.proofs.lemmas.Bool.{false≢true, and_parts, and_from}
 use Rattle.std.specs.FinMap as fin
 use Rattle.lj_clause.specs.Literal.{variable_of}
 use Rattle.lj_clause.specs.LiteralSet.{LiteralSet, holds, negations, with_negations, no_literals}
@@ -25,17 +25,6 @@ use Rattle.lj_text.specs.declared.line.Addition.{Addition}
 use Rattle.lj_text.specs.declared.step.Step.{Step}
 use Rattle.lj_text.specs.declared.step.Step.TheVariants.{Add, Delete}
 use Rattle.lj_text.specs.Steps.{names, names_all, are_distinct, is_in_place, is_rat_on, is_rat_after, first_walk, is_accepted, without, after_step, replay, adds_empty, refutes, IsRecordedAfter, IsRecorded, with_covered, recorded_on, recorded_after, recorded_form}
-
-pub both_true : (a b : Bool) → (a && b) ≡ true → (a ≡ true) × (b ≡ true)
-both_true true b e = (refl, e)
-both_true false b e = absurd (false≢true e)
-
-pub and_true : (a b : Bool) → a ≡ true → b ≡ true → (a && b) ≡ true
-and_true a b e f = λ i. (e ∙ sym f ∙ f) i && f i
-
-not_true : (b : Bool) → not b ≡ true → b ≡ false
-not_true true e = absurd (false≢true e)
-not_true false e = refl
 
 nonzero : (q : ℤ) → not (variable_of q == 0) ≡ true → q ≢ pos 0
 nonzero q e is = false≢true (sym (ap (λ l. not (variable_of l == 0)) is) ∙ e)
@@ -58,8 +47,8 @@ covered_groups (GroupOpen n) e = absurd (false≢true e)
 
 rat_from : (p : ClauseMap) (a : Addition) (s : LiteralSet) (q : ℤ) → is_rat_on p a s (Some q) ≡ true → IsRat p a s q
 rat_from p a s q e =
-    let outer = both_true (not (variable_of q == 0)) (holds a.lemma.clause q && is_covered (rat p s q a.groups)) e in
-    let inner = both_true (holds a.lemma.clause q) (is_covered (rat p s q a.groups)) outer.1 in
+    let outer = and_parts (not (variable_of q == 0)) (holds a.lemma.clause q && is_covered (rat p s q a.groups)) e in
+    let inner = and_parts (holds a.lemma.clause q) (is_covered (rat p s q a.groups)) outer.1 in
     let found = covered_groups (rat p s q a.groups) inner.1 in
     record { nonzero_pivot = nonzero q outer.0; nonzero_test = outer.0; held = inner.0; groups = found.0; covers = found.1 }
 
@@ -79,7 +68,7 @@ without_kept a p [] sat = sat
 without_kept a p (n ∷ ns) sat = SatisfiesAll-remove a (without p ns) n (without_kept a p ns sat)
 
 pub IsSatisfiable-after : (p : ClauseMap) (step : Step) → is_accepted p step ≡ true → IsSatisfiable p → IsSatisfiable (after_step p step)
-IsSatisfiable-after p (Add a) e sat = keeps_after p a (first_walk p a) refl (both_true (is_in_place p a) (is_closed (first_walk p a) || is_rat_after p a (first_walk p a)) e).1 sat
+IsSatisfiable-after p (Add a) e sat = keeps_after p a (first_walk p a) refl (and_parts (is_in_place p a) (is_closed (first_walk p a) || is_rat_after p a (first_walk p a)) e).1 sat
 IsSatisfiable-after p (Delete ns) e sat = (sat.0, without_kept sat.0 p ns sat.1)
 
 -- ---- replays
@@ -126,7 +115,7 @@ is_defined (Some q) e = (q, refl)
 
 pub unsatisfiable-refutes : (f : FormulaValue) (steps : List Step) → refutes f steps ≡ true → (a : Assignment) → SatisfiesAll a (formula_map f) → ⊥
 unsatisfiable-refutes f steps e a sat =
-    let parts = both_true (is_some (replay (formula_map f) steps)) (list_any adds_empty steps) e in
+    let parts = and_parts (is_some (replay (formula_map f) steps)) (list_any adds_empty steps) e in
     let defined = is_defined (replay (formula_map f) steps) parts.0 in
     refuted_replay (formula_map f) defined.0 steps defined.1 parts.1 (a, sat)
 
@@ -134,7 +123,7 @@ unsatisfiable-refutes f steps e a sat =
 
 all_from : {X : Type 0} (test : X → Bool) (xs : List X) → AllByRecursion (λ x. test x ≡ true) xs → list_all test xs ≡ true
 all_from test [] h = refl
-all_from test (x ∷ xs) h = and_true (test x) (list_all test xs) h.0 (all_from test xs h.1)
+all_from test (x ∷ xs) h = and_from (test x) (list_all test xs) h.0 (all_from test xs h.1)
 
 differs : (m n : ℕ) → n < m → (m == n) ≡ false
 differs m n h = grind (arith, nat_tests)
@@ -149,7 +138,7 @@ above_all n (m ∷ ms) h = ap (λ b. b || list_any (λ k. k == n) ms) (apart n m
 pub distinct_rising : (ns : List ℕ) → IsStrictlySortedBy nat_cmp ns → are_distinct ns ≡ true
 unfolding IsStrictlySortedBy
 distinct_rising [] h = refl
-distinct_rising (n ∷ ns) h = and_true (not (list_any (λ m. m == n) ns)) (are_distinct ns) (ap not (above_all n ns h.0)) (distinct_rising ns h.1)
+distinct_rising (n ∷ ns) h = and_from (not (list_any (λ m. m == n) ns)) (are_distinct ns) (ap not (above_all n ns h.0)) (distinct_rising ns h.1)
 
 -- each recorded group names its candidate and hints that are in the map
 groups_named : (p : ClauseMap) (s : LiteralSet) (q : ℤ) (groups : List HintGroup) (es : List (ℕ × LiteralSet)) (gs : List HintGroup)
@@ -159,7 +148,7 @@ groups_named p s q groups [] [] es_in h = tt
 groups_named p s q groups [] (g ∷ gs) es_in h = absurd h
 groups_named p s q groups (e ∷ es) [] es_in h = absurd h
 groups_named p s q groups (e ∷ es) (g ∷ gs) es_in h = (
-  and_true (names p g.candidate) (names_all p g.hints) (ap (names p) h.0.number ∙ ap is_some es_in.0.0)
+  and_from (names p g.candidate) (names_all p g.hints) (ap (names p) h.0.number ∙ ap is_some es_in.0.0)
       (all_from (names p) g.hints (used-in p (with_negations s (others e.1 (neg_ℤ q))) (hints_given e.0 groups) g.hints h.0.closes)),
   groups_named p s q groups es gs es_in.1 h.1,
 )
@@ -173,13 +162,13 @@ record InPlace (p : ClauseMap) (a : Addition) : Type 0 where
 
 in_place_parts : (p : ClauseMap) (a : Addition) → is_in_place p a ≡ true → InPlace p a
 in_place_parts p a e =
-    let one = both_true _ _ e in
-    let two = both_true _ _ one.1 in
-    let three = both_true _ _ two.1 in
+    let one = and_parts _ _ e in
+    let two = and_parts _ _ one.1 in
+    let three = and_parts _ _ two.1 in
     record { fresh = one.0; hints = two.0; groups = three.0; distinct = three.1 }
 
 in_place_from : (p : ClauseMap) (a : Addition) → InPlace p a → is_in_place p a ≡ true
-in_place_from p a h = and_true _ _ h.fresh (and_true _ _ h.hints (and_true _ _ h.groups h.distinct))
+in_place_from p a h = and_from _ _ h.fresh (and_from _ _ h.hints (and_from _ _ h.groups h.distinct))
 
 -- what the recorded form of an addition keeps
 record KeepsRecorded (p : ClauseMap) (a b : Addition) : Type 0 where
@@ -197,7 +186,7 @@ closed_recorded p a used here is =
       number = refl;
       lemma = refl;
       form = subst (IsRecordedAfter p b) (sym again) (refl, refl);
-      accepted = and_true (is_in_place p b) (is_closed (first_walk p b) || is_rat_after p b (first_walk p b))
+      accepted = and_from (is_in_place p b) (is_closed (first_walk p b) || is_rat_after p b (first_walk p b))
           (in_place_from p b (record { fresh = here.fresh; hints = all_from (names p) used (used-in p (negations a.lemma.clause) a.hints used is); groups = refl; distinct = refl }))
           (ap (λ w. is_closed w || is_rat_after p b w) again);
     }
@@ -213,10 +202,10 @@ rat_recorded p a s q here is pivot r =
       number = refl;
       lemma = refl;
       form = subst (IsRecordedAfter p b) (sym is) (subst (λ (o : Option ℤ). MatchOption o ⊥ (λ k. rat p s k r.groups ≡ Covered r.groups)) (sym pivot) again);
-      accepted = and_true (is_in_place p b) (is_closed (first_walk p b) || is_rat_after p b (first_walk p b))
+      accepted = and_from (is_in_place p b) (is_closed (first_walk p b) || is_rat_after p b (first_walk p b))
           (in_place_from p b (record { fresh = here.fresh; hints = here.hints; groups = all_from (λ (g : HintGroup). names p g.candidate && names_all p g.hints) r.groups named; distinct = distinct_rising _ rising }))
           (ap (λ w. is_closed w || is_rat_after p b w) is ∙ ap (is_rat_on p b s) pivot
-          ∙ and_true (not (variable_of q == 0)) (holds a.lemma.clause q && is_covered (rat p s q r.groups)) r.nonzero_test (and_true (holds a.lemma.clause q) (is_covered (rat p s q r.groups)) r.held (ap is_covered again)));
+          ∙ and_from (not (variable_of q == 0)) (holds a.lemma.clause q && is_covered (rat p s q r.groups)) r.nonzero_test (and_from (holds a.lemma.clause q) (is_covered (rat p s q r.groups)) r.held (ap is_covered again)));
     }
 
 recorded_open : (p : ClauseMap) (a : Addition) (s : LiteralSet) (o : Option ℤ) → a.lemma.pivot ≡ o → InPlace p a → first_walk p a ≡ Open s → is_rat_on p a s o ≡ true → KeepsRecorded p a (recorded_on p a s o)
@@ -233,6 +222,6 @@ recorded_by p a (Stuck place) here is e = absurd (false≢true e)
 -- the recorded form of an accepted addition is accepted, in recorded form, and leaves the same map
 pub recorded_keeps : (p : ClauseMap) (a : Addition) → is_accepted p (Add a) ≡ true → IsRecorded p (recorded_form p a) × (is_accepted p (Add (recorded_form p a)) ≡ true) × (after_step p (Add (recorded_form p a)) ≡ after_step p (Add a))
 recorded_keeps p a e =
-    let parts = both_true (is_in_place p a) (is_closed (first_walk p a) || is_rat_after p a (first_walk p a)) e in
+    let parts = and_parts (is_in_place p a) (is_closed (first_walk p a) || is_rat_after p a (first_walk p a)) e in
     let keeps = recorded_by p a (first_walk p a) (in_place_parts p a parts.0) refl parts.1 in
     (keeps.form, keeps.accepted, λ i. fin.insert p (keeps.number i) (keeps.lemma i).clause)

@@ -29,7 +29,7 @@ digits-none first bytes h = record { digits = []; are_digits = refl; value_is = 
 one_more : (ds : List ℕ) (b : ℕ) → length (ds ++ b ∷ []) ≡ suc (length ds)
 one_more ds b = omega (arith, length-append ds (b ∷ []))
 
-decimal_value-push : (ds : List ℕ) (b : ℕ) → decimal_value (ds ++ b ∷ []) ≡ 10 * decimal_value ds + (b - 48)
+pub decimal_value-push : (ds : List ℕ) (b : ℕ) → decimal_value (ds ++ b ∷ []) ≡ 10 * decimal_value ds + (b - 48)
 decimal_value-push [] b = omega arith
 decimal_value-push (d ∷ ds) b =
     let power : 10 ^ length (ds ++ b ∷ []) ≡ 10 * 10 ^ length ds = ap (λ n. 10 ^ n) (one_more ds b) ∙ pow-succ' 10 (length ds) in

@@ -1,10 +1,10 @@
 -- The numbers that written words are, and the tokens of words in a row.
-use Rattle.std.proofs.Common.{◌≡◌, ℕ, zero, suc, ◌^◌, ◌<◌, ◌≤◌, true, false, ◌&&◌, cond, Bool, List, [], ◌∷◌, ◌++◌, map, length, refl, sym, ap, ◌∙◌, arith, rules}
+use Rattle.std.proofs.Common.{◌≡◌, ℕ, zero, suc, ◌^◌, ◌<◌, ◌≤◌, true, false, ◌&&◌, cond, List, [], ◌∷◌, ◌++◌, map, length, refl, sym, ap, ◌∙◌, arith, rules}
 use Rattle.std.specs.Prelude.{ℤ, pos, negsuc, Option, None, Some, codes, flat_map, ◌==◌, option_map}
 use Rattle.std.specs.List.{All, AllByRecursion, list_all, join_with_byte}
 use Rattle.std.specs.Char.{is_ascii_digit}
 use Rattle.std.specs.Fmt.{decimal, signed_decimal}
-use Rattle.std.proofs.lemmas.Bool.{false≢true}
+use Rattle.std.proofs.lemmas.Bool.{false≢true, eqb-true, and_parts}
 use Rattle.std.proofs.lemmas.Bool.Decides.{nat_tests}
 use Rattle.std.proofs.lemmas.Fmt.{decimal_nonempty, digits_decimal, digits_value-decimal}
 use Rattle.std.proofs.lemmas.List.{map-append}
@@ -61,17 +61,13 @@ minus_word w h = record {
   no_end = All-cons (λ b. is_line_end b ≡ false) 45 w refl h.no_end;
 }
 
-both_true : (a b : Bool) → (a && b) ≡ true → (a ≡ true) × (b ≡ true)
-both_true true b e = (refl, e)
-both_true false b e = absurd (false≢true e)
-
 number_digits : (ds : List ℕ) → is_filled ds ≡ true → list_all is_ascii_digit ds ≡ true → number_of ds ≡ Some (pos (decimal_value ds))
 number_digits [] f h = absurd (false≢true f)
-number_digits (d ∷ ds) f h = let parts = both_true (is_ascii_digit d) (list_all is_ascii_digit ds) h in number-unsigned d ds parts.0 parts.1
+number_digits (d ∷ ds) f h = let parts = and_parts (is_ascii_digit d) (list_all is_ascii_digit ds) h in number-unsigned d ds parts.0 parts.1
 
 number_minus : (ds : List ℕ) → is_filled ds ≡ true → list_all is_ascii_digit ds ≡ true → number_of (45 ∷ ds) ≡ negative (decimal_value ds)
 number_minus [] f h = absurd (false≢true f)
-number_minus (d ∷ ds) f h = let parts = both_true (is_ascii_digit d) (list_all is_ascii_digit ds) h in number-negative d ds parts.0 parts.1
+number_minus (d ∷ ds) f h = let parts = and_parts (is_ascii_digit d) (list_all is_ascii_digit ds) h in number-negative d ds parts.0 parts.1
 
 -- Words, and what each is as a number.
 pub record AreWritten (ws : List (List ℕ)) (numbers : List (Option ℤ)) : Type 0 where
@@ -169,13 +165,10 @@ no_number letter bs digit minus =
     ap (λ b. cond b (number_of (45 ∷ bs)) (option_map pos (digits_value (letter ∷ bs)))) minus
     ∙ ap (λ b. option_map pos (cond (true && (b && list_all is_ascii_digit bs)) (Some (decimal_value (letter ∷ bs))) None)) digit
 
-same_byte : (a b : ℕ) → (a == b) ≡ true → a ≡ b
-same_byte a b h = grind (arith, nat_tests)
-
 pub no-letter : (letter b : ℕ) (bs : List ℕ) (z : ℤ) → is_ascii_digit letter ≡ false → (letter == 45) ≡ false → number_of (b ∷ bs) ≡ Some z → (b == letter) ≡ false
 no-letter letter b bs z digit minus is =
     elim (b == letter) as (λ t. (b == letter) ≡ t → t ≡ false) [
-      | true ↦ λ e. absurd (wrong (sym (ap (λ c. number_of (c ∷ bs)) (same_byte b letter e)) ∙ is))
+      | true ↦ λ e. absurd (wrong (sym (ap (λ c. number_of (c ∷ bs)) (eqb-true b letter e)) ∙ is))
       | false ↦ λ e. refl
     ] refl
   where

@@ -2,14 +2,15 @@
 use Rattle.std.specs.Prelude.{ℕ, zero, suc, ◌+◌, ◌-◌, ◌*◌, ◌^◌, min, Bool, true, false, ◌&&◌, ◌||◌, ◌==◌, List, [], ◌∷◌, length, filter, Option, None, Some, option_map, option_and_then, ℤ, pos, negsuc, if◌then◌else◌}
 use Rattle.std.specs.List.{list_all, slice_split}
 use Rattle.std.specs.Char.{is_ascii_digit}
+use Rattle.std.specs.Str.{byte}
 
 -- space, tab and carriage return are blanks
 abbrev pub is_blank : ℕ → Bool
-is_blank b = b == 32 || b == 9 || b == 13
+is_blank b = b == byte " " || b == byte "\t" || b == byte "\r"
 
 -- the line feed ends a line
 abbrev pub is_line_end : ℕ → Bool
-is_line_end b = b == 10
+is_line_end b = b == byte "\n"
 
 -- the lines of a text, cut at each line feed: the last of them is the one that no line feed ends
 abbrev pub lines_of : List ℕ → List (List ℕ)
@@ -30,18 +31,18 @@ tokens_of line = filter is_filled (slice_split is_blank line)
 
 -- a token begins with this byte
 abbrev pub begins : ℕ → List ℕ → Bool
-begins byte [] = false
-begins byte (b ∷ bs) = b == byte
+begins first [] = false
+begins first (b ∷ bs) = b == first
 
 -- a line without a token, or whose first token begins with `c`, says nothing
 abbrev pub is_silent : List (List ℕ) → Bool
 is_silent [] = true
-is_silent (token ∷ tokens) = begins 99 token
+is_silent (token ∷ tokens) = begins (byte "c") token
 
 -- what digits write: each counts ten to the number of the digits after it
 abbrev pub decimal_value : List ℕ → ℕ
 decimal_value [] = 0
-decimal_value (b ∷ bs) = (b - 48) * 10 ^ length bs + decimal_value bs
+decimal_value (b ∷ bs) = (b - byte "0") * 10 ^ length bs + decimal_value bs
 
 -- the value of one or more digits
 abbrev pub digits_value : List ℕ → Option ℕ
@@ -60,5 +61,5 @@ negative (suc n) = Some (negsuc n)
 
 -- the number that a token is, if it is one: digits, or `-` and digits
 abbrev pub number_of : List ℕ → Option ℤ
-number_of token = if begins 45 token then option_and_then negative (digits_value (rest_of token))
-    else option_map pos (digits_value token)
+number_of token = if begins (byte "-") token then
+    option_and_then negative (digits_value (rest_of token)) else option_map pos (digits_value token)

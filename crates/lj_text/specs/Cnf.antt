@@ -1,5 +1,6 @@
 -- The grammar of formulas, over the lines of a text. Source: the DIMACS CNF format; the faults are own.
 use Rattle.std.specs.Prelude.{◌≡◌, ℕ, zero, suc, ◌+◌, ◌-◌, ◌==◌, nat_le, List, [], ◌∷◌, ◌++◌, length, map, codes, bytes_eq, Option, None, Some, Result, Ok, Err, ℤ, unsigned_abs, if◌then◌else◌}
+use Rattle.std.specs.Str.{byte}
 use Rattle.lj_clause.specs.LiteralSet.{LiteralSet, from_literals}
 use Rattle.lj_clause.specs.ClauseMap.{FormulaValue, formula_of}
 use Rattle.lj_text.specs.declared.cnf.fault.CnfFault.{CnfFault}
@@ -34,8 +35,8 @@ header_after max line (word ∷ v ∷ m ∷ more ∷ tokens) = fault_in line Bad
 -- the numbers of variables and of clauses of a line that is to be the header
 abbrev pub header_of : ℕ → ℕ → List (List ℕ) → Result (ℕ × ℕ) CnfFault
 header_of max line [] = fault_in line NoHeader
-header_of max line (token ∷ tokens) = if is_letter 112 token then header_after max line tokens
-    else fault_in line NoHeader
+header_of max line (token ∷ tokens) = if is_letter (byte "p") token then
+    header_after max line tokens else fault_in line NoHeader
 
 -- The clauses
 
@@ -52,7 +53,8 @@ number_at line (Some n) = Number line n
 
 -- what a token of the clauses says in a line
 abbrev pub place_at : ℕ → List ℕ → Place
-place_at line token = if begins 37 token then Percent line else number_at line (number_of token)
+place_at line token = if begins (byte "%") token then Percent line
+    else number_at line (number_of token)
 
 -- the tokens of a line that isn't silent
 abbrev pub places_at : ℕ → List (List ℕ) → List Place

@@ -1,6 +1,7 @@
 -- What a reader of a formula was fed, and what it answers.
 use Rattle.std.specs.Prelude.{◌≡◌, ℕ, ◌+◌, ◌<◌, ◌≤◌, ◌⊎◌, true, false, List, ◌∷◌, ◌++◌, length, Option, None, Some, Result, Ok, Err, Bool}
 use Rattle.std.specs.List.{AllByRecursion}
+use Rattle.std.specs.Str.{byte}
 use Rattle.lj_clause.specs.ClauseMap.{FormulaValue}
 use Rattle.lj_text.specs.declared.cnf.fault.CnfFault.{CnfFault}
 use Rattle.lj_text.specs.Bytes.{line_number, lines_of, tokens_of}
@@ -58,8 +59,8 @@ IsBehindLines lines text = (part : List ℕ) × (text ≡ text_of_lines lines ++
 
 -- the line behind these lines is whole, and begins with a number where a clause is to come
 abbrev pub IsWholeByNumber : ℕ → List (List ℕ) → List ℕ → Type 0
-IsWholeByNumber max lines left = (line : List ℕ) × (after : List ℕ) × (left ≡ line ++ 10 ∷ after)
-    × BeginsByNumber max lines line
+IsWholeByNumber max lines left = (line : List ℕ) × (after : List ℕ)
+    × (left ≡ line ++ byte "\n" ∷ after) × BeginsByNumber max lines line
 
 -- A line needs room where a piece follows a text. It isn't whole in the text; a part of it stands there, or it isn't whole with the
 -- piece either and has to be held, or it begins with a number where a clause is to come.

@@ -57,4 +57,5 @@ pub record TrimExamples : Type 0 where
       (add 5 (negsuc 2 ∷ pos 1 ∷ pos 2 ∷ []) (1 ∷ []) [] ∷ add 6 (pos 3 ∷ pos 1 ∷ []) []
       (group 5 (1 ∷ []) ∷ []) ∷ add 7 (pos 1 ∷ []) (6 ∷ 1 ∷ 3 ∷ []) [] ∷ Delete (3 ∷ 5 ∷ []) ∷ add 8
       [] (7 ∷ 2 ∷ 4 ∷ []) [] ∷ [])
-      ≡ add 6 (pos 3 ∷ pos 1 ∷ []) [] [] ∷ add 7 (pos 1 ∷ []) (6 ∷ 1 ∷ 3 ∷ []) [] ∷ Delete (3 ∷ []) ∷ add 8 [] (7 ∷ 2 ∷ 4 ∷ []) [] ∷ []
+      ≡ add 6 (pos 3 ∷ pos 1 ∷ []) [] [] ∷ add 7 (pos 1 ∷ []) (6 ∷ 1 ∷ 3 ∷ []) []
+      ∷ Delete (3 ∷ []) ∷ add 8 [] (7 ∷ 2 ∷ 4 ∷ []) [] ∷ []

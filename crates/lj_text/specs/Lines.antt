@@ -5,6 +5,7 @@
 --   deletion: m d numbers 0
 --   import:   n i literals 0
 use Rattle.std.specs.Prelude.{ℕ, zero, suc, ◌+◌, Bool, true, false, ◌==◌, nat_le, List, [], ◌∷◌, ◌++◌, length, map, Option, None, Some, Result, Ok, Err, ℤ, pos, negsuc, unsigned_abs, if◌then◌else◌}
+use Rattle.std.specs.Str.{byte}
 use Rattle.lj_text.specs.declared.lines.fault.LineFaultKind.{LineFaultKind}
 use Rattle.lj_text.specs.declared.lines.fault.LineFaultKind.TheVariants.{BadNumber, NumberRange, Syntax, Truncated}
 use Rattle.lj_text.specs.declared.line.Line.{Line}
@@ -100,15 +101,16 @@ is_letter letter (b ∷ c ∷ bs) = false
 
 -- only a deletion begins with 0
 abbrev pub after_zero : ℕ → List ℕ → LineFaultKind
-after_zero max token = if is_letter 105 token then Syntax else number_fault max (number_of token)
+after_zero max token = if is_letter (byte "i") token then Syntax
+    else number_fault max (number_of token)
 
 -- what follows a line's first number: `d`, `i` or the first literal's place
 abbrev pub after_number : ℕ → Bool → ℕ → List (List ℕ) → Result Line LineFaultKind
 after_number max ended n [] = Err (cut_short ended)
 after_number max ended n (token ∷ tokens) =
-    if is_letter 100 token then deletion_of ended (map number_of tokens)
+    if is_letter (byte "d") token then deletion_of ended (map number_of tokens)
     else if n == 0 then Err (after_zero max token)
-    else if is_letter 105 token then import_of max ended n (map number_of tokens)
+    else if is_letter (byte "i") token then import_of max ended n (map number_of tokens)
     else addition_of max ended n (map number_of (token ∷ tokens))
 
 -- what a line spells whose first token is this number, if it is one

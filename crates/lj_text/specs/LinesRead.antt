@@ -1,6 +1,7 @@
 -- What a reader of lines holds of what was fed, and what it answers.
-use Rattle.std.specs.Prelude.{◌≡◌, ℕ, ◌/◌, max, Bool, false, List, [], ◌∷◌, ◌++◌, length, Option, None, Some, Result, Ok, Err, All, IsOk, MatchBool, true}
+use Rattle.std.specs.Prelude.{◌≡◌, ℕ, Bool, false, List, [], ◌∷◌, ◌++◌, length, Option, None, Some, Result, Ok, Err, All, IsOk, MatchBool, true}
 use Rattle.std.specs.List.{AllByRecursion}
+use Rattle.std.specs.Str.{byte}
 use Rattle.lj_text.specs.declared.lines.fault.LineFault.{LineFault}
 use Rattle.lj_text.specs.declared.lines.fault.LineFaultKind.{LineFaultKind}
 use Rattle.lj_text.specs.declared.line.Line.{Line}
@@ -28,10 +29,6 @@ pub record LinesRead : Type 0 where
   -- the fault that is told from now on
   pub fault : Option LineFault
 
--- how many bytes that are done may stay beside so many that aren't: a piece of the usual size, or a quarter of those
-abbrev pub most_done : ℕ → ℕ
-most_done left = max 65536 (left / 4)
-
 -- none of the bytes is a line feed
 abbrev pub HasNoLineEnd : List ℕ → Type 0
 HasNoLineEnd bytes = All (λ b. is_line_end b ≡ false) bytes
@@ -39,7 +36,7 @@ HasNoLineEnd bytes = All (λ b. is_line_end b ≡ false) bytes
 -- lines, with a line feed behind each
 abbrev pub text_of_lines : List (List ℕ) → List ℕ
 text_of_lines [] = []
-text_of_lines (line ∷ lines) = line ++ 10 ∷ text_of_lines lines
+text_of_lines (line ∷ lines) = line ++ byte "\n" ∷ text_of_lines lines
 
 -- the number of a text's last line, which no line feed ends
 abbrev pub last_number : List ℕ → ℕ
@@ -62,6 +59,11 @@ pub record StandsBehind (reader : LinesRead) (text : List ℕ) (given : ℕ) : T
 abbrev pub LineReaderStandsAt : LinesRead → List ℕ → ℕ → Type 0
 LineReaderStandsAt reader text given = MatchBool reader.finished (StandsBehind reader text given)
     (StandsWithin reader text given)
+
+-- The reader stands at a text of which it has handed out `given` lines, and no line so far was at fault.
+pub record IsReadingAt (reader : LinesRead) (text : List ℕ) (given : ℕ) : Type 0 where
+  pub stands : LineReaderStandsAt reader text given
+  pub no_fault : reader.fault ≡ None
 
 -- the answer of a line with this number that is right, or its fault
 abbrev pub answer_of_line : ℕ → Result Line LineFaultKind → Result (Option Line) LineFault

@@ -7,6 +7,7 @@ use Rattle.std.specs.Prelude.{ℕ, not, max, List, [], ◌∷◌, ◌++◌, map,
 use Rattle.std.specs.Fmt.{decimal, signed_decimal}
 use Rattle.std.specs.List.{join_with_byte}
 use Rattle.std.specs.Ordering.{eq_by_cmp}
+use Rattle.std.specs.Str.{byte}
 use Rattle.lj_clause.specs.Literal.{lit_cmp}
 use Rattle.lj_clause.specs.LiteralSet.{literals}
 use Rattle.lj_clause.specs.Lemma.{LemmaValue}
@@ -17,7 +18,7 @@ use Rattle.lj_text.specs.declared.step.Step.TheVariants.{Add, Delete}
 
 -- words with one space between each two, and a line feed
 abbrev pub line_text : List (List ℕ) → List ℕ
-line_text words = join_with_byte 32 words ++ 10 ∷ []
+line_text words = join_with_byte (byte " ") words ++ byte "\n" ∷ []
 
 -- the pivot, then the other literals in their order
 abbrev pub pivot_first : Option ℤ → List ℤ → List ℤ
@@ -30,7 +31,7 @@ written_literals lemma = pivot_first lemma.pivot (literals lemma.clause)
 
 -- a group: its candidate with a `-`, and its hints
 abbrev pub group_words : HintGroup → List (List ℕ)
-group_words g = (45 ∷ decimal g.candidate) ∷ map decimal g.hints
+group_words g = (byte "-" ∷ decimal g.candidate) ∷ map decimal g.hints
 
 -- the words of an addition behind its number: the literals and a 0, the hints, the groups and a 0
 abbrev pub addition_words : Addition → List (List ℕ)

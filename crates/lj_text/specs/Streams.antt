@@ -1,5 +1,5 @@
 -- What streams have given or taken so far.
-use Rattle.std.specs.Prelude.{◌≡◌, ℕ, ◌+◌, ◌++◌, Bool, true, List, Option, if◌then◌else◌}
+use Rattle.std.specs.Prelude.{◌≡◌, ℕ, ◌++◌, Bool, true, List, Option}
 use Rattle.std.specs.Io.KnownBytes.{Consumes, IsAtEnd}
 
 -- A source at one time: the bytes that it has given, whether it has ended, the bytes still to come where it tells them, and how
@@ -45,7 +45,3 @@ pub record WriterSoFar (W : Type 0) : Type 0 where
   pub writer : W
   pub taken : List ℕ
   pub failures : ℕ
-
--- the failures of a stream, and one more where its wrapper failed
-abbrev pub failures_of : {S : Type 0} → (S → ℕ) → S → Bool → ℕ
-failures_of failures stream failed = failures stream + (if failed then 1 else 0)

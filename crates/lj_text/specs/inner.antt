@@ -4,6 +4,7 @@ pub mod LineReading
 pub mod LinesHeld
 pub mod Looking
 pub mod HeldNumbers
+pub mod ShortNumbers
 pub mod CnfReading
 pub mod CnfResuming
 pub mod CnfHeld

@@ -6,7 +6,6 @@ mod bytes;
 mod bytes_so_far;
 mod cnf;
 pub mod examples;
-mod failing;
 pub mod laws;
 mod line;
 mod lines;
@@ -18,7 +17,6 @@ mod writer;
 
 pub use as_step::AsStep;
 pub use cnf::{CnfFault, CnfFaultKind, CnfReader, spells_or_has_a_fault};
-pub use failing::{FailingSink, FailingSource};
 pub use line::{Addition, Line};
 pub use lines::{LineFault, LineFaultKind, LineReader};
 pub use numbers::{Group, Groups, NumberRoom, Numbers, NumbersIter};

@@ -12,6 +12,7 @@ mod look;
 mod parse;
 mod reader;
 mod room;
+mod runs;
 
 pub(crate) use cut::first_line;
 pub use fault::{LineFault, LineFaultKind};

@@ -1,5 +1,5 @@
 //! Lists of clause numbers, and hint groups.
-ghost use Rattle.std.specs.Prelude.{◌≡◌, ◌==◌, ◌∷◌, ◌++◌, [], length, slice_get, IfOk, IfSome, OnOk, OnErr};
+ghost use Rattle.std.specs.Prelude.{◌≡◌, ◌==◌, ◌∷◌, ◌++◌, [], length, take, slice_get, IfOk, IfSome, OnOk, OnErr};
 ghost use Rattle.lj_text.specs.inner.Numbers.{numbers_in, numbers_left};
 
 use std::alloc::{AllocError, Global};
@@ -41,6 +41,68 @@ impl Numbers {
     {
         Numbers {
             form: Form::Long(numbers),
+        }
+    }
+
+    /// A list of no numbers, with room for so many of four bytes each.
+    ///
+    /// # Errors
+    /// [`AllocError`] where a growth was refused.
+    pub fn with_capacity(alloc: Global, count: usize) -> Result<Numbers, AllocError>
+        ensures { IfOk result (λ list. list ≡ []) }
+    {
+        Ok(Numbers {
+            form: Form::Short(Vec::with_capacity(alloc, count)?),
+        })
+    }
+
+    /// Takes a number behind the others, in constant time, but for the growth of the list and for its first number of
+    /// 2^32 or more.
+    ///
+    /// # Errors
+    /// [`AllocError`] where a growth was refused, and then nothing has changed.
+    #[inline]
+    pub fn push(&mut self, number: u64) -> Result<(), AllocError>
+        ensures ok { OnOk result (self.new ≡ self.old ++ number ∷ []) }
+        ensures err { OnErr result (self.new ≡ self.old) }
+    {
+        match &mut self.form {
+            Form::Short(numbers) if number <= MAX_SHORT => {
+                numbers.push(number as u32)?;
+                Ok(())
+            }
+            _ => self.push_long(number),
+        }
+    }
+
+    /// The same, where a number takes eight bytes.
+    #[cold]
+    fn push_long(&mut self, number: u64) -> Result<(), AllocError>
+        ensures ok { OnOk result (self.new ≡ self.old ++ number ∷ []) }
+        ensures err { OnErr result (self.new ≡ self.old) }
+    {
+        match &mut self.form {
+            Form::Short(numbers) => {
+                let mut long = lengthened(*numbers.allocator(), numbers)?;
+                long.push(number)?;
+                self.form = Form::Long(long);
+                Ok(())
+            }
+            Form::Long(numbers) => {
+                numbers.push(number)?;
+                Ok(())
+            }
+        }
+    }
+
+    /// Keeps the first numbers, so many, and gives the room of the others back. Takes constant time where there are no
+    /// others.
+    pub fn truncate(&mut self, count: usize)
+        ensures { self.new ≡ take count self.old }
+    {
+        match &mut self.form {
+            Form::Short(numbers) => cut(numbers, count),
+            Form::Long(numbers) => cut(numbers, count),
         }
     }
 
@@ -128,6 +190,16 @@ impl Numbers {
             Form::Short(numbers) => lengthened(*numbers.allocator(), numbers),
             Form::Long(numbers) => Vec::from_slice(*numbers.allocator(), numbers),
         }
+    }
+}
+
+/// Keeps the first numbers, so many, in exactly the room that they need.
+fn cut<T: Copy>(numbers: &mut Vec<T>, count: usize)
+    ensures { numbers.new.items ≡ take count numbers.old.items }
+{
+    if count < numbers.len() {
+        numbers.truncate(count);
+        numbers.shrink_to_fit();
     }
 }
 

@@ -150,7 +150,11 @@ impl<W> Model for WriterSink<W> {
 
     ghost Value = { WriterSoFar W };
 
-    ghost view = { λ sink. record { writer = sink.writer; taken = sink.taken.bytes; failures = if sink.failed then 1 else 0 } };
+    ghost view = { λ sink. record {
+      writer = sink.writer;
+      taken = sink.taken.bytes;
+      failures = if sink.failed then 1 else 0;
+    } };
 }
 
 impl<W> WriterSink<W> {

@@ -86,9 +86,14 @@ impl Model for MemorySource {
 
     ghost Value = { BytesInMemory };
 
-    ghost view = { λ source. record { given = take source.given source.bytes.items; rest = drop source.given source.bytes.items; ended = source.ended } };
+    ghost view = { λ source. record {
+      given = take source.given source.bytes.items;
+      rest = drop source.given source.bytes.items;
+      ended = source.ended;
+    } };
 
-    ghost invariant = { λ source. (source.given ≤ vec_len source.bytes) × (source.ended ≡ true → source.given ≡ vec_len source.bytes) };
+    ghost invariant = { λ source. (source.given ≤ vec_len source.bytes)
+        × (source.ended ≡ true → source.given ≡ vec_len source.bytes) };
 }
 
 impl MemorySource {
@@ -146,7 +151,12 @@ impl<R: Read> Model for ReaderSource<R> {
 
     ghost Value = { ReaderSoFar R };
 
-    ghost view = { λ source. record { reader = source.reader; given = source.given.bytes; ended = source.ended; failures = if source.failed then 1 else 0 } };
+    ghost view = { λ source. record {
+      reader = source.reader;
+      given = source.given.bytes;
+      ended = source.ended;
+      failures = if source.failed then 1 else 0;
+    } };
 
     ghost invariant = { λ source. source.ended ≡ true → IsAtEnd (R.remaining source.reader) };
 }

@@ -79,7 +79,12 @@ impl<W: Sink> Model for ProofWriter<W> {
 
     ghost Value = { WriterValue W };
 
-    ghost view = { λ w. record { sink = w.sink; text = W.taken w.sink ++ w.held; greatest = w.greatest; failed = w.failed } };
+    ghost view = { λ w. record {
+      sink = w.sink;
+      text = W.taken w.sink ++ w.held;
+      greatest = w.greatest;
+      failed = w.failed;
+    } };
 
     ghost invariant = { λ w. w.failed ≡ false → W.failures w.sink ≡ 0 };
 }

@@ -3,7 +3,7 @@ use Rattle.std.proofs.Common.{◌≡◌, ℕ, ◌+◌, ◌<◌, ◌≤◌, suc, 
 use Rattle.std.specs.Prelude.{Bool, true, false, cond, not, ◌&&◌, ◌||◌, ◌==◌, nat_le, ℤ, filter, filter_map, Option, Some, None, is_some}
 use Rattle.std.specs.List.{list_any, AllByRecursion, cons_option}
 use Rattle.std.specs.FinMap as fin
-use Rattle.std.proofs.lemmas.Bool.{false≢true}
+use Rattle.std.proofs.lemmas.Bool.{false≢true, or_right, and_parts, and_from}
 use Rattle.std.proofs.lemmas.Bool.Decides.{nat_tests}
 use Rattle.std.proofs.lemmas.Option.{slice_get_past}
 use Rattle.lj_clause.specs.Literal.{variable_of}
@@ -18,15 +18,10 @@ use Rattle.lj_text.specs.declared.step.Step.{Step}
 use Rattle.lj_text.specs.declared.step.Step.TheVariants.{Add, Delete}
 use Rattle.lj_text.specs.Steps.{names_all, is_in_place, is_rat_on, is_rat_after, first_walk, is_accepted, without, after_step, replay, adds_empty}
 use Rattle.lj_text.specs.Needed.{NumberSet, has, up_to_empty, additions, all_hints, empty_numbers, needed_numbers, is_kept, if_some, trimmed_step, trimmed_steps}
-use Rattle.lj_text.proofs.StepLaws.{both_true, and_true}
 use Rattle.lj_text.proofs.NeededLaws.{needed_least, Covers}
 use Rattle.lj_trim.specs.Laws.{AreAbove, FrontRefutes, TrimmedRefutes}
 use Rattle.lj_trim.proofs.MarkLemmas.{all-front, all-back}
 use Rattle.lj_trim.proofs.RestrictLemmas.{Restricts, restricts-insert, restricts-lost, restricts-without, AreKept, kept_same, all_same, names_same, names_kept, kept_groups, group_hints, groups_named, still_distinct, covered_kept}
-
-or_true : (a b : Bool) → b ≡ true → (a || b) ≡ true
-or_true true b e = refl
-or_true false b e = e
 
 -- ---- steps up to the first addition of the empty clause
 
@@ -54,13 +49,13 @@ front_empty [] e = e
 front_empty (s ∷ ss) e =
     elim (adds_empty s) as (λ b. adds_empty s ≡ b → (b || list_any adds_empty ss) ≡ true → list_any adds_empty (cond b (s ∷ []) (s ∷ up_to_empty ss)) ≡ true) [
       | true ↦ λ is _. ap (λ b. b || false) is
-      | false ↦ λ is later. or_true (adds_empty s) (list_any adds_empty (up_to_empty ss)) (front_empty ss later)
+      | false ↦ λ is later. or_right (adds_empty s) (list_any adds_empty (up_to_empty ss)) (front_empty ss later)
     ] refl e
 
 pub front_refutes : FrontRefutes
 front_refutes f steps e =
-    let parts = both_true (is_some (replay (formula_map f) steps)) (list_any adds_empty steps) e in
-    and_true (is_some (replay (formula_map f) (up_to_empty steps))) (list_any adds_empty (up_to_empty steps)) (front_replay (formula_map f) steps parts.0) (front_empty steps parts.1)
+    let parts = and_parts (is_some (replay (formula_map f) steps)) (list_any adds_empty steps) e in
+    and_from (is_some (replay (formula_map f) (up_to_empty steps))) (list_any adds_empty (up_to_empty steps)) (front_replay (formula_map f) steps parts.0) (front_empty steps parts.1)
 
 front_above : (n : ℕ) (ss : List Step) → AreAbove n ss → AreAbove n (up_to_empty ss)
 front_above n [] h = tt
@@ -79,10 +74,10 @@ kept_addition kept a = record a { groups = kept_groups kept a.groups }
 rat_kept : (kept : ℕ → Bool) (p q : ClauseMap) (a : Addition) (s : LiteralSet) (o : Option ℤ) → Restricts kept p q → AreKept kept (group_hints a.groups) → is_rat_on p a s o ≡ true → is_rat_on q (kept_addition kept a) s o ≡ true
 rat_kept kept p q a s None h all e = e
 rat_kept kept p q a s (Some pivot) h all e =
-    let outer = both_true (not (variable_of pivot == 0)) (holds a.lemma.clause pivot && is_covered (rat p s pivot a.groups)) e in
-    let inner = both_true (holds a.lemma.clause pivot) (is_covered (rat p s pivot a.groups)) outer.1 in
-    and_true (not (variable_of pivot == 0)) (holds a.lemma.clause pivot && is_covered (rat q s pivot (kept_groups kept a.groups))) outer.0
-    (and_true (holds a.lemma.clause pivot) (is_covered (rat q s pivot (kept_groups kept a.groups))) inner.0 (covered_kept kept p q s pivot a.groups h all inner.1))
+    let outer = and_parts (not (variable_of pivot == 0)) (holds a.lemma.clause pivot && is_covered (rat p s pivot a.groups)) e in
+    let inner = and_parts (holds a.lemma.clause pivot) (is_covered (rat p s pivot a.groups)) outer.1 in
+    and_from (not (variable_of pivot == 0)) (holds a.lemma.clause pivot && is_covered (rat q s pivot (kept_groups kept a.groups))) outer.0
+    (and_from (holds a.lemma.clause pivot) (is_covered (rat q s pivot (kept_groups kept a.groups))) inner.0 (covered_kept kept p q s pivot a.groups h all inner.1))
 
 ends_kept : (kept : ℕ → Bool) (p q : ClauseMap) (a : Addition) (w : Walk) → Restricts kept p q → AreKept kept (group_hints a.groups) → (is_closed w || is_rat_after p a w) ≡ true → (is_closed w || is_rat_after q (kept_addition kept a) w) ≡ true
 ends_kept kept p q a (Closed used) h all e = refl
@@ -91,22 +86,22 @@ ends_kept kept p q a (Stuck place) h all e = e
 
 in_place_kept : (kept : ℕ → Bool) (p q : ClauseMap) (a : Addition) → Restricts kept p q → kept a.number ≡ true → AreKept kept a.hints → AreKept kept (group_hints a.groups) → is_in_place p a ≡ true → is_in_place q (kept_addition kept a) ≡ true
 in_place_kept kept p q a h number hints groups e =
-    let one = both_true _ _ e in
-    let two = both_true _ _ one.1 in
-    let three = both_true _ _ two.1 in
-    and_true _ _ (ap (λ o. not (is_some o)) (sym (kept_same kept p q a.number h number)) ∙ one.0)
-    (and_true _ _ (sym (names_same p q a.hints (all_same kept p q a.hints h hints)) ∙ two.0)
-    (and_true _ _ (groups_named kept p q a.groups h groups three.0) (still_distinct kept a.groups three.1)))
+    let one = and_parts _ _ e in
+    let two = and_parts _ _ one.1 in
+    let three = and_parts _ _ two.1 in
+    and_from _ _ (ap (λ o. not (is_some o)) (sym (kept_same kept p q a.number h number)) ∙ one.0)
+    (and_from _ _ (sym (names_same p q a.hints (all_same kept p q a.hints h hints)) ∙ two.0)
+    (and_from _ _ (groups_named kept p q a.groups h groups three.0) (still_distinct kept a.groups three.1)))
 
 -- an addition all of whose hints are kept is accepted without the groups of candidates that aren't
 accepted_kept : (kept : ℕ → Bool) (p q : ClauseMap) (a : Addition) → Restricts kept p q → kept a.number ≡ true → AreKept kept (all_hints a) → is_accepted p (Add a) ≡ true → is_accepted q (Add (kept_addition kept a)) ≡ true
 accepted_kept kept p q a h number all e =
-    let parts = both_true (is_in_place p a) (is_closed (first_walk p a) || is_rat_after p a (first_walk p a)) e in
+    let parts = and_parts (is_in_place p a) (is_closed (first_walk p a) || is_rat_after p a (first_walk p a)) e in
     let hints = all-front (λ n. kept n ≡ true) a.hints (group_hints a.groups) all in
     let groups = all-back (λ n. kept n ≡ true) a.hints (group_hints a.groups) all in
     let b : Addition = kept_addition kept a in
     let same : first_walk p a ≡ first_walk q b = walk-agree p q (negations a.lemma.clause) a.hints (all_same kept p q a.hints h hints) in
-    and_true (is_in_place q b) (is_closed (first_walk q b) || is_rat_after q b (first_walk q b)) (in_place_kept kept p q a h number hints groups parts.0)
+    and_from (is_in_place q b) (is_closed (first_walk q b) || is_rat_after q b (first_walk q b)) (in_place_kept kept p q a h number hints groups parts.0)
     (subst (λ w. (is_closed w || is_rat_after q b w) ≡ true) same (ends_kept kept p q a (first_walk p a) h groups parts.1))
 
 -- ---- all steps
@@ -117,7 +112,7 @@ above_needed n m false h e = absurd (grind (arith, nat_tests))
 
 needed_kept : (clauses : ℕ) (s : NumberSet) (ns : List ℕ) → AllByRecursion (λ n. has s n ≡ true) ns → AreKept (is_kept clauses s) ns
 needed_kept clauses s [] h = tt
-needed_kept clauses s (n ∷ ns) h = (or_true (nat_le n clauses) (has s n) h.0, needed_kept clauses s ns h.1)
+needed_kept clauses s (n ∷ ns) h = (or_right (nat_le n clauses) (has s n) h.0, needed_kept clauses s ns h.1)
 
 replay_kept : (clauses : ℕ) (s : NumberSet) (p q : ClauseMap) (ss : List Step) → Restricts (is_kept clauses s) p q → is_some (replay p ss) ≡ true → AllByRecursion (Covers s) (additions ss) → AreAbove clauses ss → is_some (replay q (filter_map (trimmed_step clauses s) ss)) ≡ true
 replay_kept clauses s p q [] h e cover above = refl
@@ -147,7 +142,7 @@ replay_kept clauses s p q (Delete ns ∷ ss) h e cover above =
 
 any_later : (o : Option Step) (ss : List Step) → list_any adds_empty ss ≡ true → list_any adds_empty (cons_option o ss) ≡ true
 any_later None ss e = e
-any_later (Some s) ss e = or_true (adds_empty s) (list_any adds_empty ss) e
+any_later (Some s) ss e = or_right (adds_empty s) (list_any adds_empty ss) e
 
 empty_kept : (clauses : ℕ) (s : NumberSet) (ss : List Step) → AllByRecursion (λ n. has s n ≡ true) (empty_numbers ss) → list_any adds_empty ss ≡ true → list_any adds_empty (filter_map (trimmed_step clauses s) ss) ≡ true
 empty_kept clauses s [] h e = e
@@ -156,7 +151,7 @@ empty_kept clauses s (Add a ∷ ss) h e =
     let rest = filter_map (trimmed_step clauses s) ss in
     elim (adds_empty (Add a)) as (λ b. adds_empty (Add a) ≡ b → AllByRecursion (λ n. has s n ≡ true) (cond b (a.number ∷ []) [] ++ empty_numbers ss) → (b || list_any adds_empty ss) ≡ true → list_any adds_empty (cons_option (trimmed_step clauses s (Add a)) rest) ≡ true) [
       | true ↦ λ is here _.
-          ap (λ b. list_any adds_empty (cons_option (cond b (Some (Add (kept_addition kept a))) None) rest)) (or_true (nat_le a.number clauses) (has s a.number) here.0)
+          ap (λ b. list_any adds_empty (cons_option (cond b (Some (Add (kept_addition kept a))) None) rest)) (or_right (nat_le a.number clauses) (has s a.number) here.0)
           ∙ ap (λ b. b || list_any adds_empty rest) is
       | false ↦ λ is there later. any_later (trimmed_step clauses s (Add a)) rest (empty_kept clauses s ss there later)
     ] refl h e
@@ -188,7 +183,7 @@ trimmed_refutes f steps e above =
     let clauses = length f.clauses in
     let closed = (needed_least steps).0 in
     let first = front_refutes f steps e in
-    let parts = both_true (is_some (replay (formula_map f) front)) (list_any adds_empty front) first in
-    and_true (is_some (replay (formula_map f) (trimmed_steps f steps))) (list_any adds_empty (trimmed_steps f steps))
+    let parts = and_parts (is_some (replay (formula_map f) front)) (list_any adds_empty front) first in
+    and_from (is_some (replay (formula_map f) (trimmed_steps f steps))) (list_any adds_empty (trimmed_steps f steps))
     (replay_kept clauses s (formula_map f) (formula_map f) front (formula_kept f s) parts.0 closed.hints (front_above clauses steps above))
     (empty_kept clauses s front closed.empty_clause parts.1)

@@ -7,7 +7,7 @@ use Rattle.std.specs.Cmp.{nat_cmp_total, Equal-is}
 use Rattle.std.specs.FinMap as fin
 use Rattle.std.specs.FinMap.{nat_cmp-IsAntisymmetric}
 use Rattle.std.specs.FinMap.Entries.{same_entries, is_sorted-where_key, find-where_key}
-use Rattle.std.proofs.lemmas.Bool.{false≢true}
+use Rattle.std.proofs.lemmas.Bool.{false≢true, not-true, and_parts, and_from}
 use borrow.Author.Tests.{eqb-true}
 use Rattle.lj_clause.specs.LiteralSet.{LiteralSet, holds, with_negations}
 use Rattle.lj_clause.specs.ClauseMap.{ClauseMap}
@@ -17,7 +17,6 @@ use Rattle.lj_clause.specs.Laws.{hints_given}
 use Rattle.lj_clause.proofs.WalkLaws.{walk-agree}
 use Rattle.lj_clause.proofs.RatLaws as ratlaws
 use Rattle.lj_text.specs.Steps.{names, names_all, are_distinct, without}
-use Rattle.lj_text.proofs.StepLaws.{both_true, and_true}
 use Rattle.lj_trim.proofs.MarkLemmas.{all-front, all-back}
 
 -- the second map is the first without the clauses whose number isn't kept
@@ -96,10 +95,10 @@ names_same p q (n ∷ ns) h = λ i. is_some (h.0 i) && names_same p q ns h.1 i
 pub names_kept : (kept : ℕ → Bool) (p q : ClauseMap) (ns : List ℕ) → Restricts kept p q → names_all p ns ≡ true → names_all q (filter kept ns) ≡ true
 names_kept kept p q [] h e = refl
 names_kept kept p q (n ∷ ns) h e =
-    let parts = both_true (names p n) (names_all p ns) e in
+    let parts = and_parts (names p n) (names_all p ns) e in
     let later = names_kept kept p q ns h parts.1 in
     elim (kept n) as (λ b. kept n ≡ b → names_all q (cond b (n ∷ filter kept ns) (filter kept ns)) ≡ true) [
-      | true ↦ λ is. and_true (names q n) (names_all q (filter kept ns)) (ap is_some (sym (kept_same kept p q n h is)) ∙ parts.0) later
+      | true ↦ λ is. and_from (names q n) (names_all q (filter kept ns)) (ap is_some (sym (kept_same kept p q n h is)) ∙ parts.0) later
       | false ↦ λ is. later
     ] refl
 
@@ -114,13 +113,13 @@ pub groups_named : (kept : ℕ → Bool) (p q : ClauseMap) (groups : List HintGr
     → list_all (λ (g : HintGroup). names p g.candidate && names_all p g.hints) groups ≡ true → list_all (λ (g : HintGroup). names q g.candidate && names_all q g.hints) (kept_groups kept groups) ≡ true
 groups_named kept p q [] h all e = refl
 groups_named kept p q (g ∷ gs) h all e =
-    let parts = both_true (names p g.candidate && names_all p g.hints) (list_all (λ (g : HintGroup). names p g.candidate && names_all p g.hints) gs) e in
-    let one = both_true (names p g.candidate) (names_all p g.hints) parts.0 in
+    let parts = and_parts (names p g.candidate && names_all p g.hints) (list_all (λ (g : HintGroup). names p g.candidate && names_all p g.hints) gs) e in
+    let one = and_parts (names p g.candidate) (names_all p g.hints) parts.0 in
     let later = groups_named kept p q gs h (all-back (λ n. kept n ≡ true) g.hints (group_hints gs) all) parts.1 in
     let hints : names_all q g.hints ≡ true = sym (names_same p q g.hints (all_same kept p q g.hints h (all-front (λ n. kept n ≡ true) g.hints (group_hints gs) all))) ∙ one.1 in
     elim (kept g.candidate) as (λ b. kept g.candidate ≡ b → list_all (λ (g : HintGroup). names q g.candidate && names_all q g.hints) (cond b (g ∷ kept_groups kept gs) (kept_groups kept gs)) ≡ true) [
-      | true ↦ λ is. and_true (names q g.candidate && names_all q g.hints) (list_all (λ (g : HintGroup). names q g.candidate && names_all q g.hints) (kept_groups kept gs))
-          (and_true (names q g.candidate) (names_all q g.hints) (ap is_some (sym (kept_same kept p q g.candidate h is)) ∙ one.0) hints) later
+      | true ↦ λ is. and_from (names q g.candidate && names_all q g.hints) (list_all (λ (g : HintGroup). names q g.candidate && names_all q g.hints) (kept_groups kept gs))
+          (and_from (names q g.candidate) (names_all q g.hints) (ap is_some (sym (kept_same kept p q g.candidate h is)) ∙ one.0) hints) later
       | false ↦ λ is. later
     ] refl
 
@@ -138,18 +137,14 @@ still_none kept n (g ∷ gs) e =
       | false ↦ later
     ]
 
-not_either : (b : Bool) → not b ≡ true → b ≡ false
-not_either true e = absurd (false≢true e)
-not_either false e = refl
-
 pub still_distinct : (kept : ℕ → Bool) (groups : List HintGroup) → are_distinct (map (λ (g : HintGroup). g.candidate) groups) ≡ true → are_distinct (map (λ (g : HintGroup). g.candidate) (kept_groups kept groups)) ≡ true
 still_distinct kept [] e = refl
 still_distinct kept (g ∷ gs) e =
-    let parts = both_true (not (list_any (λ m. m == g.candidate) (map (λ (g : HintGroup). g.candidate) gs))) (are_distinct (map (λ (g : HintGroup). g.candidate) gs)) e in
+    let parts = and_parts (not (list_any (λ m. m == g.candidate) (map (λ (g : HintGroup). g.candidate) gs))) (are_distinct (map (λ (g : HintGroup). g.candidate) gs)) e in
     let later = still_distinct kept gs parts.1 in
     elim (kept g.candidate) as (λ b. are_distinct (map (λ (g : HintGroup). g.candidate) (cond b (g ∷ kept_groups kept gs) (kept_groups kept gs))) ≡ true) [
-      | true ↦ and_true (not (list_any (λ m. m == g.candidate) (map (λ (g : HintGroup). g.candidate) (kept_groups kept gs)))) (are_distinct (map (λ (g : HintGroup). g.candidate) (kept_groups kept gs)))
-          (ap not (still_none kept g.candidate gs (not_either (list_any (λ m. m == g.candidate) (map (λ (g : HintGroup). g.candidate) gs)) parts.0))) later
+      | true ↦ and_from (not (list_any (λ m. m == g.candidate) (map (λ (g : HintGroup). g.candidate) (kept_groups kept gs)))) (are_distinct (map (λ (g : HintGroup). g.candidate) (kept_groups kept gs)))
+          (ap not (still_none kept g.candidate gs (not-true (list_any (λ m. m == g.candidate) (map (λ (g : HintGroup). g.candidate) gs)) parts.0))) later
       | false ↦ later
     ]
 

@@ -1,8 +1,9 @@
 -- Trimmed steps by the marks of the needed numbers.
 use Rattle.std.proofs.Common.{◌≡◌, ℕ, ◌+◌, ◌<◌, List, [], ◌∷◌, ◌++◌, length, take, get_or, refl, sym, ap, ◌∙◌}
-use Rattle.std.specs.Prelude.{Bool, true, false, cond, ◌&&◌, ◌||◌, nat_le, filter, filter_map, Option, Some, None, option_map, option_to_list}
+use Rattle.std.specs.Prelude.{Bool, true, cond, ◌||◌, nat_le, filter, filter_map, Option, Some, None, option_map, option_to_list}
 use Rattle.std.specs.List.{list_all, cons_option}
 use Rattle.std.proofs.lemmas.List.Elements.{filter_map-append}
+use Rattle.std.specs.Cmp.{second_so, first_so}
 use Rattle.lj_clause.specs.Rat.{HintGroup}
 use Rattle.lj_text.specs.declared.line.Addition.{Addition}
 use Rattle.lj_text.specs.declared.step.Step.{Step}
@@ -17,19 +18,11 @@ use Rattle.lj_trim.specs.Trimmed.{step_of}
 use Rattle.lj_trim.specs.inner.Trimmed.{keeps, groups_by, trimmed_by}
 use Rattle.lj_trim.proofs.FrontLemmas.{take-item}
 
-both_left : (a b : Bool) → (a && b) ≡ true → a ≡ true
-both_left true b e = refl
-both_left false b e = cc
-
-both_right : (a b : Bool) → (a && b) ≡ true → b ≡ true
-both_right true b e = e
-both_right false b e = cc
-
 filter_all : {X : Type 0} (p : X → Bool) (xs : List X) → list_all p xs ≡ true → filter p xs ≡ xs
 filter_all p [] e = refl
 filter_all p (x ∷ xs) e =
-    ap (λ b. cond b (x ∷ filter p xs) (filter p xs)) (both_left (p x) (list_all p xs) e)
-    ∙ ap (λ t. x ∷ t) (filter_all p xs (both_right (p x) (list_all p xs) e))
+    ap (λ b. cond b (x ∷ filter p xs) (filter p xs)) (first_so (p x) (list_all p xs) e)
+    ∙ ap (λ t. x ∷ t) (filter_all p xs (second_so (p x) (list_all p xs) e))
 
 -- an addition all of whose candidates stay
 pub whole : (test : ℕ → Bool) (step : Step) (a : Addition) (gs : List HintGroup) → step ≡ Add a → test a.number ≡ true → gs ≡ a.groups → list_all (λ g. test g.candidate) gs ≡ true → Some step ≡ trimmed_by test step

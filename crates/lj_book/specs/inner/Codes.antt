@@ -17,6 +17,7 @@ use Rattle.std.specs.FinMap as fin
 use Rattle.lj_book.specs.Tables.{Tables}
 use Rattle.lj_clause.specs.ClauseMap.{FormulaValue}
 use Rattle.lj_book.specs.State.{State}
+use Rattle.lj_book.specs.inner.Records.{Entries}
 
 abbrev pub addition_code : Coded Addition
 addition_code = code_by (ℕ × (LemmaValue × (List ℕ × List HintGroup)))
@@ -88,3 +89,7 @@ state_code = code_by (FormulaValue × (ℕ × (Tables × List Entry)))
     (λ s. (s.formula, (s.max_steps, (s.tables, s.history))))
     (λ p. record { formula = p.0; max_steps = p.1.0; tables = p.1.1.0; history = p.1.1.1 })
     (λ _. refl)
+
+abbrev pub entries_code : Coded Entries
+entries_code = code_by (List Entry × ℕ) (coded× (coded_list entry_code) coded_ℕ)
+    (λ h. (h.entries, h.room)) (λ p. record { entries = p.0; room = p.1 }) (λ _. refl)

@@ -5,10 +5,12 @@ ghost use Rattle.lj_book.specs.Tables.{is_here, is_bound, with_binding};
 ghost use Rattle.lj_book.specs.Lookup.{least_number};
 ghost use Rattle.lj_book.specs.State.{live};
 ghost use Rattle.lj_book.specs.History.{after_entry, tables_after, IsLegalCall};
+ghost use Rattle.lj_book.specs.inner.Records.{call_made};
 ghost use Rattle.lj_book.specs.Calls.{IsReply, free_refusal, binding_entry, adopt_reply, adopt_entry, import_reply, import_entry};
 
 use crate::book::Book;
-use crate::entry::{Call, Entry, Imported};
+use crate::entry::Imported;
+use crate::made::MadeCall;
 use crate::refusal::Refusal;
 use lj_clause::{Clause, NoMemory};
 
@@ -31,8 +33,8 @@ impl Book {
         if !self.clauses.contains_key(joint) {
             return Err(Refusal::NoSuchClause);
         }
-        let call = Call::Adopt { own, joint };
-        Ok(self.bind_live(seat, own, joint, call)?)
+        let made = MadeCall::Adopt { own, joint };
+        Ok(self.bind_live(seat, own, joint, made)?)
     }
 
     /// Binds the seat's own number to the least live number with exactly this clause. Takes time linear in the live
@@ -55,7 +57,8 @@ impl Book {
             return Err(Refusal::NoSuchClause);
         };
         let clause = clause.copy()?;
-        let place = self.bind_live(seat, own, joint, Call::Import { own, clause })?;
+        let made = MadeCall::Import { own, clause };
+        let place = self.bind_live(seat, own, joint, made)?;
         Ok(Imported { place, joint })
     }
 
@@ -65,7 +68,7 @@ impl Book {
         ensures number { result ≡ least_number (live self.old) clause.now }
         ensures same { self.new ≡ self.old }
     {
-        self.clauses.make_lists(*self.history.allocator());
+        self.clauses.make_lists(self.history.allocator());
         self.clauses.least_number(clause)
     }
 
@@ -83,21 +86,27 @@ impl Book {
     }
 
     /// Enters a call that binds an own number to a joint number that lives, without a step.
-    fn bind_live(&mut self, seat: u32, own: u64, joint: u64, call: Call) -> Result<u64, NoMemory>
+    fn bind_live(
+        &mut self,
+        seat: u32,
+        own: u64,
+        joint: u64,
+        made: MadeCall,
+    ) -> Result<u64, NoMemory>
         requires free { free_refusal self.old seat own ≡ None }
         requires lives { fin.contains_key (live self.old) joint ≡ true }
-        requires legal { IsLegalCall self.old seat call None }
-        requires binds { tables_after self.old seat call
+        requires legal { IsLegalCall self.old seat (call_made made None) None }
+        requires binds { tables_after self.old seat (call_made made None)
             ≡ with_binding self.old.tables seat own joint }
         ensures place { IfOk result (λ place. place ≡ length self.old.history) }
-        ensures ok { OnOk result (self.new ≡ after_entry self.old (binding_entry seat call)) }
+        ensures ok { OnOk result
+            (self.new ≡ after_entry self.old (binding_entry seat (call_made made None))) }
         ensures err { OnErr result (self.new ≡ self.old) }
     {
-        self.history.reserve(1)?;
+        self.history.reserve()?;
+        let place = self.history.len();
         self.tables.bind(seat, own, joint)?;
-        let place = self.history.len() as u64;
-        let step = None;
-        self.history.push(Entry { seat, call, step }).unwrap();
+        self.history.push(seat, made, None);
         Ok(place)
     }
 }

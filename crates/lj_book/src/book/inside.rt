@@ -9,9 +9,10 @@ ghost use Rattle.lj_book.specs.inner.JointLines.{inside_line, line_entry};
 
 use crate::book::Book;
 use crate::committing::{bind_clause, refuted_at};
-use crate::entry::{Added, Call, Entry};
+use crate::entry::Added;
 use crate::joint_line::joint_line;
 use crate::line_tests::tested_line;
+use crate::made::MadeCall;
 use crate::refusal::Refusal;
 use lj_clause::{Lemma, NoMemory};
 use lj_hint::Marks;
@@ -70,7 +71,7 @@ impl Book {
             (λ e. result ≡ Err e) }
         ensures same { self.new ≡ self.old }
     {
-        let alloc = *self.history.allocator();
+        let alloc = self.history.allocator();
         let added = self.added;
         let max_steps = self.max_steps;
         if let Some(refusal) = self.free_refusal(seat, addition.number) {
@@ -82,7 +83,7 @@ impl Book {
         };
         let number = self.formula.len() as u64 + 1 + u64::from(added);
         let lemma = &addition.lemma;
-        let step = match tested_line(alloc, &mut self.clauses, number, lemma, &line, marks) {
+        let step = match tested_line(alloc, &mut self.clauses, number, lemma, line, marks) {
             Ok(step) => step,
             Err(refusal) => return Err(refusal),
         };
@@ -111,11 +112,10 @@ impl Book {
         let _ = has_pivot(&addition.lemma);
         let own = addition.number;
         let joint = step.number;
-        let lemma = step.lemma.copy()?;
         let clause = step.lemma.clause().copy()?;
-        let place = self.history.len() as u64;
+        let place = self.history.len();
         let refuted = refuted_at(self.refuted, place, &clause);
-        self.history.reserve(1)?;
+        self.history.reserve()?;
         bind_clause(
             &mut self.clauses,
             &mut self.tables,
@@ -126,9 +126,8 @@ impl Book {
         )?;
         self.refuted = refuted;
         self.added += 1;
-        let call = Call::Add { own, lemma };
-        let step = Some(Step::Add(step));
-        self.history.push(Entry { seat, call, step }).unwrap();
+        let made = MadeCall::Add { own };
+        self.history.push(seat, made, Some(Step::Add(step)));
         Ok(Added { place, joint })
     }
 }

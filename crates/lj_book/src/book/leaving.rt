@@ -5,8 +5,9 @@ ghost use Rattle.lj_book.specs.Calls.{IsReply, leave_reply, leave_entry};
 
 use crate::book::{Book, deletion_of};
 use crate::dying::{bury, no_longer_held, rising};
-use crate::entry::{Call, Entry};
+use crate::made::MadeCall;
 use crate::refusal::Refusal;
+use lj_text::Numbers;
 
 impl Book {
     /// Ends the bindings of a seat, which is then gone. The clauses that no seat holds any more die in the same entry,
@@ -23,17 +24,15 @@ impl Book {
         if !self.tables.is_here(seat) {
             return Err(Refusal::SeatGone);
         }
-        let alloc = *self.history.allocator();
-        let numbers = self.tables.own_numbers(alloc, seat)?;
+        let alloc = self.history.allocator();
+        let numbers = Numbers::new(self.tables.own_numbers(alloc, seat)?);
         let joints = rising(self.tables.joints(alloc, seat, &numbers)?);
-        self.history.reserve(1)?;
-        let place = self.history.len() as u64;
+        self.history.reserve()?;
+        let place = self.history.len();
         self.tables.leave(seat, &numbers);
         let died = no_longer_held(&self.tables, joints);
         bury(&mut self.clauses, &died);
-        let call = Call::Leave;
-        let step = deletion_of(died);
-        self.history.push(Entry { seat, call, step }).unwrap();
+        self.history.push(seat, MadeCall::Leave, deletion_of(died));
         Ok(place)
     }
 }

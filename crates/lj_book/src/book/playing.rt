@@ -10,7 +10,6 @@ ghost use Rattle.lj_book.specs.Worlds.{IsAnswered, IsTestOf, IsTested, IsPlayed}
 ghost use Rattle.lj_book.specs.Solo.{IsAlone};
 
 use crate::book::Book;
-use crate::entry::Dropped;
 use crate::event::{Event, Pending, Reply};
 use crate::refusal::Refusal;
 use lj_clause::{Clause, NoMemory};
@@ -39,7 +38,7 @@ impl Book {
             → IsAlone self.old events.now replies.items self.new seat) }
         ensures err { OnErr result (self.new ≡ self.old) }
     {
-        let alloc = *self.history.allocator();
+        let alloc = self.history.allocator();
         let mut replies = Vec::with_capacity(alloc, events.len())?;
         let mut pending = nothing_pending(alloc, self.tables.len())?;
         let mut marks = Marks::new(alloc);
@@ -117,25 +116,10 @@ impl Book {
             → IsAnswered (record { state = self.old; pending = pending })
             (events.Drop seat numbers.now) result (record { state = self.new; pending = pending }) }
     {
-        match self.drop_listed(seat, numbers) {
+        match self.drop_numbers(seat, numbers) {
             Ok(dropped) => Reply::Dropped(dropped),
             Err(refusal) => Reply::Refused(refusal),
         }
-    }
-
-    /// A drop of these numbers, whose seat is looked at before their list grows.
-    fn drop_listed(&mut self, seat: u32, numbers: &Numbers) -> Result<Dropped, Refusal>
-        ensures reply { IsReply result (drop_reply self.old seat numbers.now) }
-        ensures refused { IfErr (drop_reply self.old seat numbers.now) (λ e. result ≡ Err e) }
-        ensures ok { OnOk result
-            (self.new ≡ after_entry self.old (drop_entry self.old seat numbers.now)) }
-        ensures err { OnErr result (self.new ≡ self.old) }
-    {
-        if !self.tables.is_here(seat) {
-            return Err(Refusal::SeatGone);
-        }
-        let list = numbers.to_vec()?;
-        self.drop_numbers(seat, &list)
     }
 
     fn answer_adopt(&mut self, seat: u32, own: u64, joint: u64) -> Reply

@@ -1,19 +1,20 @@
 //! Calls that also tell the entry that they make: a copy, made before the book changes.
-ghost use Rattle.std.specs.Prelude.{◌≡◌, OnOk, OnErr, IfOk, IfErr, IfSome, Ok, Err};
+ghost use Rattle.std.specs.Prelude.{◌≡◌, OnOk, OnErr, IfOk, IfErr, IfSome, Ok, Err, None};
 ghost use Rattle.lj_book.specs.History.{after_entry};
-ghost use Rattle.lj_book.specs.Calls.{IsReplyBy, drop_reply, drop_entry, commit_reply, commit_entry, adopt_reply, adopt_entry, import_reply, import_entry, leave_reply, leave_entry, free_refusal};
+ghost use Rattle.lj_book.specs.Calls.{IsReplyBy, drop_reply, drop_entry, commit_refusal, commit_told, commit_reply, commit_entry, adopt_reply, adopt_entry, import_reply, import_entry, leave_reply, leave_entry, free_refusal};
 ghost use Rattle.lj_book.specs.Inside.{inside_reply, inside_entry};
 ghost use Rattle.lj_book.specs.inner.JointLines.{line_entry};
 ghost use Rattle.lj_book.specs.Telling.{without_receipt};
 
 use crate::book::{Book, deletion_of};
-use crate::committing::entry_with;
+use crate::copying::copy_of_addition;
 use crate::dying::{no_longer_held, rising};
 use crate::entry::{Added, Call, Dropped, Entry, Imported};
+use crate::ready::Ready;
 use crate::refusal::Refusal;
 use lj_clause::{Clause, NoMemory};
 use lj_hint::{Marks, Receipt};
-use lj_text::{Addition, Group, Groups, Numbers, Step};
+use lj_text::{Addition, Numbers, Step};
 use std::alloc::Global;
 
 impl Book {
@@ -33,26 +34,56 @@ impl Book {
         if let Some(refusal) = self.commit_refusal(&receipt) {
             return Err((refusal, receipt));
         }
-        let entry = match self.entry_of(&receipt) {
-            Ok(entry) => entry,
-            Err(e) => return Err((Refusal::NoMemory(e), receipt)),
+        let ready = match Ready::new(self.history.allocator(), receipt) {
+            Ok(ready) => ready,
+            Err((e, receipt)) => return Err((Refusal::NoMemory(e), receipt)),
         };
-        match self.enter(&receipt) {
-            Ok(added) => Ok((added, entry)),
-            Err(e) => Err((Refusal::NoMemory(e), receipt)),
+        match self.enter_ready(ready) {
+            Ok((added, entry, _receipt)) => Ok((added, entry)),
+            Err((e, receipt)) => Err((Refusal::NoMemory(e), receipt)),
         }
     }
 
-    /// The entry that the commit of a receipt makes.
+    /// As [`Book::commit_telling`], of a receipt with what its entry takes. The receipt comes back on an answer too.
     ///
     /// # Errors
-    /// [`NoMemory`] where a growth was refused.
-    fn entry_of(&self, receipt: &Receipt) -> Result<Entry, NoMemory>
-        ensures { IfOk result (λ entry. entry ≡ commit_entry self.now receipt.now) }
+    /// As [`Book::commit`].
+    pub fn commit_ready(
+        &mut self,
+        ready: Ready,
+    ) -> Result<(Added, Entry, Receipt), (Refusal, Receipt)>
+        ensures reply { IsReplyBy (λ told. told.0) (without_receipt result)
+            (commit_reply self.old ready) }
+        ensures refused { IfErr (commit_reply self.old ready) (λ e. result ≡ Err (e, ready)) }
+        ensures told { IfOk result (λ told. told.1 ≡ commit_entry self.old ready) }
+        ensures ok { OnOk result (self.new ≡ after_entry self.old (commit_entry self.old ready)) }
+        ensures err { OnErr result (self.new ≡ self.old) }
+        ensures back { IfErr result (λ e. e.1 ≡ ready) }
     {
-        let added = self.added;
-        let joint = self.formula.len() as u64 + 1 + u64::from(added);
-        entry_with(*self.history.allocator(), joint, receipt)
+        if let Some(refusal) = self.commit_refusal(ready.receipt()) {
+            return Err((refusal, ready.into_receipt()));
+        }
+        match self.enter_ready(ready) {
+            Ok(entered) => Ok(entered),
+            Err((e, receipt)) => Err((Refusal::NoMemory(e), receipt)),
+        }
+    }
+
+    /// Enters the lemma of a receipt that isn't refused, and tells its entry. The receipt comes back.
+    fn enter_ready(&mut self, ready: Ready) -> Result<(Added, Entry, Receipt), (NoMemory, Receipt)>
+        requires { commit_refusal self.old ready ≡ None }
+        ensures told { IfOk result (λ told. told.0 ≡ commit_told self.old) }
+        ensures entry { IfOk result (λ told. told.1 ≡ commit_entry self.old ready) }
+        ensures ok { OnOk result (self.new ≡ after_entry self.old (commit_entry self.old ready)) }
+        ensures err { OnErr result (self.new ≡ self.old) }
+        ensures back { IfErr result (λ e. e.1 ≡ ready) }
+    {
+        let joint = self.formula.len() as u64 + 1 + u64::from(self.added);
+        let (receipt, step, entry) = ready.into_parts(joint);
+        match self.enter(&receipt, step) {
+            Ok(added) => Ok((added, entry, receipt)),
+            Err(e) => Err((e, receipt)),
+        }
     }
 
     /// As [`Book::add_inside`], with a copy of the entry.
@@ -78,7 +109,7 @@ impl Book {
             Ok(step) => step,
             Err(refusal) => return Err(refusal),
         };
-        let entry = match entry_of_line(*self.history.allocator(), seat, addition.number, &step) {
+        let entry = match entry_of_line(self.history.allocator(), seat, addition.number, &step) {
             Ok(entry) => entry,
             Err(refused) => return Err(Refusal::NoMemory(refused)),
         };
@@ -92,7 +123,11 @@ impl Book {
     ///
     /// # Errors
     /// As [`Book::drop_numbers`].
-    pub fn drop_telling(&mut self, seat: u32, numbers: &[u64]) -> Result<(Dropped, Entry), Refusal>
+    pub fn drop_telling(
+        &mut self,
+        seat: u32,
+        numbers: &Numbers,
+    ) -> Result<(Dropped, Entry), Refusal>
         ensures reply { IsReplyBy (λ told. told.0) result (drop_reply self.old seat numbers.now) }
         ensures refused { IfErr (drop_reply self.old seat numbers.now) (λ e. result ≡ Err e) }
         ensures told { IfOk result (λ told. told.1 ≡ drop_entry self.old seat numbers.now) }
@@ -103,9 +138,9 @@ impl Book {
         if !self.tables.is_here(seat) {
             return Err(Refusal::SeatGone);
         }
-        let alloc = *self.history.allocator();
+        let alloc = self.history.allocator();
         let call = Call::Drop {
-            numbers: Numbers::from_slice(alloc, numbers)?,
+            numbers: numbers.copy()?,
         };
         let joints = rising(self.tables.joints(alloc, seat, numbers)?);
         let dropped = match self.drop_numbers(seat, numbers) {
@@ -189,8 +224,8 @@ impl Book {
         if !self.tables.is_here(seat) {
             return Err(Refusal::SeatGone);
         }
-        let alloc = *self.history.allocator();
-        let numbers = self.tables.own_numbers(alloc, seat)?;
+        let alloc = self.history.allocator();
+        let numbers = Numbers::new(self.tables.own_numbers(alloc, seat)?);
         let joints = rising(self.tables.joints(alloc, seat, &numbers)?);
         let place = match self.leave(seat) {
             Ok(place) => place,
@@ -213,31 +248,6 @@ fn entry_of_line(alloc: Global, seat: u32, own: u64, step: &Addition) -> Result<
         own,
         lemma: step.lemma.copy()?,
     };
-    let step = Addition {
-        number: step.number,
-        lemma: step.lemma.copy()?,
-        hints: step.hints.copy()?,
-        groups: copy_of_groups(alloc, &step.groups)?,
-    };
-    let step = Some(Step::Add(step));
+    let step = Some(Step::Add(copy_of_addition(alloc, step)?));
     Ok(Entry { seat, call, step })
-}
-
-/// Groups of their own with the same contents.
-///
-/// # Errors
-/// [`NoMemory`] where a growth was refused.
-fn copy_of_groups(alloc: Global, groups: &Groups) -> Result<Groups, NoMemory>
-    ensures { IfOk result (λ copy. copy ≡ groups.now) }
-{
-    let groups = groups.as_slice();
-    let mut copies = Vec::with_capacity(alloc, groups.len())?;
-    for group in groups {
-        let hints = group.hints.copy()?;
-        copies.push(Group {
-            candidate: group.candidate,
-            hints,
-        })?;
-    }
-    Ok(Groups::new(copies))
 }

@@ -14,7 +14,7 @@ impl<V: Drop> NumberMap<V> {
     ///
     /// # Errors
     /// [`NoMemory`] where a growth was refused.
-    pub fn keys(&self, alloc: Global) -> Result<Vec<u64>, NoMemory>
+    pub(crate) fn keys(&self, alloc: Global) -> Result<Vec<u64>, NoMemory>
         ensures { IfOk result (λ keys. keys.items ≡ fin.keys self.now) }
     {
         keys_of(alloc, &self.slots)
@@ -27,14 +27,14 @@ impl NumberMap<Clause> {
     ///
     /// # Errors
     /// [`NoMemory`] where a growth was refused.
-    pub fn numbers_holding(&self, alloc: Global, lit: Lit) -> Result<Vec<u64>, NoMemory>
+    pub(crate) fn numbers_holding(&self, alloc: Global, lit: Lit) -> Result<Vec<u64>, NoMemory>
         ensures { IfOk result (λ numbers. numbers.items ≡ numbers_holding self.now lit) }
     {
         holding(alloc, &self.slots, lit)
     }
 
     /// The least number whose clause is exactly this one. Takes time linear in the slots.
-    pub fn least_number(&self, wanted: &Clause) -> Option<u64>
+    pub(crate) fn least_number(&self, wanted: &Clause) -> Option<u64>
         ensures { result ≡ least_number self.now wanted.now }
     {
         first_same(&self.slots, wanted)

@@ -17,6 +17,10 @@ page_stamp pages place = slice_index (page_at pages (place / PAGE)) (place % PAG
 abbrev pub Stamped : Type 0
 Stamped = List ℕ × List (List ℕ)
 
+-- the list has the stamps of near places alone
+abbrev pub IsNearList : List ℕ → Type 0
+IsNearList near = length near ≤ NEAR
+
 -- the stamp at a place: 0 where none was set
 unfoldable pub stamp_at : Stamped → ℕ → ℕ
 stamp_at stamps place = if nat_lt place NEAR then slice_index stamps.0 place

@@ -16,6 +16,7 @@ line_asked line = record {
   proofs = map (λ path. path.now) line.proofs.items;
   closing = option_map (λ path. path.now) line.closing;
   max_steps = line.max_steps;
+  way = line.way;
   proof = option_map (λ path. path.now) line.proof;
   trims = line.trim;
 }

@@ -40,7 +40,8 @@ HaveRun seen (stream ∷ streams) [] reports = ⊥
 HaveRun seen (stream ∷ streams) (told ∷ tokens) [] = ⊥
 
 -- The entries of the seat are those that were told of the stream's lines, and there is a verdict where the stream says so.
-pub record IsConfirmed {S : Type 0} (s : State) (seat : ℕ) (told : List Entry) (report : Report S) : Type 0 where
+pub record IsConfirmed {S : Type 0} (s : State) (seat : ℕ) (told : List Entry)
+    (report : Report S) : Type 0 where
   pub entries : entries_of seat s.history ≡ told
   pub stopped : report.end ≡ Stopped → has_verdict s ≡ true
 
@@ -51,7 +52,8 @@ AreConfirmed {S} s tokens reports = (seat : ℕ) (told : List Entry) (report : R
     → IsConfirmed s seat told report
 
 -- What was told of some stream is denied.
-pub record SomeDenied {S : Type 0} (s : State) (tokens : List (List Entry)) (reports : List (Report S)) : Type 0 where
+pub record SomeDenied {S : Type 0} (s : State) (tokens : List (List Entry))
+    (reports : List (Report S)) : Type 0 where
   pub seat : ℕ
   pub told : List Entry
   pub report : Report S

@@ -14,7 +14,8 @@ pub record MayRead (reader : LinesRead) (ended : Bool) : Type 0 where
   pub goes_on : ended ≡ false → reader.finished ≡ false
 
 -- The source gave a piece, and the reader stands behind it.
-pub record PieceRead (fed : List ℕ) (handed : ℕ) (reader : LinesRead) (before after : SourceState) : Type 0 where
+pub record PieceRead (fed : List ℕ) (handed : ℕ) (reader : LinesRead)
+    (before after : SourceState) : Type 0 where
   pub piece : List ℕ
   pub gave : HasGiven before after piece
   pub stands : LineReaderStandsAt reader (fed ++ piece) handed
@@ -32,7 +33,8 @@ with_handed handed (Some line) = handed + 1
 
 -- The source gave a piece behind what the reader was fed. In all of that the lines handed out before are the same, and this one
 -- is the next; where there is none, the source has ended.
-pub record LineRead (max : ℕ) (fed : List ℕ) (handed : ℕ) (reader : LinesRead) (before after : SourceState) (line : Option Line) : Type 0 where
+pub record LineRead (max : ℕ) (fed : List ℕ) (handed : ℕ) (reader : LinesRead)
+    (before after : SourceState) (line : Option Line) : Type 0 where
   pub piece : List ℕ
   pub gave : HasGiven before after piece
   pub same : take handed (all_said max (fed ++ piece)) ≡ take handed (all_said max fed)
@@ -54,7 +56,8 @@ IfOutOfRoom (AtFault fault) P = is_line_no_memory fault.kind ≡ true → P faul
 
 -- The source gave a piece behind what the reader was fed. In all of that the lines handed out before are the same, and the next
 -- one is missed.
-pub record LineMissed (max : ℕ) (fed : List ℕ) (handed at : ℕ) (before after : SourceState) (miss : Miss) : Type 0 where
+pub record LineMissed (max : ℕ) (fed : List ℕ) (handed at : ℕ) (before after : SourceState)
+    (miss : Miss) : Type 0 where
   pub piece : List ℕ
   pub gave : HasGiven before after piece
   pub same : take handed (all_said max (fed ++ piece)) ≡ take handed (all_said max fed)
@@ -73,7 +76,8 @@ IsPieceOf line ended (AtFault fault) piece = (is_line_no_memory fault.kind ≡ t
     × (fault.line ≡ line) × (ended ≡ false)
 
 -- A piece was missed, and the reader is as it was.
-pub record PieceMissed (old new : LinesRead) (before after : SourceState) (miss : Miss) : Type 0 where
+pub record PieceMissed (old new : LinesRead) (before after : SourceState)
+    (miss : Miss) : Type 0 where
   pub piece : List ℕ
   pub gave : HasGiven before after piece
   pub is : IsPieceOf old.line after.ended miss piece

@@ -6,7 +6,7 @@ ghost use Rattle.lj_share.specs.Seats.{entries_made};
 ghost use Rattle.lj_run.specs.declared.outcome.End.TheVariants.{Stopped};
 ghost use Rattle.lj_text.specs.Streams.{source_state};
 ghost use Rattle.lj_run.specs.InTurn.{streams_by_seat};
-ghost use Rattle.lj_run.specs.Joint.{IsBookOfRun, IsStreamBeside, accepted};
+ghost use Rattle.lj_run.specs.Joint.{IsBookOfRun, IsStreamBeside, accepted_count};
 ghost use Rattle.lj_run.specs.inner.Joint.{IsBookless, HaveRun, AreConfirmed, SomeDenied};
 ghost use Rattle.lj_run.specs.Run.{has_verdict};
 
@@ -16,10 +16,11 @@ use lj_book::Book;
 use lj_clause::{Formula, NoMemory};
 use lj_share::{Closed, Gate, Opening, Seat, Shared, Told};
 use lj_text::Source;
-use std::alloc::Global;
+use std::alloc::{AllocError, Global};
+use std::snapshot::Snapshot;
 use std::sync::Wait;
 use std::sync::ledger::Blank;
-use std::thread::{Threads, map_vec};
+use std::thread::{self, Promise, Threads};
 
 /// Runs the streams on a new shared book of the formula, and gives their reports and the book.
 ///
@@ -92,7 +93,7 @@ fn run_all<
         (streams_by_seat streams.items closing) (map (λ r. r.told.items) ran.items)
         (map (λ r. r.report) ran.items)) }
     ensures counted { IfOk result (λ ran. entries_made (map (λ r. r.seat) ran.items)
-        ≡ sum_by (λ r. accepted r.report) ran.items) }
+        ≡ sum_by (λ r. accepted_count r.report) ran.items) }
 {
     let mut seats = seats;
     match closing {
@@ -123,7 +124,18 @@ fn jobs_of<L: Opening, S: Drop>(
     Ok(jobs)
 }
 
-/// Runs streams under their seats, each by a worker of its own.
+/// What a worker on a thread of its own leaves: the report of the stream that it was given, and its tokens.
+#[derive(Drop)]
+struct RunsBeside<S>(Snapshot<S>);
+
+impl<L: Opening, S: Source> Promise<Ran<L, S>> for RunsBeside<S> {
+    ghost kept_by = { λ promise ran. IsStreamBeside (source_state S.given S.ended S.rest S.failures)
+        true ran.told.items promise.0.value ran.report
+        × (ran.seat.count ≡ accepted_count ran.report) };
+}
+
+/// Runs streams under their seats, each by a worker on a thread of its own. Where a thread is refused, it answers once the
+/// workers that were started have ended.
 fn run_beside<
     L: Opening + Send + Sync,
     R: Threads + Wait + Sync,
@@ -142,15 +154,31 @@ fn run_beside<
         (map (λ job. job.1) jobs.items) (map (λ r. r.told.items) ran.items)
         (map (λ r. r.report) ran.items)) }
     ensures counted { IfOk result (λ ran. entries_made (map (λ r. r.seat) ran.items)
-        ≡ sum_by (λ r. accepted r.report) ran.items) }
+        ≡ sum_by (λ r. accepted_count r.report) ran.items) }
 {
-    let work = |job: (Seat<L>, S)| -> Ran<L, S>
-        requires { (S.failures job.1 ≡ 0) × (job.0.count ≡ 0) }
-        ensures report { IsStreamBeside (source_state S.given S.ended S.rest S.failures) true
-            result.told.items job.1 result.report }
-        ensures counted { result.seat.count ≡ accepted result.report }
-    { run_worker(rt, alloc, shared, gate, job) };
-    Ok(map_vec(rt, jobs, &work)?)
+    let ran = thread::scope(
+        thread::scope_env(),
+        rt,
+        move |scope| -> Result<Vec<Ran<L, S>>, AllocError>
+            requires { All (λ job. job.0.count ≡ 0) jobs.items
+                × All (λ job. S.failures job.1 ≡ 0) jobs.items }
+            ensures ran { IfOk result (λ ran. HaveRun
+                (source_state S.given S.ended S.rest S.failures)
+                (map (λ job. job.1) jobs.items) (map (λ r. r.told.items) ran.items)
+                (map (λ r. r.report) ran.items)) }
+            ensures counted { IfOk result (λ ran. entries_made (map (λ r. r.seat) ran.items)
+                ≡ sum_by (λ r. accepted_count r.report) ran.items) }
+        {
+            let mut workers = Vec::with_capacity(alloc, jobs.len())?;
+            for job in jobs {
+                let promise = RunsBeside(Snapshot::of(&job.1));
+                let work = move || run_worker(rt, alloc, shared, gate, job);
+                workers.push(scope.spawn_with(promise, work)?)?;
+            }
+            Ok(thread::join_promised(rt, workers)?)
+        },
+    )?;
+    Ok(ran)
 }
 
 /// The seats, the tokens and the reports of streams that ran.

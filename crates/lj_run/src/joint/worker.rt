@@ -3,7 +3,7 @@ ghost use Rattle.std.specs.Prelude.{◌≡◌, true, [], IfOk, OnOk, OnErr};
 ghost use Rattle.lj_text.specs.Streams.{source_state};
 ghost use Rattle.lj_share.specs.Entries.{call_of};
 ghost use Rattle.lj_share.specs.Seats.{counting_one};
-ghost use Rattle.lj_run.specs.Joint.{IsStreamBeside, accepted};
+ghost use Rattle.lj_run.specs.Joint.{IsStreamBeside, accepted_count};
 ghost use Rattle.lj_run.specs.inner.Joint.{report_of};
 ghost use Rattle.lj_run.specs.inner.Run.{IsCounted};
 ghost use Rattle.lj_run.specs.inner.Tally.{IsToldOf};
@@ -38,7 +38,7 @@ pub(crate) fn run_worker<L: Opening, R: Wait, S: Source, G: Gate>(
     requires fresh { job.0.count ≡ 0 }
     ensures report { IsStreamBeside (source_state S.given S.ended S.rest S.failures) true
         result.told.items job.1 result.report }
-    ensures counted { result.seat.count ≡ accepted result.report }
+    ensures counted { result.seat.count ≡ accepted_count result.report }
 {
     let (mut seat, mut source) = job;
     let mut told = Vec::new(alloc);
@@ -68,7 +68,7 @@ fn run_lines<L: Opening, R: Wait, S: Source, G: Gate>(
     requires empty { told.old.items ≡ [] }
     ensures report { IsStreamBeside (source_state S.given S.ended S.rest S.failures) true
         told.new.items source.old (report_of result source.new) }
-    ensures counted { seat.new.count ≡ accepted (report_of result source.new) }
+    ensures counted { seat.new.count ≡ accepted_count (report_of result source.new) }
 {
     let mut reader = LineReader::new(alloc, MAX_VARIABLE);
     let mut room = [0; PIECE];
@@ -80,7 +80,7 @@ fn run_lines<L: Opening, R: Wait, S: Source, G: Gate>(
         end: End::Stopped,
     };
     for _ in rt.forever() {
-        if shared.verdict_now(rt).is_some() {
+        if shared.verdict_now().is_some() {
             return tally.ending(End::Stopped);
         }
         let line = match next_line(rt, source, &mut reader, &mut ended, &mut room) {

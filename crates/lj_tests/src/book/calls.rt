@@ -1,9 +1,10 @@
 //! Calls by themselves, each with memory at hand.
 use crate::book::opened;
-use crate::tables::{BINARY, Line, addition, clause};
+use crate::tables::{BINARY, Line, addition, assert_lits, clause};
 use lj_book::{Added, Book, Dropped, Imported, Refusal};
-use lj_clause::{Clause, Lit, NoMemory};
+use lj_clause::{Clause, Formula, Lit, NoMemory};
 use lj_hint::{Live, Marks, Tested, rat_test};
+use lj_text::Numbers;
 use std::alloc::Global;
 use std::process::Abort;
 use std::test::Fail;
@@ -20,6 +21,22 @@ fn add(rt: &impl Abort, alloc: Global, book: &mut Book, line: &Line) -> Result<A
     }
 }
 
+/// Asserts that these are the binary clauses, in their order.
+fn assert_binary(rt: &impl Abort, formula: &Formula) {
+    assert!(rt; formula.len() == 4);
+    for (number, lits) in [
+        (1, BINARY[0]),
+        (2, BINARY[1]),
+        (3, BINARY[2]),
+        (4, BINARY[3]),
+    ] {
+        let Some(clause) = formula.clause(number) else {
+            panic!(rt; "no clause");
+        };
+        assert_lits(rt, clause.lits(), lits);
+    }
+}
+
 #[test]
 fn two_steps_refute_the_binary_clauses(rt: HostRuntime) -> Result<(), Fail> {
     let alloc = rt.alloc();
@@ -33,8 +50,9 @@ fn two_steps_refute_the_binary_clauses(rt: HostRuntime) -> Result<(), Fail> {
     let Some(verified) = book.verified()? else {
         panic!(&rt; "not verified");
     };
-    assert!(rt; verified.formula().len() == 4 && book.formula().len() == 4);
-    assert!(rt; book.into_steps()?.len() == 2);
+    assert_binary(&rt, verified.formula());
+    assert_binary(&rt, book.formula());
+    assert!(rt; book.into_steps().len() == 2);
     Ok(())
 }
 
@@ -49,7 +67,10 @@ fn clauses_are_shown_found_bound_and_given_up(rt: HostRuntime) -> Result<(), Fai
     assert!(rt; book.candidates(second)?.as_slice() == &[3, 4][..]);
     assert!(rt; book.adopt(0, 7, 3)? == 0);
     assert!(rt; book.import(0, 8, &clause(alloc, &[2, -1])?)? == Imported { place: 1, joint: 2 });
-    assert!(rt; book.drop_numbers(0, &[3, 4])? == Dropped { place: 2, count: 2 });
+    assert!(rt;
+        book.drop_numbers(0, &Numbers::from_slice(alloc, &[3, 4])?)?
+            == Dropped { place: 2, count: 2 }
+    );
     assert!(rt; book.clause(3).is_some() && book.clause(4).is_none());
     assert!(rt; book.leave(0)? == 3);
     assert!(rt; book.candidates(first)?.is_empty());

@@ -154,7 +154,51 @@ const REFUSED: [Row; 5] = [
     (0, FIRST, FIRST_STEP),
 ];
 
-const EXAMPLES: [Example; 9] = [
+/// Lines that name clauses which a seat came by in each way: its own lemma, an imported and an adopted clause, a number that it
+/// gave up, and the same number once it is bound again.
+const COME_BY: [Row; 11] = [
+    (0, FIRST, FIRST_STEP),
+    (
+        0,
+        Called::Add(Line(6, &[1], &[5, 3], &[])),
+        Ok(ListedStep::Add(6, 1, &[5, 3], &[])),
+    ),
+    (1, Called::Import(9, &[2]), NO_STEP),
+    (
+        1,
+        Called::Add(Line(10, &[1], &[9, 3], &[])),
+        Ok(ListedStep::Add(7, 1, &[5, 3], &[])),
+    ),
+    (1, Called::Adopt(11, 6), NO_STEP),
+    (
+        1,
+        Called::Add(Line(12, &[1, 2], &[11], &[])),
+        Ok(ListedStep::Add(8, 2, &[6], &[])),
+    ),
+    (1, Called::Drop(&[3, 12]), Ok(ListedStep::Delete(&[8]))),
+    (
+        1,
+        Called::Add(Line(12, &[1], &[9, 3], &[])),
+        Err(Refusal::UnknownNumber(3)),
+    ),
+    (
+        1,
+        Called::Add(Line(13, &[1, 2], &[12], &[])),
+        Err(Refusal::UnknownNumber(12)),
+    ),
+    (
+        1,
+        Called::Add(Line(3, &[2, 1], &[9], &[])),
+        Ok(ListedStep::Add(9, 2, &[5], &[])),
+    ),
+    (
+        1,
+        Called::Add(Line(12, &[1, 2], &[3], &[])),
+        Ok(ListedStep::Add(10, 2, &[9], &[])),
+    ),
+];
+
+const EXAMPLES: [Example; 10] = [
     (&[&[1], &[-1]], 1, &UNIT_PAIR, Some(0)),
     (&BINARY, 1, &TWO_STEPS, Some(1)),
     (&BINARY, 3, &CLOSING, Some(4)),
@@ -164,6 +208,7 @@ const EXAMPLES: [Example; 9] = [
     (&BINARY, 1, &LAST_LEAVES, None),
     (&[&[1, 2], &[1, -2]], 2, &ADOPTED, None),
     (&BINARY, 1, &REFUSED, None),
+    (&BINARY, 2, &COME_BY, None),
 ];
 
 #[test]
@@ -205,8 +250,9 @@ fn enter<L: Opening, R: Wait + Abort>(
     }
     for (seat, of_seat) in seats.iter().zip(&tokens) {
         assert!(rt; seat.count() == of_seat.len() as u64);
+        assert_told(rt, alloc, &shared, seat.number(), of_seat, script)?;
     }
-    assert!(rt; shared.verdict_now(rt) == verdict);
+    assert!(rt; shared.verdict_now() == verdict);
     let Ok(closed) = shared.close(seats) else {
         panic!(rt; "not closed");
     };
@@ -244,6 +290,29 @@ fn make<L: Opening, R: Wait + Abort>(
     Ok(())
 }
 
+/// Asserts that the seat's tokens still show their entries, once all calls are made.
+fn assert_told<L: Opening>(
+    rt: &impl Abort,
+    alloc: Global,
+    shared: &Shared<L>,
+    seat: u32,
+    tokens: &[Told],
+    script: &[Row],
+) -> Result<(), Fail> {
+    let mut tokens = tokens.iter();
+    for (number, called, wanted) in script {
+        if let Ok(step) = wanted
+            && *number == seat
+        {
+            let Some(told) = tokens.next() else {
+                panic!(rt; "no token");
+            };
+            assert_entry(rt, alloc, shared.told(told), seat, called, step)?;
+        }
+    }
+    Ok(())
+}
+
 /// Asserts that the history holds the entries of the rows that aren't refused, and no more.
 fn assert_history(rt: &impl Abort, alloc: Global, book: &Book, script: &[Row]) -> Result<(), Fail> {
     let mut entries = Vec::new(alloc);
@@ -254,10 +323,10 @@ fn assert_history(rt: &impl Abort, alloc: Global, book: &Book, script: &[Row]) -
     }
     assert!(rt; book.history_len() == entries.len() as u64);
     for (place, (seat, called, step)) in entries.iter().enumerate() {
-        let Some(entry) = book.entry(place as u64) else {
+        let Ok(Some(entry)) = book.entry(place as u64) else {
             panic!(rt; "no entry");
         };
-        assert_entry(rt, alloc, entry, *seat, called, step)?;
+        assert_entry(rt, alloc, &entry, *seat, called, step)?;
     }
     Ok(())
 }

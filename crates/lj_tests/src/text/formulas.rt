@@ -30,8 +30,8 @@ const TEXTS: [(&str, &str); 27] = [
     ("p cnf 1 1\n1 0 2 0\n", "VariableRange 2"),
     ("p cnf 2 1\n1 0 x", "BadNumber 2"),
     ("p cnf 0 0\n0\n", "ClauseCount 2"),
-    ("p cnf 2 1\n1 0\n%x\np", "2: [1] "),
-    ("p cnf 134217727 4294967295", "ClauseCount 1"),
+    ("p cnf 1 1\n1 0 %x\n", "1: [1] "),
+    ("p cnf 134217727 4294967295\n", "ClauseCount 2"),
     ("p cnf 2 1\n\n0\n\n1\n", "ClauseCount 5"),
     (
         "p cnf 2 5\n1 2 0\n-1 2 0\n1 -2 0\n-1 -2 0\n",

@@ -6,7 +6,7 @@ use std::alloc::Global;
 use std::test::*;
 
 /// Inputs, and what is told of them: each line with its number, and the fault that ends them.
-const INPUTS: [(&str, &str); 34] = [
+const INPUTS: [(&str, &str); 36] = [
     ("5 2 0 1 2 0", "1: Add 5 [2] Some(2) [1, 2];"),
     ("005 01 0 00\n", "1: Add 5 [1] Some(1) [];"),
     (
@@ -19,6 +19,8 @@ const INPUTS: [(&str, &str); 34] = [
     ("7 i -2 1 0\n", "1: Import 7 [1, -2];"),
     ("7 i 0\n", "1: Import 7 [];"),
     ("c 5 x\n\n \t\r\n", ""),
+    ("cnf\n", ""),
+    ("c5\n", ""),
     ("5 1 0 0\r\n", "1: Add 5 [1] Some(1) [];"),
     ("5 x 0 0\n", "BadNumber 1"),
     ("5 +1 0 0\n", "BadNumber 1"),
@@ -40,8 +42,8 @@ const INPUTS: [(&str, &str); 34] = [
     ("0 134217728 0 0\n", "NumberRange 1"),
     ("-9223372036854775808 1 0 0\n", "NumberRange 1"),
     ("5 d -9223372036854775808 0\n", "NumberRange 1"),
-    ("5 1 0 0 99999999999999999999\n", "Syntax 1"),
-    ("5 1 0 0 c\n", "BadNumber 1"),
+    ("5 1 0 0 9223372036854775808\n", "Syntax 1"),
+    ("5 1 0 0 d\n", "BadNumber 1"),
     (
         "9223372036854775807 2 0 9223372036854775807 0\n\ncnf\n5 d 1 0",
         "1: Add 9223372036854775807 [2] Some(2) [9223372036854775807];4: Delete [1];",

@@ -1,9 +1,10 @@
 //! Sources and sinks over memory, over readers and writers, and that fail.
 ghost use Rattle.std.specs.Prelude.{◌≡◌};
 
+use crate::fakes::{FailingSink, FailingSource};
 use lj_text::{
-    FailingSink, FailingSource, MemorySink, MemorySource, ReaderSource, Sink, SinkFault, Source,
-    SourceFault, WriterSink, write_all,
+    MemorySink, MemorySource, ReaderSource, Sink, SinkFault, Source, SourceFault, WriterSink,
+    write_all,
 };
 use std::alloc::{AllocError, Global};
 use std::io;

@@ -1,20 +1,19 @@
 //! Joint proofs as text.
 ghost use Rattle.std.specs.Prelude.{◌≡◌, [], false};
 
+use crate::fakes::FailingSink;
+use crate::tables::BINARY_TEXT;
 use lj_clause::MAX_VARIABLE;
 use lj_run::{Options, ProofEnd, ProofFault, run_in_turn};
 use lj_text::{
-    FailingSink, Line, LineReader, MemorySink, MemorySource, ProofWriter, Sink, SinkFault, Step,
-    WriteFault, write_proof,
+    Line, LineReader, MemorySink, MemorySource, ProofWriter, Sink, SinkFault, Step, WriteFault,
+    write_proof,
 };
 use std::alloc::Global;
 use std::sync::Wait;
 use std::test::Fail;
 
-/// The four binary clauses over two variables.
-const FOUR: &str = "p cnf 2 4\n1 2 0\n-1 2 0\n1 -2 0\n-1 -2 0\n";
-
-/// A proof of them, of 24 bytes.
+/// A proof of the four binary clauses, of 24 bytes.
 const TWO_STEPS: &str = "5 2 0 1 2 0\n6 0 5 3 4 0\n";
 
 /// The additions and deletions that lines spell, as steps.
@@ -127,7 +126,7 @@ fn proof_into(
 ) -> Result<(bool, ProofEnd, Vec<u8>), Fail>
     requires { (sink.sink.sink.1 ≡ 0) × (sink.sink.failed ≡ false) }
 {
-    let mut formula = MemorySource::new(FOUR.as_bytes().to_vec(alloc)?);
+    let mut formula = MemorySource::new(BINARY_TEXT.as_bytes().to_vec(alloc)?);
     let mut streams = Vec::new(alloc);
     streams.push(MemorySource::new(TWO_STEPS.as_bytes().to_vec(alloc)?))?;
     let options = Options {

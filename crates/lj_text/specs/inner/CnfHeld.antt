@@ -1,6 +1,7 @@
 -- What is true of the fields of a reader of a formula, and its steps over a piece.
 use Rattle.std.specs.Prelude.{◌≡◌, ℕ, ◌+◌, ◌<◌, ◌≤◌, ◌⊎◌, true, false, List, [], ◌∷◌, ◌++◌, length, None, Some, Err}
 use Rattle.std.specs.List.{AllByRecursion}
+use Rattle.std.specs.Str.{byte}
 use Rattle.lj_text.specs.declared.cnf.fault.CnfFault.{CnfFault}
 use Rattle.lj_text.specs.declared.cnf.state.State.{State}
 use Rattle.lj_text.specs.Bytes.{line_number, lines_of, tokens_of}
@@ -36,12 +37,13 @@ Leads max n old lines new = (more : List ℕ)
 
 -- the first line of the bytes is whole, and the state keeps what it says
 abbrev pub IsKeptLine : State → List ℕ → Type 0
-IsKeptLine state bytes = (line : List ℕ) × (after : List ℕ) × (bytes ≡ line ++ 10 ∷ after)
-    × (asks_room state (tokens_of line) ≡ true)
+IsKeptLine state bytes = (line : List ℕ) × (after : List ℕ)
+    × (bytes ≡ line ++ byte "\n" ∷ after) × (asks_room state (tokens_of line) ≡ true)
 
 -- A line needs room among those of which these bytes are held and which a piece goes on with. Whole lines were read before it.
 -- A part of it was held before, or it isn't whole yet and has to be held, or it begins with a number where a clause is to come.
-pub record NeedsRoomFrom (max first : ℕ) (old : State) (held piece : List ℕ) (line : ℕ) : Type 0 where
+pub record NeedsRoomFrom (max first : ℕ) (old : State) (held piece : List ℕ)
+    (line : ℕ) : Type 0 where
   pub lines : List (List ℕ)
   pub whole : AllByRecursion HasNoLineEnd lines
   pub left : List ℕ
@@ -52,7 +54,8 @@ pub record NeedsRoomFrom (max first : ℕ) (old : State) (held piece : List ℕ)
   pub room : ((lines ≡ []) × (0 < length held)) ⊎ (IsLeftOpen left ⊎ IsKeptLine state left)
 
 -- What was read of a piece behind what was held.
-pub record Taken (max first : ℕ) (old : State) (held piece : List ℕ) (new : State) (line : ℕ) (left : List ℕ) : Type 0 where
+pub record Taken (max first : ℕ) (old : State) (held piece : List ℕ) (new : State) (line : ℕ)
+    (left : List ℕ) : Type 0 where
   pub none : HasNoLineEnd left
   pub lines : List (List ℕ)
   pub whole : AllByRecursion HasNoLineEnd lines

@@ -1,22 +1,69 @@
 -- What is true of the fields of a reader of lines, and its steps.
-use Rattle.std.specs.Prelude.{◌≡◌, ℕ, ◌-◌, ◌<◌, ◌≤◌, List, length, take, drop, get_or, Some, if◌then◌else◌}
+use Rattle.std.specs.Prelude.{◌≡◌, ℕ, ◌+◌, ◌-◌, ◌^◌, ◌<◌, ◌≤◌, List, [], ◌∷◌, ◌++◌, length, take, drop, get_or, Some, if◌then◌else◌}
+use Rattle.std.specs.List.{AllByRecursion, concat}
+use Rattle.std.specs.Str.{byte}
 use Rattle.lj_text.specs.declared.lines.fault.LineFault.{LineFault}
 use Rattle.lj_text.specs.declared.lines.look.Found.{Found}
 use Rattle.lj_text.specs.Bytes.{line_number}
-use Rattle.lj_text.specs.LinesRead.{LinesRead, HasNoLineEnd, is_line_no_memory, most_done}
+use Rattle.lj_text.specs.LinesRead.{LinesRead, HasNoLineEnd, is_line_no_memory}
 use Rattle.lj_clause.specs.declared.lit.TheConstants.{MAX_VARIABLE}
 
 -- the last byte is a line feed
 abbrev pub EndsLine : List ℕ → Type 0
-EndsLine bytes = get_or bytes (length bytes - 1) 0 ≡ 10
+EndsLine bytes = get_or bytes (length bytes - 1) 0 ≡ byte "\n"
 
--- Bytes are held in two parts: what stands behind start in the front, which isn't all done, and then the back. Where there is a back, the front ends a line.
-pub record IsParted (start : ℕ) (front back : List ℕ) : Type 0 where
-  pub begun : start ≤ length front
-  pub unread : 0 < length front → start < length front
-  pub parted : 0 < length back → EndsLine front
-  -- what is done is at most a piece of the usual size, or a quarter of what follows it there
-  pub few : start ≤ most_done (length front - start)
+-- behind the first 65,535 bytes no line ends but at the end of all
+abbrev pub HasNoLateEnd : List ℕ → Type 0
+HasNoLateEnd bytes = (k : ℕ) → 65535 ≤ k → get_or bytes k 0 ≡ byte "\n" → length bytes ≤ k + 1
+
+-- A run of whole lines: as many bytes as a piece or more, but fewer without the last line.
+pub record IsLineRun (bytes : List ℕ) : Type 0 where
+  pub long : 65536 ≤ length bytes
+  pub ended : EndsLine bytes
+  pub late : HasNoLateEnd bytes
+  pub countable : length bytes < 2 ^ 64
+
+-- what is done is less than the first run, and than the bytes that are no run yet, where these come first
+abbrev pub IsDoneWithin : ℕ → List (List ℕ) → List ℕ → Type 0
+IsDoneWithin start [] rest = (start ≤ length rest) × (0 < length rest → start < length rest)
+IsDoneWithin start (run ∷ runs) rest = start < length run
+
+-- Bytes are held as runs of lines, and then what is no run yet; of all these, so many, the first ones are done.
+pub record IsInRuns (start : ℕ) (runs : List (List ℕ)) (rest : List ℕ) (count : ℕ) : Type 0 where
+  pub whole : AllByRecursion IsLineRun runs
+  pub late : HasNoLateEnd rest
+  pub begun : IsDoneWithin start runs rest
+  pub few : start ≤ 65536
+  pub count_is : count ≡ length (concat runs ++ rest)
+
+-- the place stands within the first run, if there is one
+abbrev pub IsWithinFirst : ℕ → List (List ℕ) → Type 0
+IsWithinFirst place [] = Unit {0}
+IsWithinFirst place (run ∷ runs) = place < length run
+
+-- Some runs before a place are gone, and it is this place among the others.
+pub record IsLetGo (old new : List (List ℕ)) (place left : ℕ) : Type 0 where
+  pub gone : List (List ℕ)
+  pub old_is : old ≡ gone ++ new
+  pub place_is : place ≡ length (concat gone) + left
+
+-- Bytes stand ahead: some in front, then runs, and then what is no run yet. The front ends a line where anything follows it.
+pub record IsAheadOfRuns (front : List ℕ) (runs : List (List ℕ)) (rest : List ℕ)
+    (count : ℕ) : Type 0 where
+  pub whole : AllByRecursion IsLineRun runs
+  pub parted : 0 < length (concat runs ++ rest) → EndsLine front
+  pub count_is : count ≡ length (front ++ (concat runs ++ rest))
+
+-- the same, but that the front may have been passed
+pub record IsPassed (front : List ℕ) (runs : List (List ℕ)) (rest : List ℕ)
+    (count : ℕ) : Type 0 where
+  pub whole : AllByRecursion IsLineRun runs
+  pub parted : 0 < length front → 0 < length (concat runs ++ rest) → EndsLine front
+  pub count_is : count ≡ length (front ++ (concat runs ++ rest))
+
+-- the bytes behind this place begin a line
+abbrev pub BeginsLineAt : List ℕ → ℕ → Type 0
+BeginsLineAt bytes place = 0 < place → get_or bytes (place - 1) 0 ≡ byte "\n"
 
 -- Bytes are held, and no line ends among the first that were searched; their first line has a number.
 pub record IsHeld (max searched line : ℕ) (ahead : List ℕ) : Type 0 where
@@ -34,6 +81,7 @@ reader_past r found = record r
 -- what was found may be passed
 pub record IsAhead (ahead : List ℕ) (found : Found) : Type 0 where
   pub left : found.left ≤ length ahead
+  pub begins : 0 < found.left → BeginsLineAt ahead (length ahead - found.left)
   pub searched : found.searched ≤ found.left
   pub none_before : HasNoLineEnd (take found.searched (drop (length ahead - found.left) ahead))
   pub before : ℕ

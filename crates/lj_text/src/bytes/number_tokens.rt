@@ -1,6 +1,7 @@
 //! The tokens of a line as numbers, each in one pass.
 ghost use Rattle.std.specs.Prelude.{◌≡◌, ◌-◌, ◌<◌, ◌≤◌, ℕ, true, [], ◌∷◌, length, IfNone, IfSome, negsuc, suc};
 ghost use Rattle.std.specs.Char.{is_ascii_digit};
+ghost use Rattle.std.specs.Str.{byte};
 ghost use Rattle.lj_text.specs.inner.LineReading.{words_of};
 ghost use Rattle.lj_text.specs.Bytes.{tokens_of};
 ghost use Rattle.lj_text.specs.inner.HeldNumbers.{BeginsToken, BeginsWord, IsNumberAhead};
@@ -61,7 +62,7 @@ fn unsigned(digit: u8, bytes: &[u8]) -> Option<(Word, &[u8])>
 fn negative(digit: u8, bytes: &[u8]) -> Option<(Word, &[u8])>
     requires { is_ascii_digit digit ≡ true }
     ensures word { IfSome result
-        (λ found. BeginsToken (45 ∷ digit ∷ bytes.now) found.0 found.1.now) }
+        (λ found. BeginsToken (byte "-" ∷ digit ∷ bytes.now) found.0 found.1.now) }
     ensures shorter { IfSome result (λ found. length found.1.now ≤ length bytes.now) }
 {
     let (value, after) = digits_behind(digit - b'0', bytes)?;
@@ -90,8 +91,8 @@ fn number_ahead(bytes: &[u8]) -> Option<(Word, &[u8])>
     ensures shorter { IfSome result (λ found. length found.1.now < length bytes.now) }
 {
     match bytes {
-        [b'-', digit, after @ ..] if digit.is_ascii_digit() => negative(*digit, after),
         [digit, after @ ..] if digit.is_ascii_digit() => unsigned(*digit, after),
+        [b'-', digit, after @ ..] if digit.is_ascii_digit() => negative(*digit, after),
         _ => None,
     }
 }

@@ -1,5 +1,6 @@
 //! The clauses of a formula.
 ghost use Rattle.std.specs.Prelude.{◌≡◌, ◌≤◌, ◌∷◌, ◌++◌, ◌<◌, ℕ, List, [], Bool, true, false, pos, unsigned_abs, IfErr, MatchResult, Ok};
+ghost use Rattle.std.specs.Str.{byte};
 ghost use Rattle.lj_clause.specs.ClauseMap.{formula_of};
 ghost use Rattle.lj_text.specs.Bytes.{begins, number_of};
 ghost use Rattle.lj_text.specs.Cnf.{Place, Percent, Number, number_at, place_at};
@@ -35,9 +36,19 @@ impl Model for Body {
 
     ghost coded = { begun_code };
 
-    ghost view = { λ b. record { variables = b.variables; left = b.left; clauses = b.clauses.items; literals = b.literals.items } };
+    ghost view = { λ b. record {
+      variables = b.variables;
+      left = b.left;
+      clauses = b.clauses.items;
+      literals = b.literals.items;
+    } };
 
-    ghost invariant = { λ b. IsBegun (record { variables = b.variables; left = b.left; clauses = b.clauses.items; literals = b.literals.items }) };
+    ghost invariant = { λ b. IsBegun (record {
+      variables = b.variables;
+      left = b.left;
+      clauses = b.clauses.items;
+      literals = b.literals.items;
+    }) };
 }
 
 impl Body {
@@ -190,7 +201,7 @@ fn number_up_to(token: &[u8], variables: u32) -> Result<i32, CnfFaultKind>
 
 /// Whether a token begins with `%`.
 fn is_percent(token: &[u8]) -> bool
-    ensures { result ≡ begins 37 token.now }
+    ensures { result ≡ begins (byte "%") token.now }
 {
     match token {
         [b'%', ..] => true,

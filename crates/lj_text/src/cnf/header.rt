@@ -1,5 +1,6 @@
 //! The header of a formula.
 ghost use Rattle.std.specs.Prelude.{◌≡◌, ◌≤◌, ◌∷◌, ℕ, [], false, MatchResult, IfNone, IfSome, IfOk, IfErr, Ok};
+ghost use Rattle.std.specs.Str.{byte};
 ghost use Rattle.lj_text.specs.Bytes.{tokens_of};
 ghost use Rattle.lj_text.specs.Lines.{is_letter};
 ghost use Rattle.lj_text.specs.Cnf.{fault_in, header_after, header_of};
@@ -59,7 +60,7 @@ fn read_sizes(max: u32, bytes: &[u8]) -> Result<(u32, u32), CnfFaultKind>
 
 /// Whether a token is the `p` of a header.
 fn is_header(token: &[u8]) -> bool
-    ensures { result ≡ is_letter 112 token.now }
+    ensures { result ≡ is_letter (byte "p") token.now }
 {
     match token {
         [b'p'] => true,

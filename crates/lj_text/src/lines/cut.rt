@@ -1,5 +1,6 @@
 //! The first whole line of what is ahead.
 ghost use Rattle.std.specs.Prelude.{◌≡◌, ◌<◌, ◌≤◌, ◌∷◌, ◌++◌, length, take, IfNone, IfSome};
+ghost use Rattle.std.specs.Str.{byte};
 ghost use Rattle.lj_text.specs.LinesRead.{HasNoLineEnd};
 
 use memchr::memchr;
@@ -9,7 +10,8 @@ pub(crate) fn first_line(bytes: &[u8], searched: usize) -> Option<(&[u8], &[u8])
     requires within { searched ≤ length bytes.now }
     requires none_before { HasNoLineEnd (take searched bytes.now) }
     ensures none { IfNone result (HasNoLineEnd bytes.now) }
-    ensures some { IfSome result (λ found. bytes.now ≡ found.0.now ++ 10 ∷ found.1.now) }
+    ensures some { IfSome result
+        (λ found. bytes.now ≡ found.0.now ++ byte "\n" ∷ found.1.now) }
     ensures line { IfSome result (λ found. HasNoLineEnd found.0.now) }
 {
     let (_, rest) = bytes.split_at(searched);

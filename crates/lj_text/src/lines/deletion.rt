@@ -4,7 +4,7 @@ ghost use Rattle.lj_text.specs.inner.LineReading.{Gives, words_of};
 
 use super::closing::{check_closed, cut_short};
 use super::fault::LineFaultKind;
-use crate::bytes::{Word, next_word};
+use crate::bytes::{Word, next_word, short_number};
 use crate::numbers::NumberRoom;
 
 /// The numbers up to the closing 0.
@@ -17,7 +17,19 @@ pub(super) fn read_numbers(
 {
     numbers.clear();
     let mut rest = bytes;
-    while let Some((word, after)) = next_word(rest) {
+    loop {
+        if let Some((number, after)) = short_number(rest) {
+            if number == 0 {
+                check_closed(after)?;
+                return Ok(());
+            }
+            numbers.push(u64::from(number))?;
+            rest = after;
+            continue;
+        }
+        let Some((word, after)) = next_word(rest) else {
+            return Err(cut_short(ended));
+        };
         match word {
             Word::Positive(number) => numbers.push(number)?,
             Word::Zero => {
@@ -30,5 +42,4 @@ pub(super) fn read_numbers(
         }
         rest = after;
     }
-    Err(cut_short(ended))
 }

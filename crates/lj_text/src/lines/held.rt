@@ -1,40 +1,41 @@
 //! What a reader of lines holds of what was fed.
 ghost use Rattle.std.specs.Prelude.{◌≡◌, ◌+◌, ◌-◌, ◌<◌, ◌≤◌, ◌∷◌, ◌++◌, ℕ, List, [], length, take, drop, IfNone, IfSome, OnOk, OnErr};
-ghost use Rattle.lj_text.specs.LinesRead.{HasNoLineEnd, most_done};
-ghost use Rattle.lj_text.specs.inner.LinesHeld.{EndsLine, IsParted};
+ghost use Rattle.std.specs.List.{concat};
+ghost use Rattle.std.specs.Str.{byte};
+ghost use Rattle.lj_text.specs.LinesRead.{HasNoLineEnd};
+ghost use Rattle.lj_text.specs.inner.LinesHeld.{BeginsLineAt, IsAheadOfRuns, IsInRuns, IsPassed};
 
 use super::cut::first_line;
-use memchr::memchr;
+use super::runs::{Run, let_go, push_piece};
 use std::alloc::{AllocError, Global};
+use std::collections::VecDeque;
 use std::marker::Model;
-use std::mem::swap;
 
-/// How many bytes that are done may stay, however few follow.
-const MOST_BEHIND: usize = 65_536;
-
-/// Beyond that, what is done stays where as many times its bytes follow: so many are moved for each that goes.
-const MOST_MOVED: usize = 4;
+/// How much room may stay for bytes to come: that for two pieces of the usual size.
+const MOST_ROOM: usize = 131_072;
 
 /// The bytes that were fed and aren't done, in the order in which they were fed.
 ///
-/// Each was copied into one of two buffers, and no line stands in both. What is done stays in the room up to a piece of
-/// the usual size, or a quarter of what follows it.
+/// They stand in runs of whole lines, each in memory of its own, so that no line stands in two. A run is let go of once
+/// all of it is done, and what is done of the first is at most a piece of the usual size.
 #[derive(Debug, Drop)]
 pub(super) struct Held {
-    /// The lines being read.
-    front: Vec<u8>,
-    /// Where what isn't done begins in `front`.
+    alloc: Global,
+    runs: VecDeque<Run>,
+    /// What is no run yet.
+    rest: Vec<u8>,
+    /// How many of the first bytes are done.
     start: usize,
-    /// The lines that follow. They become the front once that is used up.
-    back: Vec<u8>,
+    /// How many bytes are there, with those that are done.
+    count: u128,
 }
 
 impl Model for Held {
     ghost Value = { List ℕ };
 
-    ghost view = { λ h. drop h.start h.front.items ++ h.back.items };
+    ghost view = { λ h. drop h.start (concat h.runs.items ++ h.rest.items) };
 
-    ghost invariant = { λ h. IsParted h.start h.front.items h.back.items };
+    ghost invariant = { λ h. IsInRuns h.start h.runs.items h.rest.items h.count };
 }
 
 impl Held {
@@ -43,9 +44,11 @@ impl Held {
         ensures { result ≡ [] }
     {
         Held {
-            front: Vec::new(alloc),
+            alloc,
+            runs: VecDeque::new(alloc),
+            rest: Vec::new(alloc),
             start: 0,
-            back: Vec::new(alloc),
+            count: 0,
         }
     }
 
@@ -54,32 +57,45 @@ impl Held {
         ensures ok { OnOk result (self.new ≡ self.old ++ piece.now) }
         ensures err { OnErr result (self.new ≡ self.old) }
     {
-        let (head, tail) = piece.split_at(front_share(&self.front, piece));
-        let before = self.front.len();
-        self.front.extend_from_slice(head)?;
-        if let Err(error) = self.back.extend_from_slice(tail) {
-            self.front.truncate(before);
-            return Err(error);
-        }
+        push_piece(self.alloc, &mut self.runs, &mut self.rest, piece)?;
+        self.count += piece.len() as u128;
         Ok(())
     }
 
     /// How many bytes are there, with those that are done.
-    pub fn room(&self) -> usize
+    pub fn room(&self) -> u128
         ensures all { length self.now ≤ result }
-        ensures few { result ≤ length self.now + most_done (length self.now) }
+        ensures few { result ≤ length self.now + 65536 }
     {
-        self.front.len() + self.back.len()
+        self.count
     }
 
     /// What is held.
     pub fn ahead(&self) -> Ahead<'_>
         ensures { result ≡ self.now }
     {
-        let (_, front) = self.front.split_at(self.start);
-        Ahead {
-            front,
-            back: &self.back,
+        let count = self.count - self.start as u128;
+        match self.runs.front() {
+            Some(run) => {
+                let (_, front) = run.bytes().split_at(self.start);
+                Ahead {
+                    front,
+                    runs: &self.runs,
+                    next: 1,
+                    rest: &self.rest,
+                    count,
+                }
+            }
+            None => {
+                let (_, front) = self.rest.split_at(self.start);
+                Ahead {
+                    front,
+                    runs: &self.runs,
+                    next: 0,
+                    rest: &[],
+                    count,
+                }
+            }
         }
     }
 
@@ -89,89 +105,72 @@ impl Held {
         requires none { HasNoLineEnd (drop (length self.now - count) self.now) }
         ensures { result.now ≡ drop (length self.now - count) self.now }
     {
-        if count <= self.back.len() {
-            let (_, last) = self.back.split_at(self.back.len() - count);
-            return last;
-        }
-        let (_, last) = self.front.split_at(self.front.len() - count);
+        let (_, last) = self.rest.split_at(self.rest.len() - count);
         last
     }
 
-    /// Lets go of all but the last bytes.
-    pub fn keep_last(&mut self, count: usize)
-        requires { count ≤ length self.old }
+    /// Lets go of all but the last bytes, which begin a line.
+    pub fn keep_last(&mut self, count: u128)
+        requires within { count ≤ length self.old }
+        requires begins { 0 < count → BeginsLineAt self.old (length self.old - count) }
         ensures { self.new ≡ drop (length self.old - count) self.old }
     {
-        if count > self.back.len() {
-            let start = self.front.len() - (count - self.back.len());
-            self.start = let_go(&mut self.front, start);
+        if count == 0 {
+            self.runs.clear();
+            empty(&mut self.rest);
+            self.start = 0;
+            self.count = 0;
             return;
         }
-        swap(&mut self.front, &mut self.back);
-        self.back.clear();
-        let start = self.front.len() - count;
-        self.start = let_go(&mut self.front, start);
-        if count == 0 {
-            self.front.clear();
-            self.start = 0;
-        }
+        let place = let_go(&mut self.runs, self.count - count);
+        self.start = place as usize;
+        self.count = count + place;
     }
 }
 
-/// Lets go of the bytes before `start`, where they are many beside those behind them, and tells where these begin then.
-///
-/// Takes constant time for each byte that it lets go of.
-fn let_go(bytes: &mut Vec<u8>, start: usize) -> usize
-    requires { start ≤ length bytes.old.items }
-    ensures rest { drop result bytes.new.items ≡ drop start bytes.old.items }
-    ensures within { result ≤ length bytes.new.items }
-    ensures few { result ≤ most_done (length bytes.new.items - result) }
+/// Lets go of all bytes, and of their room where that is long.
+fn empty(bytes: &mut Vec<u8>)
+    ensures { bytes.new.items ≡ [] }
 {
-    let left = bytes.len() - start;
-    if start <= MOST_BEHIND || start <= left / MOST_MOVED {
-        return start;
-    }
-    bytes.copy_within(start.., 0);
-    bytes.truncate(left);
-    0
-}
-
-/// How many bytes of a piece belong to the front: those up to the first line feed, where its last line is cut.
-fn front_share(front: &[u8], piece: &[u8]) -> usize
-    ensures within { result ≤ length piece.now }
-    ensures ended { EndsLine front.now → result ≡ 0 }
-    ensures ends { result < length piece.now → EndsLine (front.now ++ take result piece.now) }
-    ensures nearest { HasNoLineEnd (take (result - 1) piece.now) }
-{
-    if front.last() == Some(&b'\n') {
-        return 0;
-    }
-    match memchr(b'\n', piece) {
-        Some(end) => end + 1,
-        None => piece.len(),
+    bytes.clear();
+    if MOST_ROOM < bytes.capacity() {
+        bytes.shrink_to_fit();
     }
 }
 
-/// The bytes ahead in two parts, of which the first ends a line where there is a second.
+/// The bytes ahead: lines, the runs that follow, and what is no run yet.
 #[derive(Drop)]
 pub(super) struct Ahead<'a> {
     front: &'a [u8],
-    back: &'a [u8],
+    runs: &'a VecDeque<Run>,
+    /// Which of the runs follows.
+    next: usize,
+    rest: &'a [u8],
+    count: u128,
 }
 
 impl<'a> Model for Ahead<'a> {
     ghost Value = { List ℕ };
 
-    ghost view = { λ a. a.front.now ++ a.back.now };
+    ghost view = { λ a. a.front.now ++ (concat (drop a.next a.runs.now.items) ++ a.rest.now) };
 
-    ghost invariant = { λ a. 0 < length a.back.now → EndsLine a.front.now };
+    ghost invariant = { λ a. IsAheadOfRuns a.front.now (drop a.next a.runs.now.items)
+        a.rest.now a.count };
 }
 
 impl<'a> Ahead<'a> {
-    pub fn len(&self) -> usize
+    pub fn count(&self) -> u128
         ensures { result ≡ length self.now }
     {
-        self.front.len() + self.back.len()
+        self.count
+    }
+
+    /// How many bytes there are, where no line ends among them.
+    pub fn open_count(&self) -> usize
+        requires { HasNoLineEnd self.now }
+        ensures { result ≡ length self.now }
+    {
+        self.front.len()
     }
 
     /// The bytes before the first line feed, and those after it, where it isn't among the first `searched`.
@@ -179,21 +178,50 @@ impl<'a> Ahead<'a> {
         requires within { searched ≤ length self.now }
         requires none_before { HasNoLineEnd (take searched self.now) }
         ensures none { IfNone result (HasNoLineEnd self.now) }
-        ensures some { IfSome result (λ found. self.now ≡ found.0.now ++ 10 ∷ found.1) }
+        ensures some { IfSome result
+            (λ found. self.now ≡ found.0.now ++ byte "\n" ∷ found.1) }
         ensures line { IfSome result (λ found. HasNoLineEnd found.0.now) }
     {
         let (line, after) = first_line(self.front, searched)?;
-        let rest = if after.is_empty() {
-            Ahead {
-                front: self.back,
-                back: after,
-            }
-        } else {
-            Ahead {
-                front: after,
-                back: self.back,
-            }
+        let count = self.count - (line.len() as u128 + 1);
+        Some((line, behind(after, self.runs, self.next, self.rest, count)))
+    }
+}
+
+/// What is ahead, where the front may be used up.
+fn behind<'a>(
+    front: &'a [u8],
+    runs: &'a VecDeque<Run>,
+    next: usize,
+    rest: &'a [u8],
+    count: u128,
+) -> Ahead<'a>
+    requires { IsPassed front.now (drop next runs.now.items) rest.now count }
+    ensures { result ≡ front.now ++ (concat (drop next runs.now.items) ++ rest.now) }
+{
+    if !front.is_empty() {
+        return Ahead {
+            front,
+            runs,
+            next,
+            rest,
+            count,
         };
-        Some((line, rest))
+    }
+    match runs.get(next) {
+        Some(run) => Ahead {
+            front: run.bytes(),
+            runs,
+            next: next + 1,
+            rest,
+            count,
+        },
+        None => Ahead {
+            front: rest,
+            runs,
+            next,
+            rest: front,
+            count,
+        },
     }
 }

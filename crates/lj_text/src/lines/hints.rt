@@ -5,7 +5,7 @@ ghost use Rattle.lj_text.specs.inner.LineReading.{Gives, HintsGive, words_of, gr
 
 use super::closing::{check_closed, cut_short};
 use super::fault::LineFaultKind;
-use crate::bytes::{Word, next_word};
+use crate::bytes::{Word, next_word, short_number};
 use crate::numbers::{Group, NumberRoom, Numbers};
 use std::alloc::Global;
 
@@ -21,7 +21,19 @@ fn read_hints<'a>(
 {
     hints.clear();
     let mut rest = bytes;
-    while let Some((word, after)) = next_word(rest) {
+    loop {
+        if let Some((number, after)) = short_number(rest) {
+            if number == 0 {
+                check_closed(after)?;
+                return Ok(None);
+            }
+            hints.push(u64::from(number))?;
+            rest = after;
+            continue;
+        }
+        let Some((word, after)) = next_word(rest) else {
+            return Err(cut_short(ended));
+        };
         match word {
             Word::Positive(number) => hints.push(number)?,
             Word::Negative(candidate) => return Ok(Some((candidate, after))),
@@ -34,7 +46,6 @@ fn read_hints<'a>(
         }
         rest = after;
     }
-    Err(cut_short(ended))
 }
 
 /// The groups up to the closing 0, where the first one's candidate was read.
@@ -68,6 +79,7 @@ fn read_groups(
 }
 
 /// The hints and the groups up to the closing 0.
+#[inline(always)]
 pub(super) fn read_proof(
     alloc: Global,
     room: &mut NumberRoom,

@@ -78,6 +78,7 @@ fn pass_after_number(max: u32, ended: bool, number: u64, bytes: &[u8]) -> Result
 }
 
 /// Whether a line that isn't silent is right, or its fault. Takes time linear in the bytes.
+#[cold]
 pub(super) fn judge(max: u32, ended: bool, bytes: &[u8]) -> Result<(), LineFaultKind>
     requires { max ≤ MAX_VARIABLE }
     ensures { Judges result (line_of max ended (tokens_of bytes.now)) }

@@ -6,7 +6,7 @@ ghost use Rattle.lj_clause.specs.declared.lit.TheConstants.{MAX_VARIABLE};
 
 use super::closing::cut_short;
 use super::fault::LineFaultKind;
-use crate::bytes::{Word, next_word};
+use crate::bytes::{Word, next_word, short_integer};
 use lj_clause::Lit;
 
 /// The literals up to a 0, and what follows it.
@@ -22,17 +22,28 @@ pub(super) fn read_literals<'a>(
 {
     literals.clear();
     let mut rest = bytes;
-    while let Some((word, after)) = next_word(rest) {
-        let number = match word {
-            Word::Positive(variable) if variable <= u64::from(max) => variable as i32,
-            Word::Negative(variable) if variable <= u64::from(max) => -(variable as i32),
-            Word::Zero => return Ok(after),
-            Word::NoNumber => return Err(LineFaultKind::BadNumber),
-            _ => return Err(LineFaultKind::NumberRange),
+    loop {
+        let (number, after) = match short_integer(rest) {
+            Some((0, after)) => return Ok(after),
+            Some(found) => found,
+            None => match next_word(rest) {
+                Some((Word::Positive(variable), after)) if variable <= u64::from(max) => {
+                    (variable as i32, after)
+                }
+                Some((Word::Negative(variable), after)) if variable <= u64::from(max) => {
+                    (-(variable as i32), after)
+                }
+                Some((Word::Zero, after)) => return Ok(after),
+                Some((Word::NoNumber, _)) => return Err(LineFaultKind::BadNumber),
+                Some(_) => return Err(LineFaultKind::NumberRange),
+                None => return Err(cut_short(ended)),
+            },
         };
+        if number.unsigned_abs() > max {
+            return Err(LineFaultKind::NumberRange);
+        }
         let literal = Lit::new(number).ok_or(LineFaultKind::NumberRange)?;
         literals.push(literal)?;
         rest = after;
     }
-    Err(cut_short(ended))
 }

@@ -23,12 +23,13 @@ pub(super) struct Found {
     /// The number of the line that follows.
     pub number: u64,
     /// How many bytes follow.
-    pub left: usize,
+    pub left: u128,
     /// How many of those are known to hold no line feed.
     pub searched: usize,
 }
 
 /// What the bytes of the line with this number say.
+#[inline(always)]
 pub(super) fn parse_at(
     room: &mut Room,
     max: u32,
@@ -51,6 +52,7 @@ pub(super) fn parse_at(
 }
 
 /// Looks for the first whole line that says something. There is no line feed among the first `searched` bytes.
+#[inline(always)]
 pub(super) fn look(
     room: &mut Room,
     max: u32,
@@ -64,6 +66,7 @@ pub(super) fn look(
     ensures left { IfOk result (λ found. found.left ≤ length ahead.now) }
     ensures open { IfOk result (λ found. found.line ≡ None
         → HasNoLineEnd (drop (length ahead.now - found.left) ahead.now)) }
+    ensures searched { IfOk result (λ found. found.line ≡ None → found.searched ≡ found.left) }
     ensures found { (k : ℕ) → first ≡ line_number k → MatchResult result
         (λ found. Looked max k ahead.now found) (λ fault. Fails max k ahead.now fault) }
 {
@@ -79,7 +82,7 @@ pub(super) fn look(
                     line: Some(line),
                     at: number,
                     number: next,
-                    left: after.len(),
+                    left: after.count(),
                     searched: 0,
                 });
             }
@@ -92,8 +95,8 @@ pub(super) fn look(
         line: None,
         at: number,
         number,
-        left: rest.len(),
-        searched: rest.len(),
+        left: rest.count(),
+        searched: rest.open_count(),
     })
 }
 
@@ -118,7 +121,7 @@ pub(super) fn look_to_end(
     if found.line.is_some() {
         return Ok((found, false));
     }
-    let last = ahead.last(found.left);
+    let last = ahead.last(found.searched);
     let line = parse_at(room, max, false, last, found.number)?;
     let behind = Found {
         line,

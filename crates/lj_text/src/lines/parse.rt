@@ -1,8 +1,8 @@
 //! One whole line.
-ghost use Rattle.std.specs.Prelude.{◌≡◌, ◌≤◌, ◌∷◌, IfErr, IsOk, OnErr, true, false};
-ghost use Rattle.lj_text.specs.Bytes.{tokens_of, is_silent};
-ghost use Rattle.lj_text.specs.Lines.{addition_of, deletion_of, import_of, after_zero, after_number, line_of};
-ghost use Rattle.lj_text.specs.inner.LineReading.{Gives, words_of, line_said};
+ghost use Rattle.std.specs.Prelude.{◌≡◌, ◌≤◌, ◌∷◌, IfErr, IfOk, IsOk, List, OnErr, Some, pos, true, false, ℕ};
+ghost use Rattle.lj_text.specs.Bytes.{number_of, tokens_of, is_silent};
+ghost use Rattle.lj_text.specs.Lines.{addition_of, deletion_of, import_of, after_zero, after_number, greatest, line_of};
+ghost use Rattle.lj_text.specs.inner.LineReading.{Gives, IsLineTold, words_of, line_said};
 ghost use Rattle.lj_text.specs.LinesRead.{is_line_no_memory};
 ghost use Rattle.lj_clause.specs.declared.lit.TheConstants.{MAX_VARIABLE};
 
@@ -13,12 +13,13 @@ use super::hints::read_proof;
 use super::judge::judge;
 use super::literals::read_literals;
 use super::room::Room;
-use crate::bytes::{Word, after_blanks, first_word, next_token, word_of};
+use crate::bytes::{Word, after_blanks, first_word, next_token, short_number, word_of};
 use crate::line::{Addition, Line};
 use crate::numbers::Groups;
 use lj_clause::{Clause, Lemma};
 
 /// The literals, hints and groups of an addition.
+#[inline(always)]
 fn addition(
     room: &mut Room,
     max: u32,
@@ -84,6 +85,7 @@ pub(super) fn after_zero(max: u32, token: &[u8]) -> LineFaultKind
 }
 
 /// What follows a line's first number.
+#[inline(always)]
 fn after_number(
     room: &mut Room,
     max: u32,
@@ -125,22 +127,40 @@ fn after_any_number(
     }
 }
 
-/// The line that isn't silent.
-fn line(room: &mut Room, max: u32, ended: bool, bytes: &[u8]) -> Result<Line, LineFaultKind>
-    requires { max ≤ MAX_VARIABLE }
-    ensures { Gives (λ line. line) result (line_of max ended (tokens_of bytes.now)) }
+/// The line's first number, and what follows it.
+#[inline(always)]
+fn first_number(ended: bool, bytes: &[u8]) -> Result<(u64, &[u8]), LineFaultKind>
+    ensures ok { IfOk result (λ found. (token : List ℕ)
+        × (tokens_of bytes.now ≡ token ∷ tokens_of found.1.now)
+        × (number_of token ≡ Some (pos found.0)) × (found.0 ≤ greatest)) }
+    ensures err { IfErr result
+        (λ kind. (max : ℕ) → IsLineTold kind (line_of max ended (tokens_of bytes.now))) }
 {
+    if let Some((number, after)) = short_number(bytes) {
+        return Ok((u64::from(number), after));
+    }
     match first_word(bytes) {
         None => Err(cut_short(ended)),
         Some((Word::NoNumber, _)) => Err(LineFaultKind::BadNumber),
-        Some((Word::Zero, after)) => after_number(room, max, ended, 0, after),
-        Some((Word::Positive(number), after)) => after_number(room, max, ended, number, after),
+        Some((Word::Zero, after)) => Ok((0, after)),
+        Some((Word::Positive(number), after)) => Ok((number, after)),
         Some((Word::Negative(_), _)) => Err(LineFaultKind::Syntax),
         Some((Word::Beyond, _)) => Err(LineFaultKind::NumberRange),
     }
 }
 
+/// The line that isn't silent.
+#[inline(always)]
+fn line(room: &mut Room, max: u32, ended: bool, bytes: &[u8]) -> Result<Line, LineFaultKind>
+    requires { max ≤ MAX_VARIABLE }
+    ensures { Gives (λ line. line) result (line_of max ended (tokens_of bytes.now)) }
+{
+    let (number, after) = first_number(ended, bytes)?;
+    after_number(room, max, ended, number, after)
+}
+
 /// The same, where want of memory is told only of a line that is right: another line's fault comes before it.
+#[inline(always)]
 fn line_or_fault(
     room: &mut Room,
     max: u32,
@@ -162,6 +182,7 @@ fn line_or_fault(
 }
 
 /// What the bytes of a line say: nothing where it is silent. Takes time linear in the bytes, but for a lemma's sorting.
+#[inline(always)]
 pub(super) fn parse(
     room: &mut Room,
     max: u32,

@@ -2,7 +2,7 @@
 ghost use Rattle.std.specs.Prelude.{◌≡◌, ◌+◌, ◌≤◌, ◌++◌, ◌⊎◌, ℕ, Bool, true, false, List, [], length, Option, Some, None, Ok, Err, IfSome, IfErr, IsSome, OnOk, OnErr, MatchBool, MatchResult, slice_get};
 ghost use Rattle.lj_text.specs.Bytes.{line_number};
 ghost use Rattle.lj_text.specs.Lines.{whole_said, all_said};
-ghost use Rattle.lj_text.specs.LinesRead.{LineReaderStandsAt, IsSaidAt, IsSaidRight, wants_memory, line_answer, handed_out, fault_of, line_number_of, last_number, most_done};
+ghost use Rattle.lj_text.specs.LinesRead.{LineReaderStandsAt, IsReadingAt, IsSaidAt, IsSaidRight, wants_memory, line_answer, handed_out, fault_of, line_number_of, last_number};
 ghost use Rattle.lj_text.specs.inner.LinesHeld.{IsAhead, reader_past, reader_with_fault};
 ghost use Rattle.lj_text.specs.inner.Looking.{Looked, LookedBehind, Fails, FailsToEnd};
 ghost use Rattle.lj_clause.specs.declared.lit.TheConstants.{MAX_VARIABLE};
@@ -38,7 +38,14 @@ impl Model for LineReader {
 
     ghost Value = { LinesRead };
 
-    ghost view = { λ r. record { max = r.max; ahead = r.held; line = r.line; at = r.at; finished = r.finished; fault = r.fault } };
+    ghost view = { λ r. record {
+      max = r.max;
+      ahead = r.held;
+      line = r.line;
+      at = r.at;
+      finished = r.finished;
+      fault = r.fault;
+    } };
 
     ghost invariant = { λ r. IsHeld r.max r.searched r.line r.held };
 }
@@ -101,23 +108,22 @@ impl LineReader {
             (λ fault. (result ≡ Err fault) × (self.new ≡ self.old)) }
 
         // The first whole line that says something and wasn't handed out, or its fault; none exactly where there is none.
-        ensures answer { (text : List ℕ) (given : ℕ) → LineReaderStandsAt self.old text given
-            → self.old.fault ≡ None → wants_memory result ≡ false
+        ensures answer { (text : List ℕ) (given : ℕ) → IsReadingAt self.old text given
+            → wants_memory result ≡ false
             → result ≡ line_answer (slice_get (whole_said self.old.max text) given) }
         ensures stands { (text : List ℕ) (given : ℕ) → LineReaderStandsAt self.old text given
             → LineReaderStandsAt self.new text (given + handed_out result) }
 
         // Each fault, want of memory too, is told at that line, and want of memory only where the line is right.
-        ensures line { (text : List ℕ) (given : ℕ) → LineReaderStandsAt self.old text given
-            → self.old.fault ≡ None → IfErr result
+        ensures line { (text : List ℕ) (given : ℕ) → IsReadingAt self.old text given → IfErr result
             (λ fault. IsSaidAt (slice_get (whole_said self.old.max text) given) fault.line) }
-        ensures right { (text : List ℕ) (given : ℕ) → LineReaderStandsAt self.old text given
-            → self.old.fault ≡ None → wants_memory result ≡ true
+        ensures right { (text : List ℕ) (given : ℕ) → IsReadingAt self.old text given
+            → wants_memory result ≡ true
             → IsSaidRight (slice_get (whole_said self.old.max text) given) }
 
         // Its number, or that of the line being read.
-        ensures at { (text : List ℕ) (given : ℕ) → LineReaderStandsAt self.old text given
-            → self.old.fault ≡ None → wants_memory result ≡ false → self.new.at
+        ensures at { (text : List ℕ) (given : ℕ) → IsReadingAt self.old text given
+            → wants_memory result ≡ false → self.new.at
             ≡ line_number_of (slice_get (whole_said self.old.max text) given) (last_number text) }
 
         // Where no whole line is left, the line being read begins what it holds.
@@ -155,23 +161,22 @@ impl LineReader {
             (λ fault. (result ≡ Err fault) × (self.new ≡ self.old)) }
 
         // The first line that says something and wasn't handed out, or its fault; none exactly where there is none.
-        ensures answer { (text : List ℕ) (given : ℕ) → LineReaderStandsAt self.old text given
-            → self.old.fault ≡ None → wants_memory result ≡ false
+        ensures answer { (text : List ℕ) (given : ℕ) → IsReadingAt self.old text given
+            → wants_memory result ≡ false
             → result ≡ line_answer (slice_get (all_said self.old.max text) given) }
         ensures stands { (text : List ℕ) (given : ℕ) → LineReaderStandsAt self.old text given
             → LineReaderStandsAt self.new text (given + handed_out result) }
 
         // Each fault, want of memory too, is told at that line, and want of memory only where the line is right.
-        ensures line { (text : List ℕ) (given : ℕ) → LineReaderStandsAt self.old text given
-            → self.old.fault ≡ None → IfErr result
+        ensures line { (text : List ℕ) (given : ℕ) → IsReadingAt self.old text given → IfErr result
             (λ fault. IsSaidAt (slice_get (all_said self.old.max text) given) fault.line) }
-        ensures right { (text : List ℕ) (given : ℕ) → LineReaderStandsAt self.old text given
-            → self.old.fault ≡ None → wants_memory result ≡ true
+        ensures right { (text : List ℕ) (given : ℕ) → IsReadingAt self.old text given
+            → wants_memory result ≡ true
             → IsSaidRight (slice_get (all_said self.old.max text) given) }
 
         // Its number, or that of the last line.
-        ensures at { (text : List ℕ) (given : ℕ) → LineReaderStandsAt self.old text given
-            → self.old.fault ≡ None → wants_memory result ≡ false → self.new.at
+        ensures at { (text : List ℕ) (given : ℕ) → IsReadingAt self.old text given
+            → wants_memory result ≡ false → self.new.at
             ≡ line_number_of (slice_get (all_said self.old.max text) given) (last_number text) }
 
         ensures fault { self.old.fault ≡ None → wants_memory result ≡ false
@@ -207,16 +212,17 @@ impl LineReader {
         self.at
     }
 
-    /// How many bytes it holds of what was fed: those not yet handed out, and beside them at most 65,536 or a quarter
-    /// of them. Takes constant time.
-    pub fn held(&self) -> usize
+    /// How many bytes it holds of what was fed: those not yet handed out, and beside them at most a piece of 65,536.
+    /// Takes constant time.
+    pub fn held(&self) -> u128
         ensures all { length self.now.ahead ≤ result }
-        ensures few { result ≤ length self.now.ahead + most_done (length self.now.ahead) }
+        ensures few { result ≤ length self.now.ahead + 65536 }
     {
         self.held.room()
     }
 
     /// The next whole line that says something.
+    #[inline(always)]
     fn look_ahead(&mut self) -> Result<Found, LineFault>
         ensures found { (k : ℕ) → self.old.line ≡ line_number k
             → MatchResult result (λ found. Looked self.old.max k self.old.ahead found)
@@ -252,6 +258,7 @@ impl LineReader {
     }
 
     /// Goes on behind what was found.
+    #[inline(always)]
     fn pass(&mut self, found: Found) -> Option<Line>
         requires { IsAhead self.old.ahead found }
         ensures line { result ≡ found.line }

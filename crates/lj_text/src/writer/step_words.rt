@@ -2,6 +2,7 @@
 ghost use Rattle.std.specs.Prelude.{◌≡◌, ◌≤◌, ℕ, [], ◌∷◌, ◌++◌, not, map, filter, flat_map, length, OnOk, OnErr};
 ghost use Rattle.std.specs.Fmt.{decimal, signed_decimal};
 ghost use Rattle.std.specs.Ordering.{eq_by_cmp};
+ghost use Rattle.std.specs.Str.{byte};
 ghost use Rattle.lj_clause.specs.Literal.{lit_cmp};
 ghost use Rattle.lj_text.specs.StepText.{written_literals, group_words, addition_text, deletion_text};
 ghost use Rattle.lj_text.specs.inner.Writing.{Wrote, Broke, spaced_word, spaced_words};
@@ -88,10 +89,10 @@ fn write_candidate<W: Sink>(sink: &mut W, held: &mut Held, number: u64) -> Resul
     requires { W.failures sink.old ≡ 0 }
 
     ensures wrote { OnOk result (Wrote (W.taken sink.old) held.old (W.taken sink.new) held.new
-        (spaced_word (45 ∷ decimal number))) }
+        (spaced_word (byte "-" ∷ decimal number))) }
     ensures unfailed { OnOk result (W.failures sink.new ≡ 0) }
     ensures broke { OnErr result (Broke (W.taken sink.old) held.old (W.taken sink.new)
-        (spaced_word (45 ∷ decimal number))) }
+        (spaced_word (byte "-" ∷ decimal number))) }
     ensures failed { OnErr result (W.failures sink.new ≡ 1) }
     ensures none { OnErr result (held.new ≡ []) }
 {

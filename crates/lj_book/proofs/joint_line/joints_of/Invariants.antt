@@ -5,4 +5,4 @@ use Rattle.lj_book.specs.inner.Fronts.{with_front}
 use Rattle.lj_book.proofs.joint_line.joints_of.Given as goal
 
 abbrev pub invariant-loop-own : goal.invariant-loop-own
-invariant-loop-own l = with_front l.joints.items (joints_in (joint_of l.tables l.seat) l.own-iterator) ≡ joints_in (joint_of l.tables l.seat) l.numbers
+invariant-loop-own l = with_front l.joints (joints_in (joint_of l.tables l.seat) l.own-iterator) ≡ joints_in (joint_of l.tables l.seat) l.numbers

@@ -1,16 +1,15 @@
 use Rattle.std.proofs.Common.{◌≡◌, ap, sym, subst, ◌∙◌, arith, ℕ, ◌+◌, ◌<◌, drop, get_or, length}
 use Rattle.std.proofs.lemmas.List.{length-map}
 use Rattle.std.proofs.lemmas.Bool.{false≢true}
-use Rattle.std.specs.Prelude.{ℤ, neg_ℤ, true, List, [], ◌∷◌, ◌++◌, map, filter, Option, Some, None, option_map, option_copied, is_some, Ok, Err}
+use Rattle.std.specs.Prelude.{ℤ, neg_ℤ, true, List, Option, Some, None, option_map, option_copied, is_some, Ok}
 use Rattle.std.specs.FinMap as fin
 use Rattle.lj_clause.specs.LiteralSet.{LiteralSet, holds, from_literals}
 use Rattle.lj_clause.specs.Walk.{Hint}
 use Rattle.lj_clause.specs.Rat.{HintGroup, candidates, group_of, candidate_walk, rat_over}
 use Rattle.lj_clause.proofs.RatLaws.{candidates-get}
-use Rattle.lj_hint.specs.declared.rat_refusal.RatRefusal.{RatRefusal}
 use Rattle.lj_hint.specs.RatTest.{rat_told}
 use Rattle.lj_hint.specs.inner.Lent.{lent_groups, candidate_told}
-use Rattle.lj_hint.proofs.RatTests.{behind_groups, IsCandidate, at_one, candidate_at, candidate_covered, candidate_refused, all_covered, refusal_told, has_hints}
+use Rattle.lj_hint.proofs.RatTests.{candidate_numbers, behind_groups, IsCandidate, at_one, candidate_at, candidate_is, candidate_covered, candidate_refused, all_covered, refusal_told, has_hints}
 use Rattle.lj_hint.proofs.rat.cover.Goals as goal
 
 pub loop-number-preserved-in_default : goal.loop-number-preserved-in_default
@@ -20,8 +19,7 @@ loop-number-preserved-in_default g c =
     let i = c.loop-number.number-index in
     let ns = c.deref-number-items.result.now in
     let first = λ (e : ℕ × LiteralSet). e.0 in
-    let are : ns ≡ map first es =
-    c.deref-number-items.ensures.value ∙ c.in_ok-numbers.ensures ∙ ap (λ (l : ℤ). map first (filter (λ (e : ℕ × LiteralSet). holds e.1 l) (fin.entries live))) c.negated.ensures in
+    let are = candidate_numbers live c.args.pivot _ ns c.negated.ensures (c.deref-number-items.ensures.value ∙ c.in_ok-numbers.ensures) in
     let within : i < length es = omega (arith, ap length are, length-map es first) in
     let found = candidate_at (λ (e : ℕ × LiteralSet). (fin.get live e.0 ≡ Some e.1) × (holds e.1 (neg_ℤ c.args.pivot) ≡ true)) es i (get_or ns i 0) within (ap (λ (ms : List ℕ). get_or ms i 0) are) (candidates-get live c.args.pivot) in
     let nothing : None ≡ Some found.0 = ap option_copied (sym c.in_default.is) ∙ c.clause.ensures ∙ found.2.0 in
@@ -40,13 +38,9 @@ returns-in-Err g c =
     let n = get_or ns i 0 in
     let d = c.in-Some.clause.now in
     let first = λ (e : ℕ × LiteralSet). e.0 in
-    let are : ns ≡ map first es =
-    c.deref-number-items.ensures.value ∙ c.in_ok-numbers.ensures ∙ ap (λ (l : ℤ). map first (filter (λ (e : ℕ × LiteralSet). holds e.1 l) (fin.entries live))) c.negated.ensures in
+    let are = candidate_numbers live c.args.pivot _ ns c.negated.ensures (c.deref-number-items.ensures.value ∙ c.in_ok-numbers.ensures) in
     let within : i < length es = omega (arith, ap length are, length-map es first) in
-    let found = candidate_at (λ (e : ℕ × LiteralSet). (fin.get live e.0 ≡ Some e.1) × (holds e.1 (neg_ℤ q) ≡ true)) es i n within (ap (λ (ms : List ℕ). get_or ms i 0) are) (candidates-get live q) in
-    let clauses : Some d ≡ Some found.0 = ap option_copied (sym c.in-Some.is) ∙ c.clause.ensures ∙ found.2.0 in
-    let same : found.0 ≡ d = cc in
-    let is : IsCandidate es i n d = subst (IsCandidate es i n) same found.1 in
+    let is : IsCandidate es i n d = candidate_is live q i n d within (ap (λ (ms : List ℕ). get_or ms i 0) are) (ap option_copied (sym c.in-Some.is) ∙ c.clause.ensures) in
     let group : option_map hints (option_copied c.hints_for-hints.result) ≡ group_of n named = c.hints_for-hints.ensures ∙ c.in_ok-places.ensures n in
     let told = ap (λ (o : Option (List Hint)). candidate_told n (is_some o) (candidate_walk a q d o)) (sym group) ∙ ap (λ b. candidate_told n b (candidate_walk a q d (option_map hints (option_copied c.hints_for-hints.result)))) (has_hints hints c.hints_for-hints.result) in
     let replies = c.in-Err.ensures in
@@ -70,13 +64,9 @@ loop-number-preserved g c =
     let n = get_or ns i 0 in
     let d = c.in-Some.clause.now in
     let first = λ (e : ℕ × LiteralSet). e.0 in
-    let are : ns ≡ map first es =
-    c.deref-number-items.ensures.value ∙ c.in_ok-numbers.ensures ∙ ap (λ (l : ℤ). map first (filter (λ (e : ℕ × LiteralSet). holds e.1 l) (fin.entries live))) c.negated.ensures in
+    let are = candidate_numbers live c.args.pivot _ ns c.negated.ensures (c.deref-number-items.ensures.value ∙ c.in_ok-numbers.ensures) in
     let within : i < length es = omega (arith, ap length are, length-map es first) in
-    let found = candidate_at (λ (e : ℕ × LiteralSet). (fin.get live e.0 ≡ Some e.1) × (holds e.1 (neg_ℤ q) ≡ true)) es i n within (ap (λ (ms : List ℕ). get_or ms i 0) are) (candidates-get live q) in
-    let clauses : Some d ≡ Some found.0 = ap option_copied (sym c.in-Some.is) ∙ c.clause.ensures ∙ found.2.0 in
-    let same : found.0 ≡ d = cc in
-    let is : IsCandidate es i n d = subst (IsCandidate es i n) same found.1 in
+    let is : IsCandidate es i n d = candidate_is live q i n d within (ap (λ (ms : List ℕ). get_or ms i 0) are) (ap option_copied (sym c.in-Some.is) ∙ c.clause.ensures) in
     let group : option_map hints (option_copied c.hints_for-hints.result) ≡ group_of n named = c.hints_for-hints.ensures ∙ c.in_ok-places.ensures n in
     let replies = c.in-Ok.ensures in
     let told : at_one a q named n d ≡ Ok c.in-Ok.group =
@@ -100,8 +90,7 @@ returns g c =
     let i = c.loop-number.number-index in
     let ns = c.deref-number-items.result.now in
     let first = λ (e : ℕ × LiteralSet). e.0 in
-    let are : ns ≡ map first es =
-    c.deref-number-items.ensures.value ∙ c.in_ok-numbers.ensures ∙ ap (λ (l : ℤ). map first (filter (λ (e : ℕ × LiteralSet). holds e.1 l) (fin.entries live))) c.negated.ensures in
+    let are = candidate_numbers live c.args.pivot _ ns c.negated.ensures (c.deref-number-items.ensures.value ∙ c.in_ok-numbers.ensures) in
     ap (λ (h : List ℤ). rat_told (rat_over (from_literals h) q named es)) (sym c.loop-number.invariant.same)
     ∙ sym c.loop-number.invariant.told
     ∙ all_covered (from_literals c.loop-number.held) q named es i c.loop-number.covered.items (omega (arith, ap length are, length-map es first))

@@ -3,4 +3,4 @@ use Rattle.lj_hint.specs.inner.Hints.{hint_numbers}
 use Rattle.lj_hint.proofs.rat.numbers_of.Given as goal
 
 abbrev pub invariant-loop-index : goal.invariant-loop-index
-invariant-loop-index g l = l.numbers.items ≡ hint_numbers (take l.index (g.H.HintList.hints l.hints))
+invariant-loop-index g l = l.numbers ≡ hint_numbers (take l.index (g.H.HintList.hints l.hints))

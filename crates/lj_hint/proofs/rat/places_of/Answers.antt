@@ -1,4 +1,4 @@
-use Rattle.std.proofs.Common.{◌≡◌, ℕ, ◌+◌, ◌-◌, ◌<◌, ap, sym, subst, ◌∙◌, arith, drop, length, get_or}
+use Rattle.std.proofs.Common.{◌≡◌, ℕ, ◌+◌, ◌-◌, ◌<◌, ap, sym, ◌∙◌, arith, drop, length, get_or}
 use Rattle.std.specs.Prelude.{◌==◌}
 use Rattle.lj_hint.specs.declared.rat.LentGroup.{LentGroup}
 use Rattle.std.specs.Ordering.{nat_cmp}

@@ -1,4 +1,4 @@
-use Rattle.std.proofs.Common.{◌≡◌, ap, sym, ◌∙◌, ℕ}
+use Rattle.std.proofs.Common.{ap, sym, ◌∙◌, ℕ}
 use Rattle.std.specs.Prelude.{List, is_some, option_map, option_copied, Ok, neg_ℤ}
 use Rattle.lj_clause.specs.LiteralSet.{from_literals, with_negations}
 use Rattle.lj_clause.specs.Walk.{Walk}
@@ -14,11 +14,11 @@ first_numbers-requires g c =
     let walked = c.in_ok-ending.ensures in
     (closed_reads a hs c.in-ClosedAfter.read (sym c.in-ClosedAfter.is ∙ walked.ending)).1
 
-pub returns-in_ok-read-in-ClosedAfter-clause-reply : goal.returns-in_ok-read-in-ClosedAfter-clause-reply
-returns-in_ok-read-in-ClosedAfter-clause-reply g c =
+pub returns-in_ok-hints-in-ClosedAfter-clause-reply : goal.returns-in_ok-hints-in-ClosedAfter-clause-reply
+returns-in_ok-hints-in-ClosedAfter-clause-reply g c =
     let a = with_negations (from_literals c.args.held.now) (others c.args.clause.now (neg_ℤ c.args.pivot)) in
     let hs = lent_hints (option_map g.H.HintList.hints (option_copied c.args.hints)) in
     let walked = c.in_ok-ending.ensures in
     let group : List ℕ → HintGroup = λ ns. record { candidate = c.args.number; hints = ns } in
     ap (λ (w : Walk). candidate_told c.args.number (is_some c.args.hints) w) (closed_reads a hs c.in-ClosedAfter.read (sym c.in-ClosedAfter.is ∙ walked.ending)).0
-    ∙ ap (λ (ns : List ℕ). Ok (group ns)) (sym (c.new.ensures ∙ c.in_ok-read-in-ClosedAfter.ensures))
+    ∙ ap (λ (ns : List ℕ). Ok (group ns)) (sym c.in_ok-hints-in-ClosedAfter.ensures)

@@ -1,12 +1,10 @@
-use Rattle.std.proofs.Common.{◌≡◌, ap, sym, ◌∙◌}
-use Rattle.std.specs.Prelude.{ℤ, List, [], Option, not, neg_ℤ, filter, option_map, option_copied}
-use Rattle.std.specs.Ordering.{eq_by_cmp}
-use Rattle.lj_clause.specs.Literal.{lit_cmp}
-use Rattle.lj_clause.specs.LiteralSet.{LiteralSet, from_literals, with_negations}
+use Rattle.std.proofs.Common.{ap, sym, ◌∙◌}
+use Rattle.std.specs.Prelude.{[], option_map, option_copied}
+use Rattle.lj_clause.specs.LiteralSet.{LiteralSet, from_literals}
 use Rattle.lj_clause.specs.Walk.{walk_over}
-use Rattle.lj_clause.specs.Rat.{others, candidate_walk}
+use Rattle.lj_clause.specs.Rat.{candidate_walk}
 use Rattle.lj_hint.specs.inner.Ending.{ending_of}
-use Rattle.lj_hint.proofs.Walks.{closed_at_once, open_at_end}
+use Rattle.lj_hint.proofs.Walks.{closed_at_once, open_at_end, with_others}
 use Rattle.lj_hint.proofs.rat.walk_candidate.Goals as goal
 
 pub returns-then-is_contradictory-clause-ending : goal.returns-then-is_contradictory-clause-ending
@@ -15,9 +13,7 @@ returns-then-is_contradictory-clause-ending g c =
     let q = c.args.pivot in
     let d = c.args.clause.now in
     let new = from_literals c.insert_negations_but.new.self in
-    let told = c.in_ok-insert_negations_but.ensures.ok in
-    let is : new ≡ with_negations a (others d (neg_ℤ q)) =
-    told ∙ (λ i. with_negations a (filter (λ (m : ℤ). not (eq_by_cmp lit_cmp m (c.negated.ensures i))) (c.lits.ensures i))) in
+    let is = with_others a new d q _ _ c.negated.ensures c.lits.ensures c.in_ok-insert_negations_but.ensures.ok in
     sym
     (ap (λ o. ending_of (candidate_walk a q d (option_map g.H.HintList.hints (option_copied o)))) c.in-None.is
     ∙ ap (λ (s : LiteralSet). ending_of (walk_over s [])) (sym is)
@@ -29,9 +25,7 @@ returns-else-is_contradictory-clause-ending g c =
     let q = c.args.pivot in
     let d = c.args.clause.now in
     let new = from_literals c.insert_negations_but.new.self in
-    let told = c.in_ok-insert_negations_but.ensures.ok in
-    let is : new ≡ with_negations a (others d (neg_ℤ q)) =
-    told ∙ (λ i. with_negations a (filter (λ (m : ℤ). not (eq_by_cmp lit_cmp m (c.negated.ensures i))) (c.lits.ensures i))) in
+    let is = with_others a new d q _ _ c.negated.ensures c.lits.ensures c.in_ok-insert_negations_but.ensures.ok in
     sym
     (ap (λ o. ending_of (candidate_walk a q d (option_map g.H.HintList.hints (option_copied o)))) c.in-None.is
     ∙ ap (λ (s : LiteralSet). ending_of (walk_over s [])) (sym is)

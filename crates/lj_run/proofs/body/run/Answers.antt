@@ -1,39 +1,38 @@
-use Rattle.std.proofs.Common.{◌∙◌, ap, sym, subst, refl, inl, inr, arith}
+use Rattle.std.proofs.Common.{◌∙◌, ap, sym, subst, refl, inr, arith}
 use Rattle.lj_text.specs.Streams.{source_state}
-use Rattle.lj_run.specs.InTurn.{streams_by_seat}
 use Rattle.std.proofs.lemmas.Bool.{both_ways}
 use Rattle.lj_run.specs.inner.Program.{IsAskedFor, is_told_late}
 use Rattle.lj_run.specs.Program.{status_code}
 use Rattle.lj_run.specs.Proof.{sink_state}
 use Rattle.lj_run.specs.inner.CommandLine.{line_asked}
-use Rattle.lj_run.proofs.ProgramLemmas.{among_closing, among_streams, asked_proof, check_cut, check_fault, create_fault, created_unfailed, err_more, formula_unopened, lost_fault, lost_late, ok_more, few_streams, inputs_unfailed, open_fault, passed_on, streams_before}
+use Rattle.lj_run.proofs.ProgramLemmas.{among_closing, among_streams, asked_proof, check_cut, check_fault, create_fault, created_unfailed, err_more, formula_unopened, lost_fault, lost_late, ok_more, few_streams, inputs_unfailed, open_fault, passed_on, streams_before, run_inputs}
 use Rattle.lj_run.proofs.body.run.Goals as goal
 
-pub check-requires-clause-some : goal.check-requires-clause-some
-check-requires-clause-some g c =
+pub check_with_steps-requires-clause-some : goal.check_with_steps-requires-clause-some
+check_with_steps-requires-clause-some g c = λ κs lives.
     let inputs = streams_before _ _ _ _ _ _ c.args.line.now.closing _ c.in_ok-closing.closing c.deref.ensures.value c.in_ok-formula.ensures.same c.in_ok-streams.ensures.same
     c.in_ok-streams.ensures.opened c.in_ok-closing.ensures.opened in
     (few_streams _ _ c.args.line.now.proofs.items _ _ (omega (arith, c.args.line.now.some)) (omega (arith, c.args.line.now.at_most)) inputs).0
 
-pub check-requires-clause-at_most : goal.check-requires-clause-at_most
-check-requires-clause-at_most g c =
+pub check_with_steps-requires-clause-at_most : goal.check_with_steps-requires-clause-at_most
+check_with_steps-requires-clause-at_most g c = λ κs lives.
     let inputs = streams_before _ _ _ _ _ _ c.args.line.now.closing _ c.in_ok-closing.closing c.deref.ensures.value c.in_ok-formula.ensures.same c.in_ok-streams.ensures.same
     c.in_ok-streams.ensures.opened c.in_ok-closing.ensures.opened in
     let few = (few_streams _ _ c.args.line.now.proofs.items _ _ (omega (arith, c.args.line.now.some)) (omega (arith, c.args.line.now.at_most)) inputs).1 in
     omega (arith, few)
 
-pub check-requires-clause-streams_unfailed : goal.check-requires-clause-streams_unfailed
-check-requires-clause-streams_unfailed g c = inputs_unfailed _ _ _
+pub check_with_steps-requires-clause-streams_unfailed : goal.check_with_steps-requires-clause-streams_unfailed
+check_with_steps-requires-clause-streams_unfailed g c = λ κs lives. inputs_unfailed _ _ _
     (streams_before _ _ _ _ _ _ c.args.line.now.closing _ c.in_ok-closing.closing c.deref.ensures.value c.in_ok-formula.ensures.same c.in_ok-streams.ensures.same
     c.in_ok-streams.ensures.opened c.in_ok-closing.ensures.opened)
 
-pub check-requires-clause-proof_unfailed : goal.check-requires-clause-proof_unfailed
-check-requires-clause-proof_unfailed g c = created_unfailed (sink_state g.F.Output.Sink.taken g.F.Output.Sink.failures) _ _ c.in_ok-proof.ensures.created
+pub check_with_steps-requires-clause-proof_unfailed : goal.check_with_steps-requires-clause-proof_unfailed
+check_with_steps-requires-clause-proof_unfailed g c = λ κs lives. created_unfailed (sink_state g.F.Output.Sink.taken g.F.Output.Sink.failures) _ _ c.in_ok-proof.ensures.created
 
 pub ended-requires : goal.ended-requires
 ended-requires g c =
     let is = c.in-Ok.ensures.printed.2 in
-    subst (λ e. IsAskedFor e c.args.line.now.proof) (sym is.proof) (asked_proof (sink_state g.F.Output.Sink.taken g.F.Output.Sink.failures) is.runs.formula c.args.line.now.trim is.outcome.steps.items c.args.line.now.proof c.in_ok-proof.proof c.check.new.proof is.outcome.proof c.in_ok-proof.ensures.created is.runs.proof)
+    subst (λ e. IsAskedFor e c.args.line.now.proof) (sym is.proof) (asked_proof (sink_state g.F.Output.Sink.taken g.F.Output.Sink.failures) is.runs.formula c.args.line.now.trim is.outcome.steps.items c.args.line.now.proof c.in_ok-proof.proof c.check_with_steps.new.proof is.outcome.proof c.in_ok-proof.ensures.created is.runs.proof)
 
 pub returns-in-Ok-clause-answered : goal.returns-in-Ok-clause-answered
 returns-in-Ok-clause-answered g c =
@@ -41,16 +40,10 @@ returns-in-Ok-clause-answered g c =
       checked = c.in-Ok.checked;
       text = c.in-Ok.ensures.printed.0;
       printed = record {
-        inputs = record {
-          opened = c.in_ok-formula.formula;
-          after = c.check.new.formula;
-          streams = streams_by_seat c.in_ok-streams.streams.items c.in_ok-closing.closing;
-          formula_is = c.in_ok-formula.ensures.opened;
-          streams_are = streams_before _ _ _ _ _ _ c.args.line.now.closing _ c.in_ok-closing.closing c.deref.ensures.value c.in_ok-formula.ensures.same c.in_ok-streams.ensures.same
-              c.in_ok-streams.ensures.opened c.in_ok-closing.ensures.opened;
-        };
+        inputs = run_inputs _ _ _ _ c.args.line.now _ c.in_ok-formula.formula c.check_with_steps.new.formula c.in_ok-streams.streams.items c.in_ok-closing.closing c.deref.ensures.value c.in_ok-formula.ensures.same
+            c.in_ok-streams.ensures.same c.in_ok-formula.ensures.opened c.in_ok-streams.ensures.opened c.in_ok-closing.ensures.opened;
         created = c.in_ok-proof.proof;
-        written = c.check.new.proof;
+        written = c.check_with_steps.new.proof;
         created_is = c.in_ok-proof.ensures.created;
         printed = c.in-Ok.ensures.printed.2;
       };
@@ -67,16 +60,10 @@ returns-in-Ok-clause-lost g c =
       checked = c.in-Ok.checked;
       text = c.in-Ok.ensures.printed.0;
       printed = record {
-        inputs = record {
-          opened = c.in_ok-formula.formula;
-          after = c.check.new.formula;
-          streams = streams_by_seat c.in_ok-streams.streams.items c.in_ok-closing.closing;
-          formula_is = c.in_ok-formula.ensures.opened;
-          streams_are = streams_before _ _ _ _ _ _ c.args.line.now.closing _ c.in_ok-closing.closing c.deref.ensures.value c.in_ok-formula.ensures.same c.in_ok-streams.ensures.same
-              c.in_ok-streams.ensures.opened c.in_ok-closing.ensures.opened;
-        };
+        inputs = run_inputs _ _ _ _ c.args.line.now _ c.in_ok-formula.formula c.check_with_steps.new.formula c.in_ok-streams.streams.items c.in_ok-closing.closing c.deref.ensures.value c.in_ok-formula.ensures.same
+            c.in_ok-streams.ensures.same c.in_ok-formula.ensures.opened c.in_ok-streams.ensures.opened c.in_ok-closing.ensures.opened;
         created = c.in_ok-proof.proof;
-        written = c.check.new.proof;
+        written = c.check_with_steps.new.proof;
         created_is = c.in_ok-proof.ensures.created;
         printed = c.in-Ok.ensures.printed.2;
       };
@@ -87,16 +74,10 @@ returns-in-Ok-clause-lost g c =
 pub returns-in-Ok-clause-fault : goal.returns-in-Ok-clause-fault
 returns-in-Ok-clause-fault g c =
     err_more _ _ c.ended.result (λ fault is. lost_fault _ _ (line_asked c.args.line.now) _ c.in-Ok.checked c.in-Ok.ensures.printed.0 fault (record {
-      inputs = record {
-        opened = c.in_ok-formula.formula;
-        after = c.check.new.formula;
-        streams = streams_by_seat c.in_ok-streams.streams.items c.in_ok-closing.closing;
-        formula_is = c.in_ok-formula.ensures.opened;
-        streams_are = streams_before _ _ _ _ _ _ c.args.line.now.closing _ c.in_ok-closing.closing c.deref.ensures.value c.in_ok-formula.ensures.same c.in_ok-streams.ensures.same
-            c.in_ok-streams.ensures.opened c.in_ok-closing.ensures.opened;
-      };
+      inputs = run_inputs _ _ _ _ c.args.line.now _ c.in_ok-formula.formula c.check_with_steps.new.formula c.in_ok-streams.streams.items c.in_ok-closing.closing c.deref.ensures.value c.in_ok-formula.ensures.same
+          c.in_ok-streams.ensures.same c.in_ok-formula.ensures.opened c.in_ok-streams.ensures.opened c.in_ok-closing.ensures.opened;
       created = c.in_ok-proof.proof;
-      written = c.check.new.proof;
+      written = c.check_with_steps.new.proof;
       created_is = c.in_ok-proof.ensures.created;
       printed = c.in-Ok.ensures.printed.2;
     }) is.0) c.ended.ensures.fault
@@ -112,27 +93,16 @@ returns-in-Ok-clause-cut g c = err_more _ _ c.ended.result (λ fault is e. absur
 
 pub returns-clause-cut : goal.returns-clause-cut
 returns-clause-cut g c = λ e. record {
-  inputs = record {
-    opened = c.in_ok-formula.formula;
-    after = c.check.new.formula;
-    streams = streams_by_seat c.in_ok-streams.streams.items c.in_ok-closing.closing;
-    formula_is = c.in_ok-formula.ensures.opened;
-    streams_are = streams_before _ _ _ _ _ _ c.args.line.now.closing _ c.in_ok-closing.closing c.deref.ensures.value c.in_ok-formula.ensures.same c.in_ok-streams.ensures.same
-        c.in_ok-streams.ensures.opened c.in_ok-closing.ensures.opened;
-  };
-  cut = check_cut _ _ _ _ _ _ _ _ c.in-Err.fault c.in-Err.ensures.fault (sym c.fault_of.ensures ∙ e);
+  inputs = run_inputs _ _ _ _ c.args.line.now _ c.in_ok-formula.formula c.check_with_steps.new.formula c.in_ok-streams.streams.items c.in_ok-closing.closing c.deref.ensures.value c.in_ok-formula.ensures.same
+      c.in_ok-streams.ensures.same c.in_ok-formula.ensures.opened c.in_ok-streams.ensures.opened c.in_ok-closing.ensures.opened;
+  cut = check_cut _ _ _ _ _ _ _ _ _ c.in-Err.fault c.in-Err.ensures.fault (sym c.fault_of.ensures ∙ e);
 }
 
 pub returns-clause-fault : goal.returns-clause-fault
 returns-clause-fault g c =
-    rw c.fault_of.ensures (check_fault _ _ (line_asked c.args.line.now) _ c.args.line.now.formula (record {
-      opened = c.in_ok-formula.formula;
-      after = c.check.new.formula;
-      streams = streams_by_seat c.in_ok-streams.streams.items c.in_ok-closing.closing;
-      formula_is = c.in_ok-formula.ensures.opened;
-      streams_are = streams_before _ _ _ _ _ _ c.args.line.now.closing _ c.in_ok-closing.closing c.deref.ensures.value c.in_ok-formula.ensures.same c.in_ok-streams.ensures.same
-          c.in_ok-streams.ensures.opened c.in_ok-closing.ensures.opened;
-    }) _ _ c.in-Err.fault refl c.in-Err.ensures.fault)
+    rw c.fault_of.ensures (check_fault _ _ (line_asked c.args.line.now) _ c.args.line.now.formula
+    (run_inputs _ _ _ _ c.args.line.now _ c.in_ok-formula.formula c.check_with_steps.new.formula c.in_ok-streams.streams.items c.in_ok-closing.closing c.deref.ensures.value c.in_ok-formula.ensures.same
+    c.in_ok-streams.ensures.same c.in_ok-formula.ensures.opened c.in_ok-streams.ensures.opened c.in_ok-closing.ensures.opened) _ _ c.in-Err.fault refl c.in-Err.ensures.fault)
 
 pub returns-in_err-formula-clause-fault : goal.returns-in_err-formula-clause-fault
 returns-in_err-formula-clause-fault g c = passed_on _ c.from_residual.result _ c.from_residual.ensures.1

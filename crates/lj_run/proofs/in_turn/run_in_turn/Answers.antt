@@ -8,13 +8,15 @@ use Rattle.lj_book.specs.State.{State, live, opening, steps_of}
 use Rattle.lj_run.specs.InTurn.{IsOutcome}
 use Rattle.lj_run.specs.Proof.{IsProof, sink_state}
 use Rattle.lj_run.specs.declared.outcome.Outcome.{Outcome}
-use Rattle.lj_run.proofs.InTurnLemmas.{outcome_is, refutes_any, run_answer}
+use Rattle.lj_run.specs.declared.outcome.Way.TheVariants.{InTurn}
+use Rattle.lj_run.proofs.InTurnLemmas.{outcome_is, refutes_any}
+use Rattle.lj_run.proofs.WayLemmas.{answer_by}
 use Rattle.lj_run.proofs.in_turn.run_in_turn.Goals as goal
 
 pub prove-proof-requires-clause-verified : goal.prove-proof-requires-clause-verified
 prove-proof-requires-clause-verified g c =
     refutes_any c.in_ok-verified.verified c.run_all.new.book.formula (steps_of c.run_all.new.book.history) (live c.run_all.new.book) c.in_ok-verified.ensures.refuted c.live_is_the_replay.ensures
-    ∙ ap (list_any adds_empty) (sym c.in_ok-steps.ensures.steps ∙ sym c.deref.ensures.value)
+    ∙ ap (list_any adds_empty) (sym c.into_steps-steps.ensures ∙ sym c.deref.ensures.value)
 
 pub returns-clause-outcome : goal.returns-clause-outcome
 returns-clause-outcome g c =
@@ -25,10 +27,10 @@ returns-clause-outcome g c =
     let seats : c.len.result ≡ length streams = search rules in
     let opened = c.in_ok-book.ensures ∙ ap (λ n. opening f n max) seats in
     let same : c.run_all.new.book.formula ≡ f = c.in_ok-reports.ensures.formula ∙ ap (λ (s : State). s.formula) opened in
-    let outcome : Outcome g.row.S.Denot = record { reports = c.in_ok-reports.reports; verified = c.in_ok-verified.verified; steps = c.in_ok-steps.steps; proof = c.prove-proof.result } in
+    let outcome : Outcome g.row.S.Denot = record { reports = c.in_ok-reports.reports; verified = c.in_ok-verified.verified; steps = c.into_steps-steps.result; proof = c.prove-proof.result } in
     let is = outcome_is seen f max streams c.in_ok-book.book c.run_all.new.book outcome opened c.in_ok-reports.ensures.formula c.in_ok-reports.ensures.reports
-    c.history_is_legal.ensures c.in_ok-steps.ensures.steps c.live_is_the_replay.ensures c.in_ok-verified.ensures.refuted c.in_ok-verified.ensures.formula in
+    c.history_is_legal.ensures c.into_steps-steps.ensures c.live_is_the_replay.ensures c.in_ok-verified.ensures.refuted c.in_ok-verified.ensures.formula in
     let formula : IfSome c.in_ok-verified.verified (λ g. g ≡ f) = subst (λ (h : FormulaValue). IfSome c.in_ok-verified.verified (λ g. g ≡ h)) same c.in_ok-verified.ensures.formula in
-    run_answer _ _ seen (sink_state g.W.Sink.taken g.W.Sink.failures) f max c.args.options.now.trim _ _ _ outcome c.run_all.new.book c.in_ok-formula.ensures.formula
-    (subst (λ all. IsOutcome seen f max all outcome) c.in_ok-streams.ensures is) c.history_is_legal.ensures same c.in_ok-steps.ensures.steps
+    answer_by InTurn _ _ seen (sink_state g.W.Sink.taken g.W.Sink.failures) f max c.args.options.now.trim _ _ _ outcome c.run_all.new.book c.in_ok-formula.ensures.formula
+    (subst (λ all. IsOutcome seen f max all outcome) c.in_ok-streams.ensures is) c.history_is_legal.ensures same c.into_steps-steps.ensures
     (subst (λ ss. IsProof (sink_state g.W.Sink.taken g.W.Sink.failures) f c.args.options.now.trim ss c.args.out.now c.prove-proof.new.out c.prove-proof.result) c.deref.ensures.value (c.prove-proof.ensures f c.len-clauses.ensures.len formula))

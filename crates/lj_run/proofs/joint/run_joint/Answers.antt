@@ -5,7 +5,9 @@ use Rattle.lj_text.specs.Streams.{source_state}
 use Rattle.lj_run.specs.InTurn.{streams_by_seat}
 use Rattle.lj_run.specs.Proof.{IsProof, sink_state}
 use Rattle.lj_run.specs.declared.outcome.Outcome.{Outcome}
-use Rattle.lj_run.proofs.JointRunLemmas.{joint_outcome_is, joint_answer}
+use Rattle.lj_run.specs.declared.outcome.Way.TheVariants.{OnThreads}
+use Rattle.lj_run.proofs.JointRunLemmas.{joint_outcome_is}
+use Rattle.lj_run.proofs.WayLemmas.{answer_by}
 use Rattle.lj_run.proofs.joint.run_joint.Goals as goal
 
 pub returns-clause-outcome : goal.returns-clause-outcome
@@ -16,8 +18,9 @@ returns-clause-outcome g c =
     let max = c.args.options.now.max_steps in
     let trims = c.args.options.now.trim in
     let streams = streams_by_seat c.args.streams.items c.args.closing in
-    let outcome : Outcome g.row.S.Denot = record { reports = c.in_ok-reports.reports; verified = c.in_ok-verified.verified; steps = c.in_ok-steps.steps; proof = c.prove-proof.result } in
-    let is = joint_outcome_is seen f max streams c.in_ok-reports.book outcome c.in_ok-reports.ensures.ran c.in_ok-steps.ensures.steps c.live_is_the_replay.ensures c.in_ok-verified.ensures.some c.in_ok-verified.ensures.refuted c.in_ok-verified.ensures.formula in
+    let outcome : Outcome g.row.S.Denot = record { reports = c.in_ok-reports.reports; verified = c.in_ok-verified.verified; steps = c.into_steps-steps.result; proof = c.prove-proof.result } in
+    let is = joint_outcome_is seen f max streams c.in_ok-reports.book outcome c.in_ok-reports.ensures.ran c.into_steps-steps.ensures c.live_is_the_replay.ensures c.in_ok-verified.ensures.some c.in_ok-verified.ensures.refuted c.in_ok-verified.ensures.formula in
     let formula : IfSome c.in_ok-verified.verified (λ h. h ≡ f) = subst (λ (h : FormulaValue). IfSome c.in_ok-verified.verified (λ k. k ≡ h)) c.in_ok-reports.ensures.ran.opened.formula_is c.in_ok-verified.ensures.formula in
-    joint_answer _ _ seen sink f max trims streams _ _ outcome c.in_ok-formula.ensures.formula is
+    answer_by OnThreads _ _ seen sink f max trims streams _ _ outcome c.in_ok-reports.book c.in_ok-formula.ensures.formula is
+    c.in_ok-reports.ensures.ran.legal c.in_ok-reports.ensures.ran.opened.formula_is c.into_steps-steps.ensures
     (subst (λ ss. IsProof sink f trims ss c.args.out.now c.prove-proof.new.out c.prove-proof.result) c.deref.ensures.value (c.prove-proof.ensures f c.len-clauses.ensures.len formula))

@@ -1,5 +1,4 @@
 use Rattle.std.proofs.Common.{take}
-use Rattle.lj_run.proofs.GivenLemmas.{given_none, given_failed}
 use Rattle.lj_run.proofs.reading.pull_piece.Goals as goal
 
 pub returns-in-Ok-feed-clause-onward : goal.returns-in-Ok-feed-clause-onward

@@ -1,6 +1,6 @@
 use Rattle.std.proofs.Common.{◌∙◌, rules}
 use Rattle.lj_text.specs.Streams.{source_state}
-use Rattle.lj_run.proofs.FormulaLemmas.{formula_begins, read_further, all_given, formula_told, fault_told}
+use Rattle.lj_run.proofs.FormulaLemmas.{read_further, all_given, formula_told, fault_told}
 use Rattle.lj_run.proofs.reading.read_formula.Goals as goal
 
 pub returns-in-Ok-true-clause-formula : goal.returns-in-Ok-true-clause-formula

@@ -7,21 +7,21 @@ use Rattle.lj_run.proofs.words.request_of.Goals as goal
 pub returns-in_default : goal.returns-in_default
 returns-in_default c =
     IfOk-weaker c.usage.result _ _ (λ request h. h
-    ∙ without_formula (option_map (λ p. p.now) c.args.formula) (map (λ p. p.now) c.args.proofs.now) (option_map (λ p. p.now) c.args.closing) (option_map (λ p. p.now) c.args.max_steps)
+    ∙ without_formula (option_map (λ p. p.now) c.args.formula) (map (λ p. p.now) c.args.proofs.now) (option_map (λ p. p.now) c.args.closing) (option_map (λ p. p.now) c.args.max_steps) c.args.way
     (ap (option_map (λ p. p.now)) c.in_default.is)) c.usage.ensures
 
 pub returns-then-not-is_run_of : goal.returns-then-not-is_run_of
 returns-then-not-is_run_of c =
     IfOk-weaker c.usage-then-not-is_run_of.result _ _ (λ request h. h
-    ∙ too_many (option_map (λ p. p.now) c.args.formula) (map (λ p. p.now) c.args.proofs.now) (option_map (λ p. p.now) c.args.closing) (option_map (λ p. p.now) c.args.max_steps)
+    ∙ too_many (option_map (λ p. p.now) c.args.formula) (map (λ p. p.now) c.args.proofs.now) (option_map (λ p. p.now) c.args.closing) (option_map (λ p. p.now) c.args.max_steps) c.args.way
     (sym c.is_run_of.ensures ∙ c.if-not-is_run_of.true)) c.usage-then-not-is_run_of.ensures
 
 pub returns-in_default-steps_of : goal.returns-in_default-steps_of
 returns-in_default-steps_of c =
     IfOk-weaker c.usage-in_default-steps_of.result _ _ (λ request h. h
-    ∙ without_limit (option_map (λ p. p.now) c.args.formula) (map (λ p. p.now) c.args.proofs.now) (option_map (λ p. p.now) c.args.closing) (option_map (λ p. p.now) c.args.max_steps)
+    ∙ without_limit (option_map (λ p. p.now) c.args.formula) (map (λ p. p.now) c.args.proofs.now) (option_map (λ p. p.now) c.args.closing) (option_map (λ p. p.now) c.args.max_steps) c.args.way
     (sym c.steps_of.ensures ∙ c.in_default-steps_of.is)) c.usage-in_default-steps_of.ensures
 
 pub returns : goal.returns
-returns c = asks_given _ c.in-Some.formula c.args.proofs.now _ c.args.closing c.args.max_steps _ c.in-Some.is
+returns c = asks_given _ c.in-Some.formula c.args.proofs.now _ c.args.closing c.args.max_steps _ c.args.way c.in-Some.is
     (c.in_ok-to_vec.ensures.items_if_clones_equal (λ x y h. h)) (sym c.is_run_of.ensures ∙ c.if-not-is_run_of.false) (sym c.steps_of.ensures ∙ c.in-Some-steps_of.is)

@@ -1,4 +1,4 @@
-use Rattle.std.proofs.Common.{◌≡◌, ℕ, List, [], ◌++◌, ◌<◌, map, length, get_or, ap, subst, sym, ◌∙◌, append-nil, arith}
+use Rattle.std.proofs.Common.{◌≡◌, ℕ, List, [], ◌++◌, ◌<◌, map, length, get_or, ap, subst, sym, ◌∙◌, append-nil}
 use Rattle.std.proofs.lemmas.List.{length-map, get_or-map}
 use Rattle.lj_text.specs.declared.step.Step.{Step}
 use Rattle.lj_text.specs.StepText.{step_text, greatest_with}

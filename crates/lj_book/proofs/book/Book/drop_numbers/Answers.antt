@@ -1,5 +1,5 @@
-use Rattle.std.proofs.Common.{◌≡◌, ap, sym, ◌∙◌, subst, ℕ, Bool, cond}
-use Rattle.std.specs.Prelude.{List, [], ◌∷◌, ◌++◌, is_ok}
+use Rattle.std.proofs.Common.{◌≡◌, ap, sym, ◌∙◌, subst, ℕ}
+use Rattle.std.specs.Prelude.{List, [], ◌∷◌, ◌++◌}
 use Rattle.lj_text.specs.Steps.{without}
 use Rattle.lj_book.specs.declared.entry.Call.TheVariants as calls
 use Rattle.lj_book.specs.declared.entry.Entry.{Entry}
@@ -14,23 +14,23 @@ use Rattle.lj_book.proofs.book.Book.drop_numbers.Goals as goal
 
 pub invariant_of-self-2 : goal.invariant_of-self-2
 invariant_of-self-2 c =
-    let s : State = record { formula = c.self.inside.formula; max_steps = c.self.inside.max_steps; tables = c.self.inside.tables; history = c.self.inside.history.items } in
+    let s : State = record { formula = c.self.inside.formula; max_steps = c.self.inside.max_steps; tables = c.self.inside.tables; history = c.self.inside.history.entries } in
     let ns = c.args.numbers.now in
     let here = sym c.is_here.ensures ∙ c.if-not-is_here.false in
     let dead = found_dead s c.args.seat ns c.rising-joints.result.items c.no_longer_held-died.result.items c.unbind_all-count.new.self (IsSound-reached s c.self.invariant.reached) here c.unbind_all-count.ensures.removed c.rising-joints.ensures.rising (λ q. c.rising-joints.ensures.same q ∙ ap (λ (ms : List ℕ). is_among ms q) c.in_ok-joints.ensures) c.no_longer_held-died.ensures in
-    let entry : Entry = record { seat = c.args.seat; call = calls.Drop c.in_ok-from_slice.field-0; step = c.deletion_of-step.result } in
-    let pushed : c.push.new.self.items ≡ s.history ++ entry ∷ [] = c.push.ensures.items ∙ ap (λ (b : Bool). cond b (c.reserve.new.self.items ++ entry ∷ []) c.reserve.new.self.items) (ap is_ok c.unwrap.ensures) ∙ ap (λ (es : List Entry). es ++ entry ∷ []) c.in_ok-reserve.ensures.items in
-    let is = dropped_state s c.args.seat ns c.in_ok-from_slice.field-0 c.no_longer_held-died.result.items c.unbind_all-count.new.self c.deletion_of-step.result c.push.new.self.items c.unbind_all-count.ensures.removed c.in_ok-from_slice.ensures dead c.deletion_of-step.ensures pushed in
+    let entry : Entry = record { seat = c.args.seat; call = calls.Drop c.in_ok-given.given.value; step = c.deletion_of-step.result } in
+    let pushed : c.push.new.self.entries ≡ s.history ++ entry ∷ [] = c.push.ensures ∙ ap (λ (es : List Entry). es ++ entry ∷ []) c.in_ok-reserve.ensures.same in
+    let is = dropped_state s c.args.seat ns c.in_ok-given.given.value c.no_longer_held-died.result.items c.unbind_all-count.new.self c.deletion_of-step.result c.push.new.self.entries c.unbind_all-count.ensures.removed (c.in_ok-given.ensures.ok ∙ c.in_ok-own.ensures) dead c.deletion_of-step.ensures pushed in
     subst (λ (t : State). IsKept t c.bury.new.clauses c.self.inside.added c.self.inside.refuted) (sym is)
     (IsKept-drop s c.self.inside.clauses c.bury.new.clauses c.self.inside.added c.self.inside.refuted c.args.seat ns c.self.invariant here (c.bury.ensures ∙ ap (λ (ms : List ℕ). without c.self.inside.clauses ms) (c.deref.ensures.value ∙ dead)))
 
 pub returns-clause-ok : goal.returns-clause-ok
 returns-clause-ok c =
-    let s : State = record { formula = c.self.inside.formula; max_steps = c.self.inside.max_steps; tables = c.self.inside.tables; history = c.self.inside.history.items } in
+    let s : State = record { formula = c.self.inside.formula; max_steps = c.self.inside.max_steps; tables = c.self.inside.tables; history = c.self.inside.history.entries } in
     let ns = c.args.numbers.now in
     let here = sym c.is_here.ensures ∙ c.if-not-is_here.false in
     let dead = found_dead s c.args.seat ns c.rising-joints.result.items c.no_longer_held-died.result.items c.unbind_all-count.new.self (IsSound-reached s c.self.invariant.reached) here c.unbind_all-count.ensures.removed c.rising-joints.ensures.rising (λ q. c.rising-joints.ensures.same q ∙ ap (λ (ms : List ℕ). is_among ms q) c.in_ok-joints.ensures) c.no_longer_held-died.ensures in
-    let entry : Entry = record { seat = c.args.seat; call = calls.Drop c.in_ok-from_slice.field-0; step = c.deletion_of-step.result } in
-    let pushed : c.push.new.self.items ≡ s.history ++ entry ∷ [] = c.push.ensures.items ∙ ap (λ (b : Bool). cond b (c.reserve.new.self.items ++ entry ∷ []) c.reserve.new.self.items) (ap is_ok c.unwrap.ensures) ∙ ap (λ (es : List Entry). es ++ entry ∷ []) c.in_ok-reserve.ensures.items in
-    dropped_state s c.args.seat ns c.in_ok-from_slice.field-0 c.no_longer_held-died.result.items c.unbind_all-count.new.self c.deletion_of-step.result c.push.new.self.items c.unbind_all-count.ensures.removed c.in_ok-from_slice.ensures dead c.deletion_of-step.ensures pushed
+    let entry : Entry = record { seat = c.args.seat; call = calls.Drop c.in_ok-given.given.value; step = c.deletion_of-step.result } in
+    let pushed : c.push.new.self.entries ≡ s.history ++ entry ∷ [] = c.push.ensures ∙ ap (λ (es : List Entry). es ++ entry ∷ []) c.in_ok-reserve.ensures.same in
+    dropped_state s c.args.seat ns c.in_ok-given.given.value c.no_longer_held-died.result.items c.unbind_all-count.new.self c.deletion_of-step.result c.push.new.self.entries c.unbind_all-count.ensures.removed (c.in_ok-given.ensures.ok ∙ c.in_ok-own.ensures) dead c.deletion_of-step.ensures pushed
     ∙ ap (λ (t : State). after_entry t (drop_entry t c.args.seat ns)) c.self.view_is

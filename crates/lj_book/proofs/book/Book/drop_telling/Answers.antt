@@ -13,7 +13,7 @@ use Rattle.lj_book.proofs.book.Book.drop_telling.Goals as goal
 
 pub returns-clause-told : goal.returns-clause-told
 returns-clause-told c =
-    let s : State = record { formula = c.self.inside.formula; max_steps = c.self.inside.max_steps; tables = c.self.inside.tables; history = c.self.inside.history.items } in
+    let s : State = record { formula = c.self.inside.formula; max_steps = c.self.inside.max_steps; tables = c.self.inside.tables; history = c.self.inside.history.entries } in
     let seat = c.args.seat in
     let ns = c.args.numbers.now in
     let here = sym c.is_here.ensures ∙ c.if-not-is_here.false in
@@ -23,5 +23,5 @@ returns-clause-told c =
     ∙ ap (λ (t : State). with_table (without_keys ns) t.tables seat) (sym c.self.view_is) in
     let dead = found_dead s seat ns c.rising-joints.result.items c.no_longer_held.result.items c.self-2.inside.tables (IsSound-reached s c.self.invariant.reached) here left c.rising-joints.ensures.rising (λ q. c.rising-joints.ensures.same q ∙ ap (λ (ms : List ℕ). is_among ms q) c.in_ok-joints.ensures) c.no_longer_held.ensures in
     let entry : List ℕ → Option Step → Entry = λ ms o. record { seat = seat; call = calls.Drop ms; step = o } in
-    (λ i. entry (c.in_ok-from_slice.ensures i) ((c.deletion_of-step.ensures ∙ ap if_some dead) i))
+    (λ i. entry (c.in_ok-copy.ensures i) ((c.deletion_of-step.ensures ∙ ap if_some dead) i))
     ∙ ap (λ (t : State). drop_entry t seat ns) c.self.view_is

@@ -1,12 +1,9 @@
-use Rattle.std.proofs.Common.{◌≡◌, ap, sym, ◌∙◌, subst, ℕ, ◌+◌, Bool, cond, ◌<◌, arith}
-use Rattle.std.specs.Prelude.{List, [], ◌∷◌, ◌++◌, is_ok, Option, Some, length}
+use Rattle.std.proofs.Common.{◌≡◌, ap, sym, ◌∙◌, subst, ℕ, ◌+◌, ◌<◌, arith}
+use Rattle.std.specs.Prelude.{List, [], ◌∷◌, ◌++◌, Option, length}
 use Rattle.std.specs.FinMap as fin
-use Rattle.lj_clause.specs.Lemma.{LemmaValue}
 use Rattle.lj_clause.specs.ClauseMap.{ClauseMap}
-use Rattle.lj_text.specs.declared.step.Step.TheVariants as steps
-use Rattle.lj_book.specs.declared.entry.Call.TheVariants as calls
 use Rattle.lj_book.specs.declared.entry.Entry.{Entry}
-use Rattle.lj_book.specs.State.{State, addition_count, next, live}
+use Rattle.lj_book.specs.State.{State, addition_count, live}
 use Rattle.lj_book.specs.Tables.{is_held}
 use Rattle.lj_book.specs.inner.Kept.{IsKept, refuted_after}
 use Rattle.lj_book.specs.History.{after_entry}
@@ -18,17 +15,17 @@ use Rattle.lj_book.proofs.book.Book.enter_line.Goals as goal
 
 pub bind_clause-requires-clause-here : goal.bind_clause-requires-clause-here
 bind_clause-requires-clause-here c =
-    let s : State = record { formula = c.self.inside.formula; max_steps = c.self.inside.max_steps; tables = c.self.inside.tables; history = c.self.inside.history.items } in
+    let s : State = record { formula = c.self.inside.formula; max_steps = c.self.inside.max_steps; tables = c.self.inside.tables; history = c.self.inside.history.entries } in
     (entered s c.args.seat c.args.addition.now c.args.step (ap (λ (t : State). inside_line t c.args.seat c.args.addition.now) c.self.view_is ∙ c.requires)).1.can.here
 
 pub bind_clause-requires-clause-unbound : goal.bind_clause-requires-clause-unbound
 bind_clause-requires-clause-unbound c =
-    let s : State = record { formula = c.self.inside.formula; max_steps = c.self.inside.max_steps; tables = c.self.inside.tables; history = c.self.inside.history.items } in
+    let s : State = record { formula = c.self.inside.formula; max_steps = c.self.inside.max_steps; tables = c.self.inside.tables; history = c.self.inside.history.entries } in
     (entered s c.args.seat c.args.addition.now c.args.step (ap (λ (t : State). inside_line t c.args.seat c.args.addition.now) c.self.view_is ∙ c.requires)).1.can.unbound
 
 pub bind_clause-requires-clause-new : goal.bind_clause-requires-clause-new
 bind_clause-requires-clause-new c =
-    let s : State = record { formula = c.self.inside.formula; max_steps = c.self.inside.max_steps; tables = c.self.inside.tables; history = c.self.inside.history.items } in
+    let s : State = record { formula = c.self.inside.formula; max_steps = c.self.inside.max_steps; tables = c.self.inside.tables; history = c.self.inside.history.entries } in
     let e = entered s c.args.seat c.args.addition.now c.args.step (ap (λ (t : State). inside_line t c.args.seat c.args.addition.now) c.self.view_is ∙ c.requires) in
     let kept = step_kept s c.args.seat c.args.addition.now c.args.step e.0 e.1 in
     ap (λ (m : ClauseMap). fin.get m c.args.step.number) c.self.invariant.lives
@@ -37,14 +34,14 @@ bind_clause-requires-clause-new c =
 
 pub bind_clause-requires-clause-unheld : goal.bind_clause-requires-clause-unheld
 bind_clause-requires-clause-unheld c =
-    let s : State = record { formula = c.self.inside.formula; max_steps = c.self.inside.max_steps; tables = c.self.inside.tables; history = c.self.inside.history.items } in
+    let s : State = record { formula = c.self.inside.formula; max_steps = c.self.inside.max_steps; tables = c.self.inside.tables; history = c.self.inside.history.entries } in
     let e = entered s c.args.seat c.args.addition.now c.args.step (ap (λ (t : State). inside_line t c.args.seat c.args.addition.now) c.self.view_is ∙ c.requires) in
     let kept = step_kept s c.args.seat c.args.addition.now c.args.step e.0 e.1 in
     ap (is_held s.tables) kept.0 ∙ not_held_at_next s (IsSound-reached s c.self.invariant.reached)
 
 pub invariant_of-self-2 : goal.invariant_of-self-2
 invariant_of-self-2 c =
-    let s : State = record { formula = c.self.inside.formula; max_steps = c.self.inside.max_steps; tables = c.self.inside.tables; history = c.self.inside.history.items } in
+    let s : State = record { formula = c.self.inside.formula; max_steps = c.self.inside.max_steps; tables = c.self.inside.tables; history = c.self.inside.history.entries } in
     let seat = c.args.seat in
     let a = c.args.addition.now in
     let step = c.args.step in
@@ -52,24 +49,20 @@ invariant_of-self-2 c =
     let kept = step_kept s seat a step e.0 e.1 in
     let pivot : IsPivot a.lemma = record { literal = c.has_pivot.ensures.literal; there = c.has_pivot.ensures.there } in
     let legal = entered_legal s seat a step e.0 (IsSound-reached s c.self.invariant.reached) pivot e.1 in
-    let entry : LemmaValue → Entry = λ l. record { seat = seat; call = calls.Add a.number l; step = Some (steps.Add step) } in
-    let pushed : c.push.new.self.items ≡ s.history ++ line_entry seat a.number step ∷ [] =
-    c.push.ensures.items
-    ∙ ap (λ (b : Bool). cond b (c.reserve.new.self.items ++ entry c.in_ok-lemma.lemma ∷ []) c.reserve.new.self.items) (ap is_ok c.unwrap.ensures)
-    ∙ ap (λ (es : List Entry). es ++ entry c.in_ok-lemma.lemma ∷ []) c.in_ok-reserve.ensures.items
-    ∙ ap (λ (l : LemmaValue). s.history ++ entry l ∷ []) c.in_ok-lemma.ensures in
-    let is = line_state s seat a.number step.number step c.bind_clause.new.tables c.push.new.self.items kept.0 c.in_ok-bind_clause.ensures.tables pushed in
+    let pushed : c.push.new.self.entries ≡ s.history ++ line_entry seat a.number step ∷ [] =
+    c.push.ensures ∙ ap (λ (es : List Entry). es ++ line_entry seat a.number step ∷ []) c.in_ok-reserve.ensures.same in
+    let is = line_state s seat a.number step.number step c.bind_clause.new.tables c.push.new.self.entries kept.0 c.in_ok-bind_clause.ensures.tables pushed in
     let clause : c.in_ok-clause.clause ≡ step.lemma.clause = c.in_ok-clause.ensures ∙ c.clause.ensures.clause in
-    let place : c.len-place.result ≡ length s.history = c.len-place.ensures ∙ c.self.inside.history.ok.0 in
+    let place : c.len-place.result ≡ length s.history = c.len-place.ensures.len in
     let refuted = c.refuted_at-refuted.ensures ∙ (λ i. refuted_after c.self.inside.refuted (place i) (clause i)) in
-    subst (λ (o : Option ℕ). IsKept (record { formula = s.formula; max_steps = s.max_steps; tables = c.bind_clause.new.tables; history = c.push.new.self.items }) c.bind_clause.new.clauses (c.self.inside.added + 1) o) (sym refuted)
+    subst (λ (o : Option ℕ). IsKept (record { formula = s.formula; max_steps = s.max_steps; tables = c.bind_clause.new.tables; history = c.push.new.self.entries }) c.bind_clause.new.clauses (c.self.inside.added + 1) o) (sym refuted)
     (subst (λ (t : State). IsKept t c.bind_clause.new.clauses (c.self.inside.added + 1) (refuted_after c.self.inside.refuted (length s.history) step.lemma.clause)) (sym is)
     (IsKept-line s seat a.number step c.self.inside.clauses c.bind_clause.new.clauses c.self.inside.added c.self.inside.refuted c.self.invariant legal
     (c.in_ok-bind_clause.ensures.clauses ∙ (λ i. fin.insert c.self.inside.clauses (kept.0 i) (clause i)))))
 
 pub overflow_add-self : goal.overflow_add-self
 overflow_add-self c =
-    let s : State = record { formula = c.self.inside.formula; max_steps = c.self.inside.max_steps; tables = c.self.inside.tables; history = c.self.inside.history.items } in
+    let s : State = record { formula = c.self.inside.formula; max_steps = c.self.inside.max_steps; tables = c.self.inside.tables; history = c.self.inside.history.entries } in
     let e = entered s c.args.seat c.args.addition.now c.args.step (ap (λ (t : State). inside_line t c.args.seat c.args.addition.now) c.self.view_is ∙ c.requires) in
     let room : addition_count s.history < s.max_steps = entered_room s c.args.seat c.args.addition.now c.args.step e.0 e.1 in
     let counted = c.self.invariant.additions in
@@ -77,17 +70,13 @@ overflow_add-self c =
 
 pub returns-clause-ok : goal.returns-clause-ok
 returns-clause-ok c =
-    let s : State = record { formula = c.self.inside.formula; max_steps = c.self.inside.max_steps; tables = c.self.inside.tables; history = c.self.inside.history.items } in
+    let s : State = record { formula = c.self.inside.formula; max_steps = c.self.inside.max_steps; tables = c.self.inside.tables; history = c.self.inside.history.entries } in
     let seat = c.args.seat in
     let a = c.args.addition.now in
     let step = c.args.step in
     let e = entered s seat a step (ap (λ (t : State). inside_line t seat a) c.self.view_is ∙ c.requires) in
     let kept = step_kept s seat a step e.0 e.1 in
-    let entry : LemmaValue → Entry = λ l. record { seat = seat; call = calls.Add a.number l; step = Some (steps.Add step) } in
-    let pushed : c.push.new.self.items ≡ s.history ++ line_entry seat a.number step ∷ [] =
-    c.push.ensures.items
-    ∙ ap (λ (b : Bool). cond b (c.reserve.new.self.items ++ entry c.in_ok-lemma.lemma ∷ []) c.reserve.new.self.items) (ap is_ok c.unwrap.ensures)
-    ∙ ap (λ (es : List Entry). es ++ entry c.in_ok-lemma.lemma ∷ []) c.in_ok-reserve.ensures.items
-    ∙ ap (λ (l : LemmaValue). s.history ++ entry l ∷ []) c.in_ok-lemma.ensures in
-    line_state s seat a.number step.number step c.bind_clause.new.tables c.push.new.self.items kept.0 c.in_ok-bind_clause.ensures.tables pushed
+    let pushed : c.push.new.self.entries ≡ s.history ++ line_entry seat a.number step ∷ [] =
+    c.push.ensures ∙ ap (λ (es : List Entry). es ++ line_entry seat a.number step ∷ []) c.in_ok-reserve.ensures.same in
+    line_state s seat a.number step.number step c.bind_clause.new.tables c.push.new.self.entries kept.0 c.in_ok-bind_clause.ensures.tables pushed
     ∙ ap (λ (t : State). after_entry t (line_entry seat a.number step)) c.self.view_is

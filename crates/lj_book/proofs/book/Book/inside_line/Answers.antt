@@ -1,7 +1,5 @@
-use Rattle.std.proofs.Common.{◌≡◌, ◌≤◌, ◌<◌, ◌+◌, ap, sym, ◌∙◌, subst, ℕ, arith}
-use Rattle.std.specs.Prelude.{Ok, Err}
-use Rattle.lj_book.specs.State.{State, addition_count, next, live}
-use Rattle.lj_book.specs.History.{IsReached}
+use Rattle.std.proofs.Common.{◌≡◌, ◌≤◌, ◌<◌, ◌+◌, ap, sym, ◌∙◌, arith}
+use Rattle.lj_book.specs.State.{State, addition_count, next}
 use Rattle.lj_book.specs.Calls.{free_refusal}
 use Rattle.lj_book.specs.inner.JointLines.{LineParts, addition_of_parts, tested_line, inside_line}
 use Rattle.lj_book.proofs.InsideLaws.{IsTaken, refusal_passes, line_refused, line_full, line_passed}
@@ -9,9 +7,9 @@ use Rattle.lj_book.proofs.book.Book.inside_line.Goals as goal
 
 pub returns-in-Err-tested_line-clause-reply : goal.returns-in-Err-tested_line-clause-reply
 returns-in-Err-tested_line-clause-reply c =
-    let s : State = record { formula = c.self.inside.formula; max_steps = c.self.inside.max_steps; tables = c.self.inside.tables; history = c.self.inside.history.items } in
+    let s : State = record { formula = c.self.inside.formula; max_steps = c.self.inside.max_steps; tables = c.self.inside.tables; history = c.self.inside.history.entries } in
     let a = c.args.addition.now in
-    let parts : LineParts = (c.in-Ok.line.hints.items, c.in-Ok.line.groups.items) in
+    let parts : LineParts = (c.in-Ok.line.hints, c.in-Ok.line.groups.items) in
     let taken : IsTaken s c.args.seat a parts = record {
       free = ap (λ (t : State). free_refusal t c.args.seat a.number) c.self.view_is ∙ sym c.free_refusal.ensures ∙ c.in_default.is;
       are = c.in-Ok.ensures;
@@ -25,9 +23,9 @@ returns-in-Err-tested_line-clause-reply c =
 
 pub returns-then-added-max_steps-clause-reply : goal.returns-then-added-max_steps-clause-reply
 returns-then-added-max_steps-clause-reply c =
-    let s : State = record { formula = c.self.inside.formula; max_steps = c.self.inside.max_steps; tables = c.self.inside.tables; history = c.self.inside.history.items } in
+    let s : State = record { formula = c.self.inside.formula; max_steps = c.self.inside.max_steps; tables = c.self.inside.tables; history = c.self.inside.history.entries } in
     let a = c.args.addition.now in
-    let parts : LineParts = (c.in-Ok.line.hints.items, c.in-Ok.line.groups.items) in
+    let parts : LineParts = (c.in-Ok.line.hints, c.in-Ok.line.groups.items) in
     let taken : IsTaken s c.args.seat a parts = record {
       free = ap (λ (t : State). free_refusal t c.args.seat a.number) c.self.view_is ∙ sym c.free_refusal.ensures ∙ c.in_default.is;
       are = c.in-Ok.ensures;
@@ -39,9 +37,9 @@ returns-then-added-max_steps-clause-reply c =
 
 pub returns-clause-reply : goal.returns-clause-reply
 returns-clause-reply c =
-    let s : State = record { formula = c.self.inside.formula; max_steps = c.self.inside.max_steps; tables = c.self.inside.tables; history = c.self.inside.history.items } in
+    let s : State = record { formula = c.self.inside.formula; max_steps = c.self.inside.max_steps; tables = c.self.inside.tables; history = c.self.inside.history.entries } in
     let a = c.args.addition.now in
-    let parts : LineParts = (c.in-Ok.line.hints.items, c.in-Ok.line.groups.items) in
+    let parts : LineParts = (c.in-Ok.line.hints, c.in-Ok.line.groups.items) in
     let taken : IsTaken s c.args.seat a parts = record {
       free = ap (λ (t : State). free_refusal t c.args.seat a.number) c.self.view_is ∙ sym c.free_refusal.ensures ∙ c.in_default.is;
       are = c.in-Ok.ensures;

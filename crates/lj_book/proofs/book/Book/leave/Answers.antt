@@ -1,9 +1,9 @@
-use Rattle.std.proofs.Common.{◌≡◌, ap, sym, ◌∙◌, subst, ℕ, Bool, cond}
-use Rattle.std.specs.Prelude.{List, [], ◌∷◌, ◌++◌, filter_map, is_ok}
+use Rattle.std.proofs.Common.{◌≡◌, ap, sym, ◌∙◌, subst, ℕ}
+use Rattle.std.specs.Prelude.{List, [], ◌∷◌, ◌++◌}
 use Rattle.lj_text.specs.Steps.{without}
 use Rattle.lj_book.specs.declared.entry.Call.TheVariants as calls
 use Rattle.lj_book.specs.declared.entry.Entry.{Entry}
-use Rattle.lj_book.specs.Tables.{joint_of, is_among, without_seat}
+use Rattle.lj_book.specs.Tables.{is_among, without_seat}
 use Rattle.lj_book.specs.State.{State}
 use Rattle.lj_book.specs.History.{after_entry}
 use Rattle.lj_book.specs.inner.Kept.{IsKept}
@@ -14,25 +14,25 @@ use Rattle.lj_book.proofs.book.Book.leave.Goals as goal
 
 pub invariant_of-self-2 : goal.invariant_of-self-2
 invariant_of-self-2 c =
-    let s : State = record { formula = c.self.inside.formula; max_steps = c.self.inside.max_steps; tables = c.self.inside.tables; history = c.self.inside.history.items } in
+    let s : State = record { formula = c.self.inside.formula; max_steps = c.self.inside.max_steps; tables = c.self.inside.tables; history = c.self.inside.history.entries } in
     let here = sym c.is_here.ensures ∙ c.if-not-is_here.false in
-    let ns = c.in_ok-numbers.numbers.items in
+    let ns = c.new-numbers.result in
     let gone : c.leave.new.self ≡ without_seat s.tables c.args.seat = c.leave.ensures in
-    let dead = left_dead s c.args.seat ns c.rising-joints.result.items c.no_longer_held-died.result.items c.leave.new.self (IsSound-reached s c.self.invariant.reached) here c.in_ok-numbers.ensures gone c.rising-joints.ensures.rising (λ q. c.rising-joints.ensures.same q ∙ ap (λ (ms : List ℕ). is_among ms q) (c.in_ok-joints.ensures ∙ ap (filter_map (joint_of s.tables c.args.seat)) c.deref.ensures.value)) c.no_longer_held-died.ensures in
-    let entry : Entry = record { seat = c.args.seat; call = calls.Leave; step = c.deletion_of-step.result } in
-    let pushed : c.push.new.self.items ≡ s.history ++ entry ∷ [] = c.push.ensures.items ∙ ap (λ (b : Bool). cond b (c.reserve.new.self.items ++ entry ∷ []) c.reserve.new.self.items) (ap is_ok c.unwrap.ensures) ∙ ap (λ (es : List Entry). es ++ entry ∷ []) c.in_ok-reserve.ensures.items in
-    let is = left_state s c.args.seat c.no_longer_held-died.result.items c.leave.new.self c.deletion_of-step.result c.push.new.self.items gone dead c.deletion_of-step.ensures pushed in
+    let dead = left_dead s c.args.seat ns c.rising-joints.result.items c.no_longer_held-died.result.items c.leave.new.self (IsSound-reached s c.self.invariant.reached) here (c.new-numbers.ensures ∙ c.in_ok-own_numbers.ensures) gone c.rising-joints.ensures.rising (λ q. c.rising-joints.ensures.same q ∙ ap (λ (ms : List ℕ). is_among ms q) c.in_ok-joints.ensures) c.no_longer_held-died.ensures in
+    let entry : Entry = record { seat = c.args.seat; call = calls.Leave; step = c.deletion_of.result } in
+    let pushed : c.push.new.self.entries ≡ s.history ++ entry ∷ [] = c.push.ensures ∙ ap (λ (es : List Entry). es ++ entry ∷ []) c.in_ok-reserve.ensures.same in
+    let is = left_state s c.args.seat c.no_longer_held-died.result.items c.leave.new.self c.deletion_of.result c.push.new.self.entries gone dead c.deletion_of.ensures pushed in
     subst (λ (t : State). IsKept t c.bury.new.clauses c.self.inside.added c.self.inside.refuted) (sym is)
-    (IsKept-leave s c.self.inside.clauses c.bury.new.clauses c.self.inside.added c.self.inside.refuted c.args.seat c.self.invariant here (c.bury.ensures ∙ ap (λ (ms : List ℕ). without c.self.inside.clauses ms) (c.deref-3.ensures.value ∙ dead)))
+    (IsKept-leave s c.self.inside.clauses c.bury.new.clauses c.self.inside.added c.self.inside.refuted c.args.seat c.self.invariant here (c.bury.ensures ∙ ap (λ (ms : List ℕ). without c.self.inside.clauses ms) (c.deref.ensures.value ∙ dead)))
 
 pub returns-clause-ok : goal.returns-clause-ok
 returns-clause-ok c =
-    let s : State = record { formula = c.self.inside.formula; max_steps = c.self.inside.max_steps; tables = c.self.inside.tables; history = c.self.inside.history.items } in
+    let s : State = record { formula = c.self.inside.formula; max_steps = c.self.inside.max_steps; tables = c.self.inside.tables; history = c.self.inside.history.entries } in
     let here = sym c.is_here.ensures ∙ c.if-not-is_here.false in
-    let ns = c.in_ok-numbers.numbers.items in
+    let ns = c.new-numbers.result in
     let gone : c.leave.new.self ≡ without_seat s.tables c.args.seat = c.leave.ensures in
-    let dead = left_dead s c.args.seat ns c.rising-joints.result.items c.no_longer_held-died.result.items c.leave.new.self (IsSound-reached s c.self.invariant.reached) here c.in_ok-numbers.ensures gone c.rising-joints.ensures.rising (λ q. c.rising-joints.ensures.same q ∙ ap (λ (ms : List ℕ). is_among ms q) (c.in_ok-joints.ensures ∙ ap (filter_map (joint_of s.tables c.args.seat)) c.deref.ensures.value)) c.no_longer_held-died.ensures in
-    let entry : Entry = record { seat = c.args.seat; call = calls.Leave; step = c.deletion_of-step.result } in
-    let pushed : c.push.new.self.items ≡ s.history ++ entry ∷ [] = c.push.ensures.items ∙ ap (λ (b : Bool). cond b (c.reserve.new.self.items ++ entry ∷ []) c.reserve.new.self.items) (ap is_ok c.unwrap.ensures) ∙ ap (λ (es : List Entry). es ++ entry ∷ []) c.in_ok-reserve.ensures.items in
-    left_state s c.args.seat c.no_longer_held-died.result.items c.leave.new.self c.deletion_of-step.result c.push.new.self.items gone dead c.deletion_of-step.ensures pushed
+    let dead = left_dead s c.args.seat ns c.rising-joints.result.items c.no_longer_held-died.result.items c.leave.new.self (IsSound-reached s c.self.invariant.reached) here (c.new-numbers.ensures ∙ c.in_ok-own_numbers.ensures) gone c.rising-joints.ensures.rising (λ q. c.rising-joints.ensures.same q ∙ ap (λ (ms : List ℕ). is_among ms q) c.in_ok-joints.ensures) c.no_longer_held-died.ensures in
+    let entry : Entry = record { seat = c.args.seat; call = calls.Leave; step = c.deletion_of.result } in
+    let pushed : c.push.new.self.entries ≡ s.history ++ entry ∷ [] = c.push.ensures ∙ ap (λ (es : List Entry). es ++ entry ∷ []) c.in_ok-reserve.ensures.same in
+    left_state s c.args.seat c.no_longer_held-died.result.items c.leave.new.self c.deletion_of.result c.push.new.self.entries gone dead c.deletion_of.ensures pushed
     ∙ ap (λ (t : State). after_entry t (leave_entry t c.args.seat)) c.self.view_is

@@ -8,7 +8,7 @@ use Rattle.lj_book.proofs.book.Book.verified.Goals as goal
 
 pub new-requires : goal.new-requires
 new-requires c =
-    let s : State = record { formula = c.self.inside.formula; max_steps = c.self.inside.max_steps; tables = c.self.inside.tables; history = c.self.inside.history.items } in
+    let s : State = record { formula = c.self.inside.formula; max_steps = c.self.inside.max_steps; tables = c.self.inside.tables; history = c.self.inside.history.entries } in
     subst (λ (f : FormulaValue). IsUnsatisfiable f) (sym c.in_ok-copy.ensures)
     (refuted_unsatisfiable s c.self.inside.clauses c.self.inside.added c.self.inside.refuted c.self.invariant (c.is_none.ensures ∙ ap not c.if-is_none.false))
 

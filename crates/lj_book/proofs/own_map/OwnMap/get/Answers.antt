@@ -1,5 +1,4 @@
 use Rattle.std.proofs.Common.{ap, sym, ◌∙◌, option_copied}
-use Rattle.std.specs.Prelude.{is_some}
 use Rattle.std.specs.FinMap as fin
 use Rattle.lj_book.proofs.Slots.{joined_near, joined_far}
 use Rattle.lj_book.proofs.own_map.OwnMap.get.Goals as goal

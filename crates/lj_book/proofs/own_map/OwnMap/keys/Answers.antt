@@ -1,4 +1,4 @@
-use Rattle.std.proofs.Common.{◌≡◌, ap, sym, ◌∙◌, ◌++◌, ℕ, List}
+use Rattle.std.proofs.Common.{◌≡◌, ap, ◌∙◌, ◌++◌, ℕ, List}
 use Rattle.std.specs.FinMap as fin
 use Rattle.lj_book.specs.Tables.{is_among}
 use Rattle.lj_book.proofs.Slots.{joined_keys}

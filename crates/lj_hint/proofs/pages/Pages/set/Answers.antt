@@ -1,4 +1,4 @@
-use Rattle.std.proofs.Common.{◌≡◌, ap, sym, ◌∙◌, arith, ◌/◌, ◌<◌, length, ℕ}
+use Rattle.std.proofs.Common.{ap, ◌∙◌, arith, ◌/◌, ◌<◌, length, ℕ}
 use Rattle.std.specs.Prelude.{◌==◌, if◌then◌else◌, List}
 use Rattle.std.proofs.lemmas.Result.{on_ok_weaker, on_err_weaker}
 use Rattle.lj_hint.specs.inner.Stamps.{page_stamp}

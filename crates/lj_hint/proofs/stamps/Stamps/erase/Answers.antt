@@ -13,5 +13,5 @@ returns-then-place-ge-NEAR c = λ q.
 pub returns-else-place-ge-NEAR : goal.returns-else-place-ge-NEAR
 returns-else-place-ge-NEAR c = λ q.
     let before : Stamped = (c.self.inside.near, c.self.inside.far) in
-    near_set before (c.erase-else-place-ge-NEAR.new.self, c.self.inside.far) c.args.place 0 (omega (arith, c.if-place-ge-NEAR.false)) refl c.erase-else-place-ge-NEAR.ensures q
+    near_set before (c.erase-else-place-ge-NEAR.new.self, c.self.inside.far) c.args.place 0 (omega (arith, c.if-place-ge-NEAR.false)) refl c.erase-else-place-ge-NEAR.ensures.erased q
     ∙ ap (λ (s : Stamped). if q == c.args.place then 0 else stamp_at s q) c.self.view_is

@@ -1,16 +1,11 @@
-use Rattle.std.proofs.Common.{ap, sym, ◌∙◌, arith}
+use Rattle.std.proofs.Common.{◌<◌, ap, sym, ◌∙◌, arith, length}
 use Rattle.lj_hint.specs.inner.Stamps.{Stamped, stamp_at}
-use Rattle.lj_hint.proofs.NearLaws.{near_stamp, far_stamp}
+use Rattle.lj_hint.proofs.NearLaws.{below, near_stamp}
 use Rattle.lj_hint.proofs.stamps.Stamps.get.Goals as goal
 
-pub returns-then-place-ge-NEAR : goal.returns-then-place-ge-NEAR
-returns-then-place-ge-NEAR c =
+pub returns-then-reaches : goal.returns-then-reaches
+returns-then-reaches c =
+    let within : c.args.place < length c.self.inside.near = below c.args.place (length c.self.inside.near) (sym c.reaches.ensures ∙ c.if-reaches.true) in
     c.get.ensures
-    ∙ sym (far_stamp (c.self.inside.near, c.self.inside.far) c.args.place (omega (arith, c.if-place-ge-NEAR.true)))
-    ∙ ap (λ (s : Stamped). stamp_at s c.args.place) c.self.view_is
-
-pub returns : goal.returns
-returns c =
-    c.get-2.ensures
-    ∙ sym (near_stamp (c.self.inside.near, c.self.inside.far) c.args.place (omega (arith, c.if-place-ge-NEAR.false)))
+    ∙ sym (near_stamp (c.self.inside.near, c.self.inside.far) c.args.place (omega (arith, c.self.invariant, within)))
     ∙ ap (λ (s : Stamped). stamp_at s c.args.place) c.self.view_is

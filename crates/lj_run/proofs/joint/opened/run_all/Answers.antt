@@ -1,11 +1,11 @@
-use Rattle.std.proofs.Common.{◌≡◌, List, length, map, Some, sym, ap, ◌∙◌, subst}
+use Rattle.std.proofs.Common.{◌≡◌, length, map, Some, sym, ap, ◌∙◌, subst}
 use Rattle.std.specs.Prelude.{All, IfOk}
 use Rattle.std.specs.List.{sum_by}
 use Rattle.lj_text.specs.Streams.{source_state}
 use Rattle.lj_share.specs.Seats.{SeatValue, entries_made}
 use Rattle.lj_run.specs.InTurn.{streams_by_seat}
 use Rattle.lj_run.specs.inner.Joint.{HaveRun}
-use Rattle.lj_run.specs.Joint.{accepted}
+use Rattle.lj_run.specs.Joint.{accepted_count}
 use Rattle.lj_run.proofs.JointRunLemmas.{zipped_first, zipped_second, streams_zipped, one_more_of, made_more, all_front, all_last, length_before}
 use Rattle.lj_run.proofs.joint.opened.run_all.Goals as goal
 
@@ -60,5 +60,5 @@ returns-in_ok-push-in-Some-clause-ran g c =
 pub returns-in_ok-push-in-Some-clause-counted : goal.returns-in_ok-push-in-Some-clause-counted
 returns-in_ok-push-in-Some-clause-counted g c =
     let rs = c.in_ok-ran-in-Some.ran.items in
-    let more = made_more (λ r. r.seat) (λ r. accepted r.report) rs c.run_worker.result c.in_ok-ran-in-Some.ensures.counted c.run_worker.ensures.counted in
-    subst (λ xs. entries_made (map (λ r. r.seat) xs) ≡ sum_by (λ r. accepted r.report) xs) (sym c.in_ok-push-in-Some.ensures.items) more
+    let more = made_more (λ r. r.seat) (λ r. accepted_count r.report) rs c.run_worker.result c.in_ok-ran-in-Some.ensures.counted c.run_worker.ensures.counted in
+    subst (λ xs. entries_made (map (λ r. r.seat) xs) ≡ sum_by (λ r. accepted_count r.report) xs) (sym c.in_ok-push-in-Some.ensures.items) more

@@ -6,7 +6,7 @@ use Rattle.lj_text.specs.Streams.{source_state}
 use Rattle.lj_share.specs.Seats.{SeatValue, IsOpenedAs, entries_made}
 use Rattle.lj_run.specs.InTurn.{streams_by_seat}
 use Rattle.lj_run.specs.inner.Joint.{HaveRun}
-use Rattle.lj_run.specs.Joint.{IsBookOfRun, accepted}
+use Rattle.lj_run.specs.Joint.{IsBookOfRun, accepted_count}
 use Rattle.lj_run.specs.Run.{has_verdict}
 use Rattle.lj_run.proofs.JointRunLemmas.{streams_counted, fresh_seats, length-new_seats, as_many_ran, no_other_test, map_twice, opened_by, book_of_run, unconfirmed, sum_of_map}
 use Rattle.lj_run.proofs.joint.opened.run_opened.Goals as goal
@@ -50,7 +50,7 @@ returns-clause-ran g c =
     let tokens = ap (map (λ t. t.items)) (c.deref.ensures.value ∙ c.in_ok-seats.ensures.told) ∙ map_twice (λ t. t.items) (λ r. r.told) rs in
     let reports = c.deref-2.ensures.value ∙ c.in_ok-seats.ensures.reports in
     let ran = subst (λ ts. HaveRun seen streams ts c.deref-2.result.now) (sym tokens) (subst (λ qs. HaveRun seen streams (map (λ r. r.told.items) rs) qs) (sym reports) c.in_ok-ran.ensures.ran) in
-    let counted = c.in-Ok.ensures.entries ∙ ap entries_made c.in_ok-seats.ensures.seats ∙ c.in_ok-ran.ensures.counted ∙ sym (sum_of_map (λ r. r.report) accepted rs) ∙ ap (sum_by accepted) (sym reports) in
+    let counted = c.in-Ok.ensures.entries ∙ ap entries_made c.in_ok-seats.ensures.seats ∙ c.in_ok-ran.ensures.counted ∙ sym (sum_of_map (λ r. r.report) accepted_count rs) ∙ ap (sum_by accepted_count) (sym reports) in
     let book = book_of_run seen c.args.formula c.args.max_steps streams (map (λ t. t.items) c.deref.result.now) c.deref-2.result.now s opened c.in-Ok.ensures.legal counted ran c.if-not-all_confirmed.ensures in
     let given = subst (λ qs. IsBookOfRun seen c.args.formula c.args.max_steps streams (has_verdict s) qs s) c.deref-2.ensures.value book in
     subst (λ b. IsBookOfRun seen c.args.formula c.args.max_steps streams (has_verdict b) c.in_ok-seats.reports.items b) (sym c.into_book.ensures.book) given

@@ -1,10 +1,10 @@
-use Rattle.std.proofs.Common.{rules, ◌≡◌, ◌+◌, true, false, Option, Some, None, sym, ap, ◌∙◌, subst, arith}
+use Rattle.std.proofs.Common.{rules, ◌+◌, true, Option, Some, None, sym, ap, ◌∙◌, subst}
 use Rattle.lj_text.specs.Streams.{source_state}
 use Rattle.lj_run.specs.Joint.{IsStreamBeside, AreCountsOf}
 use Rattle.lj_run.specs.inner.Joint.{report_of}
 use Rattle.lj_run.specs.inner.Reading.{LineRead, LineMissed}
 use Rattle.lj_run.specs.declared.stream.Tally.{Tally}
-use Rattle.lj_run.proofs.JointLemmas.{SubmittedTo, beside_stopped, beside_ended, beside_missed, beside_refused, submitted_on, counts_on}
+use Rattle.lj_run.proofs.JointLemmas.{beside_stopped, beside_ended, beside_missed, beside_refused, submitted_on, counts_on}
 use Rattle.lj_run.proofs.RunLemmas.{count_more}
 use Rattle.lj_run.proofs.joint.worker.run_lines.Goals as goal
 use Rattle.lj_clause.specs.declared.lit.TheConstants.{MAX_VARIABLE}

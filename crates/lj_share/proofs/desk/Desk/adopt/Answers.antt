@@ -1,15 +1,10 @@
-use Rattle.std.proofs.Common.{rules}
-use Rattle.lj_share.proofs.Opened.{opened_on}
+use Rattle.lj_share.proofs.Opened.{desk_on, desk_kept}
 use Rattle.lj_share.proofs.desk.Desk.adopt.Goals.{in-Ok, in-Err}
 use Rattle.lj_share.proofs.desk.Desk.adopt.Goals as goal
 
 pub invariant_of-self : goal.invariant_of-self
 invariant_of-self g c =
-    let d = c.self.invariant in
-    let f = g.L.Opening.formula in
-    let seats = g.L.Opening.seats in
-    let max = g.L.Opening.max_steps in
     elim c.match-adopt_telling.branch [
-      | in-Ok w ↦ (let is = w.self-inside-is in let opened = opened_on f seats max c.self.inside.book c.adopt_telling.new.self _ w.in-Ok.ensures.ok d.opened in search rules)
-      | in-Err w ↦ (let is = w.self-inside-is in let same = w.in-Err.ensures.err in search rules)
+      | in-Ok w ↦ rw w.self-inside-is (desk_on _ _ _ _ _ _ _ _ _ _ w.in-Ok.ensures.ok w.tell.ensures.entries c.self.invariant)
+      | in-Err w ↦ rw w.self-inside-is (desk_kept _ _ _ _ _ _ _ _ w.in-Err.ensures.err c.self.invariant)
     ]

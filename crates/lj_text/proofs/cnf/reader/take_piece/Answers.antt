@@ -1,8 +1,7 @@
-use Rattle.std.proofs.Common.{◌≡◌, ℕ, ◌<◌, ◌++◌, [], List, ◌∙◌, sym, subst, length, arith, rules}
+use Rattle.std.proofs.Common.{◌≡◌, ℕ, ◌<◌, ◌++◌, [], List, sym, subst, length, arith, rules}
 use Rattle.std.proofs.lemmas.Bool.Decides.{nat_tests}
 use Rattle.std.proofs.lemmas.Grind.{common_steps}
 use Rattle.lj_text.specs.LinesRead.{HasNoLineEnd}
-use Rattle.lj_text.specs.declared.cnf.state.State.TheVariants.{Faulty}
 use Rattle.lj_text.specs.inner.CnfHeld.{Taken}
 use Rattle.lj_text.proofs.TakeLemmas.{going-none, going-more, taken-fault, taken-rest, room-line, room-refused, sound_state, no_line_end-both}
 use Rattle.lj_text.proofs.cnf.reader.take_piece.Goals as goal

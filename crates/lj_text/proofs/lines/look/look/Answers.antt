@@ -13,7 +13,7 @@ loop-bytes-preserved c = record {
 
 pub returns-in-Some-2-clause-found : goal.returns-in-Some-2-clause-found
 returns-in-Some-2-clause-found c k first = rw c.saturating_add-next.ensures (looked-some c.args.max c.args.first k c.args.ahead.now c.loop-bytes.rest c.in-Some.bytes.now c.in-Some.after c.loop-bytes.number _ c.in-Some-2.line
-    c.loop-bytes.invariant.passed first c.in-Some.ensures.some c.in-Some.ensures.line (c.in_ok-parse_at.ensures.says ∙ ap Ok c.in-Some-2.is) c.len.ensures)
+    c.loop-bytes.invariant.passed first c.in-Some.ensures.some c.in-Some.ensures.line (c.in_ok-parse_at.ensures.says ∙ ap Ok c.in-Some-2.is) c.count.ensures)
 
 pub returns-in_err-parse_at-clause-found : goal.returns-in_err-parse_at-clause-found
 returns-in_err-parse_at-clause-found c k first =

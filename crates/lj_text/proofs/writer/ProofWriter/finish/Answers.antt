@@ -1,4 +1,4 @@
-use Rattle.std.proofs.Common.{◌≡◌, ◌++◌, refl, subst}
+use Rattle.std.proofs.Common.{subst}
 use Rattle.lj_text.specs.Writer.{WriterValue}
 use Rattle.lj_text.specs.Writing.{IsBeginning}
 use Rattle.lj_text.proofs.writer.ProofWriter.finish.Goals as goal

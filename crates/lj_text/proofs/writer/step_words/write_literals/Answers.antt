@@ -1,7 +1,6 @@
-use Rattle.std.proofs.Common.{subst, [], ◌++◌}
-use Rattle.std.specs.Fmt.{signed_decimal}
+use Rattle.std.proofs.Common.{subst}
 use Rattle.lj_clause.specs.LiteralSet.{literals}
-use Rattle.lj_text.specs.inner.Writing.{Wrote, Broke, spaced_word}
+use Rattle.lj_text.specs.inner.Writing.{Wrote, Broke}
 use Rattle.lj_text.proofs.WritingLemmas.{broke_more, broke_then, wrote_then, wrote_none, on_err, on_err_map, on_ok_map}
 use Rattle.lj_text.proofs.WrittenWords.{others_text, literals_some, literals_none}
 use Rattle.lj_text.proofs.writer.step_words.write_literals.Goals as goal

@@ -1,4 +1,4 @@
-use Rattle.std.proofs.Common.{ap, sym, ◌∙◌}
+use Rattle.std.proofs.Common.{ap, ◌∙◌}
 use Rattle.std.specs.Prelude.{slice_get}
 use Rattle.lj_book.specs.Lookup.{is_same, least_number}
 use Rattle.lj_book.specs.inner.Slots.{slot_numbers}

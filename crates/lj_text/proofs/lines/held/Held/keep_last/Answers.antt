@@ -1,14 +1,23 @@
-use Rattle.std.proofs.Common.{ap, arith, ◌∙◌}
-use Rattle.std.specs.Vec.{vec_len}
-use Rattle.std.proofs.lemmas.List.{append-nil}
-use Rattle.lj_text.proofs.HeldLemmas.{last-back}
+use Rattle.std.proofs.Common.{◌<◌, arith}
+use Rattle.lj_text.proofs.RunLemmas.{kept, kept-view}
 use Rattle.lj_text.proofs.lines.held.Held.keep_last.Goals as goal
 
-pub returns-else-count-eq0 : goal.returns-else-count-eq0
-returns-else-count-eq0 c =
-    let ok = c.self.inside.back.ok.0 in
-    let same = ap vec_len c.swap.ensures.x_after in
-    rw (c.clear.ensures.items, c.let_go-self-inside-2.ensures.rest, c.swap.ensures.x_after)
-    (append-nil _
-    ∙ last-back c.self.inside.start c.args.count c.len-2.result c.self.inside.front.items c.self.inside.back.items c.args.self.now c.self.view_is
-    (omega (arith, c.len-2.ensures, same, ok)) (omega (arith, c.if-count-len.false, c.len.ensures, c.len-2.ensures, same)))
+pub overflow_cast-self : goal.overflow_cast-self
+overflow_cast-self c =
+    let i = c.self.inside in
+    let some : 0 < c.args.count = omega (arith, c.if-count-eq0.false) in
+    let few = (kept i.start i.runs.items c.let_go-place.new.runs.items i.rest.items c.args.self.now i.count c.args.count c.let_go-place.result c.self.invariant c.self.view_is some c.requires.within (c.requires.begins some)
+    c.let_go-place.ensures.gone c.let_go-place.ensures.within).few in
+    omega (arith, few)
+
+pub invariant_of-self-2 : goal.invariant_of-self-2
+invariant_of-self-2 c =
+    let i = c.self.inside in
+    let some : 0 < c.args.count = omega (arith, c.if-count-eq0.false) in
+    kept i.start i.runs.items c.let_go-place.new.runs.items i.rest.items c.args.self.now i.count c.args.count c.let_go-place.result c.self.invariant c.self.view_is some c.requires.within (c.requires.begins some)
+    c.let_go-place.ensures.gone c.let_go-place.ensures.within
+
+pub returns : goal.returns
+returns c =
+    let i = c.self.inside in
+    kept-view i.start i.runs.items c.let_go-place.new.runs.items i.rest.items c.args.self.now i.count c.args.count c.let_go-place.result c.self.invariant c.self.view_is c.requires.within c.let_go-place.ensures.gone

@@ -14,9 +14,9 @@ pass-requires c =
     rw c.look_ahead.ensures.same (ahead-found c.args.self.now.max counted.0 c.args.self.now.ahead c.in-Ok.found (c.in-Ok.ensures.found counted.0 counted.1))
 
 pub returns-in-Ok-clause-answer : goal.returns-in-Ok-clause-answer
-returns-in-Ok-clause-answer c text given stands none memory =
+returns-in-Ok-clause-answer c text given reading memory =
     let r = c.args.self.now in
-    let s = within-of r text given (sym (ap (λ (v : LinesRead). v.finished) c.self.view_is) ∙ c.if-self.false) stands in
+    let s = within-of r text given (sym (ap (λ (v : LinesRead). v.finished) c.self.view_is) ∙ c.if-self.false) reading.stands in
     let p = c.in-Ok.ensures.found (length s.lines) s.line_is in
     ap Ok c.pass.ensures.line ∙ sym (ap line_answer (whole-at r text given s ∙ whole-found r.max (length s.lines) r.ahead c.in-Ok.found p) ∙ answers c.in-Ok.found.at c.in-Ok.found.line)
 
@@ -29,9 +29,9 @@ returns-in-Ok-clause-stands c text given stands =
     rw (c.pass.ensures.passed, c.look_ahead.ensures.same, c.pass.ensures.line) (stands-of (reader_past r c.in-Ok.found) text _ going (stands-passed r text given c.in-Ok.found s p))
 
 pub returns-in-Ok-clause-at : goal.returns-in-Ok-clause-at
-returns-in-Ok-clause-at c text given stands none memory =
+returns-in-Ok-clause-at c text given reading memory =
     let r = c.args.self.now in
-    let s = within-of r text given (sym (ap (λ (v : LinesRead). v.finished) c.self.view_is) ∙ c.if-self.false) stands in
+    let s = within-of r text given (sym (ap (λ (v : LinesRead). v.finished) c.self.view_is) ∙ c.if-self.false) reading.stands in
     let p = c.in-Ok.ensures.found (length s.lines) s.line_is in
     ap (λ (v : LinesRead). v.at) c.pass.ensures.passed ∙ place-whole r text given c.in-Ok.found s p
 
@@ -50,26 +50,26 @@ returns-in-Ok-clause-none_left c none left =
     found-none (Some l) line is e = cc
 
 pub returns-in-Err-clause-answer : goal.returns-in-Err-clause-answer
-returns-in-Err-clause-answer c text given stands none memory =
+returns-in-Err-clause-answer c text given reading memory =
     let r = c.args.self.now in
-    let s = within-of r text given (sym (ap (λ (v : LinesRead). v.finished) c.self.view_is) ∙ c.if-self.false) stands in
+    let s = within-of r text given (sym (ap (λ (v : LinesRead). v.finished) c.self.view_is) ∙ c.if-self.false) reading.stands in
     sym (ap line_answer (whole-at r text given s ∙ (c.in-Err.ensures.found (length s.lines) s.line_is).told memory))
 
 pub returns-in-Err-clause-at : goal.returns-in-Err-clause-at
-returns-in-Err-clause-at c text given stands none memory =
+returns-in-Err-clause-at c text given reading memory =
     let r = c.args.self.now in
-    let s = within-of r text given (sym (ap (λ (v : LinesRead). v.finished) c.self.view_is) ∙ c.if-self.false) stands in
+    let s = within-of r text given (sym (ap (λ (v : LinesRead). v.finished) c.self.view_is) ∙ c.if-self.false) reading.stands in
     ap (λ (v : LinesRead). v.at) c.keep.ensures ∙ kept-at c.look_ahead.new.self c.in-Err.fault memory
     ∙ ap (λ o. line_number_of o (last_number text)) (sym (whole-at r text given s ∙ (c.in-Err.ensures.found (length s.lines) s.line_is).told memory))
 
 pub returns-in-Err-clause-line : goal.returns-in-Err-clause-line
-returns-in-Err-clause-line c text given stands none =
+returns-in-Err-clause-line c text given reading =
     let r = c.args.self.now in
-    let s = within-of r text given (sym (ap (λ (v : LinesRead). v.finished) c.self.view_is) ∙ c.if-self.false) stands in
+    let s = within-of r text given (sym (ap (λ (v : LinesRead). v.finished) c.self.view_is) ∙ c.if-self.false) reading.stands in
     subst (λ (o : Option Said). IsSaidAt o c.in-Err.fault.line) (sym (whole-at r text given s)) (c.in-Err.ensures.found (length s.lines) s.line_is).line_is
 
 pub returns-in-Err-clause-right : goal.returns-in-Err-clause-right
-returns-in-Err-clause-right c text given stands none memory =
+returns-in-Err-clause-right c text given reading memory =
     let r = c.args.self.now in
-    let s = within-of r text given (sym (ap (λ (v : LinesRead). v.finished) c.self.view_is) ∙ c.if-self.false) stands in
+    let s = within-of r text given (sym (ap (λ (v : LinesRead). v.finished) c.self.view_is) ∙ c.if-self.false) reading.stands in
     subst (λ (o : Option Said). IsSaidRight o) (sym (whole-at r text given s)) ((c.in-Err.ensures.found (length s.lines) s.line_is).right memory)

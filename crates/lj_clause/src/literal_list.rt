@@ -1,0 +1,159 @@
+//! Lists of literals that short ones have in themselves.
+ghost use Rattle.std.specs.Prelude.{◌≡◌, ◌≤◌, [], ◌∷◌, length, take, IfOk, IfSome};
+ghost use Rattle.std.specs.declared.cmp.Ordering.TheVariants.{Less};
+ghost use Rattle.std.specs.List.Sorted.{IsStrictlySortedBy};
+ghost use Rattle.lj_clause.specs.Literal.{lit_cmp};
+ghost use Rattle.lj_clause.specs.LiteralSet.{from_literals};
+ghost use Rattle.lj_clause.specs.inner.LiteralList.{literals_in};
+
+use crate::lit::Lit;
+use crate::memory::NoMemory;
+use std::alloc::Global;
+use std::cmp::Ordering;
+use std::sync::Arc;
+
+/// Literals of a clause. Up to three stand in the list itself, so that they take no memory of their own. More are
+/// shared by whoever holds a copy: up to sixteen in one block of memory beside the count of holders, others in a `Vec`.
+#[derive(Debug, Drop)]
+pub enum LiteralList {
+    Nothing,
+    One([Lit; 1]),
+    Two([Lit; 2]),
+    Three([Lit; 3]),
+    /// So many of these literals, from the first on.
+    Eight { count: u8, lits: Arc<[Lit; 8]> },
+    Sixteen { count: u8, lits: Arc<[Lit; 16]> },
+    Many(Arc<Vec<Lit>>),
+}
+
+impl LiteralList {
+    /// The literals, each once, in strict order, if they are so few that they stand in the list itself. None also where
+    /// one stands twice.
+    pub fn few(lits: &[Lit]) -> Option<LiteralList>
+        ensures rising { IfSome result (λ list. IsStrictlySortedBy lit_cmp (literals_in list)) }
+        ensures same { IfSome result
+            (λ list. from_literals (literals_in list) ≡ from_literals lits.now) }
+    {
+        match lits {
+            [] => Some(LiteralList::Nothing),
+            [a] => Some(LiteralList::One([*a])),
+            [a, b] => {
+                let (first, last) = two(*a, *b)?;
+                Some(LiteralList::Two([first, last]))
+            }
+            [a, b, c] => Some(LiteralList::Three(three(*a, *b, *c)?)),
+            _ => None,
+        }
+    }
+
+    /// These literals.
+    ///
+    /// # Errors
+    /// [`NoMemory`] where a growth was refused.
+    pub fn many(alloc: Global, lits: Vec<Lit>) -> Result<LiteralList, NoMemory>
+        ensures { IfOk result (λ list. literals_in list ≡ lits.items) }
+    {
+        match lits.first() {
+            Some(first) if lits.len() <= 8 => Ok(LiteralList::Eight {
+                count: lits.len() as u8,
+                lits: Arc::new(alloc, filled(*first, &lits))?,
+            }),
+            Some(first) if lits.len() <= 16 => Ok(LiteralList::Sixteen {
+                count: lits.len() as u8,
+                lits: Arc::new(alloc, filled(*first, &lits))?,
+            }),
+            _ => Ok(LiteralList::Many(Arc::new(alloc, lits)?)),
+        }
+    }
+
+    /// The literals, in order.
+    #[inline]
+    pub fn as_slice(&self) -> &[Lit]
+        ensures { result.now ≡ literals_in self.now }
+    {
+        match self {
+            LiteralList::Nothing => &[],
+            LiteralList::One(lits) => lits,
+            LiteralList::Two(lits) => lits,
+            LiteralList::Three(lits) => lits,
+            LiteralList::Eight { count, lits } => first_lits(*count, &**lits),
+            LiteralList::Sixteen { count, lits } => first_lits(*count, &**lits),
+            LiteralList::Many(lits) => lits,
+        }
+    }
+
+    /// The same literals for another holder. Takes constant time.
+    ///
+    /// # Errors
+    /// [`NoMemory`] where the share was refused.
+    #[inline]
+    pub fn copy(&self) -> Result<LiteralList, NoMemory>
+        ensures { IfOk result (λ list. literals_in list ≡ literals_in self.now) }
+    {
+        Ok(match self {
+            LiteralList::Nothing => LiteralList::Nothing,
+            LiteralList::One(lits) => LiteralList::One(*lits),
+            LiteralList::Two(lits) => LiteralList::Two(*lits),
+            LiteralList::Three(lits) => LiteralList::Three(*lits),
+            LiteralList::Eight { count, lits } => LiteralList::Eight {
+                count: *count,
+                lits: Arc::try_clone(lits)?,
+            },
+            LiteralList::Sixteen { count, lits } => LiteralList::Sixteen {
+                count: *count,
+                lits: Arc::try_clone(lits)?,
+            },
+            LiteralList::Many(lits) => LiteralList::Many(Arc::try_clone(lits)?),
+        })
+    }
+}
+
+/// Two literals, the smaller first, if they differ.
+#[inline]
+fn two(a: Lit, b: Lit) -> Option<(Lit, Lit)>
+    ensures rising { IfSome result (λ lits. lit_cmp lits.0 lits.1 ≡ Less) }
+    ensures same { IfSome result
+        (λ lits. from_literals (lits.0 ∷ lits.1 ∷ []) ≡ from_literals (a ∷ b ∷ [])) }
+{
+    match a.cmp(&b) {
+        Ordering::Less => Some((a, b)),
+        Ordering::Greater => Some((b, a)),
+        Ordering::Equal => None,
+    }
+}
+
+/// Three literals in strict order, if all differ.
+#[inline]
+fn three(a: Lit, b: Lit, c: Lit) -> Option<[Lit; 3]>
+    ensures rising { IfSome result (λ lits. IsStrictlySortedBy lit_cmp lits) }
+    ensures same { IfSome result (λ lits. from_literals lits ≡ from_literals (a ∷ b ∷ c ∷ [])) }
+{
+    let (first, last) = two(a, b)?;
+    match c.cmp(&first) {
+        Ordering::Less => Some([c, first, last]),
+        Ordering::Equal => None,
+        Ordering::Greater => match c.cmp(&last) {
+            Ordering::Less => Some([first, c, last]),
+            Ordering::Equal => None,
+            Ordering::Greater => Some([first, last, c]),
+        },
+    }
+}
+
+/// These literals, and behind them the one that fills the room.
+fn filled<const N: usize>(filler: Lit, lits: &[Lit]) -> [Lit; N]
+    requires { length lits.now ≤ N }
+    ensures { take (length lits.now) result ≡ lits.now }
+{
+    let mut room = [filler; N];
+    room[..lits.len()].copy_from_slice(lits);
+    room
+}
+
+/// So many of the literals, from the first on.
+#[inline]
+fn first_lits(count: u8, lits: &[Lit]) -> &[Lit]
+    ensures { result.now ≡ take count lits.now }
+{
+    &lits[..usize::from(count).min(lits.len())]
+}

@@ -1,0 +1,313 @@
+//! Lists of events by a fixed generator, each reply beside that of plain scans over a plain list of clauses.
+ghost use Rattle.std.specs.Prelude.{◌<◌};
+
+use crate::tables::{Line, addition, clause};
+use lj_book::{Added, Book, Dropped, Event, Imported, Refusal, Reply};
+use lj_clause::{Formula, Lit, NoMemory};
+use lj_text::Numbers;
+use std::alloc::Global;
+use std::process::Abort;
+use std::test::Fail;
+
+/// The literals that clauses are made of.
+const LITERALS: [i32; 8] = [1, -1, 2, -2, 3, -3, 4, -4];
+
+/// Own numbers: those of the formula's clauses, some near and some far beyond them.
+const OWN: [u64; 12] = [
+    1,
+    2,
+    3,
+    4,
+    5,
+    6,
+    7,
+    40,
+    3000,
+    100_000_007,
+    9_000_000_000,
+    9_223_372_036_854_775_807,
+];
+
+/// A linear congruential generator.
+#[derive(Drop)]
+struct Random(u64);
+
+impl Random {
+    fn below(&mut self, bound: u64) -> u64
+        requires { 0 < bound }
+    {
+        let Random(state) = self;
+        *state = state
+            .wrapping_mul(6_364_136_223_846_793_005)
+            .wrapping_add(1_442_695_040_888_963_407);
+        (*state >> 33) % bound
+    }
+
+    fn literal(&mut self) -> i32 {
+        let at = self.below(8) as usize;
+        LITERALS.get(at).copied().unwrap_or(1)
+    }
+
+    fn own(&mut self) -> u64 {
+        let at = self.below(12) as usize;
+        OWN.get(at).copied().unwrap_or(1)
+    }
+
+    /// Three literals at most.
+    fn literals(&mut self, alloc: Global) -> Result<Vec<i32>, NoMemory> {
+        let mut lits = Vec::new(alloc);
+        for _ in 0..self.below(4) {
+            lits.push(self.literal())?;
+        }
+        Ok(lits)
+    }
+}
+
+/// A clause that was given a number, and what holds it: a seat and an own number each.
+#[derive(Drop)]
+struct Given {
+    number: u64,
+    lits: Vec<i32>,
+    holders: Vec<(u32, u64)>,
+}
+
+impl Given {
+    fn lives(&self) -> bool {
+        !self.holders.is_empty()
+    }
+
+    fn has(&self, lit: i32) -> bool {
+        self.lives() && self.lits.contains(&lit)
+    }
+
+    fn is(&self, lits: &[i32]) -> bool {
+        self.lives()
+            && self.lits.iter().all(|l| lits.contains(l))
+            && lits.iter().all(|l| self.lits.contains(l))
+    }
+
+    /// Whether it holds two literals of one variable, other than this literal and its negation.
+    fn is_tautology_beside(&self, lit: i32) -> bool {
+        LITERALS.iter().any(|l| {
+            let negated = l.wrapping_neg();
+            *l != lit && negated != lit && self.has(*l) && self.has(negated)
+        })
+    }
+}
+
+/// The plain list of clauses, the number of entries, and whether seat 1 has left.
+#[derive(Drop)]
+struct Plain {
+    given: Vec<Given>,
+    entries: u64,
+    left: bool,
+}
+
+impl Plain {
+    /// Why an own number can't be bound.
+    fn refusal(&self, seat: u32, own: u64) -> Option<Refusal> {
+        if self.left && seat == 1 {
+            return Some(Refusal::SeatGone);
+        }
+        let is_bound = self.given.iter().any(|g| g.holders.contains(&(seat, own)));
+        is_bound.then_some(Refusal::NumberTaken)
+    }
+
+    fn entered(&mut self) -> u64 {
+        let place = self.entries;
+        self.entries = place.saturating_add(1);
+        place
+    }
+
+    /// The reply to a lemma without hints, which is added unless a candidate isn't covered.
+    fn add(&mut self, seat: u32, own: u64, lits: Vec<i32>) -> Result<Reply, NoMemory> {
+        if let Some(refusal) = self.refusal(seat, own) {
+            return Ok(Reply::Refused(refusal));
+        }
+        if let [pivot] = lits.as_slice() {
+            for g in &self.given {
+                if g.has(pivot.wrapping_neg()) && !g.is_tautology_beside(*pivot) {
+                    return Ok(Reply::Refused(Refusal::MissingGroup(g.number)));
+                }
+            }
+        }
+        let alloc = *lits.allocator();
+        let joint = (self.given.len() as u64).saturating_add(1);
+        let mut holders = Vec::new(alloc);
+        holders.push((seat, own))?;
+        self.given.push(Given {
+            number: joint,
+            lits,
+            holders,
+        })?;
+        Ok(Reply::Added(Added {
+            place: self.entered(),
+            joint,
+        }))
+    }
+
+    fn drop_numbers(&mut self, seat: u32, numbers: &[u64]) -> Reply {
+        if self.left && seat == 1 {
+            return Reply::Refused(Refusal::SeatGone);
+        }
+        let mut count = 0u64;
+        for g in &mut self.given {
+            let held = g.holders.len() as u64;
+            g.holders.retain(|h| h.0 != seat || !numbers.contains(&h.1));
+            count = count.saturating_add(held.saturating_sub(g.holders.len() as u64));
+        }
+        Reply::Dropped(Dropped {
+            place: self.entered(),
+            count,
+        })
+    }
+
+    /// Binds an own number to the first clause that passes the test. Answers the entry's place and the clause's number.
+    fn bind<F: Fn(&Given) -> bool>(
+        &mut self,
+        seat: u32,
+        own: u64,
+        test: F,
+    ) -> Result<Result<(u64, u64), Refusal>, NoMemory>
+        requires { F.IsAlwaysCallable test }
+    {
+        if let Some(refusal) = self.refusal(seat, own) {
+            return Ok(Err(refusal));
+        }
+        for g in &mut self.given {
+            if g.lives() && test(g) {
+                g.holders.push((seat, own))?;
+                let number = g.number;
+                return Ok(Ok((self.entered(), number)));
+            }
+        }
+        Ok(Err(Refusal::NoSuchClause))
+    }
+
+    fn leave(&mut self) -> Reply {
+        if self.left {
+            return Reply::Refused(Refusal::SeatGone);
+        }
+        for g in &mut self.given {
+            g.holders.retain(|h| h.0 != 1);
+        }
+        self.left = true;
+        Reply::Left(self.entered())
+    }
+}
+
+/// A book over clauses by the generator, and its plain list. Each of two seats holds the clauses under their numbers.
+fn opened(rt: &impl Abort, alloc: Global, random: &mut Random) -> Result<(Book, Plain), Fail> {
+    let mut made = Vec::new(alloc);
+    let mut given = Vec::new(alloc);
+    for number in 1..6u64 {
+        let lits = random.literals(alloc)?;
+        made.push(clause(alloc, &lits)?)?;
+        let mut holders = Vec::new(alloc);
+        holders.push((0, number))?;
+        holders.push((1, number))?;
+        given.push(Given {
+            number,
+            lits,
+            holders,
+        })?;
+    }
+    let Some(formula) = Formula::new(9, made) else {
+        panic!(rt; "no formula");
+    };
+    let plain = Plain {
+        given,
+        entries: 0,
+        left: false,
+    };
+    Ok((Book::open(alloc, formula, 2, 1000)?, plain))
+}
+
+/// The next event by the generator, and the reply of plain scans.
+fn next(alloc: Global, random: &mut Random, plain: &mut Plain) -> Result<(Event, Reply), NoMemory> {
+    let seat = u32::from(random.below(2) == 1);
+    let own = random.own();
+    Ok(match random.below(16) {
+        0..=6 => {
+            let mut lits = Vec::new(alloc);
+            lits.push(random.literal())?;
+            if random.below(2) == 0 {
+                let first = random.literal();
+                lits.push(first)?;
+                lits.push(first.wrapping_neg())?;
+            }
+            let line = addition(alloc, &Line(own, &lits, &[], &[]))?;
+            (Event::Inside(seat, line), plain.add(seat, own, lits)?)
+        }
+        7..=10 => {
+            let numbers = [own, random.own(), random.own(), own];
+            let listed = Numbers::from_slice(alloc, &numbers)?;
+            (
+                Event::Drop(seat, listed),
+                plain.drop_numbers(seat, &numbers),
+            )
+        }
+        11..=13 => {
+            let lits = random.literals(alloc)?;
+            let reply = match plain.bind(seat, own, |g| g.is(&lits))? {
+                Ok((place, joint)) => Reply::Imported(Imported { place, joint }),
+                Err(refusal) => Reply::Refused(refusal),
+            };
+            (Event::Import(seat, own, clause(alloc, &lits)?), reply)
+        }
+        14 => {
+            let joint = random.below(12);
+            let reply = match plain.bind(seat, own, |g| g.number == joint)? {
+                Ok((place, _)) => Reply::Adopted(place),
+                Err(refusal) => Reply::Refused(refusal),
+            };
+            (Event::Adopt(seat, own, joint), reply)
+        }
+        _ => (Event::Leave(1), plain.leave()),
+    })
+}
+
+/// Asserts that the candidates are what a plain scan finds.
+fn assert_candidates(
+    rt: &impl Abort,
+    alloc: Global,
+    book: &Book,
+    plain: &Plain,
+    number: i32,
+) -> Result<(), Fail> {
+    let Some(lit) = Lit::new(number) else {
+        panic!(rt; "no literal");
+    };
+    let mut wanted = Vec::new(alloc);
+    for g in &plain.given {
+        if g.has(number) {
+            wanted.push(g.number)?;
+        }
+    }
+    assert!(rt; book.candidates(lit)?.as_slice() == wanted.as_slice());
+    Ok(())
+}
+
+#[test]
+fn two_thousand_lists_of_events(rt: HostRuntime) -> Result<(), Fail> {
+    let alloc = rt.alloc();
+    for seed in 0..2000u64 {
+        let mut random = Random(seed);
+        let (mut book, mut plain) = opened(&rt, alloc, &mut random)?;
+        for _ in 0..24 {
+            let mut events = Vec::new(alloc);
+            let (event, wanted) = next(alloc, &mut random, &mut plain)?;
+            events.push(event)?;
+            let replies = book.play(&events)?;
+            assert!(&rt; replies.len() == 1);
+            for reply in &replies {
+                assert!(&rt; reply == &wanted);
+            }
+            assert_candidates(&rt, alloc, &book, &plain, random.literal())?;
+        }
+        for lit in LITERALS {
+            assert_candidates(&rt, alloc, &book, &plain, lit)?;
+        }
+    }
+    Ok(())
+}
