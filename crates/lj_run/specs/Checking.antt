@@ -1,5 +1,5 @@
 -- What a check answers and prints.
-use Rattle.std.specs.Prelude.{◌≡◌, ◌<◌, ℕ, Bool, List, ◌++◌, length, take, Option, Some, None}
+use Rattle.std.specs.Prelude.{◌≡◌, ◌≢◌, ◌<◌, ℕ, Bool, List, ◌++◌, length, take, Option, Some, None}
 use Rattle.lj_clause.specs.ClauseMap.{FormulaValue}
 use Rattle.lj_text.specs.Streams.{SourceState}
 use Rattle.lj_clause.specs.Truth.{IsUnsatisfiable}
@@ -82,3 +82,30 @@ IsCheckFault way before after seen max_steps streams old new (Run fault) = IsFau
     after seen max_steps streams fault × (new ≡ old)
 IsCheckFault way before after seen max_steps streams old new CannotWrite = IsCutText way before
     after seen max_steps streams old new
+
+-- ---- what a check leaves
+
+-- What a check leaves where it answers this: its output took just the text that is printed, and hasn't failed.
+pub record LeavesAnswer {S W O : Type 0} (way : Way) (before after : SourceState)
+    (seen : S → SourceState) (sink : W → SinkState) (max_steps : ℕ) (trims : Bool)
+    (streams : List S) (proof_old proof_new : Option W) (output : O → SinkState)
+    (out_old out_new : O) (checked : Checked) : Type 0 where
+  pub text : List ℕ
+  pub took : (output out_new).taken ≡ (output out_old).taken ++ text
+  pub printed : IsChecked way before after seen sink max_steps trims streams proof_old proof_new
+      checked text
+  pub unfailed : (output out_new).failures ≡ 0
+
+-- What a check leaves where it has no answer for this reason. Where the output failed, it failed once, and the proof is what the run made
+-- of it; else the output is as it was. After an early fault the sink of the proof is as it was, too.
+pub record LeavesFault {S W O : Type 0} (way : Way) (before after : SourceState)
+    (seen : S → SourceState) (sink : W → SinkState) (max_steps : ℕ) (trims : Bool)
+    (streams : List S) (proof_old proof_new : Option W) (output : O → SinkState)
+    (out_old out_new : O) (fault : CheckFault) : Type 0 where
+  pub why : IsCheckFault way before after seen max_steps streams (output out_old).taken
+      (output out_new).taken fault
+  pub untouched : fault ≢ CannotWrite → out_new ≡ out_old
+  pub failed : fault ≡ CannotWrite → (output out_new).failures ≡ 1
+  pub written : fault ≡ CannotWrite → HasOutcome way before after seen sink max_steps trims streams
+      proof_old proof_new
+  pub early : IsEarlyFault fault → proof_new ≡ proof_old

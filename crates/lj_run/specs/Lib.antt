@@ -2,6 +2,7 @@ pub mod FormulaReading
 pub mod Proof
 pub mod Reading
 pub mod Run
+pub mod Premise
 pub mod InTurn
 pub mod Joint
 pub mod Ways

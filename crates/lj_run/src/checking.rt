@@ -1,12 +1,13 @@
 //! A check: a run whose outcome is printed.
-ghost use Rattle.std.specs.Prelude.{◌≡◌, ◌≢◌, ◌<◌, ◌≤◌, ◌++◌, ℕ, List, All, length, Err, OnOk, IfOk, IfErr, IfSome};
+ghost use Rattle.std.specs.Prelude.{◌≡◌, IfOk, IfErr};
 ghost use Rattle.lj_clause.specs.ClauseMap.{FormulaValue};
 ghost use Rattle.lj_clause.specs.Memory.{no_memory};
 ghost use Rattle.lj_text.specs.Streams.{source_state};
 ghost use Rattle.lj_clause.specs.Truth.{IsUnsatisfiable};
 ghost use Rattle.lj_run.specs.FormulaReading.{GaveFormula};
 ghost use Rattle.lj_run.specs.InTurn.{streams_by_seat};
-ghost use Rattle.lj_run.specs.Checking.{IsChecked, IsCheckFault, IsEarlyFault, HasOutcome, verdict_of};
+ghost use Rattle.lj_run.specs.Checking.{LeavesAnswer, LeavesFault, verdict_of};
+ghost use Rattle.lj_run.specs.Premise.{MayRun};
 ghost use Rattle.lj_run.specs.Proof.{sink_state};
 ghost use Rattle.lj_run.specs.declared.checking.CheckFault.TheVariants as check_faults;
 ghost use Rattle.lj_run.specs.declared.checking.Verdict.TheVariants.{Verified};
@@ -85,42 +86,27 @@ pub fn check<R: Threads + Wait + Sync, F: Source, S: Source + Drop + Send, P: Si
     proof: &mut Option<P>,
     out: &mut O,
 ) -> Result<Checked, CheckFault>
-    requires some { 0 < length (streams_by_seat streams.items closing) }
-    requires at_most { length (streams_by_seat streams.items closing) ≤ 1024 }
-    requires unfailed { F.failures formula.old ≡ 0 }
-    requires streams_unfailed { All (λ stream. S.failures stream ≡ 0)
-        (streams_by_seat streams.items closing) }
-    requires proof_unfailed { IfSome proof.old (λ sink. P.failures sink ≡ 0) }
+    requires run { MayRun (source_state F.given F.ended F.rest F.failures formula.old)
+        (source_state S.given S.ended S.rest S.failures) (sink_state P.taken P.failures)
+        (streams_by_seat streams.items closing) proof.old }
     requires out_unfailed { O.failures out.old ≡ 0 }
 
-    ensures printed { IfOk result (λ checked. (text : List ℕ)
-        × (O.taken out.new ≡ O.taken out.old ++ text)
-        × IsChecked way (source_state F.given F.ended F.rest F.failures formula.old)
+    ensures answer { IfOk result (LeavesAnswer way
+        (source_state F.given F.ended F.rest F.failures formula.old)
         (source_state F.given F.ended F.rest F.failures formula.new)
-        (source_state S.given S.ended S.rest S.failures)
-        (sink_state P.taken P.failures) options.now.max_steps options.now.trim
-        (streams_by_seat streams.items closing) proof.old proof.new checked text) }
+        (source_state S.given S.ended S.rest S.failures) (sink_state P.taken P.failures)
+        options.now.max_steps options.now.trim (streams_by_seat streams.items closing)
+        proof.old proof.new (sink_state O.taken O.failures) out.old out.new) }
     ensures refuted { IfOk result (λ checked. checked.verdict ≡ Verified
         → (f : FormulaValue) × IsUnsatisfiable f
         × GaveFormula (source_state F.given F.ended F.rest F.failures formula.old)
         (source_state F.given F.ended F.rest F.failures formula.new) f) }
-    ensures ok { OnOk result (O.failures out.new ≡ 0) }
-
-    ensures fault { IfErr result
-        (IsCheckFault way (source_state F.given F.ended F.rest F.failures formula.old)
+    ensures fault { IfErr result (LeavesFault way
+        (source_state F.given F.ended F.rest F.failures formula.old)
         (source_state F.given F.ended F.rest F.failures formula.new)
-        (source_state S.given S.ended S.rest S.failures) options.now.max_steps
-        (streams_by_seat streams.items closing) (O.taken out.old) (O.taken out.new)) }
-    ensures untouched { IfErr result
-        (λ fault. fault ≢ check_faults.CannotWrite → out.new ≡ out.old) }
-    ensures failed { result ≡ Err check_faults.CannotWrite → O.failures out.new ≡ 1 }
-    ensures written { result ≡ Err check_faults.CannotWrite
-        → HasOutcome way (source_state F.given F.ended F.rest F.failures formula.old)
-        (source_state F.given F.ended F.rest F.failures formula.new)
-        (source_state S.given S.ended S.rest S.failures)
-        (sink_state P.taken P.failures) options.now.max_steps options.now.trim
-        (streams_by_seat streams.items closing) proof.old proof.new }
-    ensures early { IfErr result (λ fault. IsEarlyFault fault → proof.new ≡ proof.old) }
+        (source_state S.given S.ended S.rest S.failures) (sink_state P.taken P.failures)
+        options.now.max_steps options.now.trim (streams_by_seat streams.items closing)
+        proof.old proof.new (sink_state O.taken O.failures) out.old out.new) }
 {
     let (checked, _) = check_with_steps(
         rt, alloc, formula, streams, closing, options, way, proof, out,
@@ -146,42 +132,23 @@ pub(crate) fn check_with_steps<
     proof: &mut Option<P>,
     out: &mut O,
 ) -> Result<(Checked, Vec<Step>), CheckFault>
-    requires some { 0 < length (streams_by_seat streams.items closing) }
-    requires at_most { length (streams_by_seat streams.items closing) ≤ 1024 }
-    requires unfailed { F.failures formula.old ≡ 0 }
-    requires streams_unfailed { All (λ stream. S.failures stream ≡ 0)
-        (streams_by_seat streams.items closing) }
-    requires proof_unfailed { IfSome proof.old (λ sink. P.failures sink ≡ 0) }
+    requires run { MayRun (source_state F.given F.ended F.rest F.failures formula.old)
+        (source_state S.given S.ended S.rest S.failures) (sink_state P.taken P.failures)
+        (streams_by_seat streams.items closing) proof.old }
     requires out_unfailed { O.failures out.old ≡ 0 }
 
-    ensures printed { IfOk result (λ told. (text : List ℕ)
-        × (O.taken out.new ≡ O.taken out.old ++ text)
-        × IsChecked way (source_state F.given F.ended F.rest F.failures formula.old)
+    ensures answer { IfOk result (λ told. LeavesAnswer way
+        (source_state F.given F.ended F.rest F.failures formula.old)
         (source_state F.given F.ended F.rest F.failures formula.new)
-        (source_state S.given S.ended S.rest S.failures)
-        (sink_state P.taken P.failures) options.now.max_steps options.now.trim
-        (streams_by_seat streams.items closing) proof.old proof.new told.0 text) }
-    ensures refuted { IfOk result (λ told. told.0.verdict ≡ Verified
-        → (f : FormulaValue) × IsUnsatisfiable f
-        × GaveFormula (source_state F.given F.ended F.rest F.failures formula.old)
-        (source_state F.given F.ended F.rest F.failures formula.new) f) }
-    ensures ok { OnOk result (O.failures out.new ≡ 0) }
-
-    ensures fault { IfErr result
-        (IsCheckFault way (source_state F.given F.ended F.rest F.failures formula.old)
+        (source_state S.given S.ended S.rest S.failures) (sink_state P.taken P.failures)
+        options.now.max_steps options.now.trim (streams_by_seat streams.items closing)
+        proof.old proof.new (sink_state O.taken O.failures) out.old out.new told.0) }
+    ensures fault { IfErr result (LeavesFault way
+        (source_state F.given F.ended F.rest F.failures formula.old)
         (source_state F.given F.ended F.rest F.failures formula.new)
-        (source_state S.given S.ended S.rest S.failures) options.now.max_steps
-        (streams_by_seat streams.items closing) (O.taken out.old) (O.taken out.new)) }
-    ensures untouched { IfErr result
-        (λ fault. fault ≢ check_faults.CannotWrite → out.new ≡ out.old) }
-    ensures failed { result ≡ Err check_faults.CannotWrite → O.failures out.new ≡ 1 }
-    ensures written { result ≡ Err check_faults.CannotWrite
-        → HasOutcome way (source_state F.given F.ended F.rest F.failures formula.old)
-        (source_state F.given F.ended F.rest F.failures formula.new)
-        (source_state S.given S.ended S.rest S.failures)
-        (sink_state P.taken P.failures) options.now.max_steps options.now.trim
-        (streams_by_seat streams.items closing) proof.old proof.new }
-    ensures early { IfErr result (λ fault. IsEarlyFault fault → proof.new ≡ proof.old) }
+        (source_state S.given S.ended S.rest S.failures) (sink_state P.taken P.failures)
+        options.now.max_steps options.now.trim (streams_by_seat streams.items closing)
+        proof.old proof.new (sink_state O.taken O.failures) out.old out.new) }
 {
     let outcome = run_by(rt, alloc, formula, streams, closing, options, way, proof)?;
     let text = text_of(alloc, &outcome)?;

@@ -1,8 +1,9 @@
 //! The run of streams one after the other, on one book.
-ghost use Rattle.std.specs.Prelude.{◌≡◌, ◌<◌, ◌≤◌, length, All, IfOk, IfErr, IfSome, OnErr};
+ghost use Rattle.std.specs.Prelude.{◌≡◌, ◌≤◌, length, All, IfOk, IfErr, OnErr};
 ghost use Rattle.lj_text.specs.Streams.{source_state};
 ghost use Rattle.lj_run.specs.FormulaReading.{IsFormulaFault};
 ghost use Rattle.lj_run.specs.InTurn.{IsReport, RunInTurn, streams_by_seat};
+ghost use Rattle.lj_run.specs.Premise.{MayRun};
 ghost use Rattle.lj_run.specs.Proof.{sink_state};
 ghost use Rattle.lj_run.specs.Ways.{IsAnswerBy};
 ghost use Rattle.lj_run.specs.declared.outcome.Way.TheVariants.{InTurn};
@@ -33,12 +34,9 @@ pub fn run_in_turn<R: Wait, F: Source, S: Source + Drop, W: Sink>(
     options: &Options,
     out: &mut Option<W>,
 ) -> Result<Outcome<S>, RunFault>
-    requires some { 0 < length (streams_by_seat streams.items closing) }
-    requires at_most { length (streams_by_seat streams.items closing) ≤ 1024 }
-    requires unfailed { F.failures formula.old ≡ 0 }
-    requires streams_unfailed { All (λ stream. S.failures stream ≡ 0)
-        (streams_by_seat streams.items closing) }
-    requires out_unfailed { IfSome out.old (λ sink. W.failures sink ≡ 0) }
+    requires { MayRun (source_state F.given F.ended F.rest F.failures formula.old)
+        (source_state S.given S.ended S.rest S.failures) (sink_state W.taken W.failures)
+        (streams_by_seat streams.items closing) out.old }
 
     ensures outcome { IfOk result (IsAnswerBy InTurn
         (source_state F.given F.ended F.rest F.failures formula.old)

@@ -1,7 +1,8 @@
 //! The run of streams in the way that is asked.
-ghost use Rattle.std.specs.Prelude.{◌≡◌, ◌<◌, ◌≤◌, length, All, IfOk, IfErr, IfSome, OnErr};
+ghost use Rattle.std.specs.Prelude.{◌≡◌, IfOk, IfErr, OnErr};
 ghost use Rattle.lj_text.specs.Streams.{source_state};
 ghost use Rattle.lj_run.specs.InTurn.{streams_by_seat};
+ghost use Rattle.lj_run.specs.Premise.{MayRun};
 ghost use Rattle.lj_run.specs.Proof.{sink_state};
 ghost use Rattle.lj_run.specs.Ways.{IsAnswerBy, IsFaultBy};
 
@@ -25,12 +26,9 @@ pub(crate) fn run_by<R: Threads + Wait + Sync, F: Source, S: Source + Drop + Sen
     way: Way,
     out: &mut Option<W>,
 ) -> Result<Outcome<S>, RunFault>
-    requires some { 0 < length (streams_by_seat streams.items closing) }
-    requires at_most { length (streams_by_seat streams.items closing) ≤ 1024 }
-    requires unfailed { F.failures formula.old ≡ 0 }
-    requires streams_unfailed { All (λ stream. S.failures stream ≡ 0)
-        (streams_by_seat streams.items closing) }
-    requires out_unfailed { IfSome out.old (λ sink. W.failures sink ≡ 0) }
+    requires { MayRun (source_state F.given F.ended F.rest F.failures formula.old)
+        (source_state S.given S.ended S.rest S.failures) (sink_state W.taken W.failures)
+        (streams_by_seat streams.items closing) out.old }
 
     ensures outcome { IfOk result (IsAnswerBy way
         (source_state F.given F.ended F.rest F.failures formula.old)

@@ -1,5 +1,5 @@
 //! The run on one opening of the shared book.
-ghost use Rattle.std.specs.Prelude.{◌≡◌, ◌≢◌, ◌⊎◌, ◌<◌, ◌≤◌, true, false, length, map, All, IfOk, IfErr, MatchBool};
+ghost use Rattle.std.specs.Prelude.{◌≡◌, ◌≢◌, ◌⊎◌, ◌≤◌, true, false, length, map, All, IfOk, IfErr, MatchBool};
 ghost use Rattle.std.specs.List.{zip, sum_by};
 ghost use Rattle.lj_share.specs.Entries.{entries_of};
 ghost use Rattle.lj_share.specs.Seats.{entries_made};
@@ -8,6 +8,7 @@ ghost use Rattle.lj_text.specs.Streams.{source_state};
 ghost use Rattle.lj_run.specs.InTurn.{streams_by_seat};
 ghost use Rattle.lj_run.specs.Joint.{IsBookOfRun, IsStreamBeside, accepted_count};
 ghost use Rattle.lj_run.specs.inner.Joint.{IsBookless, HaveRun, AreConfirmed, SomeDenied};
+ghost use Rattle.lj_run.specs.Premise.{MayRunStreams};
 ghost use Rattle.lj_run.specs.Run.{has_verdict};
 
 use crate::joint::worker::{Ran, run_worker};
@@ -47,9 +48,7 @@ pub(crate) fn run_opened<
     requires formula { formula ≡ L.formula }
     requires seats { L.seats ≡ length (streams_by_seat streams.items closing) }
     requires limit { max_steps ≡ L.max_steps }
-    requires some { 0 < length (streams_by_seat streams.items closing) }
-    requires at_most { length (streams_by_seat streams.items closing) ≤ 1024 }
-    requires unfailed { All (λ stream. S.failures stream ≡ 0)
+    requires streams { MayRunStreams (source_state S.given S.ended S.rest S.failures)
         (streams_by_seat streams.items closing) }
     ensures ran { IfOk result
         (λ ran. IsBookOfRun (source_state S.given S.ended S.rest S.failures) formula max_steps

@@ -8,46 +8,37 @@ use Rattle.lj_run.specs.inner.CommandLine.{line_asked}
 use Rattle.lj_run.proofs.ProgramLemmas.{among_closing, among_streams, asked_proof, check_cut, check_fault, create_fault, created_unfailed, err_more, formula_unopened, lost_fault, lost_late, ok_more, few_streams, inputs_unfailed, open_fault, passed_on, streams_before, run_inputs}
 use Rattle.lj_run.proofs.body.run.Goals as goal
 
-pub check_with_steps-requires-clause-some : goal.check_with_steps-requires-clause-some
-check_with_steps-requires-clause-some g c = λ κs lives.
+pub check_with_steps-requires-clause-run : goal.check_with_steps-requires-clause-run
+check_with_steps-requires-clause-run g c = λ κs lives.
     let inputs = streams_before _ _ _ _ _ _ c.args.line.now.closing _ c.in_ok-closing.closing c.deref.ensures.value c.in_ok-formula.ensures.same c.in_ok-streams.ensures.same
     c.in_ok-streams.ensures.opened c.in_ok-closing.ensures.opened in
-    (few_streams _ _ c.args.line.now.proofs.items _ _ (omega (arith, c.args.line.now.some)) (omega (arith, c.args.line.now.at_most)) inputs).0
-
-pub check_with_steps-requires-clause-at_most : goal.check_with_steps-requires-clause-at_most
-check_with_steps-requires-clause-at_most g c = λ κs lives.
-    let inputs = streams_before _ _ _ _ _ _ c.args.line.now.closing _ c.in_ok-closing.closing c.deref.ensures.value c.in_ok-formula.ensures.same c.in_ok-streams.ensures.same
-    c.in_ok-streams.ensures.opened c.in_ok-closing.ensures.opened in
-    let few = (few_streams _ _ c.args.line.now.proofs.items _ _ (omega (arith, c.args.line.now.some)) (omega (arith, c.args.line.now.at_most)) inputs).1 in
-    omega (arith, few)
-
-pub check_with_steps-requires-clause-streams_unfailed : goal.check_with_steps-requires-clause-streams_unfailed
-check_with_steps-requires-clause-streams_unfailed g c = λ κs lives. inputs_unfailed _ _ _
-    (streams_before _ _ _ _ _ _ c.args.line.now.closing _ c.in_ok-closing.closing c.deref.ensures.value c.in_ok-formula.ensures.same c.in_ok-streams.ensures.same
-    c.in_ok-streams.ensures.opened c.in_ok-closing.ensures.opened)
-
-pub check_with_steps-requires-clause-proof_unfailed : goal.check_with_steps-requires-clause-proof_unfailed
-check_with_steps-requires-clause-proof_unfailed g c = λ κs lives. created_unfailed (sink_state g.F.Output.Sink.taken g.F.Output.Sink.failures) _ _ c.in_ok-proof.ensures.created
+    let few = few_streams _ _ c.args.line.now.proofs.items _ _ (omega (arith, c.args.line.now.some)) (omega (arith, c.args.line.now.at_most)) inputs in
+    let most = few.1 in
+    record {
+      runnable = record { some = few.0; at_most = omega (arith, most); unfailed = inputs_unfailed _ _ _ inputs };
+      formula_unfailed = c.in_ok-formula.ensures.opened.unfailed;
+      proof_unfailed = created_unfailed (sink_state g.F.Output.Sink.taken g.F.Output.Sink.failures) _ _ c.in_ok-proof.ensures.created;
+    }
 
 pub ended-requires : goal.ended-requires
 ended-requires g c =
-    let is = c.in-Ok.ensures.printed.2 in
+    let is = c.in-Ok.ensures.answer.printed in
     subst (λ e. IsAskedFor e c.args.line.now.proof) (sym is.proof) (asked_proof (sink_state g.F.Output.Sink.taken g.F.Output.Sink.failures) is.runs.formula c.args.line.now.trim is.outcome.steps.items c.args.line.now.proof c.in_ok-proof.proof c.check_with_steps.new.proof is.outcome.proof c.in_ok-proof.ensures.created is.runs.proof)
 
 pub returns-in-Ok-clause-answered : goal.returns-in-Ok-clause-answered
 returns-in-Ok-clause-answered g c =
     ok_more _ _ c.ended.result (λ status is. record {
       checked = c.in-Ok.checked;
-      text = c.in-Ok.ensures.printed.0;
+      text = c.in-Ok.ensures.answer.text;
       printed = record {
         inputs = run_inputs _ _ _ _ c.args.line.now _ c.in_ok-formula.formula c.check_with_steps.new.formula c.in_ok-streams.streams.items c.in_ok-closing.closing c.deref.ensures.value c.in_ok-formula.ensures.same
             c.in_ok-streams.ensures.same c.in_ok-formula.ensures.opened c.in_ok-streams.ensures.opened c.in_ok-closing.ensures.opened;
         created = c.in_ok-proof.proof;
         written = c.check_with_steps.new.proof;
         created_is = c.in_ok-proof.ensures.created;
-        printed = c.in-Ok.ensures.printed.2;
+        printed = c.in-Ok.ensures.answer.printed;
       };
-      took = c.in-Ok.ensures.printed.1;
+      took = c.in-Ok.ensures.answer.took;
       status_is = ap status_code is.0;
     }) c.ended.ensures.ok
 
@@ -58,32 +49,32 @@ pub returns-in-Ok-clause-lost : goal.returns-in-Ok-clause-lost
 returns-in-Ok-clause-lost g c =
     err_more _ _ c.ended.result (λ fault is _. record {
       checked = c.in-Ok.checked;
-      text = c.in-Ok.ensures.printed.0;
+      text = c.in-Ok.ensures.answer.text;
       printed = record {
         inputs = run_inputs _ _ _ _ c.args.line.now _ c.in_ok-formula.formula c.check_with_steps.new.formula c.in_ok-streams.streams.items c.in_ok-closing.closing c.deref.ensures.value c.in_ok-formula.ensures.same
             c.in_ok-streams.ensures.same c.in_ok-formula.ensures.opened c.in_ok-streams.ensures.opened c.in_ok-closing.ensures.opened;
         created = c.in_ok-proof.proof;
         written = c.check_with_steps.new.proof;
         created_is = c.in_ok-proof.ensures.created;
-        printed = c.in-Ok.ensures.printed.2;
+        printed = c.in-Ok.ensures.answer.printed;
       };
-      took = c.in-Ok.ensures.printed.1;
+      took = c.in-Ok.ensures.answer.took;
       status_is = ap status_code (sym is.1);
     }) c.ended.ensures.fault
 
 pub returns-in-Ok-clause-fault : goal.returns-in-Ok-clause-fault
 returns-in-Ok-clause-fault g c =
-    err_more _ _ c.ended.result (λ fault is. lost_fault _ _ (line_asked c.args.line.now) _ c.in-Ok.checked c.in-Ok.ensures.printed.0 fault (record {
+    err_more _ _ c.ended.result (λ fault is. lost_fault _ _ (line_asked c.args.line.now) _ c.in-Ok.checked c.in-Ok.ensures.answer.text fault (record {
       inputs = run_inputs _ _ _ _ c.args.line.now _ c.in_ok-formula.formula c.check_with_steps.new.formula c.in_ok-streams.streams.items c.in_ok-closing.closing c.deref.ensures.value c.in_ok-formula.ensures.same
           c.in_ok-streams.ensures.same c.in_ok-formula.ensures.opened c.in_ok-streams.ensures.opened c.in_ok-closing.ensures.opened;
       created = c.in_ok-proof.proof;
       written = c.check_with_steps.new.proof;
       created_is = c.in_ok-proof.ensures.created;
-      printed = c.in-Ok.ensures.printed.2;
+      printed = c.in-Ok.ensures.answer.printed;
     }) is.0) c.ended.ensures.fault
 
 pub returns-in-Ok-clause-output : goal.returns-in-Ok-clause-output
-returns-in-Ok-clause-output g c = err_more _ _ c.ended.result (λ fault is. c.in-Ok.ensures.ok ∙ sym (lost_late _ _ fault is.0).2) c.ended.ensures.fault
+returns-in-Ok-clause-output g c = err_more _ _ c.ended.result (λ fault is. c.in-Ok.ensures.answer.unfailed ∙ sym (lost_late _ _ fault is.0).2) c.ended.ensures.fault
 
 pub returns-in-Ok-clause-untouched : goal.returns-in-Ok-clause-untouched
 returns-in-Ok-clause-untouched g c = err_more _ _ c.ended.result (λ fault is early. absurd (both_ways (is_told_late fault) early (lost_late _ _ fault is.0).0)) c.ended.ensures.fault
@@ -95,14 +86,14 @@ pub returns-clause-cut : goal.returns-clause-cut
 returns-clause-cut g c = λ e. record {
   inputs = run_inputs _ _ _ _ c.args.line.now _ c.in_ok-formula.formula c.check_with_steps.new.formula c.in_ok-streams.streams.items c.in_ok-closing.closing c.deref.ensures.value c.in_ok-formula.ensures.same
       c.in_ok-streams.ensures.same c.in_ok-formula.ensures.opened c.in_ok-streams.ensures.opened c.in_ok-closing.ensures.opened;
-  cut = check_cut _ _ _ _ _ _ _ _ _ c.in-Err.fault c.in-Err.ensures.fault (sym c.fault_of.ensures ∙ e);
+  cut = check_cut _ _ _ _ _ _ _ _ _ c.in-Err.fault c.in-Err.ensures.fault.why (sym c.fault_of.ensures ∙ e);
 }
 
 pub returns-clause-fault : goal.returns-clause-fault
 returns-clause-fault g c =
     rw c.fault_of.ensures (check_fault _ _ (line_asked c.args.line.now) _ c.args.line.now.formula
     (run_inputs _ _ _ _ c.args.line.now _ c.in_ok-formula.formula c.check_with_steps.new.formula c.in_ok-streams.streams.items c.in_ok-closing.closing c.deref.ensures.value c.in_ok-formula.ensures.same
-    c.in_ok-streams.ensures.same c.in_ok-formula.ensures.opened c.in_ok-streams.ensures.opened c.in_ok-closing.ensures.opened) _ _ c.in-Err.fault refl c.in-Err.ensures.fault)
+    c.in_ok-streams.ensures.same c.in_ok-formula.ensures.opened c.in_ok-streams.ensures.opened c.in_ok-closing.ensures.opened) _ _ c.in-Err.fault refl c.in-Err.ensures.fault.why)
 
 pub returns-in_err-formula-clause-fault : goal.returns-in_err-formula-clause-fault
 returns-in_err-formula-clause-fault g c = passed_on _ c.from_residual.result _ c.from_residual.ensures.1
