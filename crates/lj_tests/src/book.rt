@@ -3,7 +3,7 @@ mod calls;
 mod candidates;
 mod events;
 
-use crate::tables::{Line, addition, clause, formula};
+use crate::tables::{Line, ListedStep, addition, assert_entries, clause, formula};
 use lj_book::{Book, Event, Reply};
 use lj_clause::NoMemory;
 use lj_text::Numbers;
@@ -22,6 +22,21 @@ enum Listed<'a> {
     Adopt(u32, u64, u64),
     Import(u32, u64, &'a [i32]),
     Leave(u32),
+}
+
+/// An event and its reply.
+type Row<'a> = (Listed<'a>, Reply);
+
+/// A list of events on a new book, by its name in the documents.
+#[derive(Clone, Copy)]
+struct Example<'a> {
+    name: &'a str,
+    clauses: &'a [&'a [i32]],
+    seats: u32,
+    max_steps: u32,
+    script: &'a [Row<'a>],
+    /// What the history holds then.
+    entries: &'a [(u32, ListedStep<'a>)],
 }
 
 fn event(alloc: Global, listed: &Listed) -> Result<Event, NoMemory> {
@@ -50,21 +65,45 @@ fn opened(
     Ok(Book::open(alloc, formula, seats, max_steps)?)
 }
 
-/// Plays the events, and asserts that these are the replies.
-fn assert_plays(
-    rt: &impl Abort,
-    alloc: Global,
-    book: &mut Book,
-    script: &[(Listed, Reply)],
-) -> Result<(), Fail> {
+fn event_list(alloc: Global, script: &[Row]) -> Result<Vec<Event>, NoMemory> {
     let mut events = Vec::new(alloc);
     for (listed, _) in script {
         events.push(event(alloc, listed)?)?;
     }
-    let replies = book.play(&events)?;
-    assert!(rt; replies.len() == script.len());
-    for (reply, (_, wanted)) in replies.iter().zip(script) {
-        assert!(rt; reply == wanted);
+    Ok(events)
+}
+
+fn replies(alloc: Global, book: &mut Book, script: &[Row]) -> Result<Vec<Reply>, NoMemory> {
+    book.play(&event_list(alloc, script)?)
+}
+
+/// Plays an example's events, and asserts that the replies and the entries are those that it lists.
+fn assert_plays(
+    rt: &impl Abort,
+    alloc: Global,
+    book: &mut Book,
+    example: &Example,
+) -> Result<(), Fail> {
+    let replies = replies(alloc, book, example.script)?;
+    assert!(rt; replies.len() == example.script.len());
+    for (reply, (_, wanted)) in replies.iter().zip(example.script) {
+        assert!(rt; reply == wanted, "{}", example.name);
+    }
+    assert_entries(rt, book, example.entries);
+    Ok(())
+}
+
+#[test]
+fn played(rt: HostRuntime) -> Result<(), Fail> {
+    for example in events::EXAMPLES.iter().chain(&candidates::EXAMPLES) {
+        let Example {
+            clauses,
+            seats,
+            max_steps,
+            ..
+        } = *example;
+        let mut book = opened(&rt, rt.alloc(), clauses, seats, max_steps)?;
+        assert_plays(&rt, rt.alloc(), &mut book, example)?;
     }
     Ok(())
 }

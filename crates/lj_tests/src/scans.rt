@@ -1,9 +1,9 @@
 //! Lists of events by a fixed generator, each reply beside that of plain scans over a plain list of clauses.
 ghost use Rattle.std.specs.Prelude.{◌<◌};
 
-use crate::tables::{Line, addition, clause};
+use crate::tables::{Line, addition, assert_candidates, clause};
 use lj_book::{Added, Book, Dropped, Event, Imported, Refusal, Reply};
-use lj_clause::{Formula, Lit, NoMemory};
+use lj_clause::{Formula, NoMemory};
 use lj_text::Numbers;
 use std::alloc::Global;
 use std::process::Abort;
@@ -223,91 +223,134 @@ fn opened(rt: &impl Abort, alloc: Global, random: &mut Random) -> Result<(Book, 
     Ok((Book::open(alloc, formula, 2, 1000)?, plain))
 }
 
-/// The next event by the generator, and the reply of plain scans.
-fn next(alloc: Global, random: &mut Random, plain: &mut Plain) -> Result<(Event, Reply), NoMemory> {
+/// An event, and the reply of plain scans.
+type Replied = (Event, Reply);
+
+/// The next event by the generator.
+fn next(alloc: Global, random: &mut Random, plain: &mut Plain) -> Result<Replied, NoMemory> {
     let seat = u32::from(random.below(2) == 1);
     let own = random.own();
-    Ok(match random.below(16) {
-        0..=6 => {
-            let mut lits = Vec::new(alloc);
-            lits.push(random.literal())?;
-            if random.below(2) == 0 {
-                let first = random.literal();
-                lits.push(first)?;
-                lits.push(first.wrapping_neg())?;
-            }
-            let line = addition(alloc, &Line(own, &lits, &[], &[]))?;
-            (Event::Inside(seat, line), plain.add(seat, own, lits)?)
-        }
-        7..=10 => {
-            let numbers = [own, random.own(), random.own(), own];
-            let listed = Numbers::from_slice(alloc, &numbers)?;
-            (
-                Event::Drop(seat, listed),
-                plain.drop_numbers(seat, &numbers),
-            )
-        }
-        11..=13 => {
-            let lits = random.literals(alloc)?;
-            let reply = match plain.bind(seat, own, |g| g.is(&lits))? {
-                Ok((place, joint)) => Reply::Imported(Imported { place, joint }),
-                Err(refusal) => Reply::Refused(refusal),
-            };
-            (Event::Import(seat, own, clause(alloc, &lits)?), reply)
-        }
-        14 => {
-            let joint = random.below(12);
-            let reply = match plain.bind(seat, own, |g| g.number == joint)? {
-                Ok((place, _)) => Reply::Adopted(place),
-                Err(refusal) => Reply::Refused(refusal),
-            };
-            (Event::Adopt(seat, own, joint), reply)
-        }
-        _ => (Event::Leave(1), plain.leave()),
-    })
+    match random.below(16) {
+        0..=6 => next_line(alloc, random, plain, seat, own),
+        7..=10 => next_drop(alloc, random, plain, seat, own),
+        11..=13 => next_import(alloc, random, plain, seat, own),
+        14 => next_adopt(random, plain, seat, own),
+        _ => Ok((Event::Leave(1), plain.leave())),
+    }
+}
+
+fn next_line(
+    alloc: Global,
+    random: &mut Random,
+    plain: &mut Plain,
+    seat: u32,
+    own: u64,
+) -> Result<Replied, NoMemory> {
+    let mut lits = Vec::new(alloc);
+    lits.push(random.literal())?;
+    if random.below(2) == 0 {
+        let first = random.literal();
+        lits.push(first)?;
+        lits.push(first.wrapping_neg())?;
+    }
+    let line = addition(alloc, &Line(own, &lits, &[], &[]))?;
+    Ok((Event::Inside(seat, line), plain.add(seat, own, lits)?))
+}
+
+fn next_drop(
+    alloc: Global,
+    random: &mut Random,
+    plain: &mut Plain,
+    seat: u32,
+    own: u64,
+) -> Result<Replied, NoMemory> {
+    let numbers = [own, random.own(), random.own(), own];
+    let listed = Numbers::from_slice(alloc, &numbers)?;
+    Ok((
+        Event::Drop(seat, listed),
+        plain.drop_numbers(seat, &numbers),
+    ))
+}
+
+fn next_import(
+    alloc: Global,
+    random: &mut Random,
+    plain: &mut Plain,
+    seat: u32,
+    own: u64,
+) -> Result<Replied, NoMemory> {
+    let lits = random.literals(alloc)?;
+    let reply = match plain.bind(seat, own, |g| g.is(&lits))? {
+        Ok((place, joint)) => Reply::Imported(Imported { place, joint }),
+        Err(refusal) => Reply::Refused(refusal),
+    };
+    Ok((Event::Import(seat, own, clause(alloc, &lits)?), reply))
+}
+
+fn next_adopt(
+    random: &mut Random,
+    plain: &mut Plain,
+    seat: u32,
+    own: u64,
+) -> Result<Replied, NoMemory> {
+    let joint = random.below(12);
+    let reply = match plain.bind(seat, own, |g| g.number == joint)? {
+        Ok((place, _)) => Reply::Adopted(place),
+        Err(refusal) => Reply::Refused(refusal),
+    };
+    Ok((Event::Adopt(seat, own, joint), reply))
 }
 
 /// Asserts that the candidates are what a plain scan finds.
-fn assert_candidates(
+fn assert_scanned(
     rt: &impl Abort,
     alloc: Global,
     book: &Book,
     plain: &Plain,
     number: i32,
 ) -> Result<(), Fail> {
-    let Some(lit) = Lit::new(number) else {
-        panic!(rt; "no literal");
-    };
     let mut wanted = Vec::new(alloc);
     for g in &plain.given {
         if g.has(number) {
             wanted.push(g.number)?;
         }
     }
-    assert!(rt; book.candidates(lit)?.as_slice() == wanted.as_slice());
+    assert_candidates(rt, book, number, &wanted)
+}
+
+/// Plays the next event, and asserts that the reply is that of plain scans.
+fn play_next(
+    rt: &impl Abort,
+    alloc: Global,
+    random: &mut Random,
+    book: &mut Book,
+    plain: &mut Plain,
+) -> Result<(), Fail> {
+    let mut events = Vec::new(alloc);
+    let (event, wanted) = next(alloc, random, plain)?;
+    events.push(event)?;
+    let replies = book.play(&events)?;
+    assert!(rt; replies.len() == 1 && replies.first() == Some(&wanted));
+    Ok(())
+}
+
+fn play_list(rt: &impl Abort, alloc: Global, seed: u64) -> Result<(), Fail> {
+    let mut random = Random(seed);
+    let (mut book, mut plain) = opened(rt, alloc, &mut random)?;
+    for _ in 0..24 {
+        play_next(rt, alloc, &mut random, &mut book, &mut plain)?;
+        assert_scanned(rt, alloc, &book, &plain, random.literal())?;
+    }
+    for lit in LITERALS {
+        assert_scanned(rt, alloc, &book, &plain, lit)?;
+    }
     Ok(())
 }
 
 #[test]
 fn two_thousand_lists_of_events(rt: HostRuntime) -> Result<(), Fail> {
-    let alloc = rt.alloc();
-    for seed in 0..2000u64 {
-        let mut random = Random(seed);
-        let (mut book, mut plain) = opened(&rt, alloc, &mut random)?;
-        for _ in 0..24 {
-            let mut events = Vec::new(alloc);
-            let (event, wanted) = next(alloc, &mut random, &mut plain)?;
-            events.push(event)?;
-            let replies = book.play(&events)?;
-            assert!(&rt; replies.len() == 1);
-            for reply in &replies {
-                assert!(&rt; reply == &wanted);
-            }
-            assert_candidates(&rt, alloc, &book, &plain, random.literal())?;
-        }
-        for lit in LITERALS {
-            assert_candidates(&rt, alloc, &book, &plain, lit)?;
-        }
+    for seed in 0..2000 {
+        play_list(&rt, rt.alloc(), seed)?;
     }
     Ok(())
 }

@@ -4,7 +4,7 @@ mod provers;
 
 use crate::tables::{Line, ListedStep, addition, assert_numbers, assert_step, clause};
 use lj_book::{Call, Entry, Refusal};
-use lj_share::{Opening, Seat, Shared, Told};
+use lj_share::{Closed, Opening, Seat, Shared, Told};
 use lj_text::{Line as ProofLine, Numbers};
 use std::alloc::Global;
 use std::process::Abort;
@@ -78,4 +78,24 @@ fn assert_call(rt: &impl Abort, alloc: Global, call: &Call, called: &Called) -> 
         _ => panic!(rt; "another call"),
     }
     Ok(())
+}
+
+/// Asserts that the seat's tokens are confirmed, and neither with one left out nor with two exchanged.
+fn assert_confirmed<L: Opening>(
+    rt: &impl Abort,
+    closed: &Closed<L>,
+    seat: u32,
+    tokens: &mut [Told],
+) {
+    assert!(rt; closed.confirm(seat, tokens));
+    if let Some((_, rest)) = tokens.split_first() {
+        assert!(rt; !closed.confirm(seat, rest));
+    }
+    if let Some((_, rest)) = tokens.split_last() {
+        assert!(rt; !closed.confirm(seat, rest));
+    }
+    if tokens.len() > 1 {
+        tokens.swap(0, 1);
+        assert!(rt; !closed.confirm(seat, tokens));
+    }
 }

@@ -115,6 +115,20 @@ pub fn assert_entries(rt: &impl Abort, book: &Book, entries: &[(u32, ListedStep)
     }
 }
 
+/// Asserts that the candidates for a literal are those.
+pub fn assert_candidates(
+    rt: &impl Abort,
+    book: &Book,
+    number: i32,
+    wanted: &[u64],
+) -> Result<(), Fail> {
+    let Some(lit) = Lit::new(number) else {
+        panic!(rt; "no literal");
+    };
+    assert!(rt; book.candidates(lit)?.as_slice() == wanted);
+    Ok(())
+}
+
 pub fn assert_step(rt: &impl Abort, step: Option<&Step>, wanted: &ListedStep) {
     match (step, wanted) {
         (None, ListedStep::None) => {}

@@ -1,20 +1,30 @@
 //! Calls by themselves, each with memory at hand.
 use crate::book::opened;
-use crate::tables::{BINARY, Line, addition, assert_lits, clause};
+use crate::tables::{BINARY, Line, addition, assert_candidates, assert_lits, clause};
 use lj_book::{Added, Book, Dropped, Imported, Refusal};
 use lj_clause::{Clause, Formula, Lit, NoMemory};
-use lj_hint::{Live, Marks, Tested, rat_test};
+use lj_hint::{Case, Live, Marks, Receipt, Tested, rat_test};
 use lj_text::Numbers;
 use std::alloc::Global;
 use std::process::Abort;
 use std::test::Fail;
 
+fn case_of(alloc: Global, book: &Book, line: &Line) -> Result<Case, Fail> {
+    Ok(book.take(0, &addition(alloc, line)?)?)
+}
+
+/// The receipt of an addition that is taken and tested.
+fn receipt_of(rt: &impl Abort, alloc: Global, book: &Book, line: &Line) -> Result<Receipt, Fail> {
+    let case = case_of(alloc, book, line)?;
+    match case.test(&mut Marks::new(alloc)) {
+        Tested::Closed(receipt) => Ok(receipt),
+        _ => panic!(rt; "not closed"),
+    }
+}
+
 /// An addition taken, tested and committed.
 fn add(rt: &impl Abort, alloc: Global, book: &mut Book, line: &Line) -> Result<Added, Fail> {
-    let case = book.take(0, &addition(alloc, line)?)?;
-    let Tested::Closed(receipt) = case.test(&mut Marks::new(alloc)) else {
-        panic!(rt; "not closed");
-    };
+    let receipt = receipt_of(rt, alloc, book, line)?;
     match book.commit(receipt) {
         Ok(added) => Ok(added),
         Err((refusal, _)) => Err(refusal.into()),
@@ -37,6 +47,23 @@ fn assert_binary(rt: &impl Abort, formula: &Formula) {
     }
 }
 
+/// Asserts that the book is verified over the binary clauses.
+fn assert_binary_verified(rt: &impl Abort, book: &Book) -> Result<(), Fail> {
+    let Some(verified) = book.verified()? else {
+        panic!(rt; "not verified");
+    };
+    assert_binary(rt, verified.formula());
+    assert_binary(rt, book.formula());
+    Ok(())
+}
+
+/// Asserts that the book is verified by two steps.
+fn assert_two_steps(rt: &impl Abort, book: Book) -> Result<(), Fail> {
+    assert_binary_verified(rt, &book)?;
+    assert!(rt; book.into_steps().len() == 2);
+    Ok(())
+}
+
 #[test]
 fn two_steps_refute_the_binary_clauses(rt: HostRuntime) -> Result<(), Fail> {
     let alloc = rt.alloc();
@@ -47,50 +74,60 @@ fn two_steps_refute_the_binary_clauses(rt: HostRuntime) -> Result<(), Fail> {
     let second = add(&rt, alloc, &mut book, &Line(6, &[], &[5, 3, 4], &[]))?;
     assert!(rt; second == Added { place: 1, joint: 6 });
     assert!(rt; book.verdict() == Some(1));
-    let Some(verified) = book.verified()? else {
-        panic!(&rt; "not verified");
-    };
-    assert_binary(&rt, verified.formula());
-    assert_binary(&rt, book.formula());
-    assert!(rt; book.into_steps().len() == 2);
+    assert_two_steps(&rt, book)
+}
+
+/// Asserts that numbers are bound to the third and the second of the binary clauses.
+fn assert_binds(rt: &impl Abort, alloc: Global, book: &mut Book) -> Result<(), Fail> {
+    let second = clause(alloc, &[2, -1])?;
+    assert!(rt; book.adopt(0, 7, 3)? == 0);
+    assert!(rt; book.import(0, 8, &second)? == Imported { place: 1, joint: 2 });
     Ok(())
+}
+
+/// Asserts that two numbers are given up, of which one clause lives on, and that the seat leaves.
+fn assert_gives_up(rt: &impl Abort, alloc: Global, book: &mut Book) -> Result<(), Fail> {
+    let numbers = Numbers::from_slice(alloc, &[3, 4])?;
+    assert!(rt; book.drop_numbers(0, &numbers)? == Dropped { place: 2, count: 2 });
+    assert!(rt; book.clause(3).is_some() && book.clause(4).is_none());
+    assert!(rt; book.leave(0)? == 3);
+    Ok(())
+}
+
+fn assert_lives(rt: &impl Abort, alloc: Global, book: &mut Book) -> Result<(), Fail> {
+    assert_candidates(rt, book, 1, &[1, 3])?;
+    assert_candidates(rt, book, -2, &[3, 4])?;
+    assert_binds(rt, alloc, book)?;
+    assert_gives_up(rt, alloc, book)?;
+    assert_candidates(rt, book, 1, &[])
 }
 
 #[test]
 fn clauses_are_shown_found_bound_and_given_up(rt: HostRuntime) -> Result<(), Fail> {
-    let alloc = rt.alloc();
-    let mut book = opened(&rt, alloc, &BINARY, 1, 9)?;
-    let (Some(first), Some(second)) = (Lit::new(1), Lit::new(-2)) else {
-        panic!(&rt; "no literal");
+    let mut book = opened(&rt, rt.alloc(), &BINARY, 1, 9)?;
+    assert_lives(&rt, rt.alloc(), &mut book)
+}
+
+/// Asserts that a receipt of another book is stale, by its first hint.
+fn assert_stale(rt: &impl Abort, book: &mut Book, receipt: Receipt) {
+    let Err((refusal, _)) = book.commit(receipt) else {
+        panic!(rt; "entered");
     };
-    assert!(rt; book.candidates(first)?.as_slice() == &[1, 3][..]);
-    assert!(rt; book.candidates(second)?.as_slice() == &[3, 4][..]);
-    assert!(rt; book.adopt(0, 7, 3)? == 0);
-    assert!(rt; book.import(0, 8, &clause(alloc, &[2, -1])?)? == Imported { place: 1, joint: 2 });
-    assert!(rt;
-        book.drop_numbers(0, &Numbers::from_slice(alloc, &[3, 4])?)?
-            == Dropped { place: 2, count: 2 }
-    );
-    assert!(rt; book.clause(3).is_some() && book.clause(4).is_none());
-    assert!(rt; book.leave(0)? == 3);
-    assert!(rt; book.candidates(first)?.is_empty());
-    Ok(())
+    assert!(rt; refusal == Refusal::Stale(1));
+}
+
+/// The receipt of the empty lemma over two units.
+fn receipt_over_units(rt: &impl Abort, alloc: Global) -> Result<Receipt, Fail> {
+    let units = opened(rt, alloc, &[&[1], &[-1]], 1, 9)?;
+    receipt_of(rt, alloc, &units, &Line(5, &[], &[1, 2], &[]))
 }
 
 /// Under the number of its first hint another clause lives in the second book.
 #[test]
 fn a_receipt_of_another_book_is_stale(rt: HostRuntime) -> Result<(), Fail> {
-    let alloc = rt.alloc();
-    let units = opened(&rt, alloc, &[&[1], &[-1]], 1, 9)?;
-    let mut book = opened(&rt, alloc, &BINARY, 1, 9)?;
-    let case = units.take(0, &addition(alloc, &Line(5, &[], &[1, 2], &[]))?)?;
-    let Tested::Closed(receipt) = case.test(&mut Marks::new(alloc)) else {
-        panic!(&rt; "not closed");
-    };
-    let Err((refusal, _)) = book.commit(receipt) else {
-        panic!(&rt; "entered");
-    };
-    assert!(rt; refusal == Refusal::Stale(1));
+    let receipt = receipt_over_units(&rt, rt.alloc())?;
+    let mut book = opened(&rt, rt.alloc(), &BINARY, 1, 9)?;
+    assert_stale(&rt, &mut book, receipt);
     Ok(())
 }
 
@@ -114,19 +151,23 @@ impl Live for NothingLives {
     }
 }
 
+/// How many groups a case that stays open takes over no clauses, where none is missing.
+fn groups_over_nothing(alloc: Global, case: Case) -> Option<usize> {
+    let mut marks = Marks::new(alloc);
+    let Tested::Open(case) = case.test(&mut marks) else {
+        return None;
+    };
+    match rat_test(&NothingLives { alloc }, &case, &mut marks) {
+        Ok(groups) => Some(groups.len()),
+        Err(_) => None,
+    }
+}
+
 /// A lemma whose pivot's negation no live clause holds needs no group.
 #[test]
 fn an_open_case_has_no_candidates(rt: HostRuntime) -> Result<(), Fail> {
-    let alloc = rt.alloc();
-    let book = opened(&rt, alloc, &BINARY, 1, 9)?;
-    let mut marks = Marks::new(alloc);
-    let case = book.take(0, &addition(alloc, &Line(5, &[3], &[], &[]))?)?;
-    let Tested::Open(case) = case.test(&mut marks) else {
-        panic!(&rt; "not open");
-    };
-    let Ok(groups) = rat_test(&NothingLives { alloc }, &case, &mut marks) else {
-        panic!(&rt; "a candidate");
-    };
-    assert!(rt; groups.is_empty());
+    let book = opened(&rt, rt.alloc(), &BINARY, 1, 9)?;
+    let case = case_of(rt.alloc(), &book, &Line(5, &[3], &[], &[]))?;
+    assert!(rt; groups_over_nothing(rt.alloc(), case) == Some(0));
     Ok(())
 }

@@ -1,13 +1,23 @@
 //! Runs whose streams are confirmed, each with its outcome.
 use crate::joint::{PLAIN, PORTFOLIO, Run, assert_runs};
+use crate::tables::FOUR_TEXT;
 use lj_share::NoGate;
 use std::test::Fail;
+
+/// A definition and its use, of which the empty clause doesn't need the first line.
+const DEFINITION: Run = Run {
+    formula: FOUR_TEXT,
+    streams: &["5 -3 1 2 0 1 0\n6 3 1 0 -5 1 0\n7 1 0 6 1 3 0\n7 d 5 3 0\n8 0 7 2 4 0\n"],
+    reports: &["4 added, 1 deleted, 0 imported, stopped"],
+    proofs: &["5 -3 1 2 0 1 0\n6 3 1 0 -5 1 0\n7 1 0 6 1 3 0\n7 d 3 5 0\n8 0 7 2 4 0\n"],
+    ..PLAIN
+};
 
 /// Three clauses, of which a lemma with the literal 1 has two candidates.
 const CANDIDATES: &str = "p cnf 3 3\n-1 2 0\n2 3 0\n-1 -3 0\n";
 
 /// Runs of one stream alone.
-const ALONE: [Run; 19] = [
+const ALONE: [Run; 20] = [
     Run {
         formula: "p cnf 1 2\n1 0\n-1 0\n",
         streams: &["3 0 1 2 0\n"],
@@ -91,6 +101,12 @@ const ALONE: [Run; 19] = [
         ..PLAIN
     },
     Run {
+        streams: &["5 1 -1 0 0\n"],
+        reports: &["1 added, 0 deleted, 0 imported, ended"],
+        proofs: &["5 1 -1 0 0\n"],
+        ..PLAIN
+    },
+    Run {
         streams: &["5 2 0 1 2 3 0\n"],
         reports: &["1 added, 0 deleted, 0 imported, ended"],
         proofs: &["5 2 0 1 2 0\n"],
@@ -137,7 +153,7 @@ const ALONE: [Run; 19] = [
 
 /// A lemma that the empty clause doesn't need is left out; what one stream gives up lives on for the other, whichever comes
 /// first; a closing stream begins where the verdict stands; two provers and what joins them.
-const SEVERAL: [Run; 5] = [
+const SEVERAL: [Run; 7] = [
     Run {
         streams: &["5 2 0 1 2 0\n6 1 0 1 3 0\n7 0 5 3 4 0\n"],
         trim: true,
@@ -174,6 +190,12 @@ const SEVERAL: [Run; 5] = [
         ..PLAIN
     },
     PORTFOLIO,
+    DEFINITION,
+    Run {
+        trim: true,
+        proofs: &["6 3 1 0 0\n7 1 0 6 1 3 0\n7 d 3 0\n8 0 7 2 4 0\n"],
+        ..DEFINITION
+    },
 ];
 
 #[test]

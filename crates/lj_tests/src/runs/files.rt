@@ -3,6 +3,7 @@ use lj_run::{Files, MachineFiles, MemoryFiles};
 use lj_text::{Source, write_all};
 use std::alloc::Global;
 use std::fs;
+use std::process::Abort;
 use std::test::Fail;
 
 fn opened<F: Files>(alloc: Global, files: &mut F, path: &str) -> Option<Vec<u8>> {
@@ -19,6 +20,19 @@ fn written<F: Files>(files: &mut F, path: &str, bytes: &[u8]) -> bool {
     }
 }
 
+/// Asserts that the file at the path begins with these bytes, and has no others within the first eight.
+fn assert_holds<F: Files>(
+    rt: &impl Abort,
+    alloc: Global,
+    files: &mut F,
+    path: &str,
+    bytes: &[u8],
+) -> Result<(), Fail> {
+    let held = opened(alloc, files, path).ok_or("no file")?;
+    assert!(rt; held.as_slice() == bytes);
+    Ok(())
+}
+
 #[test]
 fn memory_holds_files(rt: HostRuntime) -> Result<(), Fail> {
     let alloc = rt.alloc();
@@ -32,21 +46,12 @@ fn memory_holds_files(rt: HostRuntime) -> Result<(), Fail> {
     );
     for text in ["345", "", "6"] {
         assert!(rt; written(&mut files, "out", text.as_bytes()));
-        assert_eq!(rt;
-            files.written("out").ok_or("out")?.as_slice(),
-            text.as_bytes()
-        );
-        assert_eq!(rt;
-            opened(alloc, &mut files, "out").ok_or("out")?.as_slice(),
-            text.as_bytes()
-        );
+        let taken = files.written("out").ok_or("out")?;
+        assert!(rt; taken.as_slice() == text.as_bytes());
+        assert_holds(&rt, alloc, &mut files, "out", text.as_bytes())?;
     }
     assert!(rt; written(&mut files, "in", b"7"));
-    assert_eq!(rt;
-        opened(alloc, &mut files, "in").ok_or("in")?.as_slice(),
-        b"7".as_slice()
-    );
-    Ok(())
+    assert_holds(&rt, alloc, &mut files, "in", b"7")
 }
 
 #[test]
@@ -56,10 +61,7 @@ fn the_machine_holds_files(rt: HostRuntime) -> Result<(), Fail> {
     let mut files = MachineFiles(&rt);
     for text in ["345", "", "6"] {
         assert!(rt; written(&mut files, path, text.as_bytes()));
-        assert_eq!(rt;
-            opened(alloc, &mut files, path).ok_or("out")?.as_slice(),
-            text.as_bytes()
-        );
+        assert_holds(&rt, alloc, &mut files, path, text.as_bytes())?;
     }
     fs::remove_file(&rt, path)?;
     assert!(rt; files.open(path).is_err());

@@ -129,6 +129,10 @@ fn streams_that_refute_nothing(rt: HostRuntime) -> Result<(), Fail> {
             "0 added, 0 deleted, 0 imported, line 1: HintNotUnit(1)",
         ),
         (
+            "9223372036854775808 2 0 1 2 0\n",
+            "0 added, 0 deleted, 0 imported, line 1: NumberRange",
+        ),
+        (
             "5 0 0\n",
             "0 added, 0 deleted, 0 imported, line 1: EmptyOpen",
         ),
@@ -455,8 +459,8 @@ fn reads_fail(rt: HostRuntime) -> Result<(), Fail> {
     for (words, err) in [
         (["lrat", "cnf"].as_slice(), "lratjoin: lrat: cannot read\n"),
         (
-            &["cnf", "lrat", "--proof", "out"],
-            "lratjoin: out: cannot write\n",
+            &["cnf", "lrat", "--proof", "."],
+            "lratjoin: .: cannot write\n",
         ),
     ] {
         assert_told(&rt, alloc, words, &mut files, "", err, 2);

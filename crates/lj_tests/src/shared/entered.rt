@@ -1,7 +1,7 @@
 //! Lists of calls on a shared book.
 ghost use Rattle.std.specs.Prelude.{◌≡◌, ◌<◌};
 
-use crate::shared::{Called, Row, assert_entry, call};
+use crate::shared::{Called, Row, assert_confirmed, assert_entry, call};
 use crate::tables::{BINARY, Line, ListedStep, formula};
 use lj_book::{Book, Refusal};
 use lj_clause::Formula;
@@ -241,26 +241,75 @@ fn enter<L: Opening, R: Wait + Abort>(
     requires limit { L.max_steps ≡ 9 }
 {
     let (shared, mut seats) = Shared::<L>::open(alloc, blank, formula, number, 9)?;
-    let mut tokens = Vec::new(alloc);
-    for _ in 0..number {
-        tokens.push(Vec::new(alloc))?;
-    }
-    for row in script {
-        make(rt, alloc, &shared, &mut seats, &mut tokens, row)?;
-    }
-    for (seat, of_seat) in seats.iter().zip(&tokens) {
-        assert!(rt; seat.count() == of_seat.len() as u64);
-        assert_told(rt, alloc, &shared, seat.number(), of_seat, script)?;
-    }
+    let tokens = make_all(rt, alloc, &shared, &mut seats, script)?;
     assert!(rt; shared.verdict_now() == verdict);
+    assert_closed(rt, alloc, shared, seats, tokens, script)
+}
+
+/// Makes the calls in their order, and gives each seat's tokens.
+fn make_all<L: Opening, R: Wait + Abort>(
+    rt: &R,
+    alloc: Global,
+    shared: &Shared<L>,
+    seats: &mut [Seat<L>],
+    script: &[Row],
+) -> Result<Vec<Vec<Told>>, Fail> {
+    let mut tokens = no_tokens(alloc, seats.len())?;
+    for row in script {
+        make(rt, alloc, shared, seats, &mut tokens, row)?;
+    }
+    assert_counted(rt, alloc, shared, seats, &tokens, script)?;
+    Ok(tokens)
+}
+
+/// Closes the book, and asserts what it holds.
+fn assert_closed<L: Opening>(
+    rt: &impl Abort,
+    alloc: Global,
+    shared: Shared<L>,
+    seats: Vec<Seat<L>>,
+    mut tokens: Vec<Vec<Told>>,
+    script: &[Row],
+) -> Result<(), Fail>
+    requires { L.parts ≡ L.seats }
+{
     let Ok(closed) = shared.close(seats) else {
         panic!(rt; "not closed");
     };
     assert_history(rt, alloc, closed.book(), script)?;
-    for seat in 0..number {
-        assert_confirmed(rt, &closed, seat, &mut tokens);
+    assert_all_confirmed(rt, &closed, &mut tokens);
+    Ok(())
+}
+
+/// An empty list of tokens for each seat.
+fn no_tokens(alloc: Global, seats: usize) -> Result<Vec<Vec<Told>>, Fail> {
+    let mut tokens = Vec::new(alloc);
+    for _ in 0..seats {
+        tokens.push(Vec::new(alloc))?;
+    }
+    Ok(tokens)
+}
+
+/// Asserts that each seat counts its tokens, and that they still show their entries, once all calls are made.
+fn assert_counted<L: Opening>(
+    rt: &impl Abort,
+    alloc: Global,
+    shared: &Shared<L>,
+    seats: &[Seat<L>],
+    tokens: &[Vec<Told>],
+    script: &[Row],
+) -> Result<(), Fail> {
+    for (seat, of_seat) in seats.iter().zip(tokens) {
+        assert!(rt; seat.count() == of_seat.len() as u64);
+        assert_told(rt, alloc, shared, seat.number(), of_seat, script)?;
     }
     Ok(())
+}
+
+fn assert_all_confirmed<L: Opening>(rt: &impl Abort, closed: &Closed<L>, tokens: &mut [Vec<Told>]) {
+    for (seat, of_seat) in (0..u32::MAX).zip(tokens) {
+        assert_confirmed(rt, closed, seat, of_seat);
+    }
 }
 
 /// Makes a row's call, sees that its token shows its entry, or that it is refused, and keeps the token.
@@ -290,7 +339,7 @@ fn make<L: Opening, R: Wait + Abort>(
     Ok(())
 }
 
-/// Asserts that the seat's tokens still show their entries, once all calls are made.
+/// Asserts that the seat's tokens show its entries.
 fn assert_told<L: Opening>(
     rt: &impl Abort,
     alloc: Global,
@@ -315,41 +364,17 @@ fn assert_told<L: Opening>(
 
 /// Asserts that the history holds the entries of the rows that aren't refused, and no more.
 fn assert_history(rt: &impl Abort, alloc: Global, book: &Book, script: &[Row]) -> Result<(), Fail> {
-    let mut entries = Vec::new(alloc);
+    let mut place = 0u64;
     for (seat, called, wanted) in script {
-        if let Ok(step) = wanted {
-            entries.push((*seat, called, step))?;
-        }
-    }
-    assert!(rt; book.history_len() == entries.len() as u64);
-    for (place, (seat, called, step)) in entries.iter().enumerate() {
-        let Ok(Some(entry)) = book.entry(place as u64) else {
+        let Ok(step) = wanted else {
+            continue;
+        };
+        let Ok(Some(entry)) = book.entry(place) else {
             panic!(rt; "no entry");
         };
         assert_entry(rt, alloc, &entry, *seat, called, step)?;
+        place = place.wrapping_add(1);
     }
+    assert!(rt; book.history_len() == place);
     Ok(())
-}
-
-/// Asserts that the seat's tokens are confirmed, and neither with one left out nor with two exchanged.
-fn assert_confirmed<L: Opening>(
-    rt: &impl Abort,
-    closed: &Closed<L>,
-    seat: u32,
-    tokens: &mut [Vec<Told>],
-) {
-    let Some(of_seat) = tokens.get_mut(seat as usize) else {
-        panic!(rt; "no tokens");
-    };
-    assert!(rt; closed.confirm(seat, of_seat));
-    if let Some((_, rest)) = of_seat.split_first() {
-        assert!(rt; !closed.confirm(seat, rest));
-    }
-    if let Some((_, rest)) = of_seat.split_last() {
-        assert!(rt; !closed.confirm(seat, rest));
-    }
-    if of_seat.len() > 1 {
-        of_seat.swap(0, 1);
-        assert!(rt; !closed.confirm(seat, of_seat));
-    }
 }

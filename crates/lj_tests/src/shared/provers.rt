@@ -1,11 +1,12 @@
 //! Provers on threads of their own, a receipt that is stale, and a book that is closed with a seat missing.
 ghost use Rattle.std.specs.Prelude.{◌≡◌};
 
+use crate::shared::assert_confirmed;
 use crate::tables::{self, BINARY, clause, formula};
 use lj_book::Refusal;
 use lj_clause::{Formula, NoMemory};
-use lj_hint::{Marks, Tested};
-use lj_share::{Opening, SeatsOut, Shared};
+use lj_hint::{Marks, Receipt, Tested};
+use lj_share::{Opening, Seat, SeatsOut, Shared, Told};
 use lj_text::{Line, Numbers};
 use std::alloc::Global;
 use std::marker::Brand;
@@ -14,6 +15,12 @@ use std::sync::Wait;
 use std::sync::ledger::Blank;
 use std::test::Fail;
 use std::thread::{Threads, join};
+
+/// A seat, and the token of its entry.
+type Answered<L> = (Seat<L>, Told);
+
+/// The tokens of each of three seats.
+type Tokens = ([Told; 1], [Told; 1], Vec<Told>);
 
 fn addition(alloc: Global, number: u64, lemma: &[i32], hints: &[u64]) -> Result<Line, NoMemory> {
     let listed = tables::Line(number, lemma, hints, &[]);
@@ -43,7 +50,17 @@ fn close_with_one<L: Opening, R: Abort>(
     requires seats { L.seats ≡ 2 }
     requires limit { L.max_steps ≡ 9 }
 {
-    let (shared, mut seats) = Shared::<L>::open(alloc, blank, formula, 2, 9)?;
+    let (shared, seats) = Shared::<L>::open(alloc, blank, formula, 2, 9)?;
+    assert_closed_with_both(rt, shared, seats)
+}
+
+fn assert_closed_with_both<L: Opening>(
+    rt: &impl Abort,
+    shared: Shared<L>,
+    mut seats: Vec<Seat<L>>,
+) -> Result<(), Fail>
+    requires { L.parts ≡ L.seats }
+{
     let Some(second) = seats.pop() else {
         panic!(rt; "no seat");
     };
@@ -75,25 +92,55 @@ fn commit_stale<L: Opening, R: Wait + Abort>(
     requires limit { L.max_steps ≡ 9 }
 {
     let (shared, mut seats) = Shared::<L>::open(alloc, blank, formula, 1, 9)?;
-    let Some(mut seat) = seats.pop() else {
+    let Some(seat) = seats.first_mut() else {
         panic!(rt; "no seat");
     };
+    let receipt = receipt_of(rt, alloc, &shared, seat)?;
+    drop_first(rt, alloc, &shared, seat)?;
+    let receipt = assert_stale(rt, &shared, seat, receipt);
+    assert_stale(rt, &shared, seat, receipt);
+    Ok(())
+}
+
+/// The receipt of `2 -1 0 1 0`, which is taken and tested.
+fn receipt_of<L: Opening, R: Wait + Abort>(
+    rt: &R,
+    alloc: Global,
+    shared: &Shared<L>,
+    seat: &Seat<L>,
+) -> Result<Receipt, Fail> {
     let line = tables::addition(alloc, &tables::Line(2, &[-1], &[1], &[]))?;
-    let case = shared.take(rt, &seat, &line)?;
-    let Tested::Closed(receipt) = case.test(&mut Marks::new(alloc)) else {
-        panic!(rt; "not closed");
-    };
+    let case = shared.take(rt, seat, &line)?;
+    match case.test(&mut Marks::new(alloc)) {
+        Tested::Closed(receipt) => Ok(receipt),
+        _ => panic!(rt; "not closed"),
+    }
+}
+
+fn drop_first<L: Opening, R: Wait>(
+    rt: &R,
+    alloc: Global,
+    shared: &Shared<L>,
+    seat: &mut Seat<L>,
+) -> Result<(), Fail> {
     let deletion = Line::Delete(Numbers::from_slice(alloc, &[1])?);
-    shared.submit(rt, &mut seat, &deletion)?;
-    let Err((refusal, receipt)) = shared.commit(rt, &mut seat, receipt) else {
+    shared.submit(rt, seat, &deletion)?;
+    Ok(())
+}
+
+/// Asserts that the receipt is stale. It comes back.
+fn assert_stale<L: Opening, R: Wait + Abort>(
+    rt: &R,
+    shared: &Shared<L>,
+    seat: &mut Seat<L>,
+    receipt: Receipt,
+) -> Receipt {
+    assert!(rt; receipt.seat() == seat.number());
+    let Err((refusal, receipt)) = shared.commit(rt, seat, receipt) else {
         panic!(rt; "committed");
     };
     assert!(rt; refusal == Refusal::Stale(1));
-    let Err((refusal, _receipt)) = shared.commit(rt, &mut seat, receipt) else {
-        panic!(rt; "committed at the second time");
-    };
-    assert!(rt; refusal == Refusal::Stale(1));
-    Ok(())
+    receipt
 }
 
 #[test]
@@ -115,15 +162,38 @@ fn refute<L: Opening + Send + Sync, R: Threads + Wait + Abort + Sync>(
     requires limit { L.max_steps ≡ 9 }
 {
     let (shared, mut seats) = Shared::<L>::open(alloc, blank, formula, 3, 9)?;
-    let Some(mut third) = seats.pop() else {
-        panic!(rt; "no third seat");
+    let told = submit_all(rt, alloc, &shared, &mut seats)?;
+    assert_refuted(rt, shared, seats, told)
+}
+
+/// The lines of all three seats, the first two on threads.
+fn submit_all<L: Opening + Send + Sync, R: Threads + Wait + Abort + Sync>(
+    rt: &R,
+    alloc: Global,
+    shared: &Shared<L>,
+    seats: &mut Vec<Seat<L>>,
+) -> Result<Tokens, Fail> {
+    let (Some(mut third), Some(second), Some(first)) = (seats.pop(), seats.pop(), seats.pop())
+    else {
+        panic!(rt; "no seat");
     };
-    let Some(mut second) = seats.pop() else {
-        panic!(rt; "no second seat");
-    };
-    let Some(mut first) = seats.pop() else {
-        panic!(rt; "no first seat");
-    };
+    let ((first, one), (second, two)) = submit_both(rt, alloc, shared, first, second)?;
+    let of_third = submit_three(rt, alloc, shared, &mut third)?;
+    assert!(rt; first.count() == 1 && second.count() == 1 && third.count() == 3);
+    seats.push(third)?;
+    seats.push(first)?;
+    seats.push(second)?;
+    Ok(([one], [two], of_third))
+}
+
+/// The two lines by which the provers find 2 and -2, each on a thread.
+fn submit_both<L: Opening + Send + Sync, R: Threads + Wait + Sync>(
+    rt: &R,
+    alloc: Global,
+    shared: &Shared<L>,
+    mut first: Seat<L>,
+    mut second: Seat<L>,
+) -> Result<(Answered<L>, Answered<L>), Fail> {
     let line = addition(alloc, 5, &[2], &[1, 2])?;
     let other = addition(alloc, 5, &[-2], &[3, 4])?;
     let (one, two) = join(
@@ -131,28 +201,45 @@ fn refute<L: Opening + Send + Sync, R: Threads + Wait + Abort + Sync>(
         || shared.submit(rt, &mut first, &line),
         || shared.submit(rt, &mut second, &other),
     );
-    let mut of_first = Vec::new(alloc);
-    of_first.push(one?)?;
-    let mut of_second = Vec::new(alloc);
-    of_second.push(two?)?;
-    let mut of_third = Vec::new(alloc);
-    of_third.push(shared.submit(rt, &mut third, &import(alloc, 7, &[2])?)?)?;
-    of_third.push(shared.submit(rt, &mut third, &import(alloc, 8, &[-2])?)?)?;
-    assert!(rt; shared.verdict_now().is_none());
-    of_third.push(shared.submit(rt, &mut third, &addition(alloc, 9, &[], &[7, 8])?)?)?;
+    Ok(((first, one?), (second, two?)))
+}
+
+/// The three lines of the seat that puts together what they found.
+fn submit_three<L: Opening, R: Wait + Abort>(
+    rt: &R,
+    alloc: Global,
+    shared: &Shared<L>,
+    third: &mut Seat<L>,
+) -> Result<Vec<Told>, Fail> {
+    let mut tokens = Vec::new(alloc);
+    for at in 0..3 {
+        assert!(rt; shared.verdict_now().is_none());
+        let line = match at {
+            0 => import(alloc, 7, &[2])?,
+            1 => import(alloc, 8, &[-2])?,
+            _ => addition(alloc, 9, &[], &[7, 8])?,
+        };
+        tokens.push(shared.submit(rt, third, &line)?)?;
+    }
     assert!(rt; shared.verdict_now() == Some(4));
-    assert!(rt; first.count() == 1 && second.count() == 1 && third.count() == 3);
-    seats.push(third)?;
-    seats.push(first)?;
-    seats.push(second)?;
+    Ok(tokens)
+}
+
+/// Closes the book with the three seats, and asserts what it holds.
+fn assert_refuted<L: Opening>(
+    rt: &impl Abort,
+    shared: Shared<L>,
+    seats: Vec<Seat<L>>,
+    told: Tokens,
+) -> Result<(), Fail>
+    requires { L.parts ≡ L.seats }
+{
+    let (of_first, of_second, mut of_third) = told;
     let Ok(closed) = shared.close(seats) else {
         panic!(rt; "not closed");
     };
     assert!(rt; closed.book().history_len() == 5);
     assert!(rt; closed.confirm(0, &of_first) && closed.confirm(1, &of_second));
-    assert!(rt; closed.confirm(2, &of_third));
-    assert!(rt; !closed.confirm(2, &of_third[..2]));
-    of_third.swap(0, 1);
-    assert!(rt; !closed.confirm(2, &of_third));
+    assert_confirmed(rt, &closed, 2, &mut of_third);
     Ok(())
 }

@@ -6,7 +6,7 @@ use std::alloc::Global;
 use std::test::*;
 
 /// Texts, and what is told of them: the formula, or the fault and its line.
-const TEXTS: [(&str, &str); 27] = [
+const TEXTS: [(&str, &str); 29] = [
     ("c hi\np cnf 2 2\n1 -2 0 2\n 0\n%\n0\n", "2: [1, -2] [2] "),
     ("p cnf 0 0", "0: "),
     ("p cnf 2 1\n2 2 -1 0", "2: [-1, 2] "),
@@ -31,7 +31,9 @@ const TEXTS: [(&str, &str); 27] = [
     ("p cnf 2 1\n1 0 x", "BadNumber 2"),
     ("p cnf 0 0\n0\n", "ClauseCount 2"),
     ("p cnf 1 1\n1 0 %x\n", "1: [1] "),
+    ("p cnf 2 1\n1 0\n%x\np", "2: [1] "),
     ("p cnf 134217727 4294967295\n", "ClauseCount 2"),
+    ("p cnf 134217727 4294967295", "ClauseCount 1"),
     ("p cnf 2 1\n\n0\n\n1\n", "ClauseCount 5"),
     (
         "p cnf 2 5\n1 2 0\n-1 2 0\n1 -2 0\n-1 -2 0\n",

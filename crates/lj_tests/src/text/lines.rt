@@ -1,12 +1,14 @@
 //! Lines at worked examples, fed in every cut.
+ghost use Rattle.std.specs.Prelude.{◌≡◌, false};
+
 use super::cut_at;
 use lj_clause::MAX_VARIABLE;
-use lj_text::{Line, LineReader};
+use lj_text::{Line, LineFault, LineReader};
 use std::alloc::Global;
 use std::test::*;
 
 /// Inputs, and what is told of them: each line with its number, and the fault that ends them.
-const INPUTS: [(&str, &str); 36] = [
+const INPUTS: [(&str, &str); 38] = [
     ("5 2 0 1 2 0", "1: Add 5 [2] Some(2) [1, 2];"),
     ("005 01 0 00\n", "1: Add 5 [1] Some(1) [];"),
     (
@@ -44,6 +46,8 @@ const INPUTS: [(&str, &str); 36] = [
     ("5 d -9223372036854775808 0\n", "NumberRange 1"),
     ("5 1 0 0 9223372036854775808\n", "Syntax 1"),
     ("5 1 0 0 d\n", "BadNumber 1"),
+    ("5 1 0 0 c\n", "BadNumber 1"),
+    ("5 1 0 0 99999999999999999999\n", "Syntax 1"),
     (
         "9223372036854775807 2 0 9223372036854775807 0\n\ncnf\n5 d 1 0",
         "1: Add 9223372036854775807 [2] Some(2) [9223372036854775807];4: Delete [1];",
@@ -83,36 +87,74 @@ fn describe(alloc: Global, line: &Line, at: u64) -> Result<String, Fail> {
     })
 }
 
+/// What a call of the reader tells.
+#[derive(Drop)]
+enum Said {
+    Line(String),
+    Nothing,
+    Fault(String),
+}
+
+fn said_of(alloc: Global, at: u64, answer: Result<Option<Line>, LineFault>) -> Result<Said, Fail> {
+    Ok(match answer {
+        Ok(Some(line)) => Said::Line(describe(alloc, &line, at)?),
+        Ok(None) => Said::Nothing,
+        Err(fault) => {
+            let line = fault.line;
+            Said::Fault(format!(in alloc; "{fault} {line}")?)
+        }
+    })
+}
+
+fn next_said(alloc: Global, reader: &mut LineReader) -> Result<Said, Fail>
+    ensures { reader.new.finished ≡ reader.old.finished }
+{
+    let answer = reader.next();
+    said_of(alloc, reader.at(), answer)
+}
+
+fn last_said(alloc: Global, reader: &mut LineReader) -> Result<Said, Fail> {
+    let answer = reader.finish();
+    said_of(alloc, reader.at(), answer)
+}
+
+/// Tells what is said. The answer is whether it is a line.
+fn tell(told: &mut String, said: &Said) -> Result<bool, Fail> {
+    match said {
+        Said::Line(line) => told.push_str(line)?,
+        Said::Nothing => {}
+        Said::Fault(fault) => told.push_str(fault)?,
+    }
+    Ok(matches!(said, Said::Line(_)))
+}
+
+/// Tells the lines that the reader has, and the fault behind them. The answer is whether it can be fed on.
+fn tell_lines(alloc: Global, told: &mut String, reader: &mut LineReader) -> Result<bool, Fail>
+    requires { reader.old.finished ≡ false }
+    ensures { reader.new.finished ≡ false }
+{
+    for _ in 0..9 {
+        let said = next_said(alloc, reader)?;
+        if !tell(told, &said)? {
+            return Ok(matches!(said, Said::Nothing));
+        }
+    }
+    Ok(true)
+}
+
 /// What is told of an input that comes in these pieces.
 fn told(alloc: Global, pieces: &[&[u8]]) -> Result<String, Fail> {
     let mut told = String::new(alloc);
     let mut reader = LineReader::new(alloc, MAX_VARIABLE);
     for piece in pieces {
-        if let Err(fault) = reader.feed(piece) {
-            told.push_str(&format!(in alloc; "feed: {fault}")?)?;
+        reader.feed(piece)?;
+        if !tell_lines(alloc, &mut told, &mut reader)? {
             return Ok(told);
-        }
-        for _ in 0..9 {
-            match reader.next() {
-                Ok(None) => break,
-                Ok(Some(line)) => told.push_str(&describe(alloc, &line, reader.at())?)?,
-                Err(fault) => {
-                    let line = fault.line;
-                    told.push_str(&format!(in alloc; "{fault} {line}")?)?;
-                    return Ok(told);
-                }
-            }
         }
     }
     for _ in 0..9 {
-        match reader.finish() {
-            Ok(None) => break,
-            Ok(Some(line)) => told.push_str(&describe(alloc, &line, reader.at())?)?,
-            Err(fault) => {
-                let line = fault.line;
-                told.push_str(&format!(in alloc; "{fault} {line}")?)?;
-                return Ok(told);
-            }
+        if !tell(&mut told, &last_said(alloc, &mut reader)?)? {
+            break;
         }
     }
     Ok(told)
@@ -139,22 +181,14 @@ fn lines_in_every_cut(rt: HostRuntime) -> Result<(), Fail> {
 fn a_line_in_two_pieces(rt: HostRuntime) -> Result<(), Fail> {
     let alloc = rt.alloc();
     let mut reader = LineReader::new(alloc, MAX_VARIABLE);
-    assert!(rt; reader.feed(b"5 2 0 1").is_ok());
-    assert!(rt; matches!(reader.next(), Ok(None)));
-    assert_eq!(rt; reader.at(), 1);
-    assert_eq!(rt; reader.held(), 7);
-    assert!(rt; reader.feed(b"2 0\n").is_ok());
-    match reader.next() {
-        Ok(Some(line)) => {
-            assert_eq!(rt;
-                describe(alloc, &line, reader.at())?.as_str(),
-                "1: Add 5 [2] Some(2) [12];"
-            )
-        }
-        _ => assert!(rt; false, "the line is whole"),
-    }
-    assert!(rt; matches!(reader.next(), Ok(None)));
-    assert_eq!(rt; reader.at(), 2);
+    reader.feed(b"5 2 0 1")?;
+    assert!(rt; matches!(next_said(alloc, &mut reader)?, Said::Nothing));
+    assert!(rt; reader.at() == 1 && reader.held() == 7);
+    reader.feed(b"2 0\n")?;
+    let mut line = String::new(alloc);
+    assert!(rt; tell_lines(alloc, &mut line, &mut reader)?);
+    assert_eq!(rt; line.as_str(), "1: Add 5 [2] Some(2) [12];");
+    assert!(rt; reader.at() == 2);
     assert_eq!(rt;
         told(alloc, &[b"5 -", b"2 0 0\n"])?.as_str(),
         "1: Add 5 [-2] Some(-2) [];"
@@ -162,16 +196,23 @@ fn a_line_in_two_pieces(rt: HostRuntime) -> Result<(), Fail> {
     Ok(())
 }
 
+fn next_fault(reader: &mut LineReader) -> Option<LineFault>
+    ensures { reader.new.finished ≡ reader.old.finished }
+{
+    reader.next().err()
+}
+
 /// A fault is told again by every call.
 #[test]
-fn a_fault_of_a_line_stays(rt: HostRuntime) {
+fn a_fault_of_a_line_stays(rt: HostRuntime) -> Result<(), Fail> {
     let alloc = rt.alloc();
     let mut reader = LineReader::new(alloc, MAX_VARIABLE);
-    assert!(rt; reader.feed(b"5 d 1 0\n5 x\n5 d 1 0\n").is_ok());
-    assert!(rt; matches!(reader.next(), Ok(Some(_))));
-    let fault = reader.next().err();
-    assert_eq!(rt; fault.map(|f| f.line), Some(2));
-    assert_eq!(rt; reader.next().err(), fault);
-    assert_eq!(rt; reader.feed(b"5 d 1 0\n").err(), fault);
-    assert_eq!(rt; reader.finish().err(), fault);
+    reader.feed(b"5 d 1 0\n5 x\n5 d 1 0\n")?;
+    assert!(rt; matches!(next_said(alloc, &mut reader)?, Said::Line(_)));
+    let fault = next_fault(&mut reader);
+    assert!(rt; fault.is_some_and(|f| f.line == 2));
+    assert!(rt; next_fault(&mut reader) == fault);
+    assert!(rt; reader.feed(b"5 d 1 0\n").err() == fault);
+    assert!(rt; reader.finish().err() == fault);
+    Ok(())
 }

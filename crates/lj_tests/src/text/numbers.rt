@@ -1,53 +1,75 @@
 //! Lists of numbers of both widths.
+use crate::tables::assert_numbers;
 use lj_text::{Line, LineReader, NumberRoom, Numbers};
-use std::test::*;
+use std::alloc::Global;
+use std::process::Abort;
+use std::test::Fail;
 
 /// The least number that takes eight bytes.
 const LONG: u64 = 4_294_967_296;
 
+/// The numbers as they are taken out of room, which is then empty.
+fn taken(rt: &impl Abort, alloc: Global, numbers: &[u64]) -> Result<Numbers, Fail> {
+    let mut room = NumberRoom::new(alloc);
+    for number in numbers {
+        room.push(*number)?;
+    }
+    let taken = room.take()?;
+    assert!(rt; room.take()?.is_empty());
+    Ok(taken)
+}
+
+fn assert_are(rt: &impl Abort, numbers: &Numbers, wanted: &[u64; 3]) {
+    assert_numbers(rt, numbers, wanted);
+    assert!(rt; numbers.iter().eq(wanted.iter().copied()));
+    assert!(rt; numbers.get(1) == Some(wanted[1]) && numbers.get(3).is_none());
+}
+
 #[test]
 fn both_widths(rt: HostRuntime) -> Result<(), Fail> {
     let alloc = rt.alloc();
-    for want in [[1, 7, LONG - 1], [1, LONG, 7]] {
-        let mut room = NumberRoom::new(alloc);
-        for number in &want {
-            room.push(*number)?;
-        }
-        let taken = room.take()?;
-        assert!(rt; room.take()?.is_empty());
-        let sliced = Numbers::from_slice(alloc, &want)?;
-        let copied = Numbers::new(taken.to_vec()?).copy()?;
-        for numbers in [taken, sliced, copied] {
-            assert!(rt; numbers.iter().eq(want.iter().copied()));
-            assert_eq!(rt; numbers.len(), 3);
-            assert_eq!(rt; numbers.get(1), Some(want[1]));
-            assert_eq!(rt; numbers.get(3), None);
-        }
+    for wanted in [[1, 7, LONG - 1], [1, LONG, 7]] {
+        let taken = taken(&rt, alloc, &wanted)?;
+        assert_are(&rt, &taken, &wanted);
+        assert_are(&rt, &Numbers::from_slice(alloc, &wanted)?, &wanted);
+        assert_are(&rt, &Numbers::new(taken.to_vec()?).copy()?, &wanted);
     }
     Ok(())
 }
 
 /// A line of 40,000 hints, which is longer than 64 KiB, and the lines behind it.
-#[test]
-fn long_line(rt: HostRuntime) -> Result<(), Fail> {
-    let alloc = rt.alloc();
+fn long_text(alloc: Global) -> Result<String, Fail> {
     let mut text = String::from_str(alloc, "5 2 0")?;
     for _ in 0..40_000 {
         text.push_str(" 17")?;
     }
     text.push_str(" 0\n6 0 4294967296 0\n7 d 17 0\n")?;
+    Ok(text)
+}
+
+/// The number of the addition that comes next, and how many hints it has.
+fn next_addition(reader: &mut LineReader) -> Option<(u64, usize)> {
+    match reader.next() {
+        Ok(Some(Line::Add(addition))) => Some((addition.number, addition.hints.len())),
+        _ => None,
+    }
+}
+
+fn next_is_deletion(reader: &mut LineReader) -> bool {
+    matches!(reader.next(), Ok(Some(Line::Delete(_))))
+}
+
+#[test]
+fn long_line(rt: HostRuntime) -> Result<(), Fail> {
+    let alloc = rt.alloc();
+    let text = long_text(alloc)?;
     let mut reader = LineReader::new(alloc, 9);
     for piece in text.as_bytes().chunks(4096) {
-        assert!(rt; reader.feed(piece).is_ok());
+        reader.feed(piece)?;
     }
-    for (number, len) in [(5, 40_000), (6, 1)] {
-        let Ok(Some(Line::Add(addition))) = reader.next() else {
-            panic!(rt; "no addition");
-        };
-        assert_eq!(rt; addition.number, number);
-        assert_eq!(rt; addition.hints.len(), len);
-    }
-    assert!(rt; matches!(reader.next(), Ok(Some(Line::Delete(_)))));
+    assert!(rt; next_addition(&mut reader) == Some((5, 40_000)));
+    assert!(rt; next_addition(&mut reader) == Some((6, 1)));
+    assert!(rt; next_is_deletion(&mut reader));
     assert!(rt; matches!(reader.finish(), Ok(None)));
     Ok(())
 }

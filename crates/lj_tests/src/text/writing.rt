@@ -10,6 +10,7 @@ use lj_text::{
     write_proof,
 };
 use std::alloc::Global;
+use std::process::Abort;
 use std::sync::Wait;
 use std::test::Fail;
 
@@ -88,31 +89,38 @@ fn small_sink(alloc: Global, room: usize, most: usize) -> NarrowSink<FailingSink
 /// How many bytes a sink takes a call: one, a part of a line, and as many as there are.
 const WIDTHS: [usize; 3] = [1, 5, 24];
 
+/// Asserts what a writer of the two steps answers, into a sink that takes `room` bytes, `most` a call.
+fn assert_fails(
+    rt: &impl Abort,
+    alloc: Global,
+    steps: &[Step],
+    room: usize,
+    most: usize,
+) -> Result<(), Fail> {
+    let mut writer = ProofWriter::new(small_sink(alloc, room, most), 4);
+    for step in steps {
+        assert!(rt; writer.step(step).is_ok(), "with room for {room}");
+    }
+    let (first, again) = match room {
+        24 => (Ok(()), Ok(())),
+        _ => (Err(WriteFault::Device), Err(WriteFault::Failed)),
+    };
+    let is_right = writer.finish() == first && writer.finish() == again;
+    assert!(rt; is_right, "with room for {room}, {most} a call");
+    let taken = TWO_STEPS
+        .as_bytes()
+        .get(..room)
+        .ok_or("more room than bytes")?;
+    assert!(rt; writer.into_sink().sink.sink.bytes() == taken);
+    Ok(())
+}
+
 #[test]
 fn a_writer_fails_where_its_sink_is_full(rt: HostRuntime) -> Result<(), Fail> {
     let steps = steps_of(rt.alloc(), TWO_STEPS)?;
     for most in WIDTHS {
         for room in 0..=24 {
-            let mut writer = ProofWriter::new(small_sink(rt.alloc(), room, most), 4);
-            for step in &steps {
-                assert!(rt; writer.step(step).is_ok(), "with room for {room}");
-            }
-            let (first, again) = match room {
-                24 => (Ok(()), Ok(())),
-                _ => (Err(WriteFault::Device), Err(WriteFault::Failed)),
-            };
-            assert_eq!(rt;
-                writer.finish(),
-                first,
-                "with room for {room}, {most} a call"
-            );
-            assert_eq!(rt;
-                writer.finish(),
-                again,
-                "with room for {room}, {most} a call"
-            );
-            let bytes = &TWO_STEPS.as_bytes()[..room];
-            assert_eq!(rt; writer.into_sink().sink.sink.bytes(), bytes);
+            assert_fails(&rt, rt.alloc(), &steps, room, most)?;
         }
     }
     Ok(())

@@ -3,6 +3,3 @@ use Rattle.lj_tests.proofs.text.lines.told.Given as goal
 
 abbrev pub invariant-loop-piece : goal.invariant-loop-piece
 invariant-loop-piece l = l.reader.finished ≡ false
-
-abbrev pub invariant-loop : goal.invariant-loop
-invariant-loop l = l.reader.finished ≡ false

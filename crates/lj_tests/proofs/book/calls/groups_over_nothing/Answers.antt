@@ -6,7 +6,7 @@ use Rattle.lj_hint.specs.Case.{CaseValue, walk_of}
 use Rattle.lj_hint.specs.Tested.{tested_of}
 use Rattle.lj_hint.specs.declared.tested.Tested.{Tested}
 use Rattle.lj_hint.specs.declared.tested.Tested.TheVariants as tests
-use Rattle.lj_tests.proofs.book.calls.an_open_case_has_no_candidates.Goals as goal
+use Rattle.lj_tests.proofs.book.calls.groups_over_nothing.Goals as goal
 
 same_case : (c d : CaseValue) → ◌≡◌ {A = Tested} (tests.Open c) (tests.Open d) → c ≡ d
 same_case c d e = cc
@@ -20,4 +20,4 @@ is_open c d e = by-walk (walk_of c) refl e
     by-walk (walk.Stuck place) is e = absurd (cc)
 
 pub rat_test-requires : goal.rat_test-requires
-rat_test-requires g c = is_open _ c.in-Open.case c.in-Open.ensures.walk
+rat_test-requires c = is_open _ c.in-Open.case c.in-Open.ensures.walk
