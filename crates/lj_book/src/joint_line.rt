@@ -1,8 +1,10 @@
 //! An addition's hints and groups in joint numbers.
+ghost use Rattle.std.specs.FinMap as fin;
 ghost use Rattle.lj_book.specs.Tables.{joint_of};
 ghost use Rattle.lj_book.specs.Calls.{IsReplyBy};
 ghost use Rattle.lj_book.specs.inner.JointLines.{joints_in, joint_groups_in, joint_parts};
 
+use crate::own_map::OwnMap;
 use crate::refusal::Refusal;
 use crate::seat_tables::SeatTables;
 use crate::taking::repeated_group;
@@ -56,12 +58,28 @@ fn joints_of(
 ) -> Result<Numbers, Refusal>
     ensures { IsReplyBy (λ v. v) result (joints_in (joint_of tables.now seat) numbers.now) }
 {
+    match tables.table(seat) {
+        Some(table) => joints_by(alloc, table, numbers),
+        None => match numbers.get(0) {
+            Some(own) => Err(Refusal::UnknownNumber(own)),
+            None => Ok(Numbers::with_capacity(alloc, 0)?),
+        },
+    }
+}
+
+/// The joint numbers of these own numbers, by the table of their seat.
+///
+/// # Errors
+/// As [`joints_of`].
+fn joints_by(alloc: Global, table: &OwnMap<u64>, numbers: &Numbers) -> Result<Numbers, Refusal>
+    ensures { IsReplyBy (λ v. v) result (joints_in (fin.get table.now) numbers.now) }
+{
     let mut joints = Numbers::with_capacity(alloc, numbers.len())?;
     for own in numbers.iter() {
-        let Some(joint) = tables.joint(seat, own) else {
+        let Some(joint) = table.get(own) else {
             return Err(Refusal::UnknownNumber(own));
         };
-        joints.push(joint)?;
+        joints.push(*joint)?;
     }
     Ok(joints)
 }

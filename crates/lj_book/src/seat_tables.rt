@@ -64,6 +64,13 @@ impl SeatTables {
         table_in(&self.seats, seat).is_some()
     }
 
+    /// The table of a seat that hasn't left.
+    pub(crate) fn table(&self, seat: u32) -> Option<&OwnMap<u64>>
+        ensures { option_copied result ≡ table_of self.now seat }
+    {
+        table_in(&self.seats, seat)
+    }
+
     /// The joint number that the seat's own number is bound to.
     pub(crate) fn joint(&self, seat: u32, own: u64) -> Option<u64>
         ensures { result ≡ joint_of self.now seat own }
