@@ -6,6 +6,7 @@ mod bytes;
 mod bytes_so_far;
 mod cnf;
 pub mod examples;
+mod few_numbers;
 pub mod laws;
 mod line;
 mod lines;

@@ -2,6 +2,7 @@
 ghost use Rattle.std.specs.Prelude.{◌≡◌, ◌==◌, ◌∷◌, ◌++◌, [], length, take, slice_get, IfOk, IfSome, OnOk, OnErr};
 ghost use Rattle.lj_text.specs.inner.Numbers.{numbers_in, numbers_left};
 
+use crate::few_numbers::{FEW, FewNumbers};
 use std::alloc::{AllocError, Global};
 use std::marker::Model;
 use std::mem::replace;
@@ -11,7 +12,8 @@ const MAX_SHORT: u64 = u32::MAX as u64;
 
 /// A list of clause numbers. Two are equal where their contents are.
 ///
-/// Each number takes four bytes where all of them are below 2^32, and eight otherwise.
+/// Each number takes four bytes where all of them are below 2^32, and eight otherwise. Up to six of four bytes may stand
+/// in the list itself, and take no memory of their own.
 #[derive(Debug, Drop)]
 pub struct Numbers {
     form: Form,
@@ -20,6 +22,7 @@ pub struct Numbers {
 /// Numbers of one width.
 #[derive(Debug, Drop)]
 enum Form {
+    Few(FewNumbers),
     Short(Vec<u32>),
     Long(Vec<u64>),
 }
@@ -51,6 +54,11 @@ impl Numbers {
     pub fn with_capacity(alloc: Global, count: usize) -> Result<Numbers, AllocError>
         ensures { IfOk result (λ list. list ≡ []) }
     {
+        if count <= FEW {
+            return Ok(Numbers {
+                form: Form::Few(FewNumbers::new(alloc)),
+            });
+        }
         Ok(Numbers {
             form: Form::Short(Vec::with_capacity(alloc, count)?),
         })
@@ -71,17 +79,25 @@ impl Numbers {
                 numbers.push(number as u32)?;
                 Ok(())
             }
+            Form::Few(numbers) if number <= MAX_SHORT && numbers.has_room() => {
+                numbers.push(number as u32);
+                Ok(())
+            }
             _ => self.push_long(number),
         }
     }
 
-    /// The same, where a number takes eight bytes.
+    /// The same, where a number takes eight bytes, or has no room among the few.
     #[cold]
     fn push_long(&mut self, number: u64) -> Result<(), AllocError>
         ensures ok { OnOk result (self.new ≡ self.old ++ number ∷ []) }
         ensures err { OnErr result (self.new ≡ self.old) }
     {
         match &mut self.form {
+            Form::Few(numbers) => {
+                self.form = with_few(numbers, number)?;
+                Ok(())
+            }
             Form::Short(numbers) => {
                 let mut long = lengthened(*numbers.allocator(), numbers)?;
                 long.push(number)?;
@@ -101,6 +117,7 @@ impl Numbers {
         ensures { self.new ≡ take count self.old }
     {
         match &mut self.form {
+            Form::Few(numbers) => numbers.truncate(count),
             Form::Short(numbers) => cut(numbers, count),
             Form::Long(numbers) => cut(numbers, count),
         }
@@ -125,6 +142,7 @@ impl Numbers {
         ensures { result ≡ length self.now }
     {
         match &self.form {
+            Form::Few(numbers) => numbers.as_slice().len(),
             Form::Short(numbers) => numbers.len(),
             Form::Long(numbers) => numbers.len(),
         }
@@ -142,10 +160,8 @@ impl Numbers {
         ensures { result ≡ slice_get self.now index }
     {
         match &self.form {
-            Form::Short(numbers) => match numbers.get(index) {
-                Some(number) => Some(u64::from(*number)),
-                None => None,
-            },
+            Form::Few(numbers) => short_at(numbers.as_slice(), index),
+            Form::Short(numbers) => short_at(numbers, index),
             Form::Long(numbers) => numbers.get(index).copied(),
         }
     }
@@ -156,6 +172,9 @@ impl Numbers {
         ensures { result ≡ self.now }
     {
         match &self.form {
+            Form::Few(numbers) => NumbersIter {
+                rest: Rest::Short(numbers.as_slice()),
+            },
             Form::Short(numbers) => NumbersIter {
                 rest: Rest::Short(numbers),
             },
@@ -173,6 +192,7 @@ impl Numbers {
         ensures { IfOk result (λ list. list ≡ self.now) }
     {
         let form = match &self.form {
+            Form::Few(numbers) => Form::Few(numbers.copy()),
             Form::Short(numbers) => Form::Short(Vec::from_slice(*numbers.allocator(), numbers)?),
             Form::Long(numbers) => Form::Long(Vec::from_slice(*numbers.allocator(), numbers)?),
         };
@@ -187,10 +207,41 @@ impl Numbers {
         ensures { IfOk result (λ numbers. numbers.items ≡ self.now) }
     {
         match &self.form {
+            Form::Few(numbers) => lengthened(numbers.allocator(), numbers.as_slice()),
             Form::Short(numbers) => lengthened(*numbers.allocator(), numbers),
             Form::Long(numbers) => Vec::from_slice(*numbers.allocator(), numbers),
         }
     }
+}
+
+/// The number at a place among those of four bytes.
+#[inline]
+fn short_at(numbers: &[u32], index: usize) -> Option<u64>
+    ensures { result ≡ slice_get numbers.now index }
+{
+    match numbers.get(index) {
+        Some(number) => Some(u64::from(*number)),
+        None => None,
+    }
+}
+
+/// A list of a few numbers and one more, with room for others.
+///
+/// # Errors
+/// [`AllocError`] where a growth was refused.
+fn with_few(numbers: &FewNumbers, number: u64) -> Result<Form, AllocError>
+    ensures { IfOk result (λ form. numbers_in form ≡ numbers.now ++ number ∷ []) }
+{
+    let alloc = numbers.allocator();
+    if number <= MAX_SHORT {
+        let mut short = Vec::with_capacity(alloc, 2 * FEW)?;
+        short.extend_from_slice(numbers.as_slice())?;
+        short.push(number as u32)?;
+        return Ok(Form::Short(short));
+    }
+    let mut long = lengthened(alloc, numbers.as_slice())?;
+    long.push(number)?;
+    Ok(Form::Long(long))
 }
 
 /// Keeps the first numbers, so many, in exactly the room that they need.
@@ -200,6 +251,20 @@ fn cut<T: Copy>(numbers: &mut Vec<T>, count: usize)
     if count < numbers.len() {
         numbers.truncate(count);
         numbers.shrink_to_fit();
+    }
+}
+
+/// The list of these numbers, in exactly the room that it needs.
+///
+/// # Errors
+/// [`AllocError`] where a growth was refused.
+#[inline]
+fn form_of(alloc: Global, numbers: &[u32]) -> Result<Form, AllocError>
+    ensures { IfOk result (λ form. numbers_in form ≡ numbers.now) }
+{
+    match FewNumbers::from_slice(alloc, numbers) {
+        Some(few) => Ok(Form::Few(few)),
+        None => Ok(Form::Short(Vec::from_slice(alloc, numbers)?)),
     }
 }
 
@@ -358,11 +423,9 @@ impl NumberRoom {
     {
         let alloc = *self.short.allocator();
         if self.long.is_empty() {
-            let numbers = Vec::from_slice(alloc, &self.short)?;
+            let form = form_of(alloc, &self.short)?;
             self.short.clear();
-            return Ok(Numbers {
-                form: Form::Short(numbers),
-            });
+            return Ok(Numbers { form });
         }
         let mut numbers = replace(&mut self.long, Vec::new(alloc));
         numbers.shrink_to_fit();

@@ -6,6 +6,7 @@ use Rattle.lj_text.specs.declared.numbers.Rest.{Rest}
 use Rattle.lj_text.specs.declared.numbers.Rest.TheVariants as rests
 
 abbrev pub numbers_in : Form → List ℕ
+numbers_in (forms.Few numbers) = numbers
 numbers_in (forms.Short numbers) = numbers.items
 numbers_in (forms.Long numbers) = numbers.items
 
