@@ -4,7 +4,7 @@ ghost use Rattle.lj_book.specs.Tables.{joint_of};
 ghost use Rattle.lj_book.specs.Calls.{IsReplyBy};
 ghost use Rattle.lj_book.specs.inner.JointLines.{joints_in, joint_groups_in, joint_parts};
 
-use crate::own_map::OwnMap;
+use crate::bindings::Bindings;
 use crate::refusal::Refusal;
 use crate::seat_tables::SeatTables;
 use crate::taking::repeated_group;
@@ -71,7 +71,7 @@ fn joints_of(
 ///
 /// # Errors
 /// As [`joints_of`].
-fn joints_by(alloc: Global, table: &OwnMap<u64>, numbers: &Numbers) -> Result<Numbers, Refusal>
+fn joints_by(alloc: Global, table: &Bindings, numbers: &Numbers) -> Result<Numbers, Refusal>
     ensures { IsReplyBy (λ v. v) result (joints_in (fin.get table.now) numbers.now) }
 {
     let mut joints = Numbers::with_capacity(alloc, numbers.len())?;
@@ -79,7 +79,7 @@ fn joints_by(alloc: Global, table: &OwnMap<u64>, numbers: &Numbers) -> Result<Nu
         let Some(joint) = table.get(own) else {
             return Err(Refusal::UnknownNumber(own));
         };
-        joints.push(*joint)?;
+        joints.push(joint)?;
     }
     Ok(joints)
 }

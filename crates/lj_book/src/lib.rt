@@ -1,6 +1,7 @@
 //! The book: the tables of several seats, the clauses that live, and the history of the calls that were accepted.
 #![tactic(auto)]
 
+mod bindings;
 mod book;
 mod committing;
 mod copying;

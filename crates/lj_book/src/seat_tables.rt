@@ -5,8 +5,8 @@ ghost use Rattle.lj_book.specs.Tables.{up_to, table_of, is_here, joint_of, is_bo
 ghost use Rattle.lj_book.specs.inner.Tables.{own_numbers};
 ghost use Rattle.lj_book.specs.inner.Holders.{count_at, holders_of, one_if_at, all_up_to};
 
+use crate::bindings::Bindings;
 use crate::number_map::NumberMap;
-use crate::own_map::OwnMap;
 use lj_clause::NoMemory;
 use lj_text::Numbers;
 use std::alloc::Global;
@@ -15,7 +15,7 @@ use std::marker::Model;
 /// The table of each seat, from own numbers to joint numbers, and none for a seat that has left.
 #[derive(Drop)]
 pub(crate) struct SeatTables {
-    seats: Vec<Option<OwnMap<u64>>>,
+    seats: Vec<Option<Bindings>>,
     /// How many own numbers of all seats are bound to each joint number, so that none has to be looked for.
     holders: NumberMap<u64>,
 }
@@ -65,7 +65,7 @@ impl SeatTables {
     }
 
     /// The table of a seat that hasn't left.
-    pub(crate) fn table(&self, seat: u32) -> Option<&OwnMap<u64>>
+    pub(crate) fn table(&self, seat: u32) -> Option<&Bindings>
         ensures { option_copied result ≡ table_of self.now seat }
     {
         table_in(&self.seats, seat)
@@ -76,7 +76,7 @@ impl SeatTables {
         ensures { result ≡ joint_of self.now seat own }
     {
         let table = table_in(&self.seats, seat)?;
-        table.get(own).copied()
+        table.get(own)
     }
 
     /// Whether the seat's own number is bound.
@@ -199,11 +199,7 @@ impl SeatTables {
 }
 
 /// One table for each seat, with the numbers up to that of the clauses bound to themselves.
-fn same_tables(
-    alloc: Global,
-    seats: u32,
-    clauses: u64,
-) -> Result<Vec<Option<OwnMap<u64>>>, NoMemory>
+fn same_tables(alloc: Global, seats: u32, clauses: u64) -> Result<Vec<Option<Bindings>>, NoMemory>
     requires { clauses < 2 ^ 63 }
     ensures { IfOk result (λ tables. tables.items ≡ replicate seats (Some (up_to clauses))) }
 {
@@ -216,11 +212,11 @@ fn same_tables(
 }
 
 /// The table that binds each number from 1 to this one to itself.
-fn numbers_up_to(alloc: Global, last: u64) -> Result<OwnMap<u64>, NoMemory>
+fn numbers_up_to(alloc: Global, last: u64) -> Result<Bindings, NoMemory>
     requires { last < 2 ^ 63 }
     ensures { IfOk result (λ table. table ≡ up_to last) }
 {
-    let mut table = OwnMap::new(alloc);
+    let mut table = Bindings::new(alloc);
     for number in 0..last {
         table.insert(number + 1, number + 1)?;
     }
@@ -241,7 +237,7 @@ fn counts_up_to(alloc: Global, last: u64, count: u64) -> Result<NumberMap<u64>, 
 
 /// Binds the own number in the table, and sets the count of the joint number: both, or neither.
 fn bind_in(
-    table: &mut OwnMap<u64>,
+    table: &mut Bindings,
     holders: &mut NumberMap<u64>,
     own: u64,
     joint: u64,
@@ -261,7 +257,7 @@ fn bind_in(
 }
 
 /// Takes the own number out of the table, and one from the count of its joint number. Answers whether it was there.
-fn unbind_in(table: &mut OwnMap<u64>, holders: &mut NumberMap<u64>, own: u64) -> bool
+fn unbind_in(table: &mut Bindings, holders: &mut NumberMap<u64>, own: u64) -> bool
     requires { (joint : ℕ) → fin.get table.old own ≡ Some joint → 0 < count_at holders.old joint }
     ensures bound { result ≡ fin.contains_key table.old own }
     ensures table { table.new ≡ fin.remove table.old own }
@@ -277,7 +273,7 @@ fn unbind_in(table: &mut OwnMap<u64>, holders: &mut NumberMap<u64>, own: u64) ->
 }
 
 /// The table of a seat.
-fn table_in(seats: &[Option<OwnMap<u64>>], seat: u32) -> Option<&OwnMap<u64>>
+fn table_in(seats: &[Option<Bindings>], seat: u32) -> Option<&Bindings>
     ensures { option_copied result ≡ table_of seats.now seat }
 {
     match seats.get(seat as usize) {

@@ -1,0 +1,55 @@
+use Rattle.std.proofs.Common.{rules, ◌≡◌, ap, sym, ◌∙◌, subst, refl, ℕ, arith, Option, None, Some}
+use Rattle.std.specs.Ordering.{nat_cmp}
+use Rattle.std.specs.FinMap as fin
+use Rattle.std.specs.Option.{option_or}
+use Rattle.lj_book.specs.inner.Slots.{joined_map, AreApart}
+use Rattle.lj_book.proofs.Slots.{get_joined, insert_near, insert_far, apart-insert_near, apart-insert_far, either_way, ok_then}
+use Rattle.lj_book.proofs.bindings.Bindings.insert.Goals as goal
+
+first_none : (x y : Option ℕ) → option_or x y ≡ None → x ≡ None
+first_none None y e = refl
+first_none (Some v) y e = grind arith
+
+last_none : (x y : Option ℕ) → option_or x y ≡ None → y ≡ None
+last_none None y e = e
+last_none (Some v) y e = grind arith
+
+-- an own number that isn't bound is in neither map
+no_short : (short long m : fin.FinMap nat_cmp ℕ) (own : ℕ) → joined_map short long ≡ m → fin.get m own ≡ None → fin.get short own ≡ None
+no_short short long m own is e = first_none (fin.get short own) (fin.get long own) (sym (get_joined short long own) ∙ ap (λ n. fin.get n own) is ∙ e)
+
+no_long : (short long m : fin.FinMap nat_cmp ℕ) (own : ℕ) → joined_map short long ≡ m → fin.get m own ≡ None → fin.get long own ≡ None
+no_long short long m own is e = last_none (fin.get short own) (fin.get long own) (sym (get_joined short long own) ∙ ap (λ n. fin.get n own) is ∙ e)
+
+pub invariant_of-self : goal.invariant_of-self
+invariant_of-self c =
+    let short = c.self.inside.short in
+    let long = c.self.inside.long in
+    let absent = no_long short long c.args.self.now c.args.own c.self.view_is c.requires in
+    either_way c.insert.result _ _ _ c.insert.ensures.ok c.insert.ensures.err
+    (λ e. subst (λ m. AreApart m long) (sym e) (apart-insert_near short long c.args.own c.in-Ok.short c.self.invariant absent))
+    (λ e. subst (λ m. AreApart m long) (sym e) c.self.invariant)
+
+pub invariant_of-self-in-Err : goal.invariant_of-self-in-Err
+invariant_of-self-in-Err c =
+    let short = c.self.inside.short in
+    let long = c.self.inside.long in
+    let absent = no_short short long c.args.self.now c.args.own c.self.view_is c.requires in
+    either_way c.insert-in-Err.result _ _ _ c.insert-in-Err.ensures.ok c.insert-in-Err.ensures.err
+    (λ e. subst (AreApart short) (sym e) (apart-insert_far short long c.args.own c.args.joint c.self.invariant absent))
+    (λ e. subst (AreApart short) (sym e) c.self.invariant)
+
+pub returns-in-Ok-clause-ok : goal.returns-in-Ok-clause-ok
+returns-in-Ok-clause-ok c =
+    let same : c.in-Ok.short ≡ c.args.joint = search rules in
+    ok_then c.insert.result _ _ c.insert.ensures.ok (λ e. ap (λ m. joined_map m c.self.inside.long) e
+    ∙ insert_near c.self.inside.short c.self.inside.long c.args.own c.in-Ok.short
+    ∙ ap (λ m. fin.insert m c.args.own c.in-Ok.short) c.self.view_is
+    ∙ ap (λ (v : ℕ). fin.insert c.args.self.now c.args.own v) same)
+
+pub returns-in-Err-clause-ok : goal.returns-in-Err-clause-ok
+returns-in-Err-clause-ok c =
+    let absent = no_short c.self.inside.short c.self.inside.long c.args.self.now c.args.own c.self.view_is c.requires in
+    ok_then c.insert-in-Err.result _ _ c.insert-in-Err.ensures.ok (λ e. ap (joined_map c.self.inside.short) e
+    ∙ insert_far c.self.inside.short c.self.inside.long c.args.own c.args.joint absent
+    ∙ ap (λ m. fin.insert m c.args.own c.args.joint) c.self.view_is)

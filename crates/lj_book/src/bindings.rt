@@ -1,0 +1,98 @@
+//! The bindings of a seat.
+ghost use Rattle.std.specs.Prelude.{◌≡◌, OnOk, OnErr, IfOk, None};
+ghost use Rattle.std.specs.FinMap as fin;
+ghost use Rattle.lj_book.specs.inner.Slots.{AreApart};
+
+use crate::dying::rising;
+use crate::own_map::OwnMap;
+use crate::tree_map::TreeMap;
+use lj_clause::NoMemory;
+use std::alloc::Global;
+use std::marker::Model;
+
+/// The own numbers of a seat with the joint numbers that they are bound to, seen as a finite map. A joint number below
+/// 2^32 takes four bytes, and greater ones stand in a tree.
+///
+/// A call takes constant time for an own number that has a slot, amortized, and O(log n) time for others.
+#[derive(Drop)]
+pub(crate) struct Bindings {
+    short: OwnMap<u32>,
+    long: TreeMap<u64>,
+}
+
+impl Model for Bindings {
+    ghost use Rattle.std.specs.Prelude.{ℕ};
+    ghost use Rattle.std.specs.Ordering.{nat_cmp};
+    ghost use Rattle.std.specs.Coded.{coded_ℕ};
+    ghost use Rattle.std.specs.FinMap as fin;
+    ghost use Rattle.lj_book.specs.inner.Slots.{joined_map, AreApart};
+
+    ghost Value = { fin.FinMap nat_cmp ℕ };
+
+    ghost coded = { fin.code coded_ℕ coded_ℕ };
+
+    ghost view = { λ b. joined_map b.short b.long };
+
+    ghost invariant = { λ b. AreApart b.short b.long };
+}
+
+impl Bindings {
+    /// No bindings.
+    pub(crate) fn new(alloc: Global) -> Self
+        ensures { result ≡ fin.empty }
+    {
+        Bindings {
+            short: OwnMap::new(alloc),
+            long: TreeMap::new(alloc),
+        }
+    }
+
+    /// The joint number that the own number is bound to.
+    pub(crate) fn get(&self, own: u64) -> Option<u64>
+        ensures { result ≡ fin.get self.now own }
+    {
+        match self.short.get(own) {
+            Some(joint) => Some(u64::from(*joint)),
+            None => self.long.get(own).copied(),
+        }
+    }
+
+    /// Binds an own number that isn't bound.
+    ///
+    /// # Errors
+    /// [`NoMemory`] where a growth was refused.
+    pub(crate) fn insert(&mut self, own: u64, joint: u64) -> Result<(), NoMemory>
+        requires { fin.get self.old own ≡ None }
+        ensures ok { OnOk result (self.new ≡ fin.insert self.old own joint) }
+        ensures err { OnErr result (self.new ≡ self.old) }
+    {
+        match u32::try_from(joint) {
+            Ok(short) => self.short.insert(own, short),
+            Err(_) => self.long.insert(own, joint),
+        }
+    }
+
+    /// The own numbers, rising. Takes O(n log n) time.
+    ///
+    /// # Errors
+    /// [`NoMemory`] where a growth was refused.
+    pub(crate) fn keys(&self, alloc: Global) -> Result<Vec<u64>, NoMemory>
+        ensures { IfOk result (λ keys. keys.items ≡ fin.keys self.now) }
+    {
+        let mut keys = self.short.keys(alloc)?;
+        let long = self.long.keys(alloc)?;
+        keys.extend_from_slice(&long)?;
+        Ok(rising(keys))
+    }
+
+    /// Gives the own number up. Answers the joint number that it was bound to.
+    pub(crate) fn remove(&mut self, own: u64) -> Option<u64>
+        ensures before { result ≡ fin.get self.old own }
+        ensures removed { self.new ≡ fin.remove self.old own }
+    {
+        match self.short.remove(own) {
+            Some(joint) => Some(u64::from(joint)),
+            None => self.long.remove(own),
+        }
+    }
+}
