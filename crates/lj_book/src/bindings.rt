@@ -48,6 +48,7 @@ impl Bindings {
     }
 
     /// The joint number that the own number is bound to.
+    #[inline(always)]
     pub(crate) fn get(&self, own: u64) -> Option<u64>
         ensures { result ≡ fin.get self.now own }
     {
