@@ -93,17 +93,15 @@ fn assert_plays(
     Ok(())
 }
 
+fn assert_example(rt: &impl Abort, alloc: Global, example: &Example) -> Result<(), Fail> {
+    let mut book = opened(rt, alloc, example.clauses, example.seats, example.max_steps)?;
+    assert_plays(rt, alloc, &mut book, example)
+}
+
 #[test]
 fn played(rt: HostRuntime) -> Result<(), Fail> {
     for example in events::EXAMPLES.iter().chain(&candidates::EXAMPLES) {
-        let Example {
-            clauses,
-            seats,
-            max_steps,
-            ..
-        } = *example;
-        let mut book = opened(&rt, rt.alloc(), clauses, seats, max_steps)?;
-        assert_plays(&rt, rt.alloc(), &mut book, example)?;
+        assert_example(&rt, rt.alloc(), example)?;
     }
     Ok(())
 }

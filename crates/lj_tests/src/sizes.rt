@@ -1,5 +1,5 @@
 //! Inputs above the sizes at which a body that is careful of memory might give up, with memory at hand.
-use crate::tables::formula_of;
+use crate::tables::{formula_of, next_line};
 use lj_book::Book;
 use lj_hint::{Marks, Tested};
 use lj_run::{MemoryFiles, program};
@@ -74,30 +74,45 @@ fn enter(rt: &impl Abort, book: &mut Book, line: Line, marks: &mut Marks) -> Res
     Ok(())
 }
 
-/// The lines of a proof, in one piece, are entered one after the other, and written as they were read.
-#[test]
-fn a_long_proof_is_read_entered_and_written(rt: HostRuntime) -> Result<(), Fail> {
-    let alloc = rt.alloc();
-    let formula = formula_of(alloc, &formula_text(alloc, 1)?)?;
-    assert!(rt; formula.len() == 14_001);
-    let mut book = Book::open(alloc, formula, 1, 9_999)?;
-    let text = proof_text(alloc)?;
+/// Enters the lines of a proof, in one piece, one after the other.
+fn enter_all(rt: &impl Abort, alloc: Global, book: &mut Book, text: &str) -> Result<(), Fail> {
     let mut reader = LineReader::new(alloc, lj_clause::MAX_VARIABLE);
     reader.feed(text.as_bytes())?;
     let mut marks = Marks::new(alloc);
     for _ in 0..9_999 {
-        match reader.next()? {
-            Some(line) => enter(&rt, &mut book, line, &mut marks)?,
+        match next_line(&mut reader)? {
+            Some(line) => enter(rt, book, line, &mut marks)?,
             None => break,
         }
     }
-    assert!(rt; book.history_len() == 1_502 && book.verdict() == Some(1_501));
-    assert!(rt; book.verified()?.is_some());
+    Ok(())
+}
+
+/// Asserts that the book's steps are written as this text.
+fn assert_written(rt: &impl Abort, alloc: Global, book: Book, text: &str) -> Result<(), Fail> {
     let mut sink = MemorySink::new(alloc);
     assert!(rt; sink.put(b"")? == 0);
     write_proof(&mut sink, 14_001, &book.into_steps())?;
     assert!(rt; sink.bytes() == text.as_bytes());
     Ok(())
+}
+
+/// A book over the chain.
+fn opened(rt: &impl Abort, alloc: Global) -> Result<Book, Fail> {
+    let formula = formula_of(alloc, &formula_text(alloc, 1)?)?;
+    assert!(rt; formula.len() == 14_001);
+    Ok(Book::open(alloc, formula, 1, 9_999)?)
+}
+
+/// The lines of a proof are entered one after the other, and written as they were read.
+#[test]
+fn a_long_proof_is_read_entered_and_written(rt: HostRuntime) -> Result<(), Fail> {
+    let text = proof_text(rt.alloc())?;
+    let mut book = opened(&rt, rt.alloc())?;
+    enter_all(&rt, rt.alloc(), &mut book, text.as_str())?;
+    assert!(rt; book.history_len() == 1_502 && book.verdict() == Some(1_501));
+    assert!(rt; book.verified()?.is_some());
+    assert_written(&rt, rt.alloc(), book, text.as_str())
 }
 
 /// A stream of a million lines that say nothing, three imports of one clause and the long proof, on the chain whose

@@ -1,7 +1,9 @@
 //! What tables of examples are made of.
 use lj_book::Book;
 use lj_clause::{Clause, Formula, Lemma, Lit, MAX_VARIABLE, NoMemory};
-use lj_text::{Addition, CnfReader, Group, Groups, Numbers, Step};
+use lj_text::{
+    Addition, CnfReader, Group, Groups, Line as ProofLine, LineFault, LineReader, Numbers, Step,
+};
 use std::alloc::Global;
 use std::process::Abort;
 use std::test::Fail;
@@ -160,4 +162,24 @@ pub fn assert_numbers(rt: &impl Abort, numbers: &Numbers, wanted: &[u64]) {
     for (number, listed) in numbers.iter().zip(wanted) {
         assert!(rt; number == *listed);
     }
+}
+
+/// The next line that the reader has.
+pub fn next_line(reader: &mut LineReader) -> Result<Option<ProofLine>, LineFault> {
+    reader.next()
+}
+
+/// The additions and deletions that lines spell, as steps.
+pub fn steps_of(alloc: Global, lines: &str) -> Result<Vec<Step>, Fail> {
+    let mut reader = LineReader::new(alloc, MAX_VARIABLE);
+    reader.feed(lines.as_bytes())?;
+    let mut steps = Vec::new(alloc);
+    for _ in 0..lines.len() {
+        match next_line(&mut reader)? {
+            Some(ProofLine::Add(addition)) => steps.push(Step::Add(addition))?,
+            Some(ProofLine::Delete(numbers)) => steps.push(Step::Delete { numbers })?,
+            _ => break,
+        }
+    }
+    Ok(steps)
 }

@@ -1,25 +1,8 @@
 //! Worked examples of trimming. Each outcome is computed by hand.
-use crate::tables::{FOUR_TEXT, formula_of};
-use lj_clause::MAX_VARIABLE;
-use lj_text::{Line, LineReader, MemorySink, Step, write_proof};
+use crate::tables::{FOUR_TEXT, formula_of, steps_of};
+use lj_text::{MemorySink, write_proof};
 use lj_trim::{TrimRefusal, trim};
-use std::alloc::Global;
 use std::test::Fail;
-
-/// The additions and deletions that lines spell, as steps.
-fn steps_of(alloc: Global, lines: &str) -> Result<Vec<Step>, Fail> {
-    let mut reader = LineReader::new(alloc, MAX_VARIABLE);
-    reader.feed(lines.as_bytes())?;
-    let mut steps = Vec::new(alloc);
-    for _ in 0..lines.len() {
-        match reader.next()? {
-            Some(Line::Add(addition)) => steps.push(Step::Add(addition))?,
-            Some(Line::Delete(numbers)) => steps.push(Step::Delete { numbers })?,
-            _ => break,
-        }
-    }
-    Ok(steps)
-}
 
 #[test]
 fn only_what_is_needed_stays(rt: HostRuntime) -> Result<(), Fail> {

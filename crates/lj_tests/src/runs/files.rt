@@ -61,7 +61,10 @@ fn the_machine_holds_files(rt: HostRuntime) -> Result<(), Fail> {
     let mut files = MachineFiles(&rt);
     for text in ["345", "", "6"] {
         assert!(rt; written(&mut files, path, text.as_bytes()));
-        assert_holds(&rt, alloc, &mut files, path, text.as_bytes())?;
+        assert_eq!(rt;
+            opened(alloc, &mut files, path).ok_or("out")?.as_slice(),
+            text.as_bytes()
+        );
     }
     fs::remove_file(&rt, path)?;
     assert!(rt; files.open(path).is_err());

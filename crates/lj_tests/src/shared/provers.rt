@@ -1,12 +1,11 @@
 //! Provers on threads of their own, a receipt that is stale, and a book that is closed with a seat missing.
 ghost use Rattle.std.specs.Prelude.{◌≡◌};
 
-use crate::shared::assert_confirmed;
 use crate::tables::{self, BINARY, clause, formula};
 use lj_book::Refusal;
 use lj_clause::{Formula, NoMemory};
 use lj_hint::{Marks, Receipt, Tested};
-use lj_share::{Opening, Seat, SeatsOut, Shared, Told};
+use lj_share::{Opening, Seat, SeatsOut, Shared};
 use lj_text::{Line, Numbers};
 use std::alloc::Global;
 use std::marker::Brand;
@@ -15,12 +14,6 @@ use std::sync::Wait;
 use std::sync::ledger::Blank;
 use std::test::Fail;
 use std::thread::{Threads, join};
-
-/// A seat, and the token of its entry.
-type Answered<L> = (Seat<L>, Told);
-
-/// The tokens of each of three seats.
-type Tokens = ([Told; 1], [Told; 1], Vec<Told>);
 
 fn addition(alloc: Global, number: u64, lemma: &[i32], hints: &[u64]) -> Result<Line, NoMemory> {
     let listed = tables::Line(number, lemma, hints, &[]);
@@ -162,38 +155,15 @@ fn refute<L: Opening + Send + Sync, R: Threads + Wait + Abort + Sync>(
     requires limit { L.max_steps ≡ 9 }
 {
     let (shared, mut seats) = Shared::<L>::open(alloc, blank, formula, 3, 9)?;
-    let told = submit_all(rt, alloc, &shared, &mut seats)?;
-    assert_refuted(rt, shared, seats, told)
-}
-
-/// The lines of all three seats, the first two on threads.
-fn submit_all<L: Opening + Send + Sync, R: Threads + Wait + Abort + Sync>(
-    rt: &R,
-    alloc: Global,
-    shared: &Shared<L>,
-    seats: &mut Vec<Seat<L>>,
-) -> Result<Tokens, Fail> {
-    let (Some(mut third), Some(second), Some(first)) = (seats.pop(), seats.pop(), seats.pop())
-    else {
-        panic!(rt; "no seat");
+    let Some(mut third) = seats.pop() else {
+        panic!(rt; "no third seat");
     };
-    let ((first, one), (second, two)) = submit_both(rt, alloc, shared, first, second)?;
-    let of_third = submit_three(rt, alloc, shared, &mut third)?;
-    assert!(rt; first.count() == 1 && second.count() == 1 && third.count() == 3);
-    seats.push(third)?;
-    seats.push(first)?;
-    seats.push(second)?;
-    Ok(([one], [two], of_third))
-}
-
-/// The two lines by which the provers find 2 and -2, each on a thread.
-fn submit_both<L: Opening + Send + Sync, R: Threads + Wait + Sync>(
-    rt: &R,
-    alloc: Global,
-    shared: &Shared<L>,
-    mut first: Seat<L>,
-    mut second: Seat<L>,
-) -> Result<(Answered<L>, Answered<L>), Fail> {
+    let Some(mut second) = seats.pop() else {
+        panic!(rt; "no second seat");
+    };
+    let Some(mut first) = seats.pop() else {
+        panic!(rt; "no first seat");
+    };
     let line = addition(alloc, 5, &[2], &[1, 2])?;
     let other = addition(alloc, 5, &[-2], &[3, 4])?;
     let (one, two) = join(
@@ -201,45 +171,28 @@ fn submit_both<L: Opening + Send + Sync, R: Threads + Wait + Sync>(
         || shared.submit(rt, &mut first, &line),
         || shared.submit(rt, &mut second, &other),
     );
-    Ok(((first, one?), (second, two?)))
-}
-
-/// The three lines of the seat that puts together what they found.
-fn submit_three<L: Opening, R: Wait + Abort>(
-    rt: &R,
-    alloc: Global,
-    shared: &Shared<L>,
-    third: &mut Seat<L>,
-) -> Result<Vec<Told>, Fail> {
-    let mut tokens = Vec::new(alloc);
-    for at in 0..3 {
-        assert!(rt; shared.verdict_now().is_none());
-        let line = match at {
-            0 => import(alloc, 7, &[2])?,
-            1 => import(alloc, 8, &[-2])?,
-            _ => addition(alloc, 9, &[], &[7, 8])?,
-        };
-        tokens.push(shared.submit(rt, third, &line)?)?;
-    }
+    let mut of_first = Vec::new(alloc);
+    of_first.push(one?)?;
+    let mut of_second = Vec::new(alloc);
+    of_second.push(two?)?;
+    let mut of_third = Vec::new(alloc);
+    of_third.push(shared.submit(rt, &mut third, &import(alloc, 7, &[2])?)?)?;
+    of_third.push(shared.submit(rt, &mut third, &import(alloc, 8, &[-2])?)?)?;
+    assert!(rt; shared.verdict_now().is_none());
+    of_third.push(shared.submit(rt, &mut third, &addition(alloc, 9, &[], &[7, 8])?)?)?;
     assert!(rt; shared.verdict_now() == Some(4));
-    Ok(tokens)
-}
-
-/// Closes the book with the three seats, and asserts what it holds.
-fn assert_refuted<L: Opening>(
-    rt: &impl Abort,
-    shared: Shared<L>,
-    seats: Vec<Seat<L>>,
-    told: Tokens,
-) -> Result<(), Fail>
-    requires { L.parts ≡ L.seats }
-{
-    let (of_first, of_second, mut of_third) = told;
+    assert!(rt; first.count() == 1 && second.count() == 1 && third.count() == 3);
+    seats.push(third)?;
+    seats.push(first)?;
+    seats.push(second)?;
     let Ok(closed) = shared.close(seats) else {
         panic!(rt; "not closed");
     };
     assert!(rt; closed.book().history_len() == 5);
     assert!(rt; closed.confirm(0, &of_first) && closed.confirm(1, &of_second));
-    assert_confirmed(rt, &closed, 2, &mut of_third);
+    assert!(rt; closed.confirm(2, &of_third));
+    assert!(rt; !closed.confirm(2, &of_third[..2]));
+    of_third.swap(0, 1);
+    assert!(rt; !closed.confirm(2, &of_third));
     Ok(())
 }

@@ -2,12 +2,10 @@
 ghost use Rattle.std.specs.Prelude.{◌≡◌, [], false};
 
 use crate::fakes::FailingSink;
-use crate::tables::BINARY_TEXT;
-use lj_clause::MAX_VARIABLE;
+use crate::tables::{BINARY_TEXT, steps_of};
 use lj_run::{Options, ProofEnd, ProofFault, run_in_turn};
 use lj_text::{
-    Line, LineReader, MemorySink, MemorySource, ProofWriter, Sink, SinkFault, Step, WriteFault,
-    write_proof,
+    MemorySink, MemorySource, ProofWriter, Sink, SinkFault, Step, WriteFault, write_proof,
 };
 use std::alloc::Global;
 use std::process::Abort;
@@ -16,21 +14,6 @@ use std::test::Fail;
 
 /// A proof of the four binary clauses, of 24 bytes.
 const TWO_STEPS: &str = "5 2 0 1 2 0\n6 0 5 3 4 0\n";
-
-/// The additions and deletions that lines spell, as steps.
-fn steps_of(alloc: Global, lines: &str) -> Result<Vec<Step>, Fail> {
-    let mut reader = LineReader::new(alloc, MAX_VARIABLE);
-    reader.feed(lines.as_bytes())?;
-    let mut steps = Vec::new(alloc);
-    for _ in 0..lines.len() {
-        match reader.next()? {
-            Some(Line::Add(addition)) => steps.push(Step::Add(addition))?,
-            Some(Line::Delete(numbers)) => steps.push(Step::Delete { numbers })?,
-            _ => break,
-        }
-    }
-    Ok(steps)
-}
 
 #[test]
 fn steps_are_written_as_lines(rt: HostRuntime) -> Result<(), Fail> {
