@@ -92,13 +92,16 @@ fn command<'a>(alloc: Global) -> Result<Command<'a>, AllocError>
         .arg(max_steps)
 }
 
+/// The version that `--version` tells.
+const VERSION: &str = "0.1.0";
+
 /// The program without its arguments.
 fn without_arguments<'a>(alloc: Global) -> Command<'a>
     ensures { app_of result ≡ bare_app }
 {
     Command::new(alloc, "lratjoin")
         .about("Checks LRAT proofs that a CNF formula can't be satisfied")
-        .version("0.1.0")
+        .version(VERSION)
         .no_binary_name(true)
 }
 
