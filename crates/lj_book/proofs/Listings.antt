@@ -1,6 +1,9 @@
 -- Lists in maps, changed where they stand.
 use Rattle.std.proofs.Common.{◌≡◌, ap, refl, sym, ◌∙◌, subst, ℕ, Bool, true, false, ◌≤◌, ◌<◌, length}
-use Rattle.std.specs.Prelude.{List, [], ◌∷◌, ◌++◌, Option, Some, None, is_some, Result, Ok, Err, IfOk, OnErr, slice_index_or, slice_set}
+use Rattle.std.specs.Prelude.{List, [], ◌∷◌, ◌++◌, ◌&&◌, filter, Option, Some, None, is_some, Result, Ok, Err, IfOk, OnErr, slice_index_or, slice_set}
+use Rattle.std.proofs.lemmas.List.Kept.{IsStrictlySortedBy-filter}
+use Rattle.std.specs.Cmp.{second_so}
+use Rattle.lj_book.proofs.HistoryLaws.{among-filter}
 use Rattle.std.specs.Option.{option_or}
 use Rattle.std.proofs.lemmas.Bool.{false≢true}
 use Rattle.std.specs.List.Sorted.{IsStrictlySortedBy}
@@ -19,6 +22,19 @@ absent m k h = none_is (fin.get m k) h
     none_is : (o : Option (List ℕ)) → is_some o ≡ false → o ≡ None
     none_is None h = refl
     none_is (Some ns) h = absurd (false≢true (sym h))
+
+-- ---- a list that has lost the numbers which fail a test
+
+pub filter_rises : (test : ℕ → Bool) (before after : List ℕ) → after ≡ filter test before → IsStrictlySortedBy nat_cmp before → IsStrictlySortedBy nat_cmp after
+filter_rises test before after is h = subst (IsStrictlySortedBy nat_cmp) (sym is) (IsStrictlySortedBy-filter nat_cmp test before h)
+
+pub filter_keeps : (test : ℕ → Bool) (before after : List ℕ) → after ≡ filter test before → (n : ℕ) → test n ≡ true → is_among after n ≡ is_among before n
+filter_keeps test before after is n passes =
+    ap (λ ns. is_among ns n) is ∙ among-filter test before n ∙ ap (λ b. b && is_among before n) passes
+
+pub filter_loses : (test : ℕ → Bool) (before after : List ℕ) → after ≡ filter test before → (n : ℕ) → is_among after n ≡ true → is_among before n ≡ true
+filter_loses test before after is n there =
+    second_so (test n) (is_among before n) (sym (among-filter test before n) ∙ ap (λ ns. is_among ns n) (sym is) ∙ there)
 
 -- ---- slots
 

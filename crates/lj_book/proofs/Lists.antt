@@ -31,6 +31,20 @@ filter-push test (y ∷ xs) x =
       | false ↦ filter-push test xs x
     ]
 
+-- one more element that passes, and one that doesn't
+pub one_kept : {X : Type 0} (test : X → Bool) (xs : List X) (i : ℕ) (d : X) → i < length xs → test (get_or xs i d) ≡ true → filter test (take (i + 1) xs) ≡ filter test (take i xs) ++ get_or xs i d ∷ []
+one_kept test xs i d lt passes =
+    ap (filter test) (take_more xs i d lt)
+    ∙ filter-push test (take i xs) (get_or xs i d)
+    ∙ ap (λ b. filter test (take i xs) ++ cond b (get_or xs i d ∷ []) []) passes
+
+pub one_left : {X : Type 0} (test : X → Bool) (xs : List X) (i : ℕ) (d : X) → i < length xs → test (get_or xs i d) ≡ false → filter test (take (i + 1) xs) ≡ filter test (take i xs)
+one_left test xs i d lt fails =
+    ap (filter test) (take_more xs i d lt)
+    ∙ filter-push test (take i xs) (get_or xs i d)
+    ∙ ap (λ b. filter test (take i xs) ++ cond b (get_or xs i d ∷ []) []) fails
+    ∙ append-nil (filter test (take i xs))
+
 pub none_more : {X : Type 0} (test : X → Bool) (xs : List X) (i : ℕ) (d : X) → i < length xs → filter test (take i xs) ≡ [] → test (get_or xs i d) ≡ false → filter test (take (i + 1) xs) ≡ []
 none_more test xs i d lt none fails =
     ap (filter test) (take_more xs i d lt)

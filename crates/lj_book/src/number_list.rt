@@ -1,22 +1,37 @@
 //! Lists of numbers that take four bytes each.
-ghost use Rattle.std.specs.Prelude.{◌≡◌, ℕ, [], ◌∷◌, ◌++◌, OnOk, OnErr, IfOk, true, length, filter, slice_get};
+ghost use Rattle.std.specs.Prelude.{◌≡◌, ◌≤◌, ℕ, [], ◌∷◌, ◌++◌, OnOk, OnErr, IfOk, true, length, take, filter, slice_get};
 ghost use Rattle.std.specs.List.Sorted.{IsStrictlySortedBy};
 ghost use Rattle.std.specs.Ordering.{nat_cmp};
 ghost use Rattle.std.specs.FinMap as fin;
 ghost use Rattle.lj_book.specs.Tables.{is_among};
 ghost use Rattle.lj_book.specs.Lookup.{is_clause};
+ghost use Rattle.lj_book.specs.inner.NumberLists.{listed_in};
 
 use crate::number_map::NumberMap;
 use lj_clause::{Clause, NoMemory};
 use std::alloc::Global;
 use std::marker::Model;
 
-/// Numbers of clauses, some of which may be dead. Each takes four bytes.
+/// For how many numbers a list has room that takes memory of its own.
+const ROOM: usize = 6;
+
+/// Numbers of clauses, some of which may be dead. Each takes four bytes. Up to three stand in the list itself, and take
+/// no memory of their own.
 #[derive(Drop)]
 pub(crate) struct NumberList {
-    numbers: Vec<u32>,
-    /// How many of their clauses have died since the dead ones were last taken out.
-    dead: u32,
+    alloc: Global,
+    form: Form,
+}
+
+/// Numbers in the list itself, or in memory of their own.
+#[derive(Drop)]
+enum Form {
+    Nothing,
+    One([u32; 1]),
+    Two([u32; 2]),
+    Three([u32; 3]),
+    /// So many of their clauses have died since the dead ones were last taken out.
+    Many { dead: u32, numbers: Box<Vec<u32>> },
 }
 
 impl Model for NumberList {
@@ -27,7 +42,9 @@ impl Model for NumberList {
 
     ghost coded = { coded_list coded_ℕ };
 
-    ghost view = { λ n. n.numbers.items };
+    ghost use Rattle.lj_book.specs.inner.NumberLists.{listed_in};
+
+    ghost view = { λ n. listed_in n.form };
 }
 
 impl NumberList {
@@ -36,8 +53,8 @@ impl NumberList {
         ensures { result ≡ [] }
     {
         NumberList {
-            numbers: Vec::new(alloc),
-            dead: 0,
+            alloc,
+            form: Form::Nothing,
         }
     }
 
@@ -45,7 +62,21 @@ impl NumberList {
     pub(crate) fn len(&self) -> usize
         ensures { result ≡ length self.now }
     {
-        self.numbers.len()
+        self.as_slice().len()
+    }
+
+    /// The numbers, in order.
+    #[inline]
+    fn as_slice(&self) -> &[u32]
+        ensures { result.now ≡ self.now }
+    {
+        match &self.form {
+            Form::Nothing => &[],
+            Form::One(numbers) => numbers,
+            Form::Two(numbers) => numbers,
+            Form::Three(numbers) => numbers,
+            Form::Many { dead: _, numbers } => numbers,
+        }
     }
 
     /// Puts a number at the end.
@@ -57,22 +88,52 @@ impl NumberList {
         ensures ok { OnOk result (self.new ≡ self.old ++ number ∷ []) }
         ensures err { OnErr result (self.new ≡ self.old) }
     {
-        self.numbers.push(number)?;
+        if let Form::Many { dead: _, numbers } = &mut self.form {
+            numbers.push(number)?;
+            return Ok(());
+        }
+        self.form = with_few(self.alloc, self.as_slice(), number)?;
         Ok(())
     }
 
-    /// Counts the death of one of the clauses. Once more than half of them have died, takes the numbers out that have no
-    /// clause any more, so that a death takes constant time, amortized.
+    /// Counts the death of one of the clauses. Where the numbers are few, or more than half of their clauses have died, takes
+    /// the numbers out that have no clause any more, so that a death takes constant time, amortized.
     pub(crate) fn one_died(&mut self, clauses: &NumberMap<Clause>)
         ensures rising { IsStrictlySortedBy nat_cmp self.old → IsStrictlySortedBy nat_cmp self.new }
         ensures living { (n : ℕ) → fin.contains_key clauses.now n ≡ true
             → is_among self.new n ≡ is_among self.old n }
         ensures fewer { (n : ℕ) → is_among self.new n ≡ true → is_among self.old n ≡ true }
     {
-        self.dead = self.dead.saturating_add(1);
-        if u64::from(self.dead) > self.numbers.len() as u64 / 2 {
-            keep_living(&mut self.numbers, clauses);
-            self.dead = 0;
+        if self.is_due() {
+            self.sweep(clauses);
+        }
+    }
+
+    /// Counts a death. Answers whether the dead are to be taken out, and counts none from then on where they are.
+    #[inline]
+    fn is_due(&mut self) -> bool
+        ensures { self.new ≡ self.old }
+    {
+        if let Form::Many { dead, numbers } = &mut self.form {
+            *dead = dead.saturating_add(1);
+            if u64::from(*dead) <= numbers.len() as u64 / 2 {
+                return false;
+            }
+            *dead = 0;
+        }
+        true
+    }
+
+    /// Takes the numbers out that have no clause.
+    fn sweep(&mut self, clauses: &NumberMap<Clause>)
+        ensures { self.new ≡ filter (λ n. fin.contains_key clauses.now n) self.old }
+    {
+        match &mut self.form {
+            Form::Nothing => {}
+            Form::One(numbers) => self.form = few_living(numbers, clauses),
+            Form::Two(numbers) => self.form = few_living(numbers, clauses),
+            Form::Three(numbers) => self.form = few_living(numbers, clauses),
+            Form::Many { dead: _, numbers } => keep_living(numbers, clauses),
         }
     }
 
@@ -89,7 +150,7 @@ impl NumberList {
             (λ v. v.items ≡ filter (λ n. fin.contains_key clauses.now n) self.now) }
     {
         let mut living = Vec::new(alloc);
-        for number in &self.numbers {
+        for number in self.as_slice() {
             let number = u64::from(*number);
             if clauses.contains_key(number) {
                 living.push(number)?;
@@ -103,7 +164,7 @@ impl NumberList {
         ensures { result
             ≡ slice_get (filter (λ n. is_clause wanted.now (fin.get clauses.now n)) self.now) 0 }
     {
-        for number in &self.numbers {
+        for number in self.as_slice() {
             let number = u64::from(*number);
             if let Some(clause) = clauses.get(number) {
                 if clause.same(wanted) {
@@ -120,4 +181,65 @@ fn keep_living(numbers: &mut Vec<u32>, clauses: &NumberMap<Clause>)
     ensures { numbers.new.items ≡ filter (λ n. fin.contains_key clauses.now n) numbers.old.items }
 {
     numbers.retain(|n| clauses.contains_key(u64::from(*n)));
+}
+
+/// These numbers and one more.
+///
+/// # Errors
+/// [`NoMemory`] where a growth was refused.
+#[inline]
+fn with_few(alloc: Global, few: &[u32], number: u32) -> Result<Form, NoMemory>
+    ensures { IfOk result (λ form. listed_in form ≡ few.now ++ number ∷ []) }
+{
+    Ok(match few {
+        [] => Form::One([number]),
+        [a] => Form::Two([*a, number]),
+        [a, b] => Form::Three([*a, *b, number]),
+        _ => many(alloc, few, number)?,
+    })
+}
+
+/// The same, in memory of their own.
+///
+/// # Errors
+/// [`NoMemory`] where a growth was refused.
+fn many(alloc: Global, few: &[u32], number: u32) -> Result<Form, NoMemory>
+    ensures { IfOk result (λ form. listed_in form ≡ few.now ++ number ∷ []) }
+{
+    let mut numbers = Vec::with_capacity(alloc, ROOM)?;
+    numbers.extend_from_slice(few)?;
+    numbers.push(number)?;
+    Ok(Form::Many {
+        dead: 0,
+        numbers: Box::new(alloc, numbers)?,
+    })
+}
+
+/// Those of a few numbers that have a clause.
+fn few_living(few: &[u32], clauses: &NumberMap<Clause>) -> Form
+    requires { length few.now ≤ 3 }
+    ensures { listed_in result ≡ filter (λ n. fin.contains_key clauses.now n) few.now }
+{
+    let mut numbers = [0; 3];
+    let mut count = 0;
+    for number in few {
+        if clauses.contains_key(u64::from(*number)) {
+            numbers[count] = *number;
+            count += 1;
+        }
+    }
+    form_of(&numbers[..count])
+}
+
+/// A few numbers.
+fn form_of(few: &[u32]) -> Form
+    requires { length few.now ≤ 3 }
+    ensures { listed_in result ≡ few.now }
+{
+    match few {
+        [a] => Form::One([*a]),
+        [a, b] => Form::Two([*a, *b]),
+        [a, b, c] => Form::Three([*a, *b, *c]),
+        _ => Form::Nothing,
+    }
 }

@@ -12,19 +12,19 @@ returns-then-same c =
     let p = c.args.clauses.now in
     let w = c.args.wanted.now in
     let test = λ (n : ℕ). is_clause w (fin.get p n) in
-    let xs = c.deref-number-items.result.now in
+    let xs = c.as_slice-number-items.result.now in
     let passes : test c.from-number.result ≡ _ =
     ap (is_clause w) (sym c.get.ensures ∙ ap option_copied c.in-Some.is) ∙ sym (same_test c.same.result w c.in-Some.clause.now c.same.ensures) ∙ c.if-same.true in
     ap Some c.from-number.ensures
     ∙ sym (first_one test xs c.loop-number.number-index 0 c.loop-number-test.true c.loop-number.invariant (ap test (sym c.from-number.ensures) ∙ passes))
-    ∙ ap (λ (ns : List ℕ). slice_get (filter test ns) 0) (c.deref-number-items.ensures.value ∙ c.self.view_is)
+    ∙ ap (λ (ns : List ℕ). slice_get (filter test ns) 0) c.as_slice-number-items.ensures
 
 pub loop-number-preserved : goal.loop-number-preserved
 loop-number-preserved c =
     let p = c.args.clauses.now in
     let w = c.args.wanted.now in
     let test = λ (n : ℕ). is_clause w (fin.get p n) in
-    let xs = c.deref-number-items.result.now in
+    let xs = c.as_slice-number-items.result.now in
     elim c.match-get.branch [
       | in-Some+else-same v ↦
           none_more test xs c.loop-number.number-index 0 c.loop-number-test.true c.loop-number.invariant
