@@ -1,5 +1,5 @@
 use Rattle.std.proofs.Common.{ap, ◌∙◌, ℕ}
-use Rattle.std.specs.Prelude.{List, filter}
+use Rattle.std.specs.Prelude.{filter}
 use Rattle.std.specs.FinMap as fin
 use Rattle.lj_book.proofs.Listings.{filter_rises, filter_keeps, filter_loses}
 use Rattle.lj_book.proofs.number_list.NumberList.one_died.Goals as goal
