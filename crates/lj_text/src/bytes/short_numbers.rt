@@ -1,11 +1,21 @@
 //! Numbers of few digits, without a test of the bytes' end for each.
-ghost use Rattle.std.specs.Prelude.{◌≡◌, ◌<◌, ◌∷◌, length, IfSome, Some, pos, ℕ, List};
+ghost use Rattle.std.specs.Prelude.{◌≡◌, ◌-◌, ◌<◌, ◌≤◌, ◌∷◌, length, true, IfSome, Some, pos, ℕ, List};
+ghost use Rattle.std.specs.Char.{is_ascii_digit};
 ghost use Rattle.lj_text.specs.Bytes.{number_of, tokens_of};
 ghost use Rattle.lj_text.specs.inner.LineReading.{words_of};
 ghost use Rattle.lj_text.specs.inner.ShortNumbers.{IsShortNumber};
 
 /// How many bytes a short number takes at most, with the space that ends it.
 const SHORT: usize = 9;
+
+/// How far a byte is behind `0`, which is at most 9 of a digit alone.
+#[inline(always)]
+fn digit_of(byte: u8) -> u32
+    ensures digit { result ≤ 9 → is_ascii_digit byte ≡ true }
+    ensures value { result ≤ 9 → result ≡ byte - 48 }
+{
+    u32::from(byte).wrapping_sub(48)
+}
 
 /// The number at the front that has at most eight digits and ends at a space, and what follows that: none where
 /// anything else stands there, or fewer bytes than such a number can take.
@@ -21,14 +31,15 @@ fn short_digits(bytes: &[u8]) -> Option<(u32, &[u8])>
     };
     let mut value = 0u32;
     for (i, byte) in front.iter().enumerate() {
-        if !byte.is_ascii_digit() {
+        let digit = digit_of(*byte);
+        if digit > 9 {
             if *byte != b' ' || i == 0 {
                 return None;
             }
             let (_, after) = bytes.split_at(i + 1);
             return Some((value, after));
         }
-        value = 10 * value + u32::from(*byte - b'0');
+        value = 10 * value + digit;
     }
     None
 }
@@ -42,14 +53,15 @@ fn last_digits(bytes: &[u8]) -> Option<(u32, &[u8])>
 {
     let mut value = 0u32;
     for (i, byte) in bytes.iter().enumerate() {
-        if !byte.is_ascii_digit() {
+        let digit = digit_of(*byte);
+        if digit > 9 {
             if *byte != b' ' || i == 0 {
                 return None;
             }
             let (_, after) = bytes.split_at(i + 1);
             return Some((value, after));
         }
-        value = 10 * value + u32::from(*byte - b'0');
+        value = 10 * value + digit;
     }
     let (_, after) = bytes.split_at(bytes.len());
     if bytes.is_empty() {
