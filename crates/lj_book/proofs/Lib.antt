@@ -24,4 +24,6 @@ mod OccurrenceLaws
 mod Listings
 pub mod InsideLaws
 pub mod LineLaws
-pub mod Records
+pub mod WordLaws
+pub mod RecordLaws
+pub mod StepLineLemmas

@@ -1,7 +1,8 @@
 -- Lists as far as a loop has come.
-use Rattle.std.proofs.Common.{◌≡◌, ap, refl, ◌∙◌, ℕ, zero, suc, ◌+◌, ◌<◌, take, get_or, Bool, cond, true, false, arith}
-use Rattle.std.specs.Prelude.{List, [], ◌∷◌, ◌++◌, length, Option, Some, None, filter, filter_map, slice_get}
+use Rattle.std.proofs.Common.{◌≡◌, ap, refl, ◌∙◌, ℕ, zero, suc, ◌+◌, ◌<◌, ◌≤◌, take, get_or, Bool, cond, true, false, arith}
+use Rattle.std.specs.Prelude.{List, [], ◌∷◌, ◌++◌, length, Option, Some, None, filter, filter_map, slice_get, not}
 use Rattle.std.proofs.lemmas.Bool.{false≢true}
+use Rattle.std.proofs.lemmas.List.Filters.{length-filter_both}
 use Rattle.std.specs.List.{cons_option}
 use Rattle.std.proofs.lemmas.List.{take_more, append-nil}
 use Rattle.std.proofs.lemmas.List.Elements.{filter_map-append}
@@ -56,7 +57,7 @@ is_nothing : {X : Type 0} → List X → Bool
 is_nothing [] = true
 is_nothing (x ∷ xs) = false
 
-not_empty : {X : Type 0} (x : X) (xs : List X) → x ∷ xs ≡ [] → ⊥
+pub not_empty : {X : Type 0} (x : X) (xs : List X) → x ∷ xs ≡ [] → ⊥
 unfolding is_nothing
 not_empty x xs e = false≢true (ap is_nothing e)
 
@@ -68,3 +69,8 @@ first_one {X} test (x ∷ xs) (suc i) d lt none passes =
       | true ↦ λ e. absurd (not_empty x (filter test (take i xs)) e)
       | false ↦ λ e. first_one test xs i d (grind arith) e passes
     ] none
+
+-- ---- how long what passes a test is
+
+pub length-filter-le : {X : Type 0} (test : X → Bool) (xs : List X) → length (filter test xs) ≤ length xs
+length-filter-le test xs = let both : length (filter test xs) + length (filter (λ x. not (test x)) xs) ≡ length xs = length-filter_both test (λ x. not (test x)) (λ x. refl) xs in omega (arith, both)

@@ -305,7 +305,7 @@ some_is None h = absurd (not_some none refl h)
     none : Option Bool
     none = None
 
-none_is : {V : Type 0} (x : Option V) → is_some x ≡ false → x ≡ None
+pub none_is : {V : Type 0} (x : Option V) → is_some x ≡ false → x ≡ None
 none_is (Some v) h = absurd (distinct h)
   where
     distinct : true ≡ false → ⊥
@@ -393,3 +393,30 @@ joined_keys near far all rising same = same_rising all (fin.keys (joined_map nea
 pub if_ok_then : {A E : Type 0} (r : Result A E) (P Q : A → Type 0) → IfOk r P → ((x : A) → P x → Q x) → IfOk r Q
 if_ok_then (Ok x) P Q p f = f x p
 if_ok_then (Err e) P Q p f = tt
+
+-- ---- a number that goes from one map to the other
+
+moved : {V : Type 0} (b : Bool) (v : V) (o p : Option V) → option_or (cond b None o) (cond b (Some v) p) ≡ cond b (Some v) (option_or o p)
+moved true v o p = refl
+moved false v o p = refl
+
+pub move_far : {V : Type 0} (near far : Numbered V) (k : ℕ) (v : V) → joined_map (fin.remove near k) (fin.insert far k v) ≡ fin.insert (joined_map near far) k v
+move_far near far k v = same_map _ _ (λ q.
+    get_joined (fin.remove near k) (fin.insert far k v) q
+    ∙ (λ i. option_or (fin.get-remove nat_cmp_total near k q i) (fin.get-insert nat_cmp_total far k v q i))
+    ∙ moved (eq_by_cmp nat_cmp q k) v (fin.get near q) (fin.get far q)
+    ∙ ap (cond (eq_by_cmp nat_cmp q k) (Some v)) (sym (get_joined near far q))
+    ∙ sym (fin.get-insert nat_cmp_total (joined_map near far) k v q))
+
+pub apart-move_far : {V : Type 0} (near far : Numbered V) (k : ℕ) (v : V) → AreApart near far → AreApart (fin.remove near k) (fin.insert far k v)
+apart-move_far near far k v apart =
+    apart-insert_far (fin.remove near k) far k v (apart-remove_near near far k apart)
+    (fin.get-remove nat_cmp_total near k k ∙ ap (λ b. cond b None (fin.get near k)) (alike k))
+
+-- what is in the second map isn't in the first
+pub near_none : {V : Type 0} (near far : Numbered V) (k : ℕ) → AreApart near far → is_some (fin.get far k) ≡ true → fin.get near k ≡ None
+near_none {V} near far k apart there = by (fin.get near k) refl
+  where
+    by : (o : Option V) → fin.get near k ≡ o → o ≡ None
+    by None e = refl
+    by (Some v) e = absurd (not_some (fin.get far k) (apart k (ap is_some e)) there)

@@ -262,11 +262,8 @@ bound_is_counted ts seat own joint t m at holders here =
     let d = holders_at_least ts seat joint t at in
     omega arith
 
-absent_counts : (m : Table) (j : ℕ) → fin.get m j ≡ None → count_at m j ≡ 0
-absent_counts m j none = ap count_or_none none
-
 -- one from a count that is there
-pub one_less : (m n : Table) (j q : ℕ) (r : Result (Unit {0}) NoMemory) → 0 < count_at m j → OnOk r (n ≡ fin.insert m j (count_at m j - 1)) → OnErr r (fin.get m j ≡ None) → count_at m q ≡ one_if_at (Some j) q + count_at n q
+pub one_less : (m n : Table) (j q : ℕ) (r : Result (Unit {0}) NoMemory) → 0 < count_at m j → OnOk r (n ≡ fin.insert m j (count_at m j - 1)) → OnErr r (count_at m j ≤ count_at m j - 1) → count_at m q ≡ one_if_at (Some j) q + count_at n q
 one_less m n j q (Ok u) some ok err =
     let a = count_at-insert m j (count_at m j - 1) q in
     let b = ap (λ (k : Table). count_at k q) ok in
@@ -274,7 +271,7 @@ one_less m n j q (Ok u) some ok err =
       | true ↦ λ e f. let h = ap (count_at m) (same_here j q e) in omega arith
       | false ↦ λ e f. omega arith
     ] refl a
-one_less m n j q (Err e) some ok err = absurd (let a = absent_counts m j err in omega arith)
+one_less m n j q (Err e) some ok err = absurd (omega (arith, some, err))
 
 -- ---- what the code's steps leave
 

@@ -1,5 +1,7 @@
 -- What invariants, private functions and proofs say. No public contract names any of it.
+pub mod Words
 pub mod Records
+pub mod StepLines
 pub mod Codes
 pub mod Tables
 pub mod Holders

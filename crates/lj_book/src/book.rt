@@ -22,9 +22,9 @@ use crate::dying::{bury, no_longer_held, rising};
 use crate::entry::{Added, Dropped, Entry};
 use crate::history::History;
 use crate::indexed_clauses::IndexedClauses;
-use crate::made::MadeCall;
 use crate::refusal::Refusal;
 use crate::seat_tables::SeatTables;
+use crate::steps::Steps;
 use crate::taking::case_of;
 use crate::verified::Verified;
 use lj_clause::{Clause, Formula, Lit, NoMemory};
@@ -185,10 +185,10 @@ impl Book {
     }
 
     /// The steps of the history, in order, by value. Takes no memory: the tables and the live clauses are let go of.
-    pub fn into_steps(self) -> Vec<Step>
-        ensures { result.items ≡ steps_of self.history }
+    pub fn into_steps(self) -> Steps
+        ensures { result ≡ steps_of self.history }
     {
-        self.history.into_steps()
+        Steps::new(self.history)
     }
 
     /// An addition under the seat's numbers as a case in joint numbers, with the clauses that they name. It can be
@@ -272,14 +272,13 @@ impl Book {
             hints: step.hints,
             groups: step.groups,
         };
-        self.history.reserve()?;
+        self.history.reserve_addition(&step)?;
         let place = self.history.len();
         enter_clause(&mut self.clauses, &mut self.tables, joint, receipt)?;
         self.refuted = refuted_at(self.refuted, place, receipt.lemma().clause());
         self.added += 1;
-        let made = MadeCall::Add { own: receipt.own() };
         self.history
-            .push(receipt.seat(), made, Some(Step::Add(step)));
+            .push_addition(receipt.seat(), receipt.own(), &step);
         Ok(Added { place, joint })
     }
 
@@ -299,17 +298,13 @@ impl Book {
             return Err(Refusal::SeatGone);
         }
         let alloc = self.history.allocator();
-        let own = numbers.copy()?;
-        let given = Box::new(alloc, own)?;
         let joints = rising(self.tables.joints(alloc, seat, numbers)?);
-        self.history.reserve()?;
+        self.history.reserve_deaths(numbers.len(), joints.len())?;
         let place = self.history.len();
         let count = self.tables.unbind_all(seat, numbers);
         let died = no_longer_held(&self.tables, joints);
         bury(&mut self.clauses, &died);
-        let step = deletion_of(died);
-        let made = MadeCall::Drop { numbers: given };
-        self.history.push(seat, made, step);
+        self.history.push_drop(seat, numbers, &died);
         Ok(Dropped { place, count })
     }
 }

@@ -1,39 +1,67 @@
 //! The history of a book.
-ghost use Rattle.std.specs.Prelude.{◌≡◌, ◌↔◌, ◌<◌, ◌++◌, ◌∷◌, [], ◌^◌, length, IfOk, OnOk, IsTrue, Some, slice_get, option_copied, option_map, is_some, vec_len, vec_capacity};
+ghost use Rattle.std.specs.Prelude.{◌≡◌, ◌≢◌, ◌↔◌, ◌+◌, ◌*◌, ◌<◌, ◌≤◌, ◌++◌, ◌∷◌, [], ◌^◌, length, IfOk, OnOk, OnErr, IsTrue, IfSome, Some, None, option_copied, slice_get, option_map};
+ghost use Rattle.lj_clause.specs.LiteralSet.{literals};
+ghost use Rattle.lj_text.specs.declared.step.Step.TheVariants.{Add};
+ghost use Rattle.lj_text.specs.Needed.{if_some, up_to_empty};
+ghost use Rattle.lj_text.specs.StepText.{proof_text};
+ghost use Rattle.lj_text.specs.Writing.{IsBeginning, IsCutShort};
 ghost use Rattle.lj_book.specs.State.{steps_of};
-ghost use Rattle.lj_book.specs.inner.Records.{entry_made, step_taken, with_step};
+ghost use Rattle.lj_book.specs.declared.entry.Call.TheVariants as calls;
+ghost use Rattle.lj_book.specs.inner.Records.{lemma_lits, addition_numbers, binding_call, entry_of};
+
+mod lines;
+mod matching;
+mod reading;
+mod writing;
 
 use crate::entry::Entry;
-use crate::made::{MadeCall, MadeEntry};
-use lj_clause::NoMemory;
-use lj_text::Step;
+use lines::write_entries;
+use lj_clause::{Clause, Lit, NoMemory};
+use lj_text::{Addition, Numbers, Sink, SinkFault, Step, WordWriter};
+use reading::{words_at, words_from};
 use std::alloc::Global;
 use std::marker::Model;
+use writing::{put_addition, put_adopt, put_drop, put_import, put_leave};
 
-/// The entries of a history, the oldest first. A lemma stands once, in its step.
-#[derive(Drop)]
+/// How many kinds of entries the first number of one tells apart.
+const KINDS: u64 = 8;
+
+const ADDITION: u64 = 0;
+
+const DROP: u64 = 1;
+
+const ADOPT: u64 = 2;
+
+const IMPORT: u64 = 3;
+
+const LEAVE: u64 = 4;
+
+/// The entries of a history, the oldest first, as words of four bytes and literals.
+#[derive(Debug, Drop)]
 pub(crate) struct History {
-    made: Vec<MadeEntry>,
-    /// The steps of the entries that took one, in order.
-    steps: Vec<Step>,
+    words: Vec<u32>,
+    lits: Vec<Lit>,
+    /// Where the words of each entry begin.
+    starts: Vec<u64>,
 }
 
 impl Model for History {
-    ghost use Rattle.std.specs.Prelude.{min, ◌-◌, vec_len, vec_capacity};
+    ghost use Rattle.std.specs.Prelude.{◌-◌, vec_len, vec_capacity};
     ghost use Rattle.lj_book.specs.inner.Codes.{entries_code};
-    ghost use Rattle.lj_book.specs.inner.Records.{Entries, AreKept, entries_kept};
+    ghost use Rattle.lj_book.specs.inner.Records.{Entries, AreWritten, entries_in};
 
     ghost Value = { Entries };
 
     ghost coded = { entries_code };
 
     ghost view = { λ h. record {
-      entries = entries_kept h.made.items h.steps.items;
-      room = min (vec_capacity h.made - vec_len h.made)
-          (vec_capacity h.steps - vec_len h.steps);
+      entries = entries_in h.lits.items h.words.items h.starts.items;
+      word_room = vec_capacity h.words - vec_len h.words;
+      lit_room = vec_capacity h.lits - vec_len h.lits;
+      entry_room = vec_capacity h.starts - vec_len h.starts;
     } };
 
-    ghost invariant = { λ h. AreKept h.made.items h.steps.items };
+    ghost invariant = { λ h. AreWritten h.lits.items h.words.items h.starts.items };
 }
 
 impl History {
@@ -42,14 +70,15 @@ impl History {
         ensures { result.entries ≡ [] }
     {
         History {
-            made: Vec::new(alloc),
-            steps: Vec::new(alloc),
+            words: Vec::new(alloc),
+            lits: Vec::new(alloc),
+            starts: Vec::new(alloc),
         }
     }
 
     /// What its memory comes from.
     pub(crate) fn allocator(&self) -> Global {
-        *self.made.allocator()
+        *self.words.allocator()
     }
 
     /// The number of entries.
@@ -57,36 +86,153 @@ impl History {
         ensures len { result ≡ length self.now.entries }
         ensures few { result < 2 ^ 63 }
     {
-        self.made.len() as u64
+        self.starts.len() as u64
     }
 
-    /// Makes room for one more entry.
+    /// Makes room for one more entry, of so many numbers and literals.
     ///
     /// # Errors
     /// [`NoMemory`] where a growth was refused.
-    pub(crate) fn reserve(&mut self) -> Result<(), NoMemory>
+    fn reserve(&mut self, numbers: usize, lits: usize) -> Result<(), NoMemory>
         ensures same { self.new.entries ≡ self.old.entries }
-        ensures room { OnOk result (0 < self.new.room) }
+        ensures words { OnOk result (3 * numbers ≤ self.new.word_room) }
+        ensures few { self.new.word_room < 2 ^ 63 }
+        ensures lits { OnOk result (lits ≤ self.new.lit_room) }
+        ensures room { OnOk result (0 < self.new.entry_room) }
     {
-        self.made.reserve(1)?;
-        self.steps.reserve(1)?;
+        self.words.reserve(numbers.saturating_mul(3))?;
+        self.lits.reserve(lits)?;
+        self.starts.reserve(1)?;
         Ok(())
     }
 
-    /// Takes the entry of this call and this step behind the others.
-    pub(crate) fn push(&mut self, seat: u32, call: MadeCall, step: Option<Step>)
-        requires { 0 < self.old.room }
-        ensures { self.new.entries ≡ self.old.entries ++ entry_made seat call step ∷ [] }
+    /// Makes room for an addition.
+    ///
+    /// # Errors
+    /// [`NoMemory`] where a growth was refused.
+    pub(crate) fn reserve_addition(&mut self, step: &Addition) -> Result<(), NoMemory>
+        ensures same { self.new.entries ≡ self.old.entries }
+        ensures words { OnOk result (3 * addition_numbers step.now ≤ self.new.word_room) }
+        ensures lits { OnOk result (length (lemma_lits step.now.lemma) ≤ self.new.lit_room) }
+        ensures room { OnOk result (0 < self.new.entry_room) }
     {
-        let at = self.steps.len() as u64;
-        let stepped = take_step(&mut self.steps, step);
-        let made = MadeEntry {
-            seat,
-            stepped,
-            at,
-            call,
+        let numbers = numbers_of(step);
+        let lits = step.lemma.clause().lits().len();
+        self.reserve(numbers, lits + usize::from(step.lemma.pivot().is_some()))
+    }
+
+    /// Makes room for a drop of so many own numbers, or a leave, by which at most so many joint numbers die.
+    ///
+    /// # Errors
+    /// [`NoMemory`] where a growth was refused.
+    pub(crate) fn reserve_deaths(&mut self, given: usize, died: usize) -> Result<(), NoMemory>
+        ensures same { self.new.entries ≡ self.old.entries }
+        ensures words { OnOk result (3 * (3 + given + died) ≤ self.new.word_room) }
+        ensures room { OnOk result (0 < self.new.entry_room) }
+    {
+        self.reserve(given.saturating_add(died).saturating_add(3), 0)
+    }
+
+    /// Makes room for an adoption, or for an import of this clause.
+    ///
+    /// # Errors
+    /// [`NoMemory`] where a growth was refused.
+    pub(crate) fn reserve_binding(&mut self, imported: Option<&Clause>) -> Result<(), NoMemory>
+        ensures same { self.new.entries ≡ self.old.entries }
+        ensures words { OnOk result (12 ≤ self.new.word_room) }
+        ensures lits { OnOk result (IfSome (option_copied imported.entry)
+            (λ clause. length (literals clause) ≤ self.new.lit_room)) }
+        ensures room { OnOk result (0 < self.new.entry_room) }
+    {
+        let lits = match imported {
+            Some(clause) => clause.lits().len(),
+            None => 0,
         };
-        self.made.push(made).unwrap();
+        self.reserve(4, lits)
+    }
+
+    /// Takes a seat's addition behind the others.
+    pub(crate) fn push_addition(&mut self, seat: u32, own: u64, step: &Addition)
+        requires words { 3 * addition_numbers step.now ≤ self.old.word_room }
+        requires lits { length (lemma_lits step.now.lemma) ≤ self.old.lit_room }
+        requires room { 0 < self.old.entry_room }
+        ensures { self.new.entries ≡ self.old.entries
+            ++ entry_of seat (calls.Add own step.now.lemma) (Some (Add step.now)) ∷ [] }
+    {
+        let _ = step.lemma.pivot();
+        let start = self.words.len() as u64;
+        put_addition(&mut self.words, &mut self.lits, seat, own, step);
+        self.starts.push(start).unwrap();
+    }
+
+    /// Takes a seat's drop of these numbers behind the others, by which these joint numbers died.
+    pub(crate) fn push_drop(&mut self, seat: u32, given: &Numbers, died: &[u64])
+        requires words { 3 * (3 + length given.now + length died.now) ≤ self.old.word_room }
+        requires room { 0 < self.old.entry_room }
+        ensures { self.new.entries ≡ self.old.entries
+            ++ entry_of seat (calls.Drop given.now) (if_some died.now) ∷ [] }
+    {
+        let start = self.words.len() as u64;
+        put_drop(&mut self.words, seat, given, died);
+        self.starts.push(start).unwrap();
+    }
+
+    /// Takes a seat's adoption behind the others.
+    fn push_adopt(&mut self, seat: u32, own: u64, joint: u64)
+        requires words { 9 ≤ self.old.word_room }
+        requires room { 0 < self.old.entry_room }
+        ensures { self.new.entries ≡ self.old.entries
+            ++ entry_of seat (calls.Adopt own joint) None ∷ [] }
+    {
+        let start = self.words.len() as u64;
+        put_adopt(&mut self.words, seat, own, joint);
+        self.starts.push(start).unwrap();
+    }
+
+    /// Takes a seat's import behind the others.
+    fn push_import(&mut self, seat: u32, own: u64, clause: &Clause)
+        requires words { 12 ≤ self.old.word_room }
+        requires lits { length (literals clause.now) ≤ self.old.lit_room }
+        requires room { 0 < self.old.entry_room }
+        ensures { self.new.entries ≡ self.old.entries
+            ++ entry_of seat (calls.Import own clause.now) None ∷ [] }
+    {
+        let start = self.words.len() as u64;
+        put_import(&mut self.words, &mut self.lits, seat, own, clause);
+        self.starts.push(start).unwrap();
+    }
+
+    /// Takes a seat's import behind the others where there is a clause, and an adoption otherwise.
+    pub(crate) fn push_binding(
+        &mut self,
+        seat: u32,
+        own: u64,
+        joint: u64,
+        imported: Option<&Clause>,
+    )
+        requires words { 12 ≤ self.old.word_room }
+        requires lits { IfSome (option_copied imported)
+            (λ clause. length (literals clause) ≤ self.old.lit_room) }
+        requires room { 0 < self.old.entry_room }
+        ensures { self.new.entries ≡ self.old.entries
+            ++ entry_of seat (binding_call own joint (option_copied imported.entry)) None ∷ [] }
+    {
+        match imported {
+            Some(clause) => self.push_import(seat, own, clause),
+            None => self.push_adopt(seat, own, joint),
+        }
+    }
+
+    /// Takes a seat's leave behind the others, by which these joint numbers died.
+    pub(crate) fn push_leave(&mut self, seat: u32, died: &[u64])
+        requires words { 3 * (2 + length died.now) ≤ self.old.word_room }
+        requires room { 0 < self.old.entry_room }
+        ensures { self.new.entries ≡ self.old.entries
+            ++ entry_of seat calls.Leave (if_some died.now) ∷ [] }
+    {
+        let start = self.words.len() as u64;
+        put_leave(&mut self.words, seat, died);
+        self.starts.push(start).unwrap();
     }
 
     /// A copy of the entry at a place, counted from 0. Takes time linear in its contents.
@@ -96,60 +242,93 @@ impl History {
     pub(crate) fn entry(&self, place: u64) -> Result<Option<Entry>, NoMemory>
         ensures { IfOk result (λ entry. entry ≡ slice_get self.now.entries place) }
     {
-        match self.made.get(place as usize) {
-            Some(kept) => {
-                let step = step_taken(&self.steps, kept);
-                Ok(Some(kept.entry(self.allocator(), step)?))
-            }
+        match words_at(&self.starts, &self.words, place) {
+            Some(words) => Ok(Some(reading::entry(self.allocator(), &self.lits, words)?)),
             None => Ok(None),
         }
+    }
+
+    /// Copies of the steps of the entries, in order. Takes time linear in their contents, and no memory where there is
+    /// no step.
+    ///
+    /// # Errors
+    /// [`NoMemory`] where a growth was refused.
+    pub(crate) fn steps(&self) -> Result<Vec<Step>, NoMemory>
+        ensures same { IfOk result (λ v. v.items ≡ steps_of self.now.entries) }
+        ensures some { OnErr result (steps_of self.now.entries ≢ []) }
+    {
+        let alloc = self.allocator();
+        let mut steps = Vec::new(alloc);
+        for start in &self.starts {
+            let words = words_from(&self.words, *start);
+            if let Some(step) = reading::entry_step(alloc, &self.lits, words)? {
+                steps.push(step)?;
+            }
+        }
+        Ok(steps)
+    }
+
+    /// Writes the lines of the steps, up to and including the first addition of the empty clause, and gives the sink all of
+    /// them. The formula has so many clauses. Takes time linear in the literals and numbers of the entries, and no memory.
+    ///
+    /// # Errors
+    /// [`SinkFault`] where a write of the sink failed: it has taken a beginning of the text.
+    pub(crate) fn write_up_to_empty<W: Sink>(
+        &self,
+        sink: &mut W,
+        clauses: u64,
+    ) -> Result<(), SinkFault>
+        requires { W.failures sink.old ≡ 0 }
+
+        ensures taken { OnOk result (W.taken sink.new ≡ W.taken sink.old
+            ++ proof_text clauses (up_to_empty (steps_of self.now.entries))) }
+        ensures ok { OnOk result (W.failures sink.new ≡ W.failures sink.old) }
+
+        ensures cut_short { OnErr result (IsCutShort (W.taken sink.new) (W.taken sink.old
+            ++ proof_text clauses (up_to_empty (steps_of self.now.entries)))) }
+        ensures onward { OnErr result (IsBeginning (W.taken sink.old) (W.taken sink.new)) }
+        ensures err { OnErr result (W.failures sink.new ≡ W.failures sink.old + 1) }
+    {
+        let mut writer = WordWriter::new();
+        write_entries(
+            &mut writer,
+            sink,
+            clauses,
+            &self.lits,
+            &self.words,
+            &self.starts,
+        );
+        writer.finish(sink)
     }
 
     /// The seat of the entry at a place, counted from 0.
     pub(crate) fn seat(&self, place: u64) -> Option<u32>
         ensures { result ≡ option_map (λ e. e.seat) (slice_get self.now.entries place) }
     {
-        Some(self.made.get(place as usize)?.seat)
+        match words_at(&self.starts, &self.words, place) {
+            Some(words) => Some(reading::seat(words)),
+            None => None,
+        }
     }
 
     /// Whether the entry at a place, counted from 0, is this one. Takes time linear in its contents, and no memory.
     pub(crate) fn is_entry(&self, place: u64, entry: &Entry) -> bool
         ensures { IsTrue result ↔ (slice_get self.now.entries place ≡ Some entry.now) }
     {
-        match self.made.get(place as usize) {
-            Some(kept) => kept.is_entry(step_taken(&self.steps, kept), entry),
+        match words_at(&self.starts, &self.words, place) {
+            Some(words) => matching::is_entry(&self.lits, words, entry),
             None => false,
         }
     }
-
-    /// The steps of the entries, in order. Takes no memory.
-    pub(crate) fn into_steps(self) -> Vec<Step>
-        ensures { result.items ≡ steps_of self.entries }
-    {
-        self.steps
-    }
 }
 
-/// Takes the step, if there is one, behind the others, which have room for it. Answers whether there is one.
-fn take_step(steps: &mut Vec<Step>, step: Option<Step>) -> bool
-    requires { vec_len steps.old < vec_capacity steps.old }
-    ensures there { result ≡ is_some step }
-    ensures taken { steps.new.items ≡ with_step steps.old.items step }
+/// How many numbers an addition is written as, or the greatest number where they are more.
+fn numbers_of(step: &Addition) -> usize
+    ensures { result < 2 ^ 63 → addition_numbers step.now ≤ result }
 {
-    let there = step.is_some();
-    if let Some(step) = step {
-        steps.push(step).unwrap();
+    let mut count = step.hints.len().saturating_add(7);
+    for group in step.groups.as_slice() {
+        count = count.saturating_add(group.hints.len()).saturating_add(2);
     }
-    there
-}
-
-/// The step of a record, if it took one.
-fn step_taken<'a>(steps: &'a [Step], kept: &MadeEntry) -> Option<&'a Step>
-    ensures { option_copied result ≡ step_taken steps.now kept.now }
-{
-    if kept.stepped {
-        steps.get(kept.at as usize)
-    } else {
-        None
-    }
+    count
 }

@@ -1,4 +1,5 @@
 //! An addition's hints and groups in joint numbers.
+ghost use Rattle.std.specs.Prelude.{◌≡◌, IfOk, IfSome, Ok};
 ghost use Rattle.std.specs.FinMap as fin;
 ghost use Rattle.lj_book.specs.Tables.{joint_of};
 ghost use Rattle.lj_book.specs.Calls.{IsReplyBy};
@@ -8,8 +9,12 @@ use crate::bindings::Bindings;
 use crate::refusal::Refusal;
 use crate::seat_tables::SeatTables;
 use crate::taking::repeated_group;
+use lj_clause::NoMemory;
 use lj_text::{Addition, Group, Numbers};
 use std::alloc::Global;
+
+/// So many numbers stand in a list itself, which takes no memory then.
+const FEW: usize = 6;
 
 /// The hints and the groups of an addition in joint numbers.
 #[derive(Drop)]
@@ -72,6 +77,47 @@ fn joints_of(
 /// # Errors
 /// As [`joints_of`].
 fn joints_by(alloc: Global, table: &Bindings, numbers: &Numbers) -> Result<Numbers, Refusal>
+    ensures { IsReplyBy (λ v. v) result (joints_in (fin.get table.now) numbers.now) }
+{
+    if numbers.len() > FEW {
+        if let Some(joints) = short_joints(alloc, table, numbers)? {
+            return Ok(Numbers::from_short(joints));
+        }
+    }
+    each_joint(alloc, table, numbers)
+}
+
+/// The joint numbers of these own numbers, where all of both are at hand in four bytes: no test of the form of a list for
+/// each. None tells nothing of them.
+///
+/// # Errors
+/// [`NoMemory`] where a growth was refused.
+fn short_joints(
+    alloc: Global,
+    table: &Bindings,
+    numbers: &Numbers,
+) -> Result<Option<Vec<u32>>, NoMemory>
+    ensures { IfOk result (λ found. IfSome found
+        (λ joints. joints_in (fin.get table.now) numbers.now ≡ Ok joints.items)) }
+{
+    let Some(owns) = numbers.as_short() else {
+        return Ok(None);
+    };
+    let mut joints = Vec::with_capacity(alloc, owns.len())?;
+    for own in owns {
+        let Some(joint) = table.short(u64::from(*own)) else {
+            return Ok(None);
+        };
+        joints.push(joint)?;
+    }
+    Ok(Some(joints))
+}
+
+/// The joint numbers of these own numbers, each by itself.
+///
+/// # Errors
+/// As [`joints_of`].
+fn each_joint(alloc: Global, table: &Bindings, numbers: &Numbers) -> Result<Numbers, Refusal>
     ensures { IsReplyBy (λ v. v) result (joints_in (fin.get table.now) numbers.now) }
 {
     let mut joints = Numbers::with_capacity(alloc, numbers.len())?;

@@ -6,7 +6,7 @@ ghost use Rattle.lj_book.specs.inner.Tables.{own_numbers};
 ghost use Rattle.lj_book.specs.inner.Holders.{count_at, holders_of, one_if_at, all_up_to};
 
 use crate::bindings::Bindings;
-use crate::number_map::NumberMap;
+use crate::counts::Counts;
 use lj_clause::NoMemory;
 use lj_text::Numbers;
 use std::alloc::Global;
@@ -17,7 +17,7 @@ use std::marker::Model;
 pub(crate) struct SeatTables {
     seats: Vec<Option<Bindings>>,
     /// How many own numbers of all seats are bound to each joint number, so that none has to be looked for.
-    holders: NumberMap<u64>,
+    holders: Counts,
 }
 
 impl Model for SeatTables {
@@ -224,11 +224,11 @@ fn numbers_up_to(alloc: Global, last: u64) -> Result<Bindings, NoMemory>
 }
 
 /// The same count at each number from 1 to this one.
-fn counts_up_to(alloc: Global, last: u64, count: u64) -> Result<NumberMap<u64>, NoMemory>
+fn counts_up_to(alloc: Global, last: u64, count: u64) -> Result<Counts, NoMemory>
     requires { last < 2 ^ 63 }
     ensures { IfOk result (λ counts. counts ≡ all_up_to last count) }
 {
-    let mut counts = NumberMap::new(alloc);
+    let mut counts = Counts::new(alloc);
     for number in 0..last {
         counts.insert(number + 1, count)?;
     }
@@ -238,7 +238,7 @@ fn counts_up_to(alloc: Global, last: u64, count: u64) -> Result<NumberMap<u64>, 
 /// Binds the own number in the table, and sets the count of the joint number: both, or neither.
 fn bind_in(
     table: &mut Bindings,
-    holders: &mut NumberMap<u64>,
+    holders: &mut Counts,
     own: u64,
     joint: u64,
     held: u64,
@@ -257,7 +257,7 @@ fn bind_in(
 }
 
 /// Takes the own number out of the table, and one from the count of its joint number. Answers whether it was there.
-fn unbind_in(table: &mut Bindings, holders: &mut NumberMap<u64>, own: u64) -> bool
+fn unbind_in(table: &mut Bindings, holders: &mut Counts, own: u64) -> bool
     requires { (joint : ℕ) → fin.get table.old own ≡ Some joint → 0 < count_at holders.old joint }
     ensures bound { result ≡ fin.contains_key table.old own }
     ensures table { table.new ≡ fin.remove table.old own }
@@ -283,8 +283,8 @@ fn table_in(seats: &[Option<Bindings>], seat: u32) -> Option<&Bindings>
 }
 
 /// The count at a number, which is 0 where there is none.
-fn count(counts: &NumberMap<u64>, number: u64) -> u64
+fn count(counts: &Counts, number: u64) -> u64
     ensures { result ≡ count_at counts.now number }
 {
-    counts.get(number).copied().unwrap_or(0)
+    counts.get(number).unwrap_or(0)
 }

@@ -29,7 +29,7 @@ one_more_run seen seat (x ∷ streams) stream s mid final (r ∷ reports) report
 
 pub outcome_is : {S : Type 0} (seen : S → SourceState) (f : FormulaValue) (max : ℕ) (streams : List S) (start final : State) (outcome : Outcome S)
     → start ≡ opening f (length streams) max → final.formula ≡ start.formula → RunInTurn seen 0 streams start outcome.reports.items final
-    → IsReached final → outcome.steps.items ≡ steps_of final.history → replay (formula_map final.formula) (steps_of final.history) ≡ Some (live final)
+    → IsReached final → outcome.steps ≡ steps_of final.history → replay (formula_map final.formula) (steps_of final.history) ≡ Some (live final)
     → is_some outcome.verified ≡ refutes final.formula (steps_of final.history) → IfSome outcome.verified (λ g. g ≡ final.formula) → IsOutcome seen f max streams outcome
 outcome_is seen f max streams start final outcome opened kept run reached steps replayed refuted verified =
     let same : final.formula ≡ f = kept ∙ ap (λ (s : State). s.formula) opened in
@@ -39,8 +39,8 @@ outcome_is seen f max streams start final outcome opened kept run reached steps 
       same = same;
       legal = reached;
       steps = steps;
-      replayed = ap (λ g. replay (formula_map g) outcome.steps.items) (sym same) ∙ ap (replay (formula_map final.formula)) steps ∙ replayed;
-      verified = verified_is outcome.verified f final.formula (refutes f outcome.steps.items) same (refuted ∙ ap (λ g. refutes g (steps_of final.history)) same ∙ ap (refutes f) (sym steps)) verified;
+      replayed = ap (λ g. replay (formula_map g) outcome.steps) (sym same) ∙ ap (replay (formula_map final.formula)) steps ∙ replayed;
+      verified = verified_is outcome.verified f final.formula (refutes f outcome.steps) same (refuted ∙ ap (λ g. refutes g (steps_of final.history)) same ∙ ap (refutes f) (sym steps)) verified;
     }
 
 -- where the replay is defined, the formula is refuted exactly where some step adds the empty clause

@@ -167,17 +167,17 @@ module _ {S : Type 0} (seen : S → SourceState) where
 -- ---- the outcome
 
 pub joint_outcome_is : {S : Type 0} (seen : S → SourceState) (f : FormulaValue) (max : ℕ) (streams : List S) (final : State) (outcome : Outcome S)
-    → IsBookOfRun seen f max streams (has_verdict final) outcome.reports.items final → outcome.steps.items ≡ steps_of final.history → replay (formula_map final.formula) (steps_of final.history) ≡ Some (live final)
+    → IsBookOfRun seen f max streams (has_verdict final) outcome.reports.items final → outcome.steps ≡ steps_of final.history → replay (formula_map final.formula) (steps_of final.history) ≡ Some (live final)
     → is_some outcome.verified ≡ has_verdict final → is_some outcome.verified ≡ refutes final.formula (steps_of final.history) → IfSome outcome.verified (λ g. g ≡ final.formula) → IsJointOutcome seen f max streams outcome
 joint_outcome_is seen f max streams final outcome book steps replayed some refuted verified =
     let same = book.opened.formula_is in
-    let refuted_is : is_some outcome.verified ≡ refutes f outcome.steps.items = refuted ∙ ap (λ g. refutes g (steps_of final.history)) same ∙ ap (refutes f) (sym steps) in
+    let refuted_is : is_some outcome.verified ≡ refutes f outcome.steps = refuted ∙ ap (λ g. refutes g (steps_of final.history)) same ∙ ap (refutes f) (sym steps) in
     record {
       final = final;
       leaves = subst (λ b. IsBookOfRun seen f max streams b outcome.reports.items final) (sym some ∙ refuted_is) book;
       steps = steps;
-      replayed = ap (λ g. replay (formula_map g) outcome.steps.items) (sym same) ∙ ap (replay (formula_map final.formula)) steps ∙ replayed;
-      verified = verified_is outcome.verified f final.formula (refutes f outcome.steps.items) same refuted_is verified;
+      replayed = ap (λ g. replay (formula_map g) outcome.steps) (sym same) ∙ ap (replay (formula_map final.formula)) steps ∙ replayed;
+      verified = verified_is outcome.verified f final.formula (refutes f outcome.steps) same refuted_is verified;
     }
 
 -- ---- reading by index

@@ -1,7 +1,6 @@
 -- What is written of a run's steps.
-use Rattle.std.proofs.Common.{◌≡◌, ℕ, Bool, true, false, cond, List, [], ◌∷◌, map, length, Option, Some, None, refl, sym, ap, ◌∙◌, subst, arith}
+use Rattle.std.proofs.Common.{◌≡◌, ℕ, Bool, true, false, cond, List, [], ◌∷◌, length, Option, Some, None, refl, sym, ap, ◌∙◌, subst, arith}
 use Rattle.std.specs.List.{list_any, cons_option}
-use Rattle.std.proofs.lemmas.List.{map-id}
 use Rattle.lj_clause.specs.ClauseMap.{FormulaValue}
 use Rattle.lj_text.specs.declared.step.Step.{Step}
 use Rattle.lj_text.specs.Steps.{adds_empty}
@@ -43,13 +42,11 @@ proof_end f trims steps before after text (Failed Device) is e = subst (λ t. Is
 proof_end f trims steps before after text (Failed (NoMemory m)) is e = absurd e
 
 -- the steps up to the first addition of the empty clause were written, where they are what is to be written
-pub front_written : {W : Type 0} (seen : W → SinkState) (f : FormulaValue) (clauses : ℕ) (trims : Bool) (steps front : List Step) (out : Option W) (before after : W) (end : ProofEnd) → out ≡ Some before
-    → clauses ≡ length f.clauses → front ≡ up_to_empty steps → written_steps f trims steps ≡ up_to_empty steps → IsTextEnd (proof_text clauses (map (λ s. s) front)) (seen before) (seen after) end
-    → IsProof seen f trims steps out (Some after) end
-front_written seen f clauses trims steps front out before after end is count same written ended =
+pub front_written : {W : Type 0} (seen : W → SinkState) (f : FormulaValue) (clauses : ℕ) (trims : Bool) (steps : List Step) (out : Option W) (before after : W) (end : ProofEnd) → out ≡ Some before
+    → clauses ≡ length f.clauses → written_steps f trims steps ≡ up_to_empty steps → IsTextEnd (proof_text clauses (up_to_empty steps)) (seen before) (seen after) end → IsProof seen f trims steps out (Some after) end
+front_written seen f clauses trims steps out before after end is count same ended =
     subst (λ o. IsProof seen f trims steps o (Some after) end) (sym is)
-    (proof_end f trims steps (seen before) (seen after) (proof_text clauses (map (λ s. s) front)) end
-    ((λ i. proof_text (sym count i) (written i)) ∙ ap (proof_text clauses) (sym same ∙ sym (map-id front))) ended)
+    (proof_end f trims steps (seen before) (seen after) (proof_text clauses (up_to_empty steps)) end (λ i. proof_text (sym count i) (same i)) ended)
 
 -- ---- the steps of a book
 

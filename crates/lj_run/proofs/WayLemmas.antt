@@ -29,27 +29,27 @@ refuted_by f v false e is = let bad : None ≡ Some f = sym e ∙ is in cc
 
 -- an outcome is verified exactly where the steps refute the formula
 pub verified_by : {S : Type 0} (way : Way) (seen : S → SourceState) (f : FormulaValue) (max : ℕ) (streams : List S) (outcome : Outcome S) → IsOutcomeBy way seen f max streams outcome
-    → outcome.verified ≡ (if refutes f outcome.steps.items then Some f else None)
+    → outcome.verified ≡ (if refutes f outcome.steps then Some f else None)
 verified_by OnThreads seen f max streams outcome is = is.verified
 verified_by InTurn seen f max streams outcome is = is.verified
 
 -- what a run answers whose outcome has the steps of this final state
 pub answer_by : {S W : Type 0} (way : Way) (before after : SourceState) (seen : S → SourceState) (sink : W → SinkState) (f : FormulaValue) (max : ℕ) (trims : Bool) (streams : List S) (old new : Option W) (outcome : Outcome S)
-    (final : State) → GaveFormula before after f → IsOutcomeBy way seen f max streams outcome → IsReached final → final.formula ≡ f → outcome.steps.items ≡ steps_of final.history
-    → IsProof sink f trims outcome.steps.items old new outcome.proof → IsAnswerBy way before after seen sink max trims streams old new outcome
+    (final : State) → GaveFormula before after f → IsOutcomeBy way seen f max streams outcome → IsReached final → final.formula ≡ f → outcome.steps ≡ steps_of final.history
+    → IsProof sink f trims outcome.steps old new outcome.proof → IsAnswerBy way before after seen sink max trims streams old new outcome
 answer_by way before after seen sink f max trims streams old new outcome final gave is reached same steps proof = record {
   formula = f;
   gave = gave;
   comes = is;
   proof = proof;
-  refuted = λ e. written_refutes final f trims outcome.steps.items reached same steps (refuted_by f outcome.verified (refutes f outcome.steps.items) (verified_by way seen f max streams outcome is) e);
+  refuted = λ e. written_refutes final f trims outcome.steps reached same steps (refuted_by f outcome.verified (refutes f outcome.steps) (verified_by way seen f max streams outcome is) e);
 }
 
 -- no assignment satisfies the formula of an outcome that is verified with it
 pub outcome_refutes : {S : Type 0} (way : Way) (seen : S → SourceState) (f : FormulaValue) (max : ℕ) (streams : List S) (outcome : Outcome S) → IsOutcomeBy way seen f max streams outcome
     → is_some outcome.verified ≡ true → IsUnsatisfiable f
 outcome_refutes way seen f max streams outcome is verified =
-    unsatisfiable-refutes f outcome.steps.items (of_test (refutes f outcome.steps.items) (ap is_some (sym (verified_by way seen f max streams outcome is)) ∙ verified))
+    unsatisfiable-refutes f outcome.steps (of_test (refutes f outcome.steps) (ap is_some (sym (verified_by way seen f max streams outcome is)) ∙ verified))
   where
     of_test : (b : Bool) → is_some (if b then Some f else None) ≡ true → b ≡ true
     of_test true e = refl

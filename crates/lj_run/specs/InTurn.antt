@@ -45,7 +45,7 @@ pub record IsOutcome {S : Type 0} (seen : S → SourceState) (formula : FormulaV
       outcome.reports.items final
   pub same : final.formula ≡ formula
   pub legal : IsReached final
-  pub steps : outcome.steps.items ≡ steps_of final.history
-  pub replayed : replay (formula_map formula) outcome.steps.items ≡ Some (live final)
+  pub steps : outcome.steps ≡ steps_of final.history
+  pub replayed : replay (formula_map formula) outcome.steps ≡ Some (live final)
   pub verified : outcome.verified
-      ≡ (if refutes formula outcome.steps.items then Some formula else None)
+      ≡ (if refutes formula outcome.steps then Some formula else None)

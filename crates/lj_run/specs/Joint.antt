@@ -122,12 +122,12 @@ pub record IsBookOfRun {S : Type 0} (seen : S → SourceState) (formula : Formul
 pub record IsJointOutcome {S : Type 0} (seen : S → SourceState) (formula : FormulaValue)
     (max_steps : ℕ) (streams : List S) (outcome : Outcome S) : Type 0 where
   pub final : State
-  pub leaves : IsBookOfRun seen formula max_steps streams (refutes formula outcome.steps.items)
+  pub leaves : IsBookOfRun seen formula max_steps streams (refutes formula outcome.steps)
       outcome.reports.items final
-  pub steps : outcome.steps.items ≡ steps_of final.history
-  pub replayed : replay (formula_map formula) outcome.steps.items ≡ Some (live final)
+  pub steps : outcome.steps ≡ steps_of final.history
+  pub replayed : replay (formula_map formula) outcome.steps ≡ Some (live final)
   pub verified : outcome.verified
-      ≡ (if refutes formula outcome.steps.items then Some formula else None)
+      ≡ (if refutes formula outcome.steps then Some formula else None)
 
 -- ---- what the workers leave
 

@@ -29,9 +29,9 @@ pub record IsAnswerBy {S W : Type 0} (way : Way) (before after : SourceState)
   pub formula : FormulaValue
   pub gave : GaveFormula before after formula
   pub comes : IsOutcomeBy way seen formula max_steps streams outcome
-  pub proof : IsProof sink formula trims outcome.steps.items out_old out_new outcome.proof
+  pub proof : IsProof sink formula trims outcome.steps out_old out_new outcome.proof
   pub refuted : outcome.verified ≡ Some formula
-      → refutes formula (written_steps formula trims outcome.steps.items) ≡ true
+      → refutes formula (written_steps formula trims outcome.steps) ≡ true
 
 -- why a run has no outcome: one in turn ends so only while the formula is read, or for want of memory
 abbrev pub IsFaultBy : {S : Type 0} → Way → SourceState → SourceState → (S → SourceState) → ℕ

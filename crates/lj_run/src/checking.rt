@@ -16,7 +16,8 @@ ghost use Rattle.lj_run.specs.declared.outcome.RunFault.TheVariants as run_fault
 use crate::outcome::{Options, Outcome, ProofEnd, RunFault, Way};
 use crate::printing::text_of;
 use crate::running::run_by;
-use lj_text::{Sink, Source, Step, write_all};
+use lj_book::Steps;
+use lj_text::{Sink, Source, write_all};
 use std::alloc::{AllocError, Global};
 use std::sync::Wait;
 use std::thread::Threads;
@@ -131,7 +132,7 @@ pub(crate) fn check_with_steps<
     way: Way,
     proof: &mut Option<P>,
     out: &mut O,
-) -> Result<(Checked, Vec<Step>), CheckFault>
+) -> Result<(Checked, Steps), CheckFault>
     requires run { MayRun (source_state F.given F.ended F.rest F.failures formula.old)
         (source_state S.given S.ended S.rest S.failures) (sink_state P.taken P.failures)
         (streams_by_seat streams.items closing) proof.old }

@@ -3,9 +3,9 @@ ghost use Rattle.std.specs.Prelude.{◌≡◌};
 ghost use Rattle.lj_clause.specs.Memory.{no_memory};
 ghost use Rattle.lj_run.specs.declared.outcome.RunFault.TheVariants as run_faults;
 
-use lj_book::{Refusal, Verified};
+use lj_book::{Refusal, Steps, Verified};
 use lj_clause::NoMemory;
-use lj_text::{CnfFault, LineFaultKind, Step};
+use lj_text::{CnfFault, LineFaultKind};
 use std::alloc::{AllocError, AllocFailed};
 use std::error::Error;
 use std::fmt;
@@ -36,7 +36,7 @@ pub struct Outcome<S> {
     /// There exactly where the steps refute the formula.
     pub verified: Option<Verified>,
     /// The joint steps, in the order in which they were entered.
-    pub steps: Vec<Step>,
+    pub steps: Steps,
     /// What became of the proof.
     pub proof: ProofEnd,
 }
@@ -161,7 +161,7 @@ pub enum ProofEnd {
 pub enum ProofFault {
     /// The sink failed. It took a beginning of the proof, and not all.
     Device,
-    /// A growth of memory was refused to the trimmer. The sink took nothing.
+    /// A growth of memory was refused to the trimmer, or to the copies of the steps that it trims. The sink took nothing.
     NoMemory(NoMemory),
 }
 

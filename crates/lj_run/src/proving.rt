@@ -3,14 +3,15 @@ ghost use Rattle.std.specs.Prelude.{◌≡◌, ℕ, true, length, map, is_some, 
 ghost use Rattle.std.specs.List.{list_any};
 ghost use Rattle.lj_clause.specs.ClauseMap.{FormulaValue};
 ghost use Rattle.lj_text.specs.Steps.{adds_empty};
+ghost use Rattle.lj_text.specs.Needed.{up_to_empty};
 ghost use Rattle.lj_text.specs.StepText.{proof_text};
 ghost use Rattle.lj_run.specs.Proof.{IsProof, IsProofEnd, IsTextEnd, sink_state};
 
 use crate::outcome::{ProofEnd, ProofFault};
-use lj_book::Verified;
+use lj_book::{Steps, Verified};
 use lj_clause::Formula;
 use lj_text::{AsStep, Sink, Step, write_proof};
-use lj_trim::{TrimRefusal, trim, up_to_empty_clause};
+use lj_trim::{TrimRefusal, trim};
 use std::alloc::Global;
 
 /// Writes the proof of a run's steps, if it is asked for. The formula has so many clauses, and is verified where some step
@@ -20,7 +21,7 @@ pub(crate) fn prove<W: Sink>(
     clauses: u64,
     verified: &Option<Verified>,
     trims: bool,
-    steps: &[Step],
+    steps: &Steps,
     out: &mut Option<W>,
 ) -> ProofEnd
     requires unfailed { IfSome out.old (λ sink. W.failures sink ≡ 0) }
@@ -33,12 +34,37 @@ pub(crate) fn prove<W: Sink>(
     };
     match verified {
         Some(verified) if trims => write_trimmed(alloc, verified.formula(), steps, sink),
-        _ => written(sink, clauses, up_to_empty_clause(steps)),
+        _ => write_untrimmed(sink, clauses, steps),
     }
 }
 
-/// Writes the trimmed proof of steps that add the empty clause.
-fn write_trimmed<W: Sink>(
+/// Writes the steps up to and including the first addition of the empty clause. Takes no memory.
+fn write_untrimmed<W: Sink>(sink: &mut W, clauses: u64, steps: &Steps) -> ProofEnd
+    requires { W.failures sink.old ≡ 0 }
+    ensures { IsTextEnd (proof_text clauses (up_to_empty steps.now))
+        (sink_state W.taken W.failures sink.old) (sink_state W.taken W.failures sink.new) result }
+{
+    if steps.write_up_to_empty(sink, clauses).is_err() {
+        return ProofEnd::Failed(ProofFault::Device);
+    }
+    ProofEnd::Written
+}
+
+/// Writes the trimmed proof of steps that add the empty clause. Copies them to trim them.
+fn write_trimmed<W: Sink>(alloc: Global, formula: &Formula, steps: &Steps, sink: &mut W) -> ProofEnd
+    requires unfailed { W.failures sink.old ≡ 0 }
+    requires some { list_any adds_empty steps.now ≡ true }
+    ensures { IsProofEnd formula.now true steps.now (sink_state W.taken W.failures sink.old)
+        (sink_state W.taken W.failures sink.new) result }
+{
+    match steps.to_vec() {
+        Ok(steps) => trim_and_write(alloc, formula, &steps, sink),
+        Err(e) => ProofEnd::Failed(ProofFault::NoMemory(e)),
+    }
+}
+
+/// Trims steps that add the empty clause, and writes what is left of them.
+fn trim_and_write<W: Sink>(
     alloc: Global,
     formula: &Formula,
     steps: &[Step],

@@ -3,7 +3,7 @@ use crate::tables::{formula_of, next_line};
 use lj_book::Book;
 use lj_hint::{Marks, Tested};
 use lj_run::{MemoryFiles, program};
-use lj_text::{Line, LineReader, MemorySink, Sink, write_proof};
+use lj_text::{Line, LineReader, MemorySink, Sink};
 use std::alloc::{AllocError, Global};
 use std::process::Abort;
 use std::test::Fail;
@@ -92,7 +92,7 @@ fn enter_all(rt: &impl Abort, alloc: Global, book: &mut Book, text: &str) -> Res
 fn assert_written(rt: &impl Abort, alloc: Global, book: Book, text: &str) -> Result<(), Fail> {
     let mut sink = MemorySink::new(alloc);
     assert!(rt; sink.put(b"")? == 0);
-    write_proof(&mut sink, 14_001, &book.into_steps())?;
+    book.into_steps().write_up_to_empty(&mut sink, 14_001)?;
     assert!(rt; sink.bytes() == text.as_bytes());
     Ok(())
 }

@@ -131,6 +131,14 @@ pub fn assert_candidates(
     Ok(())
 }
 
+/// Asserts that the steps are those, and no more.
+pub fn assert_steps(rt: &impl Abort, steps: &[Step], wanted: &[ListedStep]) {
+    assert!(rt; steps.len() == wanted.len());
+    for (step, wanted) in steps.iter().zip(wanted) {
+        assert_step(rt, Some(step), wanted);
+    }
+}
+
 pub fn assert_step(rt: &impl Abort, step: Option<&Step>, wanted: &ListedStep) {
     match (step, wanted) {
         (None, ListedStep::None) => {}

@@ -16,7 +16,7 @@ mod TokenLemmas
 pub mod Fronts
 pub mod WritingLemmas
 mod WordLemmas
-mod WrittenWords
+pub mod WrittenWords
 mod WrittenNumbers
 mod ReadAgainLemmas
 mod RunLemmas

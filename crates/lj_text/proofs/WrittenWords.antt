@@ -17,7 +17,8 @@ use Rattle.lj_text.specs.declared.line.Addition.{Addition}
 use Rattle.lj_text.specs.declared.step.Step.{Step}
 use Rattle.lj_text.specs.StepText.{line_text, pivot_first, written_literals, group_words, addition_words, addition_text, deletion_text, step_text, greatest_with, text_after}
 use Rattle.lj_text.specs.inner.StepText.{greatest_number}
-use Rattle.lj_text.specs.inner.Writing.{Wrote, Broke, spaced_word, spaced_words}
+use Rattle.lj_text.specs.Writing.{spaced_word}
+use Rattle.lj_text.specs.inner.Writing.{Wrote, Broke, spaced_words}
 use Rattle.lj_text.proofs.WritingLemmas.{broke_then, broke_more}
 
 pub spaced_words-append : (xs ys : List (List ℕ)) → spaced_words (xs ++ ys) ≡ spaced_words xs ++ spaced_words ys

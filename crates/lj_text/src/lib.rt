@@ -24,4 +24,4 @@ pub use numbers::{Group, Groups, NumberRoom, Numbers, NumbersIter};
 pub use sink::{MemorySink, Sink, SinkFault, WriterSink, write_all};
 pub use source::{MemorySource, ReaderSource, Source, SourceFault};
 pub use step::Step;
-pub use writer::{ProofWriter, WriteFault, write_proof};
+pub use writer::{LineWord, ProofWriter, WordWriter, WriteFault, write_proof};

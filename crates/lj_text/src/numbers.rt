@@ -47,6 +47,16 @@ impl Numbers {
         }
     }
 
+    /// The list of these numbers. Takes no memory, and four bytes for each of them stay taken.
+    #[inline]
+    pub fn from_short(numbers: Vec<u32>) -> Numbers
+        ensures { result ≡ numbers.items }
+    {
+        Numbers {
+            form: Form::Short(numbers),
+        }
+    }
+
     /// A list of no numbers, with room for so many of four bytes each.
     ///
     /// # Errors
@@ -181,6 +191,18 @@ impl Numbers {
             Form::Long(numbers) => NumbersIter {
                 rest: Rest::Long(numbers),
             },
+        }
+    }
+
+    /// The numbers, in order, where they are at hand in four bytes each. None tells nothing of them.
+    #[inline]
+    pub fn as_short(&self) -> Option<&[u32]>
+        ensures { IfSome result (λ short. short.now ≡ self.now) }
+    {
+        match &self.form {
+            Form::Few(numbers) => Some(numbers.as_slice()),
+            Form::Short(numbers) => Some(numbers),
+            Form::Long(_) => None,
         }
     }
 

@@ -6,6 +6,7 @@ ghost use Rattle.lj_text.specs.inner.Writing.{Wrote, Broke};
 
 mod held;
 mod step_words;
+mod word_writer;
 
 use crate::as_step::AsStep;
 use crate::sink::{Sink, SinkFault};
@@ -14,6 +15,7 @@ use held::Held;
 use std::marker::Model;
 use step_words::{write_addition, write_deletion};
 use thiserror::Error;
+pub use word_writer::{LineWord, WordWriter};
 
 /// Why a writer wrote nothing, or only a beginning.
 #[derive(Clone, Copy, Debug, PartialEq, Eq, Error)]

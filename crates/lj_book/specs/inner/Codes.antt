@@ -91,5 +91,8 @@ state_code = code_by (FormulaValue × (ℕ × (Tables × List Entry)))
     (λ _. refl)
 
 abbrev pub entries_code : Coded Entries
-entries_code = code_by (List Entry × ℕ) (coded× (coded_list entry_code) coded_ℕ)
-    (λ h. (h.entries, h.room)) (λ p. record { entries = p.0; room = p.1 }) (λ _. refl)
+entries_code = code_by (List Entry × (ℕ × (ℕ × ℕ)))
+    (coded× (coded_list entry_code) (coded× coded_ℕ (coded× coded_ℕ coded_ℕ)))
+    (λ h. (h.entries, (h.word_room, (h.lit_room, h.entry_room))))
+    (λ p. record { entries = p.0; word_room = p.1.0; lit_room = p.1.1.0; entry_room = p.1.1.1 })
+    (λ _. refl)

@@ -1,53 +1,160 @@
--- What the history holds of its entries: the steps in one list, and beside it a record of each entry.
-use Rattle.std.specs.Prelude.{◌≡◌, ℕ, ◌<◌, true, List, [], ◌∷◌, ◌++◌, map, length, Option, Some, None, slice_get, filter_map, if◌then◌else◌}
+-- The entries of a history as words and literals, and how they are read again.
+use Rattle.std.specs.Prelude.{◌≡◌, ℕ, ◌+◌, ◌*◌, ◌%◌, ◌/◌, ◌<◌, ◌≤◌, ◌==◌, ℤ, List, [], ◌∷◌, ◌++◌, map, length, take, drop, Option, Some, None, if◌then◌else◌}
+use Rattle.std.specs.List.{AllByRecursion}
+use Rattle.lj_clause.specs.LiteralSet.{LiteralSet, literals, from_literals}
+use Rattle.lj_clause.specs.Lemma.{LemmaValue, lemma_of}
+use Rattle.lj_text.specs.declared.line.Addition.{Addition}
 use Rattle.lj_text.specs.declared.step.Step.{Step}
 use Rattle.lj_text.specs.declared.step.Step.TheVariants as steps
+use Rattle.lj_text.specs.Needed.{if_some}
 use Rattle.lj_book.specs.declared.entry.Call.{Call}
 use Rattle.lj_book.specs.declared.entry.Call.TheVariants as calls
 use Rattle.lj_book.specs.declared.entry.Entry.{Entry}
-use Rattle.lj_book.specs.declared.made.MadeCall.{MadeCall}
-use Rattle.lj_book.specs.declared.made.MadeCall.TheVariants as made
-use Rattle.lj_book.specs.declared.made.MadeEntry.{MadeEntry}
+use Rattle.lj_book.specs.inner.Words.{number_words, list_words, hint_groups_words, groups_numbers, number_in, list_in, hint_groups_in}
 
--- the call that was made, whose lemma is the one that its step adds
-abbrev pub call_made : MadeCall → Option Step → Call
-call_made (made.Add own) None = calls.Leave
-call_made (made.Add own) (Some (steps.Delete numbers)) = calls.Leave
-call_made (made.Add own) (Some (steps.Add a)) = calls.Add own a.lemma
-call_made (made.Drop numbers) step = calls.Drop numbers.value
-call_made (made.Adopt own joint) step = calls.Adopt own joint
-call_made (made.Import own clause) step = calls.Import own clause
-call_made made.Leave step = calls.Leave
+-- the literals of a lemma: its pivot, and then those of its clause
+abbrev pub pivot_before : Option ℤ → List ℤ → List ℤ
+pivot_before None ls = ls
+pivot_before (Some p) ls = p ∷ ls
 
-abbrev pub entry_made : ℕ → MadeCall → Option Step → Entry
-entry_made seat m step = record { seat = seat; call = call_made m step; step = step }
+abbrev pub lemma_lits : LemmaValue → List ℤ
+lemma_lits lemma = pivot_before lemma.pivot (literals lemma.clause)
 
--- the step of a record, if it took one
-abbrev pub step_taken : List Step → MadeEntry → Option Step
-step_taken steps r = if r.stepped then slice_get steps r.at else None
+-- so many literals from a place on
+abbrev pub some_lits : List ℤ → ℕ → ℕ → List ℤ
+some_lits lits at count = take count (drop at lits)
 
-abbrev pub entry_kept : List Step → MadeEntry → Entry
-entry_kept steps r = entry_made r.seat r.call (step_taken steps r)
+-- the number of a seat's entry: its lowest three bits say what was called
+abbrev pub addition_kind : ℕ
+addition_kind = 0
 
-abbrev pub entries_kept : List MadeEntry → List Step → List Entry
-entries_kept records steps = map (entry_kept steps) records
+abbrev pub drop_kind : ℕ
+drop_kind = 1
 
--- Each step that was taken stands among so many.
-abbrev pub AreWithin : ℕ → List MadeEntry → Type 0
-AreWithin count [] = Unit {0}
-AreWithin count (r ∷ rs) = (r.stepped ≡ true → r.at < count) × AreWithin count rs
+abbrev pub adopt_kind : ℕ
+adopt_kind = 2
 
--- these steps and one more, if there is one
-abbrev pub with_step : List Step → Option Step → List Step
-with_step steps None = steps
-with_step steps (Some step) = steps ++ step ∷ []
+abbrev pub import_kind : ℕ
+import_kind = 3
 
--- Each record's step stands among these, which are those of the records, in order.
-pub record AreKept (records : List MadeEntry) (steps : List Step) : Type 0 where
-  pub within : AreWithin (length steps) records
-  pub whole : filter_map (λ e. e.step) (entries_kept records steps) ≡ steps
+abbrev pub leave_kind : ℕ
+leave_kind = 4
 
--- The entries, and how many more have room.
+abbrev pub head_words : ℕ → ℕ → List ℕ
+head_words seat kind = number_words (8 * seat + kind)
+
+-- the words of a seat's addition, whose literals begin at this place
+abbrev pub add_words : ℕ → ℕ → Addition → ℕ → List ℕ
+add_words seat own a at =
+    head_words seat addition_kind ++ (number_words own ++ (number_words a.number ++ (number_words at
+    ++ (number_words (length (lemma_lits a.lemma)) ++ (list_words a.hints ++ hint_groups_words a.groups)))))
+
+-- the words of own numbers that were given up, and of the joint numbers that died
+abbrev pub drop_words : ℕ → List ℕ → List ℕ → List ℕ
+drop_words seat given died = head_words seat drop_kind ++ (list_words given ++ list_words died)
+
+abbrev pub adopt_words : ℕ → ℕ → ℕ → List ℕ
+adopt_words seat own joint = head_words seat adopt_kind ++ (number_words own ++ number_words joint)
+
+abbrev pub import_words : ℕ → ℕ → LiteralSet → ℕ → List ℕ
+import_words seat own clause at =
+    head_words seat import_kind ++ (number_words own ++ (number_words at
+    ++ number_words (length (literals clause))))
+
+abbrev pub leave_words : ℕ → List ℕ → List ℕ
+leave_words seat died = head_words seat leave_kind ++ list_words died
+
+-- the literals that the words of an entry name, behind those of its own number and, of an addition, its joint number
+abbrev pub lits_in : List ℤ → List ℕ → List ℤ
+lits_in lits ws = some_lits lits (number_in ws).0 (number_in (number_in ws).1).0
+
+abbrev pub behind_lits : List ℕ → List ℕ
+behind_lits ws = (number_in (number_in ws).1).1
+
+-- the addition behind its own number
+abbrev pub addition_in : List ℤ → List ℕ → Addition
+addition_in lits ws = record {
+  number = (number_in ws).0;
+  lemma = lemma_of (lits_in lits (number_in ws).1);
+  hints = (list_in (behind_lits (number_in ws).1)).0;
+  groups = (hint_groups_in (list_in (behind_lits (number_in ws).1)).1).0;
+}
+
+-- the call and the step of a kind behind their first number
+abbrev pub call_in : List ℤ → ℕ → List ℕ → Call
+call_in lits kind ws =
+    if kind == addition_kind then calls.Add (number_in ws).0 (addition_in lits (number_in ws).1).lemma
+    else if kind == drop_kind then calls.Drop (list_in ws).0
+    else if kind == adopt_kind then calls.Adopt (number_in ws).0 (number_in (number_in ws).1).0
+    else if kind == import_kind then calls.Import (number_in ws).0 (from_literals (lits_in lits (number_in ws).1))
+    else calls.Leave
+
+abbrev pub step_in : List ℤ → ℕ → List ℕ → Option Step
+step_in lits kind ws =
+    if kind == addition_kind then Some (steps.Add (addition_in lits (number_in ws).1))
+    else if kind == drop_kind then if_some (list_in (list_in ws).1).0
+    else if kind == adopt_kind then None
+    else if kind == import_kind then None
+    else if_some (list_in ws).0
+
+-- the entry whose words these begin with
+abbrev pub entry_in : List ℤ → List ℕ → Entry
+entry_in lits ws = record {
+  seat = (number_in ws).0 / 8;
+  call = call_in lits ((number_in ws).0 % 8) (number_in ws).1;
+  step = step_in lits ((number_in ws).0 % 8) (number_in ws).1;
+}
+
+-- the entry of a seat's call with this step
+abbrev pub entry_of : ℕ → Call → Option Step → Entry
+entry_of seat call step = record { seat = seat; call = call; step = step }
+
+-- the call that binds an own number to a joint number: an import where there is a clause
+abbrev pub binding_call : ℕ → ℕ → Option LiteralSet → Call
+binding_call own joint None = calls.Adopt own joint
+binding_call own joint (Some clause) = calls.Import own clause
+
+-- the literals that the words of a kind name
+abbrev pub named_in : List ℤ → ℕ → List ℕ → List ℤ
+named_in lits kind ws =
+    if kind == addition_kind then lits_in lits (number_in (number_in ws).1).1
+    else if kind == import_kind then lits_in lits (number_in ws).1
+    else []
+
+-- the entry, and the literals that its words name
+abbrev pub read_in : List ℤ → List ℕ → Entry × List ℤ
+read_in lits ws = (entry_in lits ws, named_in lits ((number_in ws).0 % 8) (number_in ws).1)
+
+-- the literals that the call of an entry is kept by
+abbrev pub call_lits : Call → List ℤ
+call_lits (calls.Add own lemma) = lemma_lits lemma
+call_lits (calls.Drop numbers) = []
+call_lits (calls.Adopt own joint) = []
+call_lits (calls.Import own clause) = literals clause
+call_lits calls.Leave = []
+
+-- From this place on stand the words of an entry, whatever stands behind them, with the literals that it is kept by.
+pub record IsWritten (lits : List ℤ) (words : List ℕ) (start : ℕ) : Type 0 where
+  pub within : start ≤ length words
+  pub whole : (more : List ℤ) (behind : List ℕ)
+      → read_in (lits ++ more) (drop start words ++ behind) ≡ read_in lits (drop start words)
+  pub named : (read_in lits (drop start words)).1 ≡ call_lits (read_in lits (drop start words)).0.call
+  pub seated : (entry_in lits (drop start words)).seat < 4294967296
+
+-- Each entry stands where it begins.
+abbrev pub AreWritten : List ℤ → List ℕ → List ℕ → Type 0
+AreWritten lits words starts = AllByRecursion (IsWritten lits words) starts
+
+abbrev pub entries_in : List ℤ → List ℕ → List ℕ → List Entry
+entries_in lits words starts = map (λ start. entry_in lits (drop start words)) starts
+
+-- how many numbers stand in the words of an addition
+abbrev pub addition_numbers : Addition → ℕ
+addition_numbers a = 7 + length a.hints + groups_numbers a.groups
+
+-- The entries, and how many more words, literals and entries have room.
 pub record Entries : Type 0 where
   pub entries : List Entry
-  pub room : ℕ
+  pub word_room : ℕ
+  pub lit_room : ℕ
+  pub entry_room : ℕ

@@ -1,5 +1,5 @@
 -- How a map from numbers is kept: in slots by number, and in a tree beside them.
-use Rattle.std.specs.Prelude.{◌≡◌, ℕ, suc, Bool, true, if◌then◌else◌, List, [], ◌∷◌, ◌++◌, Option, Some, None, is_some}
+use Rattle.std.specs.Prelude.{◌≡◌, ℕ, zero, suc, Bool, true, if◌then◌else◌, List, [], ◌∷◌, ◌++◌, Option, Some, None, is_some}
 use Rattle.std.specs.Ordering.{nat_cmp}
 use Rattle.std.specs.FinMap as fin
 
@@ -8,6 +8,11 @@ abbrev pub slot_entries : {V : Type 0} → ℕ → List (Option V) → List (ℕ
 slot_entries n [] = []
 slot_entries n (None ∷ slots) = slot_entries (suc n) slots
 slot_entries n (Some v ∷ slots) = (n, v) ∷ slot_entries (suc n) slots
+
+-- what a slot of four bytes has: one less than what stands there, if anything does
+abbrev pub slot_value : ℕ → Option ℕ
+slot_value zero = None
+slot_value (suc n) = Some n
 
 -- the map that slots from 0 on make
 abbrev pub slot_map : {V : Type 0} → List (Option V) → fin.FinMap nat_cmp V

@@ -1,16 +1,15 @@
 //! Own numbers that are bound to clauses which live already.
-ghost use Rattle.std.specs.Prelude.{◌≡◌, Option, None, Some, OnOk, OnErr, IfOk, IfErr, Err, true, false, length};
+ghost use Rattle.std.specs.Prelude.{◌≡◌, option_copied, Option, None, Some, OnOk, OnErr, IfOk, IfErr, Err, true, false, length};
 ghost use Rattle.std.specs.FinMap as fin;
 ghost use Rattle.lj_book.specs.Tables.{is_here, is_bound, with_binding};
 ghost use Rattle.lj_book.specs.Lookup.{least_number};
 ghost use Rattle.lj_book.specs.State.{live};
 ghost use Rattle.lj_book.specs.History.{after_entry, tables_after, IsLegalCall};
-ghost use Rattle.lj_book.specs.inner.Records.{call_made};
+ghost use Rattle.lj_book.specs.inner.Records.{binding_call};
 ghost use Rattle.lj_book.specs.Calls.{IsReply, free_refusal, binding_entry, adopt_reply, adopt_entry, import_reply, import_entry};
 
 use crate::book::Book;
 use crate::entry::Imported;
-use crate::made::MadeCall;
 use crate::refusal::Refusal;
 use lj_clause::{Clause, NoMemory};
 
@@ -33,8 +32,7 @@ impl Book {
         if !self.clauses.contains_key(joint) {
             return Err(Refusal::NoSuchClause);
         }
-        let made = MadeCall::Adopt { own, joint };
-        Ok(self.bind_live(seat, own, joint, made)?)
+        Ok(self.bind_live(seat, own, joint, None)?)
     }
 
     /// Binds the seat's own number to the least live number with exactly this clause. Takes time linear in the live
@@ -56,9 +54,7 @@ impl Book {
         let Some(joint) = self.least_number(clause) else {
             return Err(Refusal::NoSuchClause);
         };
-        let clause = clause.copy()?;
-        let made = MadeCall::Import { own, clause };
-        let place = self.bind_live(seat, own, joint, made)?;
+        let place = self.bind_live(seat, own, joint, Some(clause))?;
         Ok(Imported { place, joint })
     }
 
@@ -85,28 +81,32 @@ impl Book {
         None
     }
 
-    /// Enters a call that binds an own number to a joint number that lives, without a step.
+    /// Enters a call that binds an own number to a joint number that lives, without a step: an import where there is a
+    /// clause, and an adoption otherwise.
     fn bind_live(
         &mut self,
         seat: u32,
         own: u64,
         joint: u64,
-        made: MadeCall,
+        imported: Option<&Clause>,
     ) -> Result<u64, NoMemory>
         requires free { free_refusal self.old seat own ≡ None }
         requires lives { fin.contains_key (live self.old) joint ≡ true }
-        requires legal { IsLegalCall self.old seat (call_made made None) None }
-        requires binds { tables_after self.old seat (call_made made None)
+        requires legal { IsLegalCall self.old seat
+            (binding_call own joint (option_copied imported)) None }
+        requires binds { tables_after self.old seat
+            (binding_call own joint (option_copied imported))
             ≡ with_binding self.old.tables seat own joint }
         ensures place { IfOk result (λ place. place ≡ length self.old.history) }
         ensures ok { OnOk result
-            (self.new ≡ after_entry self.old (binding_entry seat (call_made made None))) }
+            (self.new ≡ after_entry self.old
+            (binding_entry seat (binding_call own joint (option_copied imported.entry)))) }
         ensures err { OnErr result (self.new ≡ self.old) }
     {
-        self.history.reserve()?;
+        self.history.reserve_binding(imported)?;
         let place = self.history.len();
         self.tables.bind(seat, own, joint)?;
-        self.history.push(seat, made, None);
+        self.history.push_binding(seat, own, joint, imported);
         Ok(place)
     }
 }

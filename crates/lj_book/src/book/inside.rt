@@ -12,11 +12,10 @@ use crate::committing::{bind_clause, refuted_at};
 use crate::entry::Added;
 use crate::joint_line::joint_line;
 use crate::line_tests::tested_line;
-use crate::made::MadeCall;
 use crate::refusal::Refusal;
 use lj_clause::{Lemma, NoMemory};
 use lj_hint::Marks;
-use lj_text::{Addition, Step};
+use lj_text::Addition;
 
 impl Book {
     /// Tests a seat's addition over the live clauses, those of all seats, and enters it in recorded form: by hinted
@@ -115,7 +114,7 @@ impl Book {
         let clause = step.lemma.clause().copy()?;
         let place = self.history.len();
         let refuted = refuted_at(self.refuted, place, &clause);
-        self.history.reserve()?;
+        self.history.reserve_addition(&step)?;
         bind_clause(
             &mut self.clauses,
             &mut self.tables,
@@ -126,8 +125,7 @@ impl Book {
         )?;
         self.refuted = refuted;
         self.added += 1;
-        let made = MadeCall::Add { own };
-        self.history.push(seat, made, Some(Step::Add(step)));
+        self.history.push_addition(seat, own, &step);
         Ok(Added { place, joint })
     }
 }

@@ -3,9 +3,8 @@ ghost use Rattle.std.specs.Prelude.{◌≡◌, OnOk, OnErr, IfErr, Err};
 ghost use Rattle.lj_book.specs.History.{after_entry};
 ghost use Rattle.lj_book.specs.Calls.{IsReply, leave_reply, leave_entry};
 
-use crate::book::{Book, deletion_of};
+use crate::book::Book;
 use crate::dying::{bury, no_longer_held, rising};
-use crate::made::MadeCall;
 use crate::refusal::Refusal;
 use lj_text::Numbers;
 
@@ -27,12 +26,12 @@ impl Book {
         let alloc = self.history.allocator();
         let numbers = Numbers::new(self.tables.own_numbers(alloc, seat)?);
         let joints = rising(self.tables.joints(alloc, seat, &numbers)?);
-        self.history.reserve()?;
+        self.history.reserve_deaths(0, joints.len())?;
         let place = self.history.len();
         self.tables.leave(seat, &numbers);
         let died = no_longer_held(&self.tables, joints);
         bury(&mut self.clauses, &died);
-        self.history.push(seat, MadeCall::Leave, deletion_of(died));
+        self.history.push_leave(seat, &died);
         Ok(place)
     }
 }

@@ -1,6 +1,8 @@
 //! Calls by themselves, each with memory at hand.
 use crate::book::opened;
-use crate::tables::{BINARY, Line, addition, assert_candidates, assert_lits, clause};
+use crate::tables::{
+    BINARY, Line, ListedStep, addition, assert_candidates, assert_lits, assert_steps, clause,
+};
 use lj_book::{Added, Book, Dropped, Imported, Refusal};
 use lj_clause::{Clause, Formula, Lit, NoMemory};
 use lj_hint::{Case, Live, Marks, Receipt, Tested, rat_test};
@@ -8,6 +10,12 @@ use lj_text::Numbers;
 use std::alloc::Global;
 use std::process::Abort;
 use std::test::Fail;
+
+/// The steps that refute the binary clauses.
+const TWO_STEPS: [ListedStep; 2] = [
+    ListedStep::Add(5, 1, &[1, 2], &[]),
+    ListedStep::Add(6, 0, &[5, 3, 4], &[]),
+];
 
 fn case_of(alloc: Global, book: &Book, line: &Line) -> Result<Case, Fail> {
     Ok(book.take(0, &addition(alloc, line)?)?)
@@ -57,10 +65,11 @@ fn assert_binary_verified(rt: &impl Abort, book: &Book) -> Result<(), Fail> {
     Ok(())
 }
 
-/// Asserts that the book is verified by two steps.
+/// Asserts that the book is verified by two steps, and that copies of them are these.
 fn assert_two_steps(rt: &impl Abort, book: Book) -> Result<(), Fail> {
     assert_binary_verified(rt, &book)?;
-    assert!(rt; book.into_steps().len() == 2);
+    let steps = book.into_steps().to_vec()?;
+    assert_steps(rt, &steps, &TWO_STEPS);
     Ok(())
 }
 

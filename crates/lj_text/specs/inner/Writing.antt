@@ -1,11 +1,6 @@
 -- What a call left of a text that it had to write: what the sink took, and what is held back.
-use Rattle.std.specs.Prelude.{◌≡◌, ℕ, List, ◌∷◌, ◌++◌, flat_map}
-use Rattle.std.specs.Str.{byte}
-use Rattle.lj_text.specs.Writing.{IsBeginning, IsCutShort}
-
--- a space and a word
-abbrev pub spaced_word : List ℕ → List ℕ
-spaced_word word = byte " " ∷ word
+use Rattle.std.specs.Prelude.{◌≡◌, ℕ, List, ◌++◌, flat_map}
+use Rattle.lj_text.specs.Writing.{IsBeginning, IsCutShort, spaced_word}
 
 -- The text follows what was taken and held before, and the sink has what it had and perhaps more.
 pub record Wrote (taken_before held_before taken_after held_after text : List ℕ) : Type 0 where

@@ -5,7 +5,8 @@ ghost use Rattle.std.specs.Ordering.{eq_by_cmp};
 ghost use Rattle.std.specs.Str.{byte};
 ghost use Rattle.lj_clause.specs.Literal.{lit_cmp};
 ghost use Rattle.lj_text.specs.StepText.{written_literals, group_words, addition_text, deletion_text};
-ghost use Rattle.lj_text.specs.inner.Writing.{Wrote, Broke, spaced_word, spaced_words};
+ghost use Rattle.lj_text.specs.Writing.{spaced_word};
+ghost use Rattle.lj_text.specs.inner.Writing.{Wrote, Broke, spaced_words};
 
 use super::held::Held;
 use crate::line::Addition;
@@ -37,7 +38,11 @@ fn write_word<W: Sink>(
 }
 
 /// Writes a number at the beginning of a line.
-fn write_first<W: Sink>(sink: &mut W, held: &mut Held, number: u64) -> Result<(), SinkFault>
+pub(super) fn write_first<W: Sink>(
+    sink: &mut W,
+    held: &mut Held,
+    number: u64,
+) -> Result<(), SinkFault>
     requires { W.failures sink.old ≡ 0 }
 
     ensures wrote { OnOk result (Wrote (W.taken sink.old) held.old (W.taken sink.new) held.new
@@ -53,7 +58,11 @@ fn write_first<W: Sink>(sink: &mut W, held: &mut Held, number: u64) -> Result<()
 }
 
 /// Writes a space and a number.
-fn write_number<W: Sink>(sink: &mut W, held: &mut Held, number: u64) -> Result<(), SinkFault>
+pub(super) fn write_number<W: Sink>(
+    sink: &mut W,
+    held: &mut Held,
+    number: u64,
+) -> Result<(), SinkFault>
     requires { W.failures sink.old ≡ 0 }
 
     ensures wrote { OnOk result (Wrote (W.taken sink.old) held.old (W.taken sink.new) held.new
@@ -69,7 +78,11 @@ fn write_number<W: Sink>(sink: &mut W, held: &mut Held, number: u64) -> Result<(
 }
 
 /// Writes a space and a literal.
-fn write_literal<W: Sink>(sink: &mut W, held: &mut Held, literal: Lit) -> Result<(), SinkFault>
+pub(super) fn write_literal<W: Sink>(
+    sink: &mut W,
+    held: &mut Held,
+    literal: Lit,
+) -> Result<(), SinkFault>
     requires { W.failures sink.old ≡ 0 }
 
     ensures wrote { OnOk result (Wrote (W.taken sink.old) held.old (W.taken sink.new) held.new
@@ -85,7 +98,11 @@ fn write_literal<W: Sink>(sink: &mut W, held: &mut Held, literal: Lit) -> Result
 }
 
 /// Writes a space and a candidate, with its `-`.
-fn write_candidate<W: Sink>(sink: &mut W, held: &mut Held, number: u64) -> Result<(), SinkFault>
+pub(super) fn write_candidate<W: Sink>(
+    sink: &mut W,
+    held: &mut Held,
+    number: u64,
+) -> Result<(), SinkFault>
     requires { W.failures sink.old ≡ 0 }
 
     ensures wrote { OnOk result (Wrote (W.taken sink.old) held.old (W.taken sink.new) held.new

@@ -23,7 +23,7 @@ check_with_steps-requires-clause-run g c = λ κs lives.
 pub ended-requires : goal.ended-requires
 ended-requires g c =
     let is = c.in-Ok.ensures.answer.printed in
-    subst (λ e. IsAskedFor e c.args.line.now.proof) (sym is.proof) (asked_proof (sink_state g.F.Output.Sink.taken g.F.Output.Sink.failures) is.runs.formula c.args.line.now.trim is.outcome.steps.items c.args.line.now.proof c.in_ok-proof.proof c.check_with_steps.new.proof is.outcome.proof c.in_ok-proof.ensures.created is.runs.proof)
+    subst (λ e. IsAskedFor e c.args.line.now.proof) (sym is.proof) (asked_proof (sink_state g.F.Output.Sink.taken g.F.Output.Sink.failures) is.runs.formula c.args.line.now.trim is.outcome.steps c.args.line.now.proof c.in_ok-proof.proof c.check_with_steps.new.proof is.outcome.proof c.in_ok-proof.ensures.created is.runs.proof)
 
 pub returns-in-Ok-clause-answered : goal.returns-in-Ok-clause-answered
 returns-in-Ok-clause-answered g c =

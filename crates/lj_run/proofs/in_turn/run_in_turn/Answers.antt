@@ -6,7 +6,7 @@ use Rattle.lj_text.specs.Streams.{source_state}
 use Rattle.lj_text.specs.Steps.{adds_empty}
 use Rattle.lj_book.specs.State.{State, live, opening, steps_of}
 use Rattle.lj_run.specs.InTurn.{IsOutcome}
-use Rattle.lj_run.specs.Proof.{IsProof, sink_state}
+use Rattle.lj_run.specs.Proof.{sink_state}
 use Rattle.lj_run.specs.declared.outcome.Outcome.{Outcome}
 use Rattle.lj_run.specs.declared.outcome.Way.TheVariants.{InTurn}
 use Rattle.lj_run.proofs.InTurnLemmas.{outcome_is, refutes_any}
@@ -16,7 +16,7 @@ use Rattle.lj_run.proofs.in_turn.run_in_turn.Goals as goal
 pub prove-proof-requires-clause-verified : goal.prove-proof-requires-clause-verified
 prove-proof-requires-clause-verified g c =
     refutes_any c.in_ok-verified.verified c.run_all.new.book.formula (steps_of c.run_all.new.book.history) (live c.run_all.new.book) c.in_ok-verified.ensures.refuted c.live_is_the_replay.ensures
-    ∙ ap (list_any adds_empty) (sym c.into_steps-steps.ensures ∙ sym c.deref.ensures.value)
+    ∙ ap (list_any adds_empty) (sym c.into_steps-steps.ensures)
 
 pub returns-clause-outcome : goal.returns-clause-outcome
 returns-clause-outcome g c =
@@ -33,4 +33,4 @@ returns-clause-outcome g c =
     let formula : IfSome c.in_ok-verified.verified (λ g. g ≡ f) = subst (λ (h : FormulaValue). IfSome c.in_ok-verified.verified (λ g. g ≡ h)) same c.in_ok-verified.ensures.formula in
     answer_by InTurn _ _ seen (sink_state g.W.Sink.taken g.W.Sink.failures) f max c.args.options.now.trim _ _ _ outcome c.run_all.new.book c.in_ok-formula.ensures.formula
     (subst (λ all. IsOutcome seen f max all outcome) c.in_ok-streams.ensures is) c.history_is_legal.ensures same c.into_steps-steps.ensures
-    (subst (λ ss. IsProof (sink_state g.W.Sink.taken g.W.Sink.failures) f c.args.options.now.trim ss c.args.out.now c.prove-proof.new.out c.prove-proof.result) c.deref.ensures.value (c.prove-proof.ensures f c.len-clauses.ensures.len formula))
+    (c.prove-proof.ensures f c.len-clauses.ensures.len formula)

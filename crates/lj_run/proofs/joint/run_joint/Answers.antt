@@ -3,7 +3,7 @@ use Rattle.std.specs.Prelude.{IfSome}
 use Rattle.lj_clause.specs.ClauseMap.{FormulaValue}
 use Rattle.lj_text.specs.Streams.{source_state}
 use Rattle.lj_run.specs.InTurn.{streams_by_seat}
-use Rattle.lj_run.specs.Proof.{IsProof, sink_state}
+use Rattle.lj_run.specs.Proof.{sink_state}
 use Rattle.lj_run.specs.declared.outcome.Outcome.{Outcome}
 use Rattle.lj_run.specs.declared.outcome.Way.TheVariants.{OnThreads}
 use Rattle.lj_run.proofs.JointRunLemmas.{joint_outcome_is}
@@ -23,4 +23,4 @@ returns-clause-outcome g c =
     let formula : IfSome c.in_ok-verified.verified (λ h. h ≡ f) = subst (λ (h : FormulaValue). IfSome c.in_ok-verified.verified (λ k. k ≡ h)) c.in_ok-reports.ensures.ran.opened.formula_is c.in_ok-verified.ensures.formula in
     answer_by OnThreads _ _ seen sink f max trims streams _ _ outcome c.in_ok-reports.book c.in_ok-formula.ensures.formula is
     c.in_ok-reports.ensures.ran.legal c.in_ok-reports.ensures.ran.opened.formula_is c.into_steps-steps.ensures
-    (subst (λ ss. IsProof sink f trims ss c.args.out.now c.prove-proof.new.out c.prove-proof.result) c.deref.ensures.value (c.prove-proof.ensures f c.len-clauses.ensures.len formula))
+    (c.prove-proof.ensures f c.len-clauses.ensures.len formula)

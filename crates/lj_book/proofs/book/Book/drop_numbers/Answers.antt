@@ -1,15 +1,17 @@
-use Rattle.std.proofs.Common.{◌≡◌, ap, sym, ◌∙◌, subst, ℕ}
-use Rattle.std.specs.Prelude.{List, [], ◌∷◌, ◌++◌}
+use Rattle.std.proofs.Common.{◌≡◌, ap, sym, ◌∙◌, subst, ℕ, refl, arith, ◌≤◌}
+use Rattle.std.specs.Prelude.{List, [], ◌∷◌, ◌++◌, length, not}
 use Rattle.lj_text.specs.Steps.{without}
+use Rattle.lj_text.specs.Needed.{if_some}
 use Rattle.lj_book.specs.declared.entry.Call.TheVariants as calls
 use Rattle.lj_book.specs.declared.entry.Entry.{Entry}
-use Rattle.lj_book.specs.Tables.{is_among}
+use Rattle.lj_book.specs.Tables.{is_among, is_held}
 use Rattle.lj_book.specs.State.{State}
 use Rattle.lj_book.specs.History.{after_entry}
 use Rattle.lj_book.specs.inner.Kept.{IsKept}
 use Rattle.lj_book.specs.Calls.{drop_entry}
 use Rattle.lj_book.proofs.HistoryLaws.{IsSound-reached}
 use Rattle.lj_book.proofs.BookLaws.{IsKept-drop, found_dead, dropped_state}
+use Rattle.lj_book.proofs.Lists.{length-filter-le}
 use Rattle.lj_book.proofs.book.Book.drop_numbers.Goals as goal
 
 pub invariant_of-self-2 : goal.invariant_of-self-2
@@ -18,9 +20,9 @@ invariant_of-self-2 c =
     let ns = c.args.numbers.now in
     let here = sym c.is_here.ensures ∙ c.if-not-is_here.false in
     let dead = found_dead s c.args.seat ns c.rising-joints.result.items c.no_longer_held-died.result.items c.unbind_all-count.new.self (IsSound-reached s c.self.invariant.reached) here c.unbind_all-count.ensures.removed c.rising-joints.ensures.rising (λ q. c.rising-joints.ensures.same q ∙ ap (λ (ms : List ℕ). is_among ms q) c.in_ok-joints.ensures) c.no_longer_held-died.ensures in
-    let entry : Entry = record { seat = c.args.seat; call = calls.Drop c.in_ok-given.given.value; step = c.deletion_of-step.result } in
-    let pushed : c.push.new.self.entries ≡ s.history ++ entry ∷ [] = c.push.ensures ∙ ap (λ (es : List Entry). es ++ entry ∷ []) c.in_ok-reserve.ensures.same in
-    let is = dropped_state s c.args.seat ns c.in_ok-given.given.value c.no_longer_held-died.result.items c.unbind_all-count.new.self c.deletion_of-step.result c.push.new.self.entries c.unbind_all-count.ensures.removed (c.in_ok-given.ensures.ok ∙ c.in_ok-own.ensures) dead c.deletion_of-step.ensures pushed in
+    let entry : Entry = record { seat = c.args.seat; call = calls.Drop ns; step = (if_some c.no_longer_held-died.result.items) } in
+    let pushed : c.push_drop.new.self.entries ≡ s.history ++ entry ∷ [] = c.push_drop.ensures ∙ ap (λ (ds : List ℕ). c.reserve_deaths.new.self.entries ++ record { seat = c.args.seat; call = calls.Drop ns; step = if_some ds } ∷ []) c.deref-2.ensures.value ∙ ap (λ (es : List Entry). es ++ entry ∷ []) c.in_ok-reserve_deaths.ensures.same in
+    let is = dropped_state s c.args.seat ns ns c.no_longer_held-died.result.items c.unbind_all-count.new.self (if_some c.no_longer_held-died.result.items) c.push_drop.new.self.entries c.unbind_all-count.ensures.removed refl dead refl pushed in
     subst (λ (t : State). IsKept t c.bury.new.clauses c.self.inside.added c.self.inside.refuted) (sym is)
     (IsKept-drop s c.self.inside.clauses c.bury.new.clauses c.self.inside.added c.self.inside.refuted c.args.seat ns c.self.invariant here (c.bury.ensures ∙ ap (λ (ms : List ℕ). without c.self.inside.clauses ms) (c.deref.ensures.value ∙ dead)))
 
@@ -30,7 +32,13 @@ returns-clause-ok c =
     let ns = c.args.numbers.now in
     let here = sym c.is_here.ensures ∙ c.if-not-is_here.false in
     let dead = found_dead s c.args.seat ns c.rising-joints.result.items c.no_longer_held-died.result.items c.unbind_all-count.new.self (IsSound-reached s c.self.invariant.reached) here c.unbind_all-count.ensures.removed c.rising-joints.ensures.rising (λ q. c.rising-joints.ensures.same q ∙ ap (λ (ms : List ℕ). is_among ms q) c.in_ok-joints.ensures) c.no_longer_held-died.ensures in
-    let entry : Entry = record { seat = c.args.seat; call = calls.Drop c.in_ok-given.given.value; step = c.deletion_of-step.result } in
-    let pushed : c.push.new.self.entries ≡ s.history ++ entry ∷ [] = c.push.ensures ∙ ap (λ (es : List Entry). es ++ entry ∷ []) c.in_ok-reserve.ensures.same in
-    dropped_state s c.args.seat ns c.in_ok-given.given.value c.no_longer_held-died.result.items c.unbind_all-count.new.self c.deletion_of-step.result c.push.new.self.entries c.unbind_all-count.ensures.removed (c.in_ok-given.ensures.ok ∙ c.in_ok-own.ensures) dead c.deletion_of-step.ensures pushed
+    let entry : Entry = record { seat = c.args.seat; call = calls.Drop ns; step = (if_some c.no_longer_held-died.result.items) } in
+    let pushed : c.push_drop.new.self.entries ≡ s.history ++ entry ∷ [] = c.push_drop.ensures ∙ ap (λ (ds : List ℕ). c.reserve_deaths.new.self.entries ++ record { seat = c.args.seat; call = calls.Drop ns; step = if_some ds } ∷ []) c.deref-2.ensures.value ∙ ap (λ (es : List Entry). es ++ entry ∷ []) c.in_ok-reserve_deaths.ensures.same in
+    dropped_state s c.args.seat ns ns c.no_longer_held-died.result.items c.unbind_all-count.new.self (if_some c.no_longer_held-died.result.items) c.push_drop.new.self.entries c.unbind_all-count.ensures.removed refl dead refl pushed
     ∙ ap (λ (t : State). after_entry t (drop_entry t c.args.seat ns)) c.self.view_is
+
+pub push_drop-requires-clause-words : goal.push_drop-requires-clause-words
+push_drop-requires-clause-words c =
+    let js : List ℕ = c.rising-joints.result.items in
+    let died : length c.deref-2.result.now ≤ length js = subst (λ (ds : List ℕ). length ds ≤ length js) (sym c.no_longer_held-died.ensures ∙ sym c.deref-2.ensures.value) (length-filter-le (λ n. not (is_held c.unbind_all-count.new.self n)) js) in
+    omega (arith, c.in_ok-reserve_deaths.ensures.words, c.len.ensures, c.len-2.ensures, c.rising-joints.result.ok.0)

@@ -39,11 +39,11 @@ invariant_of-self-2 c =
     let made : ℕ → ℕ → Entry = λ seat own. record { seat = seat; call = calls.Add own step.lemma; step = Some (steps.Add step) } in
     let entry : Entry = made c.seat.result c.own.result in
     let is_entry : entry ≡ entry_with (c.len.result + 1 + c.from.result) r = (λ i. made (c.seat.ensures i) (c.own.ensures i)) ∙ c.requires.step (c.len.result + 1 + c.from.result) in
-    let pushed : c.push.new.self.entries ≡ s.history ++ entry ∷ [] = c.push.ensures ∙ ap (λ (es : List Entry). es ++ entry ∷ []) c.in_ok-reserve.ensures.same in
-    let is = committed_state s r (c.len.result + 1 + c.from.result) entry c.enter_clause.new.tables c.push.new.self.entries joint is_entry c.in_ok-enter_clause.ensures.tables pushed in
-    let place : c.len-place.result ≡ length s.history = c.len-place.ensures.len ∙ ap (λ (es : List Entry). length es) c.in_ok-reserve.ensures.same in
+    let pushed : c.push_addition.new.self.entries ≡ s.history ++ entry ∷ [] = c.push_addition.ensures ∙ ap (λ (es : List Entry). es ++ entry ∷ []) c.in_ok-reserve_addition.ensures.same in
+    let is = committed_state s r (c.len.result + 1 + c.from.result) entry c.enter_clause.new.tables c.push_addition.new.self.entries joint is_entry c.in_ok-enter_clause.ensures.tables pushed in
+    let place : c.len-place.result ≡ length s.history = c.len-place.ensures.len ∙ ap (λ (es : List Entry). length es) c.in_ok-reserve_addition.ensures.same in
     let refuted = c.refuted_at-self-inside.ensures ∙ ap (λ (n : ℕ). refuted_after c.self.inside.refuted n c.clause.result.now) place ∙ ap (refuted_after c.self.inside.refuted (length s.history)) (c.clause.ensures.clause ∙ ap (λ l. l.clause) c.lemma.ensures.lemma) in
-    subst (λ (o : Option ℕ). IsKept (record { formula = s.formula; max_steps = s.max_steps; tables = c.enter_clause.new.tables; history = c.push.new.self.entries }) c.enter_clause.new.clauses (c.self.inside.added + 1) o) (sym refuted)
+    subst (λ (o : Option ℕ). IsKept (record { formula = s.formula; max_steps = s.max_steps; tables = c.enter_clause.new.tables; history = c.push_addition.new.self.entries }) c.enter_clause.new.clauses (c.self.inside.added + 1) o) (sym refuted)
     (subst (λ (t : State). IsKept t c.enter_clause.new.clauses (c.self.inside.added + 1) (refuted_after c.self.inside.refuted (length s.history) r.lemma.clause)) (sym is)
     (IsKept-commit s r c.self.inside.clauses c.enter_clause.new.clauses c.self.inside.added c.self.inside.refuted c.self.invariant c.lemma.ensures.receipt can (c.in_ok-enter_clause.ensures.clauses ∙ ap (λ (j : ℕ). fin.insert c.self.inside.clauses j r.lemma.clause) joint)))
 
@@ -57,6 +57,6 @@ returns-clause-ok c =
     let made : ℕ → ℕ → Entry = λ seat own. record { seat = seat; call = calls.Add own step.lemma; step = Some (steps.Add step) } in
     let entry : Entry = made c.seat.result c.own.result in
     let is_entry : entry ≡ entry_with (c.len.result + 1 + c.from.result) r = (λ i. made (c.seat.ensures i) (c.own.ensures i)) ∙ c.requires.step (c.len.result + 1 + c.from.result) in
-    let pushed : c.push.new.self.entries ≡ s.history ++ entry ∷ [] = c.push.ensures ∙ ap (λ (es : List Entry). es ++ entry ∷ []) c.in_ok-reserve.ensures.same in
-    let is = committed_state s r (c.len.result + 1 + c.from.result) entry c.enter_clause.new.tables c.push.new.self.entries joint is_entry c.in_ok-enter_clause.ensures.tables pushed in
+    let pushed : c.push_addition.new.self.entries ≡ s.history ++ entry ∷ [] = c.push_addition.ensures ∙ ap (λ (es : List Entry). es ++ entry ∷ []) c.in_ok-reserve_addition.ensures.same in
+    let is = committed_state s r (c.len.result + 1 + c.from.result) entry c.enter_clause.new.tables c.push_addition.new.self.entries joint is_entry c.in_ok-enter_clause.ensures.tables pushed in
     is ∙ ap (λ (t : State). after_entry t (commit_entry t r)) c.self.view_is

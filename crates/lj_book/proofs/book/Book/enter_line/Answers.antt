@@ -49,13 +49,13 @@ invariant_of-self-2 c =
     let kept = step_kept s seat a step e.0 e.1 in
     let pivot : IsPivot a.lemma = record { literal = c.has_pivot.ensures.literal; there = c.has_pivot.ensures.there } in
     let legal = entered_legal s seat a step e.0 (IsSound-reached s c.self.invariant.reached) pivot e.1 in
-    let pushed : c.push.new.self.entries ≡ s.history ++ line_entry seat a.number step ∷ [] =
-    c.push.ensures ∙ ap (λ (es : List Entry). es ++ line_entry seat a.number step ∷ []) c.in_ok-reserve.ensures.same in
-    let is = line_state s seat a.number step.number step c.bind_clause.new.tables c.push.new.self.entries kept.0 c.in_ok-bind_clause.ensures.tables pushed in
+    let pushed : c.push_addition.new.self.entries ≡ s.history ++ line_entry seat a.number step ∷ [] =
+    c.push_addition.ensures ∙ ap (λ (es : List Entry). es ++ line_entry seat a.number step ∷ []) c.in_ok-reserve_addition.ensures.same in
+    let is = line_state s seat a.number step.number step c.bind_clause.new.tables c.push_addition.new.self.entries kept.0 c.in_ok-bind_clause.ensures.tables pushed in
     let clause : c.in_ok-clause.clause ≡ step.lemma.clause = c.in_ok-clause.ensures ∙ c.clause.ensures.clause in
     let place : c.len-place.result ≡ length s.history = c.len-place.ensures.len in
     let refuted = c.refuted_at-refuted.ensures ∙ (λ i. refuted_after c.self.inside.refuted (place i) (clause i)) in
-    subst (λ (o : Option ℕ). IsKept (record { formula = s.formula; max_steps = s.max_steps; tables = c.bind_clause.new.tables; history = c.push.new.self.entries }) c.bind_clause.new.clauses (c.self.inside.added + 1) o) (sym refuted)
+    subst (λ (o : Option ℕ). IsKept (record { formula = s.formula; max_steps = s.max_steps; tables = c.bind_clause.new.tables; history = c.push_addition.new.self.entries }) c.bind_clause.new.clauses (c.self.inside.added + 1) o) (sym refuted)
     (subst (λ (t : State). IsKept t c.bind_clause.new.clauses (c.self.inside.added + 1) (refuted_after c.self.inside.refuted (length s.history) step.lemma.clause)) (sym is)
     (IsKept-line s seat a.number step c.self.inside.clauses c.bind_clause.new.clauses c.self.inside.added c.self.inside.refuted c.self.invariant legal
     (c.in_ok-bind_clause.ensures.clauses ∙ (λ i. fin.insert c.self.inside.clauses (kept.0 i) (clause i)))))
@@ -76,7 +76,7 @@ returns-clause-ok c =
     let step = c.args.step in
     let e = entered s seat a step (ap (λ (t : State). inside_line t seat a) c.self.view_is ∙ c.requires) in
     let kept = step_kept s seat a step e.0 e.1 in
-    let pushed : c.push.new.self.entries ≡ s.history ++ line_entry seat a.number step ∷ [] =
-    c.push.ensures ∙ ap (λ (es : List Entry). es ++ line_entry seat a.number step ∷ []) c.in_ok-reserve.ensures.same in
-    line_state s seat a.number step.number step c.bind_clause.new.tables c.push.new.self.entries kept.0 c.in_ok-bind_clause.ensures.tables pushed
+    let pushed : c.push_addition.new.self.entries ≡ s.history ++ line_entry seat a.number step ∷ [] =
+    c.push_addition.ensures ∙ ap (λ (es : List Entry). es ++ line_entry seat a.number step ∷ []) c.in_ok-reserve_addition.ensures.same in
+    line_state s seat a.number step.number step c.bind_clause.new.tables c.push_addition.new.self.entries kept.0 c.in_ok-bind_clause.ensures.tables pushed
     ∙ ap (λ (t : State). after_entry t (line_entry seat a.number step)) c.self.view_is

@@ -1,7 +1,6 @@
 use Rattle.std.proofs.Common.{◌≡◌, ap, sym, ◌∙◌, subst, refl}
 use Rattle.std.specs.Prelude.{None, Some}
 use Rattle.std.specs.FinMap as fin
-use Rattle.lj_clause.specs.LiteralSet.{LiteralSet}
 use Rattle.lj_book.specs.declared.entry.Call.TheVariants as calls
 use Rattle.lj_book.specs.Lookup.{least_number}
 use Rattle.lj_book.specs.State.{State, live}
@@ -19,11 +18,10 @@ pub bind_live-requires-clause-legal : goal.bind_live-requires-clause-legal
 bind_live-requires-clause-legal c =
     let s = c.args.self.now in
     let can = can_bind s c.args.seat c.args.own (sym c.free_refusal.ensures ∙ c.in_default.is) in
-    let found : least_number (live s) c.in_ok-clause.clause ≡ Some c.in-Some-least_number.joint =
-    ap (λ (d : LiteralSet). least_number (live s) d) c.in_ok-clause.ensures
-    ∙ sym c.least_number.ensures.number
+    let found : least_number (live s) c.args.clause.now ≡ Some c.in-Some-least_number.joint =
+    sym c.least_number.ensures.number
     ∙ c.in-Some-least_number.is in
-    subst (λ (t : State). IsLegalCall t c.args.seat (calls.Import c.args.own c.in_ok-clause.clause) None) (sym c.least_number.ensures.same)
+    subst (λ (t : State). IsLegalCall t c.args.seat (calls.Import c.args.own c.args.clause.now) None) (sym c.least_number.ensures.same)
     (record {
       here = can.here;
       unbound = can.unbound;

@@ -1,6 +1,6 @@
 use Rattle.std.proofs.Common.{ap, ◌∙◌, ◌++◌, append-nil}
 use Rattle.std.specs.Fmt.{decimal}
-use Rattle.lj_text.specs.inner.Writing.{spaced_word}
+use Rattle.lj_text.specs.Writing.{spaced_word}
 use Rattle.lj_text.proofs.WritingLemmas.{on_err}
 use Rattle.lj_text.proofs.WrittenWords.{broke_behind, numbers_text, numbers_text-append}
 use Rattle.lj_text.proofs.writer.step_words.write_numbers.Goals as goal

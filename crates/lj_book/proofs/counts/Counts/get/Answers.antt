@@ -1,0 +1,14 @@
+use Rattle.std.proofs.Common.{ap, sym, ◌∙◌}
+use Rattle.std.specs.FinMap as fin
+use Rattle.lj_book.proofs.Slots.{joined_near, joined_far}
+use Rattle.lj_book.proofs.counts.Counts.get.Goals as goal
+
+pub returns-in-Some : goal.returns-in-Some
+returns-in-Some c =
+    let there = sym c.get.ensures.value ∙ c.in-Some.is in
+    sym (joined_near c.self.inside.short c.self.inside.long c.args.number _ there) ∙ ap (λ m. fin.get m c.args.number) c.self.view_is
+
+pub returns-in-None : goal.returns-in-None
+returns-in-None c =
+    let absent = sym c.get.ensures.value ∙ c.in-None.is in
+    c.copied.ensures ∙ c.get-in-None.ensures ∙ sym (joined_far c.self.inside.short c.self.inside.long c.args.number absent) ∙ ap (λ m. fin.get m c.args.number) c.self.view_is

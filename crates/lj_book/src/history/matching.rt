@@ -1,0 +1,167 @@
+//! Entries that are compared with what was written.
+ghost use Rattle.std.specs.Prelude.{◌≡◌, ◌↔◌, ◌<◌, IsTrue};
+ghost use Rattle.lj_clause.specs.LiteralSet.{literals, from_literals};
+ghost use Rattle.lj_text.specs.Needed.{if_some};
+ghost use Rattle.lj_book.specs.inner.Words.{number_in, list_in, hint_groups_in};
+ghost use Rattle.lj_book.specs.inner.Records.{lemma_lits, lits_in, call_lits, addition_in, call_in, step_in, entry_in, read_in, named_in};
+
+use super::reading::named;
+use super::{ADDITION, ADOPT, DROP, IMPORT, KINDS};
+use crate::entry::{Call, Entry};
+use crate::same::same_lemma;
+use crate::words::{groups_match, list_matches, number, numbers_match};
+use lj_clause::{Lemma, Lit};
+use lj_text::{Addition, Step};
+
+/// Whether these are the literals of the lemma, its pivot first.
+fn are_of_lemma(lits: &[Lit], lemma: &Lemma) -> bool
+    ensures { IsTrue result ↔ (lits.now ≡ lemma_lits lemma.now) }
+{
+    match (lemma.pivot(), lits) {
+        (Some(pivot), [first, others @ ..]) => {
+            *first == pivot && same_lits(others, lemma.clause().lits())
+        }
+        (Some(_), []) => false,
+        (None, _) => same_lits(lits, lemma.clause().lits()),
+    }
+}
+
+/// Whether the two lists are the same.
+fn same_lits(lits: &[Lit], others: &[Lit]) -> bool
+    ensures { IsTrue result ↔ (lits.now ≡ others.now) }
+{
+    lits == others
+}
+
+/// Whether the hints and the groups at the front of the words are those of the addition.
+fn are_hints_of(words: &[u32], addition: &Addition) -> bool
+    ensures { IsTrue result ↔ (((list_in words.now).0 ≡ addition.now.hints)
+        × ((hint_groups_in (list_in words.now).1).0 ≡ addition.now.groups)) }
+{
+    match list_matches(words, &addition.hints) {
+        Some(rest) => groups_match(rest, addition.groups.as_slice()).is_some(),
+        None => false,
+    }
+}
+
+/// Whether the addition behind its own number is this one.
+fn is_added(lits: &[Lit], words: &[u32], addition: &Addition) -> bool
+    requires { lits_in lits.now (number_in words.now).1
+        ≡ lemma_lits (addition_in lits.now words.now).lemma }
+    ensures { IsTrue result ↔ (addition_in lits.now words.now ≡ addition.now) }
+{
+    let (joint, rest) = number(words);
+    let (literals, rest) = named(lits, rest);
+    let _ = addition.lemma.pivot();
+    if joint != addition.number {
+        return false;
+    }
+    if !are_of_lemma(literals, &addition.lemma) {
+        return false;
+    }
+    are_hints_of(rest, addition)
+}
+
+/// Whether the words behind the first number of an addition are those of this call and this step.
+fn is_addition(lits: &[Lit], words: &[u32], call: &Call, step: &Option<Step>) -> bool
+    requires { lits_in lits.now (number_in (number_in words.now).1).1
+        ≡ lemma_lits (addition_in lits.now (number_in words.now).1).lemma }
+    ensures { IsTrue result
+        ↔ ((call_in lits.now 0 words.now ≡ call.now) × (step_in lits.now 0 words.now ≡ step.now)) }
+{
+    let (found, rest) = number(words);
+    match (call, step) {
+        (Call::Add { own, lemma }, Some(Step::Add(addition))) => {
+            found == *own && same_lemma(lemma, &addition.lemma) && is_added(lits, rest, addition)
+        }
+        _ => false,
+    }
+}
+
+/// Whether the deletion of the list at the front of the words, if it has a number, is this step.
+fn is_deletion(words: &[u32], step: &Option<Step>) -> bool
+    ensures { IsTrue result ↔ (if_some (list_in words.now).0 ≡ step.now) }
+{
+    match step {
+        Some(Step::Delete { numbers }) => {
+            !numbers.is_empty() && list_matches(words, numbers).is_some()
+        }
+        Some(Step::Add(_)) => false,
+        None => numbers_match(words, &[]).is_some(),
+    }
+}
+
+/// Whether the words behind the first number of a drop are those of this call and this step.
+fn is_drop(lits: &[Lit], words: &[u32], call: &Call, step: &Option<Step>) -> bool
+    ensures { IsTrue result
+        ↔ ((call_in lits.now 1 words.now ≡ call.now) × (step_in lits.now 1 words.now ≡ step.now)) }
+{
+    let Call::Drop { numbers } = call else {
+        return false;
+    };
+    match list_matches(words, numbers) {
+        Some(rest) => is_deletion(rest, step),
+        None => false,
+    }
+}
+
+/// Whether the words behind the first number of an adoption are those of this call and this step.
+fn is_adoption(lits: &[Lit], words: &[u32], call: &Call, step: &Option<Step>) -> bool
+    ensures { IsTrue result
+        ↔ ((call_in lits.now 2 words.now ≡ call.now) × (step_in lits.now 2 words.now ≡ step.now)) }
+{
+    let (found, rest) = number(words);
+    let (bound, _) = number(rest);
+    match call {
+        Call::Adopt { own, joint } => found == *own && bound == *joint && step.is_none(),
+        _ => false,
+    }
+}
+
+/// Whether the words behind the first number of an import are those of this call and this step.
+fn is_import(lits: &[Lit], words: &[u32], call: &Call, step: &Option<Step>) -> bool
+    requires { lits_in lits.now (number_in words.now).1
+        ≡ literals (from_literals (lits_in lits.now (number_in words.now).1)) }
+    ensures { IsTrue result
+        ↔ ((call_in lits.now 3 words.now ≡ call.now) × (step_in lits.now 3 words.now ≡ step.now)) }
+{
+    let (found, rest) = number(words);
+    let (literals, _) = named(lits, rest);
+    let Call::Import { own, clause } = call else {
+        return false;
+    };
+    if found != *own {
+        return false;
+    }
+    if !same_lits(literals, clause.lits()) {
+        return false;
+    }
+    step.is_none()
+}
+
+/// Whether the words behind the first number of an entry of a kind are those of this call and this step.
+fn is_of_kind(lits: &[Lit], kind: u64, words: &[u32], call: &Call, step: &Option<Step>) -> bool
+    requires { named_in lits.now kind words.now ≡ call_lits (call_in lits.now kind words.now) }
+    ensures { IsTrue result ↔ ((call_in lits.now kind words.now ≡ call.now)
+        × (step_in lits.now kind words.now ≡ step.now)) }
+{
+    match kind {
+        ADDITION => is_addition(lits, words, call, step),
+        DROP => is_drop(lits, words, call, step),
+        ADOPT => is_adoption(lits, words, call, step),
+        IMPORT => is_import(lits, words, call, step),
+        _ => matches!(call, Call::Leave) && is_deletion(words, step),
+    }
+}
+
+/// Whether the entry whose words these begin with is this one.
+pub(super) fn is_entry(lits: &[Lit], words: &[u32], entry: &Entry) -> bool
+    requires named { (read_in lits.now words.now).1
+        ≡ call_lits (read_in lits.now words.now).0.call }
+    requires seated { (entry_in lits.now words.now).seat < 4294967296 }
+    ensures { IsTrue result ↔ (entry_in lits.now words.now ≡ entry.now) }
+{
+    let (head, rest) = number(words);
+    head / KINDS == u64::from(entry.seat)
+        && is_of_kind(lits, head % KINDS, rest, &entry.call, &entry.step)
+}

@@ -1,0 +1,74 @@
+//! Words that are compared with numbers.
+ghost use Rattle.std.specs.Prelude.{◌≡◌, IfSome, IfNone};
+ghost use Rattle.lj_book.specs.inner.Words.{list_in, hint_group_in, hint_groups_in};
+
+use super::reading::number;
+use lj_text::{Group, Numbers};
+
+/// What stands behind the list at the front of the words, if it has these numbers.
+pub(crate) fn list_matches<'a>(words: &'a [u32], numbers: &Numbers) -> Option<&'a [u32]>
+    ensures same { IfSome result (λ rest. list_in words.now ≡ (numbers.now, rest.now)) }
+    ensures other { IfNone result ((list_in words.now).0 ≡ numbers.now → ⊥) }
+{
+    let (count, mut rest) = number(words);
+    if count != numbers.len() as u64 {
+        return None;
+    }
+    for wanted in numbers.iter() {
+        let (next, after) = number(rest);
+        if next != wanted {
+            return None;
+        }
+        rest = after;
+    }
+    Some(rest)
+}
+
+/// What stands behind the list at the front of the words, if it has these numbers.
+pub(crate) fn numbers_match<'a>(words: &'a [u32], numbers: &[u64]) -> Option<&'a [u32]>
+    ensures same { IfSome result (λ rest. list_in words.now ≡ (numbers.now, rest.now)) }
+    ensures other { IfNone result ((list_in words.now).0 ≡ numbers.now → ⊥) }
+{
+    let (count, mut rest) = number(words);
+    if count != numbers.len() as u64 {
+        return None;
+    }
+    for wanted in numbers {
+        let (next, after) = number(rest);
+        if next != *wanted {
+            return None;
+        }
+        rest = after;
+    }
+    Some(rest)
+}
+
+/// What stands behind the group at the front of the words, if it is this one.
+fn group_matches<'a>(words: &'a [u32], group: &Group) -> Option<&'a [u32]>
+    ensures same { IfSome result (λ rest. hint_group_in words.now ≡ (group.now, rest.now)) }
+    ensures other { IfNone result ((hint_group_in words.now).0 ≡ group.now → ⊥) }
+{
+    let (candidate, rest) = number(words);
+    if candidate != group.candidate {
+        return None;
+    }
+    list_matches(rest, &group.hints)
+}
+
+/// What stands behind the list at the front of the words, if it has these groups.
+pub(crate) fn groups_match<'a>(words: &'a [u32], groups: &[Group]) -> Option<&'a [u32]>
+    ensures same { IfSome result (λ rest. hint_groups_in words.now ≡ (groups.now, rest.now)) }
+    ensures other { IfNone result ((hint_groups_in words.now).0 ≡ groups.now → ⊥) }
+{
+    let (count, mut rest) = number(words);
+    if count != groups.len() as u64 {
+        return None;
+    }
+    for group in groups {
+        match group_matches(rest, group) {
+            Some(after) => rest = after,
+            None => return None,
+        }
+    }
+    Some(rest)
+}
