@@ -37,6 +37,14 @@ impl Page {
         at < self.stamps.len()
     }
 
+    /// The stamps, from the first on.
+    #[inline]
+    pub(crate) fn as_slice(&self) -> &[u32]
+        ensures { result.now ≡ self.now }
+    {
+        &self.stamps
+    }
+
     /// The stamp at an index.
     #[inline]
     pub(crate) fn get(&self, at: usize) -> u32

@@ -48,10 +48,18 @@ impl Stamps {
     pub(crate) fn get(&self, place: usize) -> u32
         ensures { result ≡ stamp_at self.now place }
     {
-        if self.near.reaches(place) {
-            return self.near.get(place);
+        self.lent().get(place)
+    }
+
+    /// The stamps, lent to who reads many of them.
+    #[inline]
+    pub(crate) fn lent(&self) -> LentStamps<'_>
+        ensures { result ≡ self.now }
+    {
+        LentStamps {
+            near: self.near.as_slice(),
+            stamps: self,
         }
-        self.get_beyond(place)
     }
 
     /// The stamp at a place, as [`Stamps::get`] tells it: for a place beyond the list.
@@ -130,4 +138,35 @@ fn room_for(place: usize) -> usize
     ensures near { result ≤ NEAR }
 {
     (2 * place + SPARE).min(NEAR)
+}
+
+/// Stamps that are lent, with the list of the first places at hand.
+#[derive(Drop)]
+pub(crate) struct LentStamps<'a> {
+    near: &'a [u32],
+    stamps: &'a Stamps,
+}
+
+impl<'a> Model for LentStamps<'a> {
+    ghost use Rattle.std.specs.Prelude.{◌≡◌};
+    ghost use Rattle.lj_hint.specs.inner.Stamps.{Stamped, IsNearList};
+
+    ghost Value = { Stamped };
+
+    ghost view = { λ l. l.stamps.now };
+
+    ghost invariant = { λ l. (l.near.now ≡ l.stamps.now.0) × IsNearList l.near.now };
+}
+
+impl<'a> LentStamps<'a> {
+    /// The stamp at a place. Takes constant time.
+    #[inline(always)]
+    pub(crate) fn get(&self, place: usize) -> u32
+        ensures { result ≡ stamp_at self.now place }
+    {
+        match self.near.get(place) {
+            Some(stamp) => *stamp,
+            None => self.stamps.get_beyond(place),
+        }
+    }
 }

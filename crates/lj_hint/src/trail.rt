@@ -2,7 +2,7 @@
 ghost use Rattle.std.specs.Prelude.{◌≡◌, ◌<◌, ◌-◌, [], ◌∷◌, ◌++◌, OnOk, OnErr, take, length, false};
 ghost use Rattle.lj_clause.specs.LiteralSet.{holds, from_literals};
 
-use crate::stamps::Stamps;
+use crate::stamps::{LentStamps, Stamps};
 use lj_clause::{Lit, NoMemory};
 use std::alloc::Global;
 use std::marker::Model;
@@ -67,7 +67,19 @@ impl Trail {
     pub(crate) fn holds(&self, lit: Lit) -> bool
         ensures { result ≡ holds (from_literals self.now) lit }
     {
-        self.stamps.get(lit.place()) == self.stamp
+        self.lent().holds(lit)
+    }
+
+    /// The trail, lent to who asks for many literals.
+    #[inline]
+    pub(crate) fn lent(&self) -> LentTrail<'_>
+        ensures { result ≡ self.now }
+    {
+        LentTrail {
+            stamps: self.stamps.lent(),
+            stamp: self.stamp,
+            trail: self,
+        }
     }
 
     /// Puts a literal at the end that isn't there yet. Takes constant time, but for the first of its page.
@@ -97,5 +109,34 @@ impl Trail {
         if let Some(lit) = self.lits.pop() {
             self.stamps.erase(lit.place());
         }
+    }
+}
+
+/// A trail that is lent, with its stamps at hand.
+#[derive(Drop)]
+pub(crate) struct LentTrail<'a> {
+    stamps: LentStamps<'a>,
+    stamp: u32,
+    trail: &'a Trail,
+}
+
+impl<'a> Model for LentTrail<'a> {
+    ghost use Rattle.std.specs.Prelude.{List, ℤ};
+    ghost use Rattle.lj_hint.specs.inner.Stamps.{AreMarks};
+
+    ghost Value = { List ℤ };
+
+    ghost view = { λ t. t.trail.now };
+
+    ghost invariant = { λ t. AreMarks t.stamps t.stamp t.trail.now };
+}
+
+impl<'a> LentTrail<'a> {
+    /// Whether the literal is there. Takes constant time.
+    #[inline(always)]
+    pub(crate) fn holds(&self, lit: Lit) -> bool
+        ensures { result ≡ holds (from_literals self.now) lit }
+    {
+        self.stamps.get(lit.place()) == self.stamp
     }
 }

@@ -6,7 +6,7 @@ ghost use Rattle.lj_clause.specs.LiteralSet.{from_literals, holds, with_negation
 ghost use Rattle.lj_clause.specs.Walk.{is_contradictory};
 ghost use Rattle.lj_hint.specs.inner.Trail.{with_mark, Extends};
 
-use crate::trail::Trail;
+use crate::trail::{LentTrail, Trail};
 use lj_clause::{Lit, NoMemory};
 use std::alloc::Global;
 use std::marker::Model;
@@ -63,6 +63,14 @@ impl TrueLits {
         ensures { result ≡ holds (from_literals self.now) lit }
     {
         self.trail.holds(lit)
+    }
+
+    /// The set, lent to who asks for many literals.
+    #[inline]
+    pub(crate) fn lent(&self) -> LentTrail<'_>
+        ensures { result ≡ self.now }
+    {
+        self.trail.lent()
     }
 
     /// Whether a literal and its negation are in the set.

@@ -1,12 +1,13 @@
 //! The walk over hints: hinted unit propagation.
-ghost use Rattle.std.specs.Prelude.{◌≡◌, IfOk, false};
-ghost use Rattle.lj_clause.specs.LiteralSet.{from_literals, negations};
+ghost use Rattle.std.specs.Prelude.{◌≡◌, ◌∷◌, IfOk, false, filter, not, neg_ℤ};
+ghost use Rattle.lj_clause.specs.LiteralSet.{from_literals, holds, negations};
 ghost use Rattle.lj_clause.specs.Walk.{rest, walk_over, is_contradictory, Open};
 ghost use Rattle.lj_hint.specs.inner.Trail.{Extends};
 ghost use Rattle.lj_hint.specs.inner.Rest.{rest_seen};
 ghost use Rattle.lj_hint.specs.inner.Ending.{ending_of};
 
 use crate::hint_list::HintList;
+use crate::trail::LentTrail;
 use crate::true_lits::TrueLits;
 use lj_clause::{Clause, Lit, NoMemory};
 
@@ -85,18 +86,33 @@ pub(crate) fn walk<H: HintList>(held: &mut TrueLits, hints: &H) -> Result<Ending
 }
 
 /// The literals of the clause whose negation isn't held.
+#[inline(always)]
 pub(crate) fn rest_of(held: &TrueLits, clause: &Clause) -> Rest
     ensures { result ≡ rest_seen (rest clause.now (from_literals held.now)) }
 {
-    let mut found = Rest::Nothing;
-    let lits = clause.lits();
-    for lit in lits {
-        if !held.holds(lit.negated()) {
-            match found {
-                Rest::Nothing => found = Rest::One(*lit),
-                _ => return Rest::More,
-            }
+    let lent = held.lent();
+    let mut lits = clause.lits();
+    while let [lit, others @ ..] = lits {
+        if !lent.holds(lit.negated()) {
+            return one_or_more(&lent, *lit, others);
         }
+        lits = others;
     }
-    found
+    Rest::Nothing
+}
+
+/// This literal, and those of the others whose negation isn't held.
+#[inline(always)]
+fn one_or_more(held: &LentTrail<'_>, lit: Lit, others: &[Lit]) -> Rest
+    ensures { result ≡ rest_seen (lit ∷ filter
+        (λ m. not (holds (from_literals held.now) (neg_ℤ m))) others.now) }
+{
+    let mut lits = others;
+    while let [other, more @ ..] = lits {
+        if !held.holds(other.negated()) {
+            return Rest::More;
+        }
+        lits = more;
+    }
+    Rest::One(lit)
 }

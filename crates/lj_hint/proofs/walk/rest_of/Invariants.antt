@@ -1,10 +1,14 @@
-use Rattle.std.proofs.Common.{◌≡◌, drop}
-use Rattle.std.specs.Prelude.{filter, not, neg_ℤ}
+use Rattle.std.proofs.Common.{◌≡◌, filter, length}
+use Rattle.std.specs.Prelude.{not, neg_ℤ}
 use Rattle.lj_clause.specs.LiteralSet.{holds, from_literals}
+use Rattle.lj_clause.specs.Walk.{rest}
 use Rattle.lj_hint.specs.inner.Rest.{rest_seen}
-use Rattle.lj_hint.proofs.Rests.{seen_after}
 use Rattle.lj_hint.proofs.walk.rest_of.Given as goal
 
-abbrev pub invariant-loop-lit : goal.invariant-loop-lit
-invariant-loop-lit l =
-    seen_after l.found (filter (λ m. not (holds (from_literals l.held) (neg_ℤ m))) (drop l.lit-index l.lits)) ≡ rest_seen (filter (λ m. not (holds (from_literals l.held) (neg_ℤ m))) l.lits)
+-- the literals so far are false
+abbrev pub invariant-loop-lits : goal.invariant-loop-lits
+invariant-loop-lits l =
+    rest_seen (filter (λ m. not (holds (from_literals l.held) (neg_ℤ m))) l.lits) ≡ rest_seen (rest l.clause (from_literals l.held))
+
+abbrev pub decreases-loop-lits : goal.decreases-loop-lits
+decreases-loop-lits l = length l.lits
