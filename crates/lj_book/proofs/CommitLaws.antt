@@ -10,6 +10,7 @@ use Rattle.std.specs.Cmp.{both_ways}
 use Rattle.lj_clause.specs.Literal.{lit_cmp}
 use Rattle.lj_clause.specs.LiteralSet.{LiteralSet, holds, literals, negations}
 use Rattle.lj_clause.specs.ClauseMap.{ClauseMap}
+use Rattle.lj_clause.specs.Lemma.{LemmaValue}
 use Rattle.lj_clause.specs.Walk.{Walk, Closed, hints_in, walk_over, is_closed}
 use Rattle.lj_clause.proofs.LiteralSets.{same_set, holds-literals}
 use Rattle.lj_clause.proofs.Among.{among, itself}
@@ -21,6 +22,8 @@ use Rattle.lj_text.specs.Needed.{additions}
 use Rattle.lj_hint.specs.declared.pair.Pair.{Pair}
 use Rattle.lj_hint.specs.Hints.{named_hints, numbers}
 use Rattle.lj_hint.specs.Receipt.{ReceiptValue, IsReceipt}
+use Rattle.lj_book.specs.declared.entry.Call.{Call}
+use Rattle.lj_book.specs.declared.entry.Call.TheVariants as calls
 use Rattle.lj_book.specs.declared.entry.Entry.{Entry}
 use Rattle.lj_book.specs.Tables.{Table, Tables, is_here, is_bound, is_held, with_table}
 use Rattle.lj_book.specs.State.{State, steps_of, addition_count, next, live, verdict}
@@ -168,3 +171,11 @@ committed_state s r joint entry tables history is made bound pushed =
     same_state s.formula s.max_steps tables _ history _
     (bound ∙ ap (λ (j : ℕ). with_table (λ (t : Table). fin.insert t r.own j) s.tables r.seat) is)
     (pushed ∙ ap (λ (e : Entry). s.history ++ e ∷ []) (made ∙ ap (λ (j : ℕ). entry_with j r) is))
+
+-- the lemma of a call that adds one
+abbrev pub lemma_called : Call → LemmaValue → LemmaValue
+lemma_called (calls.Add own lemma) other = lemma
+lemma_called (calls.Drop numbers) other = other
+lemma_called (calls.Adopt own joint) other = other
+lemma_called (calls.Import own clause) other = other
+lemma_called calls.Leave other = other

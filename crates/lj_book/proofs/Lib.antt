@@ -18,6 +18,7 @@ pub mod Scans
 pub mod BindingLaws
 pub mod LeaveLaws
 mod HolderBounds
+mod PlaceLaws
 pub mod PlayLaws
 mod Slots
 mod OccurrenceLaws

@@ -454,3 +454,13 @@ counts-up_to (suc k) n q =
 -- counts and tables agree at the opening
 pub AreHolders-opening : (seats clauses : ℕ) → AreHolders (replicate seats (Some (up_to clauses))) (all_up_to clauses seats)
 AreHolders-opening seats clauses = λ q. counts-up_to clauses seats q ∙ sym (holders-replicate seats (up_to clauses) q)
+
+-- what is bound and given up again
+pub put_and_taken : (ts : Tables) (seat own joint : ℕ) → is_here ts seat ≡ true → is_bound ts seat own ≡ false → with_table (λ t. fin.remove t own) (with_table (λ t. fin.insert t own joint) ts seat) seat ≡ ts
+put_and_taken ts seat own joint here free = by (table_of ts seat) refl here
+  where
+    by : (o : Option Table) → table_of ts seat ≡ o → is_here ts seat ≡ true → with_table (λ t. fin.remove t own) (with_table (λ t. fin.insert t own joint) ts seat) seat ≡ ts
+    by None e h = no_table ts seat e h
+    by (Some t) e h =
+        with_table-with_table (λ u. fin.remove u own) (λ u. fin.insert u own joint) ts seat
+        ∙ with_table-id (λ u. fin.remove (fin.insert u own joint) own) ts seat t e (remove-insert t own joint (free_in_table ts seat own t e free))

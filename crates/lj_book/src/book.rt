@@ -1,7 +1,6 @@
 //! The book.
 ghost use Rattle.std.specs.Prelude.{◌≡◌, ◌<◌, ◌+◌, length, ◌↔◌, IsTrue, OnOk, OnErr, IfOk, IfErr, Err, option_copied, option_map, slice_get, is_some, IfSome, None, Some};
 ghost use Rattle.std.specs.FinMap as fin;
-ghost use Rattle.lj_clause.specs.ClauseMap.{formula_map};
 ghost use Rattle.lj_text.specs.Steps.{replay, refutes};
 ghost use Rattle.lj_text.specs.Needed.{if_some};
 ghost use Rattle.lj_book.specs.Lookup.{numbers_holding};
@@ -17,17 +16,16 @@ mod leaving;
 mod playing;
 mod telling;
 
-use crate::committing::{enter_clause, first_stale, refuted_at, step_of};
-use crate::dying::{bury, no_longer_held, rising};
+use crate::committing::{enter_addition, first_stale, refuted_at, step_of};
+use crate::dying::{no_longer_held, rising};
 use crate::entry::{Added, Dropped, Entry};
-use crate::history::History;
-use crate::indexed_clauses::IndexedClauses;
+use crate::ledger::Ledger;
 use crate::refusal::Refusal;
 use crate::seat_tables::SeatTables;
 use crate::steps::Steps;
 use crate::taking::case_of;
 use crate::verified::Verified;
-use lj_clause::{Clause, Formula, Lit, NoMemory};
+use lj_clause::{ClauseView, Formula, Lit, NoMemory};
 use lj_hint::{Case, Receipt};
 use lj_text::{Addition, Numbers, Step};
 use std::alloc::Global;
@@ -41,9 +39,8 @@ pub struct Book {
     formula: Formula,
     max_steps: u32,
     tables: SeatTables,
-    /// The clause of each number that some seat holds.
-    clauses: IndexedClauses,
-    history: History,
+    /// The history, and the clause of each number that some seat holds.
+    ledger: Ledger,
     /// The number of additions in the history.
     added: u32,
     /// The place of the first entry that adds the empty clause.
@@ -63,15 +60,15 @@ impl Model for Book {
       formula = b.formula;
       max_steps = b.max_steps;
       tables = b.tables;
-      history = b.history.entries;
+      history = b.ledger.history.entries;
     } };
 
     ghost invariant = { λ b. IsKept (record {
       formula = b.formula;
       max_steps = b.max_steps;
       tables = b.tables;
-      history = b.history.entries;
-    }) b.clauses b.added b.refuted };
+      history = b.ledger.history.entries;
+    }) b.ledger.live b.added b.refuted };
 }
 
 impl Book {
@@ -89,14 +86,13 @@ impl Book {
         requires { 0 < seats }
         ensures { IfOk result (λ book. book ≡ opening formula seats max_steps) }
     {
-        let clauses = clauses_of(alloc, &formula)?;
+        let ledger = Ledger::open(alloc, &formula)?;
         let tables = SeatTables::open(alloc, seats, formula.len() as u64)?;
         Ok(Book {
             formula,
             max_steps,
             tables,
-            clauses,
-            history: History::new(alloc),
+            ledger,
             added: 0,
             refuted: None,
         })
@@ -117,22 +113,22 @@ impl Book {
     pub fn candidates(&self, lit: Lit) -> Result<Vec<u64>, NoMemory>
         ensures { IfOk result (λ numbers. numbers.items ≡ numbers_holding (live self.now) lit) }
     {
-        let alloc = self.history.allocator();
-        self.clauses.numbers_holding(alloc, lit)
+        let alloc = self.ledger.allocator();
+        self.ledger.numbers_holding(alloc, lit)
     }
 
     /// The live clause of a joint number.
-    pub fn clause(&self, joint: u64) -> Option<&Clause>
-        ensures { option_copied result ≡ fin.get (live self.now) joint }
+    pub fn clause(&self, joint: u64) -> Option<ClauseView<'_>>
+        ensures { result ≡ fin.get (live self.now) joint }
     {
-        self.clauses.get(joint)
+        self.ledger.clause(joint)
     }
 
     /// The number of entries in the history.
     pub fn history_len(&self) -> u64
         ensures { result ≡ length self.now.history }
     {
-        self.history.len()
+        self.ledger.history().len()
     }
 
     /// A copy of the entry at a place of the history, counted from 0. Takes time linear in its contents.
@@ -142,14 +138,14 @@ impl Book {
     pub fn entry(&self, place: u64) -> Result<Option<Entry>, NoMemory>
         ensures { IfOk result (λ entry. entry ≡ slice_get self.now.history place) }
     {
-        self.history.entry(place)
+        self.ledger.history().entry(place)
     }
 
     /// The seat of the entry at a place of the history, counted from 0.
     pub fn seat_at(&self, place: u64) -> Option<u32>
         ensures { result ≡ option_map (λ e. e.seat) (slice_get self.now.history place) }
     {
-        self.history.seat(place)
+        self.ledger.history().seat(place)
     }
 
     /// Whether the entry at a place of the history, counted from 0, is this one. Takes time linear in its contents, and
@@ -157,7 +153,7 @@ impl Book {
     pub fn is_entry(&self, place: u64, entry: &Entry) -> bool
         ensures { IsTrue result ↔ (slice_get self.now.history place ≡ Some entry.now) }
     {
-        self.history.is_entry(place, entry)
+        self.ledger.history().is_entry(place, entry)
     }
 
     /// The place of the first entry that adds the empty clause.
@@ -188,11 +184,11 @@ impl Book {
     pub fn into_steps(self) -> Steps
         ensures { result ≡ steps_of self.history }
     {
-        Steps::new(self.history)
+        Steps::new(self.ledger.into_history())
     }
 
-    /// An addition under the seat's numbers as a case in joint numbers, with the clauses that they name. It can be
-    /// tested without the book.
+    /// An addition under the seat's numbers as a case in joint numbers, with copies of the clauses that they name. It can be
+    /// tested without the book. Takes time linear in the literals of these clauses.
     ///
     /// # Errors
     /// [`Refusal::SeatGone`], [`Refusal::NumberTaken`], [`Refusal::UnknownNumber`], [`Refusal::GroupRepeated`], and
@@ -208,8 +204,8 @@ impl Book {
         if self.tables.is_bound(seat, addition.number) {
             return Err(Refusal::NumberTaken);
         }
-        let alloc = self.history.allocator();
-        case_of(alloc, &self.tables, &self.clauses, seat, addition)
+        let alloc = self.ledger.allocator();
+        case_of(alloc, &self.tables, &self.ledger, seat, addition)
     }
 
     /// Enters the lemma of a receipt, while the clauses that it lists still live. Takes O(log n) time for each of them.
@@ -227,7 +223,7 @@ impl Book {
         if let Some(refusal) = self.commit_refusal(&receipt) {
             return Err((refusal, receipt));
         }
-        let step = match step_of(self.history.allocator(), &receipt) {
+        let step = match step_of(self.ledger.allocator(), &receipt) {
             Ok(step) => step,
             Err(e) => return Err((Refusal::NoMemory(e), receipt)),
         };
@@ -247,7 +243,7 @@ impl Book {
         if self.tables.is_bound(receipt.seat(), receipt.own()) {
             return Some(Refusal::NumberTaken);
         }
-        if let Some(joint) = first_stale(&self.clauses, receipt.listed()) {
+        if let Some(joint) = first_stale(&self.ledger, receipt.listed()) {
             return Some(Refusal::Stale(joint));
         }
         if self.added >= self.max_steps {
@@ -272,13 +268,11 @@ impl Book {
             hints: step.hints,
             groups: step.groups,
         };
-        self.history.reserve_addition(&step)?;
-        let place = self.history.len();
-        enter_clause(&mut self.clauses, &mut self.tables, joint, receipt)?;
+        let place = self.ledger.history().len();
+        let (seat, own) = (receipt.seat(), receipt.own());
+        enter_addition(&mut self.ledger, &mut self.tables, seat, own, &step)?;
         self.refuted = refuted_at(self.refuted, place, receipt.lemma().clause());
         self.added += 1;
-        self.history
-            .push_addition(receipt.seat(), receipt.own(), &step);
         Ok(Added { place, joint })
     }
 
@@ -297,29 +291,15 @@ impl Book {
         if !self.tables.is_here(seat) {
             return Err(Refusal::SeatGone);
         }
-        let alloc = self.history.allocator();
+        let alloc = self.ledger.allocator();
         let joints = rising(self.tables.joints(alloc, seat, numbers)?);
-        self.history.reserve_deaths(numbers.len(), joints.len())?;
-        let place = self.history.len();
+        self.ledger.reserve_deaths(numbers.len(), joints.len())?;
+        let place = self.ledger.history().len();
         let count = self.tables.unbind_all(seat, numbers);
         let died = no_longer_held(&self.tables, joints);
-        bury(&mut self.clauses, &died);
-        self.history.push_drop(seat, numbers, &died);
+        self.ledger.push_drop(seat, numbers, &died);
         Ok(Dropped { place, count })
     }
-}
-
-/// The clauses of a formula under their numbers.
-fn clauses_of(alloc: Global, formula: &Formula) -> Result<IndexedClauses, NoMemory>
-    ensures { IfOk result (λ clauses. clauses ≡ formula_map formula.now) }
-{
-    let mut clauses = IndexedClauses::new(alloc);
-    for number in 0..formula.len() as u64 {
-        if let Some(clause) = formula.clause(number + 1) {
-            clauses.insert(number + 1, clause.copy()?)?;
-        }
-    }
-    Ok(clauses)
 }
 
 /// The deletion of these numbers, if there are any.

@@ -1,13 +1,16 @@
 //! What the commit of a receipt looks at and changes.
-ghost use Rattle.std.specs.Prelude.{◌≡◌, OnOk, OnErr, IfOk, None, true, false};
+ghost use Rattle.std.specs.Prelude.{◌≡◌, ◌++◌, ◌∷◌, [], OnOk, OnErr, IfOk, Some, true, false};
 ghost use Rattle.std.specs.FinMap as fin;
 ghost use Rattle.lj_hint.specs.Hints.{numbers};
+ghost use Rattle.lj_text.specs.declared.step.Step.TheVariants.{Add};
+ghost use Rattle.lj_book.specs.declared.entry.Call.TheVariants as calls;
 ghost use Rattle.lj_book.specs.Tables.{is_here, is_bound, is_held, with_table};
 ghost use Rattle.lj_book.specs.Calls.{is_live_as, first_stale};
 ghost use Rattle.lj_book.specs.inner.Ready.{IsStepOf};
+ghost use Rattle.lj_book.specs.inner.Records.{entry_of};
 ghost use Rattle.lj_book.specs.inner.Kept.{refuted_after};
 
-use crate::indexed_clauses::IndexedClauses;
+use crate::ledger::Ledger;
 use crate::seat_tables::SeatTables;
 use lj_clause::{Clause, NoMemory};
 use lj_hint::{Pair, Receipt};
@@ -15,11 +18,11 @@ use lj_text::{Addition, Groups, Numbers};
 use std::alloc::Global;
 
 /// The number of the first pair that doesn't live with that very clause.
-pub(crate) fn first_stale(clauses: &IndexedClauses, listed: &[Pair]) -> Option<u64>
-    ensures { result ≡ first_stale clauses.now listed.now }
+pub(crate) fn first_stale(ledger: &Ledger, listed: &[Pair]) -> Option<u64>
+    ensures { result ≡ first_stale ledger.now.live listed.now }
 {
     for pair in listed {
-        if !is_live_as(clauses, pair) {
+        if !is_live_as(ledger, pair) {
             return Some(pair.joint);
         }
     }
@@ -27,10 +30,10 @@ pub(crate) fn first_stale(clauses: &IndexedClauses, listed: &[Pair]) -> Option<u
 }
 
 /// Whether the pair's number lives with that very clause.
-fn is_live_as(clauses: &IndexedClauses, pair: &Pair) -> bool
-    ensures { result ≡ is_live_as clauses.now pair.now }
+fn is_live_as(ledger: &Ledger, pair: &Pair) -> bool
+    ensures { result ≡ is_live_as ledger.now.live pair.now }
 {
-    match clauses.get(pair.joint) {
+    match ledger.clause(pair.joint) {
         Some(clause) => clause.same(&pair.clause),
         None => false,
     }
@@ -62,61 +65,33 @@ fn numbers_of(alloc: Global, pairs: &[Pair]) -> Result<Numbers, NoMemory>
     Ok(list)
 }
 
-/// Gives the clause of a receipt's lemma this new number, and binds the receipt's own number to it: both, or neither.
+/// Enters a seat's addition under the new number of its step, and binds the seat's own number to it: both, or neither.
 ///
 /// # Errors
 /// [`NoMemory`] where a growth was refused.
-pub(crate) fn enter_clause(
-    clauses: &mut IndexedClauses,
+pub(crate) fn enter_addition(
+    ledger: &mut Ledger,
     tables: &mut SeatTables,
-    joint: u64,
-    receipt: &Receipt,
-) -> Result<(), NoMemory>
-    requires here { is_here tables.old receipt.now.seat ≡ true }
-    requires unbound { is_bound tables.old receipt.now.seat receipt.now.own ≡ false }
-    requires new { fin.get clauses.old joint ≡ None }
-    requires unheld { is_held tables.old joint ≡ false }
-    ensures clauses { OnOk result
-        (clauses.new ≡ fin.insert clauses.old joint receipt.now.lemma.clause) }
-    ensures tables { OnOk result (tables.new
-        ≡ with_table (λ t. fin.insert t receipt.now.own joint) tables.old receipt.now.seat) }
-    ensures err { OnErr result ((clauses.new ≡ clauses.old) × (tables.new ≡ tables.old)) }
-{
-    let clause = receipt.lemma().clause().copy()?;
-    bind_clause(
-        clauses,
-        tables,
-        joint,
-        receipt.seat(),
-        receipt.own(),
-        clause,
-    )
-}
-
-/// Gives the clause this new number, and binds the seat's own number to it: both, or neither.
-///
-/// # Errors
-/// [`NoMemory`] where a growth was refused.
-pub(crate) fn bind_clause(
-    clauses: &mut IndexedClauses,
-    tables: &mut SeatTables,
-    joint: u64,
     seat: u32,
     own: u64,
-    clause: Clause,
+    step: &Addition,
 ) -> Result<(), NoMemory>
     requires here { is_here tables.old seat ≡ true }
     requires unbound { is_bound tables.old seat own ≡ false }
-    requires new { fin.get clauses.old joint ≡ None }
-    requires unheld { is_held tables.old joint ≡ false }
-    ensures clauses { OnOk result (clauses.new ≡ fin.insert clauses.old joint clause) }
-    ensures tables { OnOk result
-        (tables.new ≡ with_table (λ t. fin.insert t own joint) tables.old seat) }
-    ensures err { OnErr result ((clauses.new ≡ clauses.old) × (tables.new ≡ tables.old)) }
+    requires unheld { is_held tables.old step.now.number ≡ false }
+    ensures entries { OnOk result (ledger.new.history.entries ≡ ledger.old.history.entries
+        ++ entry_of seat (calls.Add own step.now.lemma) (Some (Add step.now)) ∷ []) }
+    ensures live { OnOk result
+        (ledger.new.live ≡ fin.insert ledger.old.live step.now.number step.now.lemma.clause) }
+    ensures tables { OnOk result (tables.new
+        ≡ with_table (λ t. fin.insert t own step.now.number) tables.old seat) }
+    ensures same { OnErr result (ledger.new.history.entries ≡ ledger.old.history.entries) }
+    ensures err { OnErr result
+        ((ledger.new.live ≡ ledger.old.live) × (tables.new ≡ tables.old)) }
 {
-    clauses.insert(joint, clause)?;
-    if let Err(e) = tables.bind(seat, own, joint) {
-        clauses.remove(joint);
+    tables.bind(seat, own, step.number)?;
+    if let Err(e) = ledger.add(seat, own, step) {
+        let _ = tables.unbind(seat, own);
         return Err(e);
     }
     Ok(())

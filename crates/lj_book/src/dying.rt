@@ -2,12 +2,9 @@
 ghost use Rattle.std.specs.Prelude.{◌≡◌, ℕ, filter, not};
 ghost use Rattle.std.specs.List.Sorted.{IsStrictlySortedBy};
 ghost use Rattle.std.specs.Ordering.{nat_cmp};
-ghost use Rattle.lj_text.specs.Steps.{without};
 ghost use Rattle.lj_book.specs.Tables.{is_among, is_held};
 
-use crate::indexed_clauses::IndexedClauses;
 use crate::seat_tables::SeatTables;
-use lj_clause::Clause;
 
 /// The numbers, each once, rising.
 pub(crate) fn rising(mut numbers: Vec<u64>) -> Vec<u64>
@@ -25,13 +22,4 @@ pub(crate) fn no_longer_held(tables: &SeatTables, mut numbers: Vec<u64>) -> Vec<
 {
     numbers.retain(|n| !tables.is_held(*n));
     numbers
-}
-
-/// Takes the clauses of these numbers out.
-pub(crate) fn bury(clauses: &mut IndexedClauses, numbers: &[u64])
-    ensures { clauses.new ≡ without clauses.old numbers.now }
-{
-    for &n in numbers {
-        clauses.remove(n);
-    }
 }

@@ -7,7 +7,7 @@ ghost use Rattle.lj_text.specs.StepText.{proof_text};
 ghost use Rattle.lj_text.specs.Writing.{IsBeginning, IsCutShort};
 ghost use Rattle.lj_book.specs.State.{steps_of};
 ghost use Rattle.lj_book.specs.declared.entry.Call.TheVariants as calls;
-ghost use Rattle.lj_book.specs.inner.Records.{lemma_lits, addition_numbers, binding_call, entry_of};
+ghost use Rattle.lj_book.specs.inner.Records.{lemma_lits, addition_numbers, binding_call, binding_lits, entry_of};
 
 mod lines;
 mod matching;
@@ -56,6 +56,7 @@ impl Model for History {
 
     ghost view = { λ h. record {
       entries = entries_in h.lits.items h.words.items h.starts.items;
+      lits = h.lits.items;
       word_room = vec_capacity h.words - vec_len h.words;
       lit_room = vec_capacity h.lits - vec_len h.lits;
       entry_room = vec_capacity h.starts - vec_len h.starts;
@@ -65,15 +66,24 @@ impl Model for History {
 }
 
 impl History {
-    /// A history of no entries. Takes no memory.
-    pub(crate) fn new(alloc: Global) -> History
-        ensures { result.entries ≡ [] }
+    /// A history of no entries, behind whose literals those of its entries will stand. Takes no memory.
+    pub(crate) fn over(alloc: Global, lits: Vec<Lit>) -> History
+        ensures entries { result.entries ≡ [] }
+        ensures lits { result.lits ≡ lits.items }
     {
         History {
             words: Vec::new(alloc),
-            lits: Vec::new(alloc),
+            lits,
             starts: Vec::new(alloc),
         }
+    }
+
+    /// The literals of its entries, behind those that stood there before them.
+    #[inline]
+    pub(crate) fn lits(&self) -> &[Lit]
+        ensures { result.now ≡ self.now.lits }
+    {
+        &self.lits
     }
 
     /// What its memory comes from.
@@ -95,6 +105,7 @@ impl History {
     /// [`NoMemory`] where a growth was refused.
     fn reserve(&mut self, numbers: usize, lits: usize) -> Result<(), NoMemory>
         ensures same { self.new.entries ≡ self.old.entries }
+        ensures kept { self.new.lits ≡ self.old.lits }
         ensures words { OnOk result (3 * numbers ≤ self.new.word_room) }
         ensures few { self.new.word_room < 2 ^ 63 }
         ensures lits { OnOk result (lits ≤ self.new.lit_room) }
@@ -112,6 +123,7 @@ impl History {
     /// [`NoMemory`] where a growth was refused.
     pub(crate) fn reserve_addition(&mut self, step: &Addition) -> Result<(), NoMemory>
         ensures same { self.new.entries ≡ self.old.entries }
+        ensures kept { self.new.lits ≡ self.old.lits }
         ensures words { OnOk result (3 * addition_numbers step.now ≤ self.new.word_room) }
         ensures lits { OnOk result (length (lemma_lits step.now.lemma) ≤ self.new.lit_room) }
         ensures room { OnOk result (0 < self.new.entry_room) }
@@ -127,6 +139,7 @@ impl History {
     /// [`NoMemory`] where a growth was refused.
     pub(crate) fn reserve_deaths(&mut self, given: usize, died: usize) -> Result<(), NoMemory>
         ensures same { self.new.entries ≡ self.old.entries }
+        ensures kept { self.new.lits ≡ self.old.lits }
         ensures words { OnOk result (3 * (3 + given + died) ≤ self.new.word_room) }
         ensures room { OnOk result (0 < self.new.entry_room) }
     {
@@ -139,6 +152,7 @@ impl History {
     /// [`NoMemory`] where a growth was refused.
     pub(crate) fn reserve_binding(&mut self, imported: Option<&Clause>) -> Result<(), NoMemory>
         ensures same { self.new.entries ≡ self.old.entries }
+        ensures kept { self.new.lits ≡ self.old.lits }
         ensures words { OnOk result (12 ≤ self.new.word_room) }
         ensures lits { OnOk result (IfSome (option_copied imported.entry)
             (λ clause. length (literals clause) ≤ self.new.lit_room)) }
@@ -156,8 +170,9 @@ impl History {
         requires words { 3 * addition_numbers step.now ≤ self.old.word_room }
         requires lits { length (lemma_lits step.now.lemma) ≤ self.old.lit_room }
         requires room { 0 < self.old.entry_room }
-        ensures { self.new.entries ≡ self.old.entries
+        ensures entries { self.new.entries ≡ self.old.entries
             ++ entry_of seat (calls.Add own step.now.lemma) (Some (Add step.now)) ∷ [] }
+        ensures lits { self.new.lits ≡ self.old.lits ++ lemma_lits step.now.lemma }
     {
         let _ = step.lemma.pivot();
         let start = self.words.len() as u64;
@@ -169,8 +184,9 @@ impl History {
     pub(crate) fn push_drop(&mut self, seat: u32, given: &Numbers, died: &[u64])
         requires words { 3 * (3 + length given.now + length died.now) ≤ self.old.word_room }
         requires room { 0 < self.old.entry_room }
-        ensures { self.new.entries ≡ self.old.entries
+        ensures entries { self.new.entries ≡ self.old.entries
             ++ entry_of seat (calls.Drop given.now) (if_some died.now) ∷ [] }
+        ensures lits { self.new.lits ≡ self.old.lits }
     {
         let start = self.words.len() as u64;
         put_drop(&mut self.words, seat, given, died);
@@ -181,8 +197,9 @@ impl History {
     fn push_adopt(&mut self, seat: u32, own: u64, joint: u64)
         requires words { 9 ≤ self.old.word_room }
         requires room { 0 < self.old.entry_room }
-        ensures { self.new.entries ≡ self.old.entries
+        ensures entries { self.new.entries ≡ self.old.entries
             ++ entry_of seat (calls.Adopt own joint) None ∷ [] }
+        ensures lits { self.new.lits ≡ self.old.lits }
     {
         let start = self.words.len() as u64;
         put_adopt(&mut self.words, seat, own, joint);
@@ -194,8 +211,9 @@ impl History {
         requires words { 12 ≤ self.old.word_room }
         requires lits { length (literals clause.now) ≤ self.old.lit_room }
         requires room { 0 < self.old.entry_room }
-        ensures { self.new.entries ≡ self.old.entries
+        ensures entries { self.new.entries ≡ self.old.entries
             ++ entry_of seat (calls.Import own clause.now) None ∷ [] }
+        ensures lits { self.new.lits ≡ self.old.lits ++ literals clause.now }
     {
         let start = self.words.len() as u64;
         put_import(&mut self.words, &mut self.lits, seat, own, clause);
@@ -214,8 +232,9 @@ impl History {
         requires lits { IfSome (option_copied imported)
             (λ clause. length (literals clause) ≤ self.old.lit_room) }
         requires room { 0 < self.old.entry_room }
-        ensures { self.new.entries ≡ self.old.entries
+        ensures entries { self.new.entries ≡ self.old.entries
             ++ entry_of seat (binding_call own joint (option_copied imported.entry)) None ∷ [] }
+        ensures lits { self.new.lits ≡ self.old.lits ++ binding_lits (option_copied imported.entry) }
     {
         match imported {
             Some(clause) => self.push_import(seat, own, clause),
@@ -227,8 +246,9 @@ impl History {
     pub(crate) fn push_leave(&mut self, seat: u32, died: &[u64])
         requires words { 3 * (2 + length died.now) ≤ self.old.word_room }
         requires room { 0 < self.old.entry_room }
-        ensures { self.new.entries ≡ self.old.entries
+        ensures entries { self.new.entries ≡ self.old.entries
             ++ entry_of seat calls.Leave (if_some died.now) ∷ [] }
+        ensures lits { self.new.lits ≡ self.old.lits }
     {
         let start = self.words.len() as u64;
         put_leave(&mut self.words, seat, died);

@@ -7,10 +7,10 @@ ghost use Rattle.lj_hint.specs.LineTest.{line_reply, IsLineReply};
 ghost use Rattle.lj_book.specs.Calls.{IsReply};
 ghost use Rattle.lj_book.specs.inner.JointLines.{addition_of_parts, tested_line, refusal_of};
 
-use crate::indexed_clauses::IndexedClauses;
 use crate::joint_line::JointLine;
+use crate::ledger::Ledger;
 use crate::refusal::Refusal;
-use lj_clause::{Clause, Lemma, Lit, NoMemory};
+use lj_clause::{ClauseView, Lemma, Lit, NoMemory};
 use lj_hint::{LineRefusal, Live, Marks, Passed, RatRefusal, test_line};
 use lj_text::{Addition, Groups, Numbers};
 use std::alloc::Global;
@@ -19,19 +19,19 @@ use std::alloc::Global;
 #[derive(Drop)]
 pub(crate) struct LiveClauses<'a> {
     alloc: Global,
-    clauses: &'a IndexedClauses,
+    ledger: &'a Ledger,
 }
 
 impl Live for LiveClauses<'_> {
-    ghost live = { λ l. l.clauses.now };
+    ghost live = { λ l. l.ledger.now.live };
 
     #[inline]
-    fn clause(&self, joint: u64) -> Option<&Clause> {
-        self.clauses.get(joint)
+    fn clause(&self, joint: u64) -> Option<ClauseView<'_>> {
+        self.ledger.clause(joint)
     }
 
     fn candidates(&self, lit: Lit) -> Result<Vec<u64>, NoMemory> {
-        self.clauses.numbers_holding(self.alloc, lit)
+        self.ledger.numbers_holding(self.alloc, lit)
     }
 }
 
@@ -42,17 +42,17 @@ impl Live for LiveClauses<'_> {
 /// The refusal of its test, and [`Refusal::NoMemory`] where a growth was refused.
 pub(crate) fn tested_line(
     alloc: Global,
-    clauses: &mut IndexedClauses,
+    ledger: &mut Ledger,
     number: u64,
     lemma: &Lemma,
     line: JointLine,
     marks: &mut Marks,
 ) -> Result<Addition, Refusal>
-    ensures reply { IsReply result (tested_line clauses.old
+    ensures reply { IsReply result (tested_line ledger.old.live
         (addition_of_parts number lemma.now (line.hints, line.groups.items))) }
-    ensures same { clauses.new ≡ clauses.old }
+    ensures same { ledger.new ≡ ledger.old }
 {
-    match test_over(alloc, clauses, lemma, &line, marks) {
+    match test_over(alloc, ledger, lemma, &line, marks) {
         Ok(Passed::Closed(read)) => Ok(Addition {
             number,
             lemma: lemma.copy()?,
@@ -60,7 +60,7 @@ pub(crate) fn tested_line(
             groups: Groups::new(Vec::new(alloc)),
         }),
         Ok(Passed::Covered(groups)) => {
-            clauses.make_lists(alloc);
+            ledger.make_lists();
             Ok(Addition {
                 number,
                 lemma: lemma.copy()?,
@@ -70,7 +70,7 @@ pub(crate) fn tested_line(
         }
         Err(LineRefusal::Stuck(place)) => Err(Refusal::HintNotUnit(place)),
         Err(LineRefusal::Rat(refusal)) => {
-            clauses.make_lists(alloc);
+            ledger.make_lists();
             Err(refused(refusal))
         }
     }
@@ -82,15 +82,15 @@ pub(crate) fn tested_line(
 /// As [`test_line`].
 fn test_over(
     alloc: Global,
-    clauses: &IndexedClauses,
+    ledger: &Ledger,
     lemma: &Lemma,
     line: &JointLine,
     marks: &mut Marks,
 ) -> Result<Passed, LineRefusal>
-    ensures { IsLineReply result (line_reply clauses.now lemma.now.pivot line.now.groups.items
-        (walk clauses.now (negations lemma.now.clause) line.now.hints)) }
+    ensures { IsLineReply result (line_reply ledger.now.live lemma.now.pivot line.now.groups.items
+        (walk ledger.now.live (negations lemma.now.clause) line.now.hints)) }
 {
-    let live = LiveClauses { alloc, clauses };
+    let live = LiveClauses { alloc, ledger };
     let groups = line.groups.as_slice();
     test_line(alloc, &live, lemma, &line.hints, groups, marks)
 }

@@ -7,7 +7,7 @@ ghost use Rattle.lj_book.specs.Tables.{is_among};
 ghost use Rattle.lj_book.specs.Lookup.{is_clause};
 ghost use Rattle.lj_book.specs.inner.NumberLists.{listed_in};
 
-use crate::number_map::NumberMap;
+use crate::lent_clauses::LentClauses;
 use lj_clause::{Clause, NoMemory};
 use std::alloc::Global;
 use std::marker::Model;
@@ -98,7 +98,7 @@ impl NumberList {
 
     /// Counts the death of one of the clauses. Where the numbers are few, or more than half of their clauses have died, takes
     /// the numbers out that have no clause any more, so that a death takes constant time, amortized.
-    pub(crate) fn one_died(&mut self, clauses: &NumberMap<Clause>)
+    pub(crate) fn one_died(&mut self, clauses: &LentClauses<'_>)
         ensures rising { IsStrictlySortedBy nat_cmp self.old → IsStrictlySortedBy nat_cmp self.new }
         ensures living { (n : ℕ) → fin.contains_key clauses.now n ≡ true
             → is_among self.new n ≡ is_among self.old n }
@@ -125,7 +125,7 @@ impl NumberList {
     }
 
     /// Takes the numbers out that have no clause.
-    fn sweep(&mut self, clauses: &NumberMap<Clause>)
+    fn sweep(&mut self, clauses: &LentClauses<'_>)
         ensures { self.new ≡ filter (λ n. fin.contains_key clauses.now n) self.old }
     {
         match &mut self.form {
@@ -144,7 +144,7 @@ impl NumberList {
     pub(crate) fn living(
         &self,
         alloc: Global,
-        clauses: &NumberMap<Clause>,
+        clauses: &LentClauses<'_>,
     ) -> Result<Vec<u64>, NoMemory>
         ensures { IfOk result
             (λ v. v.items ≡ filter (λ n. fin.contains_key clauses.now n) self.now) }
@@ -160,7 +160,7 @@ impl NumberList {
     }
 
     /// The first number whose clause is this one.
-    pub(crate) fn first_same(&self, clauses: &NumberMap<Clause>, wanted: &Clause) -> Option<u64>
+    pub(crate) fn first_same(&self, clauses: &LentClauses<'_>, wanted: &Clause) -> Option<u64>
         ensures { result
             ≡ slice_get (filter (λ n. is_clause wanted.now (fin.get clauses.now n)) self.now) 0 }
     {
@@ -177,7 +177,7 @@ impl NumberList {
 }
 
 /// Takes the numbers out that have no clause.
-fn keep_living(numbers: &mut Vec<u32>, clauses: &NumberMap<Clause>)
+fn keep_living(numbers: &mut Vec<u32>, clauses: &LentClauses<'_>)
     ensures { numbers.new.items ≡ filter (λ n. fin.contains_key clauses.now n) numbers.old.items }
 {
     numbers.retain(|n| clauses.contains_key(u64::from(*n)));
@@ -216,7 +216,7 @@ fn many(alloc: Global, few: &[u32], number: u32) -> Result<Form, NoMemory>
 }
 
 /// Those of a few numbers that have a clause.
-fn few_living(few: &[u32], clauses: &NumberMap<Clause>) -> Form
+fn few_living(few: &[u32], clauses: &LentClauses<'_>) -> Form
     requires { length few.now ≤ 3 }
     ensures { listed_in result ≡ filter (λ n. fin.contains_key clauses.now n) few.now }
 {

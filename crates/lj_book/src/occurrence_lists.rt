@@ -5,10 +5,10 @@ ghost use Rattle.lj_book.specs.Tables.{is_among};
 ghost use Rattle.lj_book.specs.Lookup.{is_clause};
 ghost use Rattle.lj_book.specs.inner.Occurrences.{AreOccurrences, list_at, places_of, put_if};
 
+use crate::lent_clauses::LentClauses;
 use crate::number_list::NumberList;
-use crate::number_map::NumberMap;
 use crate::own_map::OwnMap;
-use lj_clause::{Clause, NoMemory};
+use lj_clause::{Clause, ClauseView, NoMemory};
 use std::alloc::Global;
 use std::marker::Model;
 
@@ -50,7 +50,11 @@ impl OccurrenceLists {
     ///
     /// # Errors
     /// [`NoMemory`] where a growth was refused. The lists are of no use then.
-    pub(crate) fn add_clause(&mut self, number: u32, clause: &Clause) -> Result<(), NoMemory>
+    pub(crate) fn add_clause(
+        &mut self,
+        number: u32,
+        clause: &ClauseView<'_>,
+    ) -> Result<(), NoMemory>
         ensures { OnOk result ((k : ℕ) → list_at self.new k
             ≡ put_if (is_among (places_of clause.now) k) (list_at self.old k) number) }
     {
@@ -70,8 +74,8 @@ impl OccurrenceLists {
     /// [`NoMemory`] where a growth was refused. The lists are of no use then.
     pub(crate) fn clause_died(
         &mut self,
-        clauses: &NumberMap<Clause>,
-        clause: &Clause,
+        clauses: &LentClauses<'_>,
+        clause: &ClauseView<'_>,
     ) -> Result<(), NoMemory>
         ensures { (bound : ℕ) → AreOccurrences self.old (fin.get clauses.now) bound
             → OnOk result (AreOccurrences self.new (fin.get clauses.now) bound) }
@@ -94,7 +98,7 @@ impl OccurrenceLists {
         &self,
         alloc: Global,
         place: u64,
-        clauses: &NumberMap<Clause>,
+        clauses: &LentClauses<'_>,
     ) -> Result<Vec<u64>, NoMemory>
         ensures { IfOk result
             (λ v. v.items ≡ filter (λ n. fin.contains_key clauses.now n) (list_at self.now place)) }
@@ -109,7 +113,7 @@ impl OccurrenceLists {
     pub(crate) fn first_same(
         &self,
         place: u64,
-        clauses: &NumberMap<Clause>,
+        clauses: &LentClauses<'_>,
         wanted: &Clause,
     ) -> Option<u64>
         ensures { result
@@ -174,7 +178,7 @@ impl OccurrenceLists {
     ///
     /// # Errors
     /// [`NoMemory`] where a growth was refused. The list is lost then.
-    fn one_died(&mut self, place: u64, clauses: &NumberMap<Clause>) -> Result<(), NoMemory>
+    fn one_died(&mut self, place: u64, clauses: &LentClauses<'_>) -> Result<(), NoMemory>
         ensures { (bound : ℕ) → AreOccurrences self.old (fin.get clauses.now) bound
             → OnOk result (AreOccurrences self.new (fin.get clauses.now) bound) }
     {

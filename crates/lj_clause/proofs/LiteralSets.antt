@@ -39,6 +39,10 @@ marks (Some u) = refl
 pub same_set : (s t : LiteralSet) → ((q : ℤ) → holds s q ≡ holds t q) → s ≡ t
 same_set s t is = fin.same_map lit_cmp_total lit_cmp-antisymmetric s t (λ q. marks _ ∙ ap (λ b. cond b (Some tt) None) (is q) ∙ sym (marks _))
 
+-- and so are two that list the same
+pub same_literals : (s t : LiteralSet) → literals s ≡ literals t → s ≡ t
+same_literals s t e = same_set s t (λ q. holds-literals s q ∙ ap (list_any (eq_by_cmp lit_cmp q)) e ∙ sym (holds-literals t q))
+
 abbrev as_entries : List ℤ → List (ℤ × Unit {0})
 as_entries ls = map (λ l. (l, tt)) ls
 

@@ -4,6 +4,7 @@ ghost use Rattle.std.specs.List.Sorted.{IsStrictlySortedBy};
 ghost use Rattle.lj_clause.specs.Literal.{lit_cmp};
 ghost use Rattle.lj_clause.specs.LiteralSet.{holds, literals, from_literals};
 
+use crate::clause_view::ClauseView;
 use crate::lit::Lit;
 use crate::literal_list::LiteralList;
 use crate::memory::NoMemory;
@@ -48,6 +49,21 @@ impl Clause {
         Ok(Clause { lits })
     }
 
+    /// The set of these literals, which are in strict order. Takes O(n) time.
+    ///
+    /// # Errors
+    /// [`NoMemory`] where a growth was refused.
+    pub(crate) fn from_rising(alloc: Global, lits: &[Lit]) -> Result<Clause, NoMemory>
+        requires { IsStrictlySortedBy lit_cmp lits.now }
+        ensures { IfOk result (λ clause. clause ≡ from_literals lits.now) }
+    {
+        let lits = match LiteralList::few(lits) {
+            Some(few) => few,
+            None => LiteralList::many(alloc, Vec::from_slice(alloc, lits)?)?,
+        };
+        Ok(Clause { lits })
+    }
+
     /// Whether the literal is in the clause. Takes O(log n) time.
     pub fn holds(&self, lit: Lit) -> bool
         ensures { result ≡ holds self.now lit }
@@ -68,6 +84,14 @@ impl Clause {
         ensures { result.now ≡ literals self.now }
     {
         self.lits.as_slice()
+    }
+
+    /// The clause, lent. Takes constant time.
+    #[inline]
+    pub fn view(&self) -> ClauseView<'_>
+        ensures { result ≡ self.now }
+    {
+        ClauseView::new(self.lits.as_slice())
     }
 
     /// The same clause for another holder, which shares its literals. Takes constant time.
@@ -95,7 +119,7 @@ fn in_order(alloc: Global, lits: &[Lit]) -> Result<Vec<Lit>, NoMemory>
 }
 
 /// Whether a list in strict order has the literal.
-fn found(lits: &[Lit], lit: Lit) -> bool
+pub(crate) fn found(lits: &[Lit], lit: Lit) -> bool
     requires { IsStrictlySortedBy lit_cmp lits.now }
     ensures { result ≡ holds (from_literals lits.now) lit }
 {
@@ -104,7 +128,7 @@ fn found(lits: &[Lit], lit: Lit) -> bool
 
 /// Whether the two lists are the same.
 #[inline]
-fn are_same(lits: &[Lit], others: &[Lit]) -> bool
+pub(crate) fn are_same(lits: &[Lit], others: &[Lit]) -> bool
     ensures { IsTrue result ↔ (lits.now ≡ others.now) }
 {
     lits == others

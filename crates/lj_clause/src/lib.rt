@@ -2,6 +2,7 @@
 #![tactic(auto)]
 
 mod clause;
+mod clause_view;
 pub mod examples;
 mod formula;
 pub mod laws;
@@ -11,6 +12,7 @@ mod literal_list;
 mod memory;
 
 pub use clause::Clause;
+pub use clause_view::ClauseView;
 pub use formula::{Formula, MAX_CLAUSES};
 pub use lemma::Lemma;
 pub use lit::{Lit, MAX_VARIABLE};

@@ -1,11 +1,11 @@
 //! Lists of hints, wherever their clauses are kept.
-ghost use Rattle.std.specs.Prelude.{◌≡◌, List, length, option_copied};
+ghost use Rattle.std.specs.Prelude.{◌≡◌, List, length};
 ghost use Rattle.lj_clause.specs.Walk.{Hint};
 ghost use Rattle.lj_hint.specs.Hints.{named_hints};
 ghost use Rattle.lj_hint.specs.inner.Hints.{hint_number, clause_at};
 
 use crate::pair::Pair;
-use lj_clause::Clause;
+use lj_clause::ClauseView;
 
 /// A list of hints, each of which names a clause.
 pub(crate) trait HintList {
@@ -20,8 +20,8 @@ pub(crate) trait HintList {
         ensures { result ≡ hint_number (hints self.now) index };
 
     /// The clause that the hint at an index names.
-    fn clause(&self, index: usize) -> Option<&Clause>
-        ensures { option_copied result ≡ clause_at (hints self.now) index };
+    fn clause(&self, index: usize) -> Option<ClauseView<'_>>
+        ensures { result ≡ clause_at (hints self.now) index };
 }
 
 /// The hints of a case, which has their clauses.
@@ -47,9 +47,9 @@ impl HintList for PairHints<'_> {
     }
 
     #[inline]
-    fn clause(&self, index: usize) -> Option<&Clause> {
+    fn clause(&self, index: usize) -> Option<ClauseView<'_>> {
         match self.pairs.get(index) {
-            Some(pair) => Some(&pair.clause),
+            Some(pair) => Some(pair.clause.view()),
             None => None,
         }
     }

@@ -1,12 +1,12 @@
 //! Live clauses, wherever they are kept.
-ghost use Rattle.std.specs.Prelude.{◌≡◌, option_copied, IfOk, map, filter, List, length};
+ghost use Rattle.std.specs.Prelude.{◌≡◌, IfOk, map, filter, List, length};
 ghost use Rattle.std.specs.FinMap as fin;
 ghost use Rattle.lj_clause.specs.LiteralSet.{holds};
 ghost use Rattle.lj_clause.specs.ClauseMap.{ClauseMap};
 ghost use Rattle.lj_clause.specs.Walk.{Hint, hints_in};
 
 use crate::hint_list::HintList;
-use lj_clause::{Clause, Lit, NoMemory};
+use lj_clause::{ClauseView, Lit, NoMemory};
 use lj_text::Numbers;
 
 /// The clauses that live, under their joint numbers.
@@ -14,8 +14,8 @@ pub trait Live {
     ghost live: { Self → ClauseMap };
 
     /// The live clause of a joint number.
-    fn clause(&self, joint: u64) -> Option<&Clause>
-        ensures { option_copied result ≡ fin.get (live self.now) joint };
+    fn clause(&self, joint: u64) -> Option<ClauseView<'_>>
+        ensures { result ≡ fin.get (live self.now) joint };
 
     /// The joint numbers of the live clauses that hold the literal, rising.
     ///
@@ -47,7 +47,7 @@ impl<L: Live> HintList for LiveHints<'_, L> {
     }
 
     #[inline]
-    fn clause(&self, index: usize) -> Option<&Clause> {
+    fn clause(&self, index: usize) -> Option<ClauseView<'_>> {
         match self.numbers.get(index) {
             Some(number) => self.live.clause(number),
             None => None,

@@ -16,7 +16,7 @@ use crate::live::Live;
 use crate::rat_refusal::RatRefusal;
 use crate::true_lits::TrueLits;
 use crate::walk::{Ending, walk};
-use lj_clause::{Clause, Lit, NoMemory};
+use lj_clause::{ClauseView, Lit, NoMemory};
 use lj_text::{Group, Numbers};
 use std::alloc::Global;
 use std::collections::BTreeMap;
@@ -52,7 +52,7 @@ pub(crate) fn cover<L: Live, H: HintList>(
             continue;
         };
         let hints = hints_for(groups, &places, number);
-        match test_candidate(alloc, held, pivot, number, clause, hints) {
+        match test_candidate(alloc, held, pivot, number, &clause, hints) {
             Ok(group) => add(&mut covered, group)?,
             Err(refusal) => return Err(refusal),
         }
@@ -80,7 +80,7 @@ fn test_candidate<H: HintList>(
     held: &mut TrueLits,
     pivot: Lit,
     number: u64,
-    clause: &Clause,
+    clause: &ClauseView<'_>,
     hints: Option<&H>,
 ) -> Result<Group, RatRefusal>
     requires { is_contradictory (from_literals held.old) ≡ false }
@@ -117,7 +117,7 @@ fn test_candidate<H: HintList>(
 fn walk_candidate<H: HintList>(
     held: &mut TrueLits,
     pivot: Lit,
-    clause: &Clause,
+    clause: &ClauseView<'_>,
     hints: Option<&H>,
 ) -> Result<Ending, NoMemory>
     ensures ending { IfOk result

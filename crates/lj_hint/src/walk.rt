@@ -9,7 +9,7 @@ ghost use Rattle.lj_hint.specs.inner.Ending.{ending_of};
 use crate::hint_list::HintList;
 use crate::trail::LentTrail;
 use crate::true_lits::TrueLits;
-use lj_clause::{Clause, Lit, NoMemory};
+use lj_clause::{Clause, ClauseView, Lit, NoMemory};
 
 /// The literals of a clause that a walk leaves open, seen up to two.
 #[derive(Clone, Copy)]
@@ -76,7 +76,7 @@ pub(crate) fn walk<H: HintList>(held: &mut TrueLits, hints: &H) -> Result<Ending
         let Some(clause) = hints.clause(index) else {
             return Ok(Ending::StuckAt(index as u64 + 1));
         };
-        match rest_of(held, clause) {
+        match rest_of(held, &clause) {
             Rest::Nothing => return Ok(Ending::ClosedAfter(index + 1)),
             Rest::One(lit) => held.insert_unopposed(lit)?,
             Rest::More => return Ok(Ending::StuckAt(index as u64 + 1)),
@@ -87,7 +87,7 @@ pub(crate) fn walk<H: HintList>(held: &mut TrueLits, hints: &H) -> Result<Ending
 
 /// The literals of the clause whose negation isn't held.
 #[inline(always)]
-pub(crate) fn rest_of(held: &TrueLits, clause: &Clause) -> Rest
+pub(crate) fn rest_of(held: &TrueLits, clause: &ClauseView<'_>) -> Rest
     ensures { result ≡ rest_seen (rest clause.now (from_literals held.now)) }
 {
     let lent = held.lent();

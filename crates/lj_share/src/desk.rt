@@ -180,7 +180,7 @@ impl<L: Opening> Desk<L> {
         } = self;
         match book.import_telling(seat.number(), own, clause) {
             Ok((imported, entry)) => {
-                seat.bind(own, imported.joint, clause);
+                seat.bind(own, imported.joint, &clause.view());
                 Ok(tell(book, entries, seat, entry))
             }
             Err(refusal) => Err(refusal),
@@ -209,7 +209,7 @@ impl<L: Opening> Desk<L> {
         match book.adopt_telling(seat.number(), own, joint) {
             Ok((_, entry)) => {
                 if let Some(clause) = book.clause(joint) {
-                    seat.bind(own, joint, clause);
+                    seat.bind(own, joint, &clause);
                 }
                 Ok(tell(book, entries, seat, entry))
             }

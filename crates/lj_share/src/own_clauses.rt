@@ -2,7 +2,7 @@
 ghost use Rattle.std.specs.Prelude.{◌≡◌, IfOk, IfSome};
 
 use lj_book::{Call, Entry, OwnMap};
-use lj_clause::{Clause, Formula, NoMemory};
+use lj_clause::{Clause, ClauseView, Formula, NoMemory};
 use lj_hint::{Case, Pair};
 use lj_text::{Addition, Numbers, Step};
 use std::alloc::Global;
@@ -114,7 +114,7 @@ impl OwnClauses {
         match &entry.call {
             Call::Add { own, lemma: _ } => {
                 if let Some(Step::Add(step)) = &entry.step {
-                    self.bind(*own, step.number, step.lemma.clause()).is_ok()
+                    self.share(*own, step).is_ok()
                 } else {
                     true
                 }
@@ -125,12 +125,27 @@ impl OwnClauses {
         }
     }
 
-    /// Takes up the joint number with its clause that an own number was bound to.
+    /// Takes up the joint number with its clause, which is lent, that an own number was bound to.
     ///
     /// # Errors
     /// [`NoMemory`] where a growth was refused: the number is then bound, and not here.
-    pub(crate) fn bind(&mut self, own: u64, joint: u64, clause: &Clause) -> Result<(), NoMemory> {
-        let clause = clause.copy()?;
+    pub(crate) fn bind_lent(
+        &mut self,
+        own: u64,
+        joint: u64,
+        clause: &ClauseView<'_>,
+    ) -> Result<(), NoMemory> {
+        let clause = clause.to_clause(self.alloc)?;
+        self.held.insert(own, Pair { joint, clause })
+    }
+
+    /// Takes up the number of a step with a share of its clause, which an own number was bound to.
+    ///
+    /// # Errors
+    /// [`NoMemory`] where a growth was refused: the number is then bound, and not here.
+    fn share(&mut self, own: u64, step: &Addition) -> Result<(), NoMemory> {
+        let joint = step.number;
+        let clause = step.lemma.clause().copy()?;
         self.held.insert(own, Pair { joint, clause })
     }
 

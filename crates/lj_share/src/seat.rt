@@ -5,7 +5,7 @@ ghost use Rattle.lj_share.specs.Seats.{new_seat, counting_one};
 use crate::opening::Opening;
 use crate::own_clauses::OwnClauses;
 use lj_book::Entry;
-use lj_clause::{Clause, Formula};
+use lj_clause::{ClauseView, Formula};
 use lj_hint::{Case, Marks};
 use lj_text::Addition;
 use std::alloc::Global;
@@ -112,11 +112,11 @@ impl<L: Opening> Seat<L> {
     }
 
     /// Takes up the joint number with its clause that the seat's own number was bound to.
-    pub(crate) fn bind(&mut self, own: u64, joint: u64, clause: &Clause)
+    pub(crate) fn bind(&mut self, own: u64, joint: u64, clause: &ClauseView<'_>)
         ensures { self.new ≡ self.old }
     {
         let held = match &mut self.own {
-            Some(clauses) => clauses.bind(own, joint, clause).is_ok(),
+            Some(clauses) => clauses.bind_lent(own, joint, clause).is_ok(),
             None => return,
         };
         if !held {

@@ -82,9 +82,9 @@ impl<L: Opening> Shared<L> {
         Ok((shared, out))
     }
 
-    /// Hands a line of the seat's prover to the book, and gives the token of its entry. An addition is tested outside the
-    /// lock by its first list of hints and then committed; where that list leaves the walk open, it is tested and
-    /// entered under the lock.
+    /// Hands a line of the seat's prover to the book, and gives the token of its entry. An addition without groups whose hints
+    /// name clauses that the seat knows by itself is tested outside the lock and then committed; others, and those whose walk
+    /// stays open, are tested and entered under the lock.
     ///
     /// # Errors
     /// The refusals of [`Book`]'s calls.
@@ -191,7 +191,8 @@ impl<L: Opening> Shared<L> {
         Some(answer)
     }
 
-    /// Takes an addition, tests it, and enters it.
+    /// Tests an addition over the clauses that the seat holds as it knows by itself, or else over those of the book, and
+    /// enters it.
     fn submit_addition<R: Wait, G: Gate>(
         &self,
         rt: &R,
@@ -209,30 +210,32 @@ impl<L: Opening> Shared<L> {
             return answer;
         }
         let number = seat.number();
-        let case = self.take(rt, seat, addition)?;
-        let answer = match case.test(&mut seat.marks) {
-            Tested::Closed(receipt) => {
-                gate.pass(number, at);
-                match self.commit(rt, seat, receipt) {
-                    Ok(told) => Ok(told),
-                    Err((refusal, _receipt)) => Err(refusal),
-                }
-            }
-            Tested::Open(_case) => {
-                gate.pass(number, at);
-                let mut desk = self.desk.lock(rt);
-                let told = desk.add_inside(seat, addition);
-                self.publish(desk.book());
-                told
-            }
-            Tested::Stuck(place) => return Err(Refusal::HintNotUnit(place)),
-            Tested::NoMemory(_case, refused) => return Err(Refusal::NoMemory(refused)),
-        };
+        gate.pass(number, at);
+        let answer = self.add_inside(rt, seat, addition);
         gate.answered(number, at);
         answer
     }
 
-    /// An addition under the seat's numbers as a case in joint numbers, which can be tested without the book.
+    /// Tests an addition under the lock, and enters it.
+    fn add_inside<R: Wait>(
+        &self,
+        rt: &R,
+        seat: &mut Seat<L>,
+        addition: &Addition,
+    ) -> Result<Told, Refusal>
+        ensures told { IfOk result (λ told. IsEntryOf seat.old.number
+            (calls.Add addition.now.number addition.now.lemma) told) }
+        ensures counted { OnOk result (seat.new ≡ counting_one seat.old) }
+        ensures kept { OnErr result (seat.new ≡ seat.old) }
+    {
+        let mut desk = self.desk(rt);
+        let told = desk.add_inside(seat, addition);
+        self.publish(desk.book());
+        told
+    }
+
+    /// An addition under the seat's numbers as a case in joint numbers, which can be tested without the book. Takes time
+    /// linear in the literals of its hints' clauses, which are copied.
     ///
     /// # Errors
     /// As [`Book::take`].

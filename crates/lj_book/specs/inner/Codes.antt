@@ -1,10 +1,10 @@
 -- How a proof stores steps, entries, tables and states.
-use Rattle.std.specs.Prelude.{◌≡◌, ℕ, List, Option, ◌⊎◌, refl}
+use Rattle.std.specs.Prelude.{◌≡◌, ℕ, ℤ, List, Option, ◌⊎◌, refl}
 use Rattle.std.proofs.Common.{inl, inr}
 use base.Stored.{coded_unit}
-use Rattle.std.specs.Coded.{Coded, code_by, coded×, coded⊎, coded_list, coded_option, coded_ℕ}
+use Rattle.std.specs.Coded.{Coded, code_by, coded×, coded⊎, coded_list, coded_option, coded_ℕ, coded_ℤ}
 use Rattle.lj_clause.specs.LiteralSet.{LiteralSet}
-use Rattle.lj_clause.specs.inner.Codes.{literal_set_code, lemma_code, hint_group_code, formula_code}
+use Rattle.lj_clause.specs.inner.Codes.{literal_set_code, lemma_code, hint_group_code, formula_code, clause_map_code}
 use Rattle.lj_clause.specs.Lemma.{LemmaValue}
 use Rattle.lj_clause.specs.Rat.{HintGroup}
 use Rattle.lj_text.specs.declared.line.Addition.{Addition}
@@ -15,9 +15,11 @@ use Rattle.lj_book.specs.declared.entry.Call.TheVariants as calls
 use Rattle.lj_book.specs.declared.entry.Entry.{Entry}
 use Rattle.std.specs.FinMap as fin
 use Rattle.lj_book.specs.Tables.{Tables}
-use Rattle.lj_clause.specs.ClauseMap.{FormulaValue}
+use Rattle.lj_clause.specs.ClauseMap.{ClauseMap, FormulaValue}
 use Rattle.lj_book.specs.State.{State}
 use Rattle.lj_book.specs.inner.Records.{Entries}
+use Rattle.lj_book.specs.declared.place.Place.{Place}
+use Rattle.lj_book.specs.inner.Places.{Recorded}
 
 abbrev pub addition_code : Coded Addition
 addition_code = code_by (ℕ × (LemmaValue × (List ℕ × List HintGroup)))
@@ -91,8 +93,16 @@ state_code = code_by (FormulaValue × (ℕ × (Tables × List Entry)))
     (λ _. refl)
 
 abbrev pub entries_code : Coded Entries
-entries_code = code_by (List Entry × (ℕ × (ℕ × ℕ)))
-    (coded× (coded_list entry_code) (coded× coded_ℕ (coded× coded_ℕ coded_ℕ)))
-    (λ h. (h.entries, (h.word_room, (h.lit_room, h.entry_room))))
-    (λ p. record { entries = p.0; word_room = p.1.0; lit_room = p.1.1.0; entry_room = p.1.1.1 })
+entries_code = code_by (List Entry × (List ℤ × (ℕ × (ℕ × ℕ))))
+    (coded× (coded_list entry_code) (coded× (coded_list coded_ℤ) (coded× coded_ℕ (coded× coded_ℕ coded_ℕ))))
+    (λ h. (h.entries, (h.lits, (h.word_room, (h.lit_room, h.entry_room)))))
+    (λ p. record { entries = p.0; lits = p.1.0; word_room = p.1.1.0; lit_room = p.1.1.1.0; entry_room = p.1.1.1.1 })
     (λ _. refl)
+
+abbrev pub recorded_code : Coded Recorded
+recorded_code = code_by (Entries × ClauseMap) (coded× entries_code clause_map_code)
+    (λ r. (r.history, r.live)) (λ p. record { history = p.0; live = p.1 }) (λ _. refl)
+
+abbrev pub place_code : Coded Place
+place_code = code_by (ℕ × ℕ) (coded× coded_ℕ coded_ℕ) (λ p. (p.start, p.count))
+    (λ p. record { start = p.0; count = p.1 }) (λ _. refl)

@@ -125,6 +125,11 @@ named_in lits kind ws =
 abbrev pub read_in : List ℤ → List ℕ → Entry × List ℤ
 read_in lits ws = (entry_in lits ws, named_in lits ((number_in ws).0 % 8) (number_in ws).1)
 
+-- the literals that a binding's entry is kept by
+abbrev pub binding_lits : Option LiteralSet → List ℤ
+binding_lits None = []
+binding_lits (Some clause) = literals clause
+
 -- the literals that the call of an entry is kept by
 abbrev pub call_lits : Call → List ℤ
 call_lits (calls.Add own lemma) = lemma_lits lemma
@@ -152,9 +157,11 @@ entries_in lits words starts = map (λ start. entry_in lits (drop start words)) 
 abbrev pub addition_numbers : Addition → ℕ
 addition_numbers a = 7 + length a.hints + groups_numbers a.groups
 
--- The entries, and how many more words, literals and entries have room.
+-- The entries, the literals that they name or that stood there before them, and how many more words, literals and
+-- entries have room.
 pub record Entries : Type 0 where
   pub entries : List Entry
+  pub lits : List ℤ
   pub word_room : ℕ
   pub lit_room : ℕ
   pub entry_room : ℕ

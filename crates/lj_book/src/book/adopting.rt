@@ -29,7 +29,7 @@ impl Book {
         if let Some(refusal) = self.free_refusal(seat, own) {
             return Err(refusal);
         }
-        if !self.clauses.contains_key(joint) {
+        if !self.ledger.is_live(joint) {
             return Err(Refusal::NoSuchClause);
         }
         Ok(self.bind_live(seat, own, joint, None)?)
@@ -64,8 +64,8 @@ impl Book {
         ensures number { result ≡ least_number (live self.old) clause.now }
         ensures same { self.new ≡ self.old }
     {
-        self.clauses.make_lists(self.history.allocator());
-        self.clauses.least_number(clause)
+        self.ledger.make_lists();
+        self.ledger.least_number(clause)
     }
 
     /// The refusal of a binding of this own number, whatever it is to be bound to.
@@ -103,10 +103,10 @@ impl Book {
             (binding_entry seat (binding_call own joint (option_copied imported.entry)))) }
         ensures err { OnErr result (self.new ≡ self.old) }
     {
-        self.history.reserve_binding(imported)?;
-        let place = self.history.len();
+        self.ledger.reserve_binding(imported)?;
+        let place = self.ledger.history().len();
         self.tables.bind(seat, own, joint)?;
-        self.history.push_binding(seat, own, joint, imported);
+        self.ledger.push_binding(seat, own, joint, imported);
         Ok(place)
     }
 }

@@ -8,7 +8,7 @@ ghost use Rattle.lj_book.specs.Inside.{inside_reply, inside_entry};
 ghost use Rattle.lj_book.specs.inner.JointLines.{inside_line, line_entry};
 
 use crate::book::Book;
-use crate::committing::{bind_clause, refuted_at};
+use crate::committing::{enter_addition, refuted_at};
 use crate::entry::Added;
 use crate::joint_line::joint_line;
 use crate::line_tests::tested_line;
@@ -70,7 +70,7 @@ impl Book {
             (λ e. result ≡ Err e) }
         ensures same { self.new ≡ self.old }
     {
-        let alloc = self.history.allocator();
+        let alloc = self.ledger.allocator();
         let added = self.added;
         let max_steps = self.max_steps;
         if let Some(refusal) = self.free_refusal(seat, addition.number) {
@@ -82,7 +82,7 @@ impl Book {
         };
         let number = self.formula.len() as u64 + 1 + u64::from(added);
         let lemma = &addition.lemma;
-        let step = match tested_line(alloc, &mut self.clauses, number, lemma, line, marks) {
+        let step = match tested_line(alloc, &mut self.ledger, number, lemma, line, marks) {
             Ok(step) => step,
             Err(refusal) => return Err(refusal),
         };
@@ -111,21 +111,10 @@ impl Book {
         let _ = has_pivot(&addition.lemma);
         let own = addition.number;
         let joint = step.number;
-        let clause = step.lemma.clause().copy()?;
-        let place = self.history.len();
-        let refuted = refuted_at(self.refuted, place, &clause);
-        self.history.reserve_addition(&step)?;
-        bind_clause(
-            &mut self.clauses,
-            &mut self.tables,
-            joint,
-            seat,
-            own,
-            clause,
-        )?;
-        self.refuted = refuted;
+        let place = self.ledger.history().len();
+        enter_addition(&mut self.ledger, &mut self.tables, seat, own, &step)?;
+        self.refuted = refuted_at(self.refuted, place, step.lemma.clause());
         self.added += 1;
-        self.history.push_addition(seat, own, &step);
         Ok(Added { place, joint })
     }
 }

@@ -4,7 +4,7 @@ ghost use Rattle.lj_book.specs.History.{after_entry};
 ghost use Rattle.lj_book.specs.Calls.{IsReply, leave_reply, leave_entry};
 
 use crate::book::Book;
-use crate::dying::{bury, no_longer_held, rising};
+use crate::dying::{no_longer_held, rising};
 use crate::refusal::Refusal;
 use lj_text::Numbers;
 
@@ -23,15 +23,14 @@ impl Book {
         if !self.tables.is_here(seat) {
             return Err(Refusal::SeatGone);
         }
-        let alloc = self.history.allocator();
+        let alloc = self.ledger.allocator();
         let numbers = Numbers::new(self.tables.own_numbers(alloc, seat)?);
         let joints = rising(self.tables.joints(alloc, seat, &numbers)?);
-        self.history.reserve_deaths(0, joints.len())?;
-        let place = self.history.len();
+        self.ledger.reserve_deaths(0, joints.len())?;
+        let place = self.ledger.history().len();
         self.tables.leave(seat, &numbers);
         let died = no_longer_held(&self.tables, joints);
-        bury(&mut self.clauses, &died);
-        self.history.push_leave(seat, &died);
+        self.ledger.push_leave(seat, &died);
         Ok(place)
     }
 }

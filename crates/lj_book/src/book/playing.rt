@@ -38,7 +38,7 @@ impl Book {
             → IsAlone self.old events.now replies.items self.new seat) }
         ensures err { OnErr result (self.new ≡ self.old) }
     {
-        let alloc = self.history.allocator();
+        let alloc = self.ledger.allocator();
         let mut replies = Vec::with_capacity(alloc, events.len())?;
         let mut pending = nothing_pending(alloc, self.tables.len())?;
         let mut marks = Marks::new(alloc);

@@ -34,7 +34,7 @@ impl Book {
         if let Some(refusal) = self.commit_refusal(&receipt) {
             return Err((refusal, receipt));
         }
-        let ready = match Ready::new(self.history.allocator(), receipt) {
+        let ready = match Ready::new(self.ledger.allocator(), receipt) {
             Ok(ready) => ready,
             Err((e, receipt)) => return Err((Refusal::NoMemory(e), receipt)),
         };
@@ -109,7 +109,7 @@ impl Book {
             Ok(step) => step,
             Err(refusal) => return Err(refusal),
         };
-        let entry = match entry_of_line(self.history.allocator(), seat, addition.number, &step) {
+        let entry = match entry_of_line(self.ledger.allocator(), seat, addition.number, &step) {
             Ok(entry) => entry,
             Err(refused) => return Err(Refusal::NoMemory(refused)),
         };
@@ -138,7 +138,7 @@ impl Book {
         if !self.tables.is_here(seat) {
             return Err(Refusal::SeatGone);
         }
-        let alloc = self.history.allocator();
+        let alloc = self.ledger.allocator();
         let call = Call::Drop {
             numbers: numbers.copy()?,
         };
@@ -224,7 +224,7 @@ impl Book {
         if !self.tables.is_here(seat) {
             return Err(Refusal::SeatGone);
         }
-        let alloc = self.history.allocator();
+        let alloc = self.ledger.allocator();
         let numbers = Numbers::new(self.tables.own_numbers(alloc, seat)?);
         let joints = rising(self.tables.joints(alloc, seat, &numbers)?);
         let place = match self.leave(seat) {

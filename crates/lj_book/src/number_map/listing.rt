@@ -3,9 +3,10 @@ ghost use Rattle.std.specs.Prelude.{◌≡◌, true, false, IfOk, OnErr};
 ghost use Rattle.std.specs.FinMap as fin;
 ghost use Rattle.lj_book.specs.inner.Occurrences.{with_number, AreSwept};
 
+use crate::lent_clauses::LentClauses;
 use crate::number_list::NumberList;
 use crate::number_map::NumberMap;
-use lj_clause::{Clause, NoMemory};
+use lj_clause::NoMemory;
 
 impl NumberMap<NumberList> {
     /// Puts a number at the end of the list at the key. Answers whether there is one.
@@ -33,7 +34,7 @@ impl NumberMap<NumberList> {
 
     /// Counts the death of a clause in the list at the key. Answers whether there is one.
     #[inline]
-    pub(crate) fn one_died(&mut self, key: u64, clauses: &NumberMap<Clause>) -> bool
+    pub(crate) fn one_died(&mut self, key: u64, clauses: &LentClauses<'_>) -> bool
         ensures there { result ≡ fin.contains_key self.old key }
         ensures swept { result ≡ true
             → AreSwept (fin.contains_key clauses.now) self.old self.new key }

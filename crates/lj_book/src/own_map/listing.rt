@@ -3,11 +3,12 @@ ghost use Rattle.std.specs.Prelude.{◌≡◌, true, false, IfOk, OnErr, IsTrue}
 ghost use Rattle.std.specs.FinMap as fin;
 ghost use Rattle.lj_book.specs.inner.Occurrences.{with_number, AreSwept};
 
+use crate::lent_clauses::LentClauses;
 use crate::number_list::NumberList;
 use crate::number_map::NumberMap;
 use crate::own_map::OwnMap;
 use crate::tree_map::TreeMap;
-use lj_clause::{Clause, NoMemory};
+use lj_clause::NoMemory;
 
 impl OwnMap<NumberList> {
     /// Puts a number at the end of the list at the key. Answers whether there is one.
@@ -32,11 +33,7 @@ impl OwnMap<NumberList> {
     /// # Errors
     /// [`NoMemory`] where a growth was refused. The list is lost then.
     #[inline]
-    pub(crate) fn one_died(
-        &mut self,
-        key: u64,
-        clauses: &NumberMap<Clause>,
-    ) -> Result<bool, NoMemory>
+    pub(crate) fn one_died(&mut self, key: u64, clauses: &LentClauses<'_>) -> Result<bool, NoMemory>
         ensures there { IfOk result (λ there. there ≡ fin.contains_key self.old key) }
         ensures swept { IfOk result (λ there. there ≡ true
             → AreSwept (fin.contains_key clauses.now) self.old self.new key) }
@@ -75,7 +72,7 @@ fn add_far(far: &mut TreeMap<NumberList>, key: u64, number: u32) -> Result<bool,
 fn one_died_far(
     far: &mut TreeMap<NumberList>,
     key: u64,
-    clauses: &NumberMap<Clause>,
+    clauses: &LentClauses<'_>,
 ) -> Result<bool, NoMemory>
     ensures there { IfOk result (λ there. there ≡ fin.contains_key far.old key) }
     ensures swept { IfOk result (λ there. there ≡ true

@@ -4,7 +4,7 @@ use crate::tables::{
     BINARY, Line, ListedStep, addition, assert_candidates, assert_lits, assert_steps, clause,
 };
 use lj_book::{Added, Book, Dropped, Imported, Refusal};
-use lj_clause::{Clause, Formula, Lit, NoMemory};
+use lj_clause::{ClauseView, Formula, Lit, NoMemory};
 use lj_hint::{Case, Live, Marks, Receipt, Tested, rat_test};
 use lj_text::Numbers;
 use std::alloc::Global;
@@ -151,7 +151,7 @@ impl Live for NothingLives {
 
     ghost live = { λ _. fin.empty };
 
-    fn clause(&self, _joint: u64) -> Option<&Clause> {
+    fn clause(&self, _joint: u64) -> Option<ClauseView<'_>> {
         None
     }
 

@@ -13,7 +13,7 @@ use Rattle.lj_book.proofs.line_tests.tested_line.Goals as goal
 
 pub returns-in-Ok-Closed-clause-reply : goal.returns-in-Ok-Closed-clause-reply
 returns-in-Ok-Closed-clause-reply c =
-    let p = c.args.clauses.now in
+    let p = c.args.ledger.now.live in
     let lemma = c.args.lemma.now in
     let line = c.args.line in
     let b = addition_of_parts c.args.number lemma (line.hints, line.groups.items) in

@@ -22,7 +22,7 @@ loop-number-preserved-in_default g c =
     let are = candidate_numbers live c.args.pivot _ ns c.negated.ensures (c.deref-number-items.ensures.value ∙ c.in_ok-numbers.ensures) in
     let within : i < length es = omega (arith, ap length are, length-map es first) in
     let found = candidate_at (λ (e : ℕ × LiteralSet). (fin.get live e.0 ≡ Some e.1) × (holds e.1 (neg_ℤ c.args.pivot) ≡ true)) es i (get_or ns i 0) within (ap (λ (ms : List ℕ). get_or ms i 0) are) (candidates-get live c.args.pivot) in
-    let nothing : None ≡ Some found.0 = ap option_copied (sym c.in_default.is) ∙ c.clause.ensures ∙ found.2.0 in
+    let nothing : None ≡ Some found.0 = sym c.in_default.is ∙ c.clause.ensures ∙ found.2.0 in
     absurd (false≢true (ap is_some nothing))
 
 pub returns-in-Err : goal.returns-in-Err
@@ -36,11 +36,11 @@ returns-in-Err g c =
     let i = c.loop-number.number-index in
     let ns = c.deref-number-items.result.now in
     let n = get_or ns i 0 in
-    let d = c.in-Some.clause.now in
+    let d = c.in-Some.clause in
     let first = λ (e : ℕ × LiteralSet). e.0 in
     let are = candidate_numbers live c.args.pivot _ ns c.negated.ensures (c.deref-number-items.ensures.value ∙ c.in_ok-numbers.ensures) in
     let within : i < length es = omega (arith, ap length are, length-map es first) in
-    let is : IsCandidate es i n d = candidate_is live q i n d within (ap (λ (ms : List ℕ). get_or ms i 0) are) (ap option_copied (sym c.in-Some.is) ∙ c.clause.ensures) in
+    let is : IsCandidate es i n d = candidate_is live q i n d within (ap (λ (ms : List ℕ). get_or ms i 0) are) (sym c.in-Some.is ∙ c.clause.ensures) in
     let group : option_map hints (option_copied c.hints_for-hints.result) ≡ group_of n named = c.hints_for-hints.ensures ∙ c.in_ok-places.ensures n in
     let told = ap (λ (o : Option (List Hint)). candidate_told n (is_some o) (candidate_walk a q d o)) (sym group) ∙ ap (λ b. candidate_told n b (candidate_walk a q d (option_map hints (option_copied c.hints_for-hints.result)))) (has_hints hints c.hints_for-hints.result) in
     let replies = c.in-Err.ensures in
@@ -62,11 +62,11 @@ loop-number-preserved g c =
     let i = c.loop-number.number-index in
     let ns = c.deref-number-items.result.now in
     let n = get_or ns i 0 in
-    let d = c.in-Some.clause.now in
+    let d = c.in-Some.clause in
     let first = λ (e : ℕ × LiteralSet). e.0 in
     let are = candidate_numbers live c.args.pivot _ ns c.negated.ensures (c.deref-number-items.ensures.value ∙ c.in_ok-numbers.ensures) in
     let within : i < length es = omega (arith, ap length are, length-map es first) in
-    let is : IsCandidate es i n d = candidate_is live q i n d within (ap (λ (ms : List ℕ). get_or ms i 0) are) (ap option_copied (sym c.in-Some.is) ∙ c.clause.ensures) in
+    let is : IsCandidate es i n d = candidate_is live q i n d within (ap (λ (ms : List ℕ). get_or ms i 0) are) (sym c.in-Some.is ∙ c.clause.ensures) in
     let group : option_map hints (option_copied c.hints_for-hints.result) ≡ group_of n named = c.hints_for-hints.ensures ∙ c.in_ok-places.ensures n in
     let replies = c.in-Ok.ensures in
     let told : at_one a q named n d ≡ Ok c.in-Ok.group =

@@ -1,5 +1,5 @@
 use Rattle.std.proofs.Common.{◌+◌, ap, sym, subst, ◌∙◌, arith}
-use Rattle.std.specs.Prelude.{Some, None, option_copied}
+use Rattle.std.specs.Prelude.{Some, None}
 use Rattle.lj_clause.specs.LiteralSet.{LiteralSet, from_literals}
 use Rattle.lj_hint.specs.inner.Trail.{Extends}
 use Rattle.lj_hint.specs.inner.Ending.{ending_of}
@@ -16,7 +16,7 @@ returns-in_default-clause-ending g c =
     let a = from_literals c.loop-index.held in
     let hs = g.H.HintList.hints c.args.hints.now in
     let r : Reads a hs c.loop-index.index None = record {
-      is = ap option_copied (sym c.in_default.is) ∙ c.clause.ensures;
+      is = sym c.in_default.is ∙ c.clause.ensures;
       within = omega (arith, c.count-index-end.ensures);
       open_yet = c.loop-index.invariant.consistent;
     } in
@@ -26,26 +26,26 @@ pub returns-in-Nothing-clause-ending : goal.returns-in-Nothing-clause-ending
 returns-in-Nothing-clause-ending g c =
     let a = from_literals c.loop-index.held in
     let hs = g.H.HintList.hints c.args.hints.now in
-    let r : Reads a hs c.loop-index.index (Some c.in-Some.clause.now) = record {
-      is = ap option_copied (sym c.in-Some.is) ∙ c.clause.ensures;
+    let r : Reads a hs c.loop-index.index (Some c.in-Some.clause) = record {
+      is = sym c.in-Some.is ∙ c.clause.ensures;
       within = omega (arith, c.count-index-end.ensures);
       open_yet = c.loop-index.invariant.consistent;
     } in
-    ends_closed a hs c.loop-index.index c.in-Some.clause.now r c.in-Nothing.ensures ∙ ap ending_of (sym c.loop-index.invariant.walked)
+    ends_closed a hs c.loop-index.index c.in-Some.clause r c.in-Nothing.ensures ∙ ap ending_of (sym c.loop-index.invariant.walked)
 
 pub returns-in-More-clause-ending : goal.returns-in-More-clause-ending
 returns-in-More-clause-ending g c =
     let a = from_literals c.loop-index.held in
     let hs = g.H.HintList.hints c.args.hints.now in
-    let r : Reads a hs c.loop-index.index (Some c.in-Some.clause.now) = record {
-      is = ap option_copied (sym c.in-Some.is) ∙ c.clause.ensures;
+    let r : Reads a hs c.loop-index.index (Some c.in-Some.clause) = record {
+      is = sym c.in-Some.is ∙ c.clause.ensures;
       within = omega (arith, c.count-index-end.ensures);
       open_yet = c.loop-index.invariant.consistent;
     } in
-    ends_stuck a hs c.loop-index.index c.in-Some.clause.now r c.in-More.ensures ∙ ap ending_of (sym c.loop-index.invariant.walked)
+    ends_stuck a hs c.loop-index.index c.in-Some.clause r c.in-More.ensures ∙ ap ending_of (sym c.loop-index.invariant.walked)
 
 pub insert_unopposed-requires : goal.insert_unopposed-requires
-insert_unopposed-requires g c = left_unopposed (from_literals c.loop-index.held) c.in-Some.clause.now c.in-One.lit c.in-One.ensures
+insert_unopposed-requires g c = left_unopposed (from_literals c.loop-index.held) c.in-Some.clause c.in-One.lit c.in-One.ensures
 
 pub loop-index-preserved : goal.loop-index-preserved
 loop-index-preserved g c =
@@ -53,14 +53,14 @@ loop-index-preserved g c =
     let a = from_literals before in
     let hs = g.H.HintList.hints c.args.hints.now in
     let ok = c.in_ok-insert_unopposed-in-One.ensures.ok in
-    let r : Reads a hs c.loop-index.index (Some c.in-Some.clause.now) = record {
-      is = ap option_copied (sym c.in-Some.is) ∙ c.clause.ensures;
+    let r : Reads a hs c.loop-index.index (Some c.in-Some.clause) = record {
+      is = sym c.in-Some.is ∙ c.clause.ensures;
       within = omega (arith, c.count-index-end.ensures);
       open_yet = c.loop-index.invariant.consistent;
     } in
     record {
       walked = c.loop-index.invariant.walked
-          ∙ goes_on a hs c.loop-index.index c.in-Some.clause.now c.in-One.lit r c.in-One.ensures
+          ∙ goes_on a hs c.loop-index.index c.in-Some.clause c.in-One.lit r c.in-One.ensures
           ∙ ap (λ (s : LiteralSet). walk_from s hs (c.loop-index.index + 1)) (sym (ap from_literals ok ∙ from_literals-with_mark before c.in-One.lit));
       extends = Extends-trans c.args.held.now before c.insert_unopposed.new.self c.loop-index.invariant.extends (subst (Extends before) (sym ok) (Extends-with_mark before c.in-One.lit));
       consistent = c.in_ok-insert_unopposed-in-One.ensures.contradictory ∙ c.loop-index.invariant.consistent;

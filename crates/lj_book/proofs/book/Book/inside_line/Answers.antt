@@ -7,7 +7,7 @@ use Rattle.lj_book.proofs.book.Book.inside_line.Goals as goal
 
 pub returns-in-Err-tested_line-clause-reply : goal.returns-in-Err-tested_line-clause-reply
 returns-in-Err-tested_line-clause-reply c =
-    let s : State = record { formula = c.self.inside.formula; max_steps = c.self.inside.max_steps; tables = c.self.inside.tables; history = c.self.inside.history.entries } in
+    let s : State = record { formula = c.self.inside.formula; max_steps = c.self.inside.max_steps; tables = c.self.inside.tables; history = c.self.inside.ledger.history.entries } in
     let a = c.args.addition.now in
     let parts : LineParts = (c.in-Ok.line.hints, c.in-Ok.line.groups.items) in
     let taken : IsTaken s c.args.seat a parts = record {
@@ -23,7 +23,7 @@ returns-in-Err-tested_line-clause-reply c =
 
 pub returns-then-added-max_steps-clause-reply : goal.returns-then-added-max_steps-clause-reply
 returns-then-added-max_steps-clause-reply c =
-    let s : State = record { formula = c.self.inside.formula; max_steps = c.self.inside.max_steps; tables = c.self.inside.tables; history = c.self.inside.history.entries } in
+    let s : State = record { formula = c.self.inside.formula; max_steps = c.self.inside.max_steps; tables = c.self.inside.tables; history = c.self.inside.ledger.history.entries } in
     let a = c.args.addition.now in
     let parts : LineParts = (c.in-Ok.line.hints, c.in-Ok.line.groups.items) in
     let taken : IsTaken s c.args.seat a parts = record {
@@ -37,7 +37,7 @@ returns-then-added-max_steps-clause-reply c =
 
 pub returns-clause-reply : goal.returns-clause-reply
 returns-clause-reply c =
-    let s : State = record { formula = c.self.inside.formula; max_steps = c.self.inside.max_steps; tables = c.self.inside.tables; history = c.self.inside.history.entries } in
+    let s : State = record { formula = c.self.inside.formula; max_steps = c.self.inside.max_steps; tables = c.self.inside.tables; history = c.self.inside.ledger.history.entries } in
     let a = c.args.addition.now in
     let parts : LineParts = (c.in-Ok.line.hints, c.in-Ok.line.groups.items) in
     let taken : IsTaken s c.args.seat a parts = record {

@@ -13,7 +13,7 @@ use Rattle.lj_book.proofs.book.Book.leave_telling.Goals as goal
 
 pub returns-clause-told : goal.returns-clause-told
 returns-clause-told c =
-    let s : State = record { formula = c.self.inside.formula; max_steps = c.self.inside.max_steps; tables = c.self.inside.tables; history = c.self.inside.history.entries } in
+    let s : State = record { formula = c.self.inside.formula; max_steps = c.self.inside.max_steps; tables = c.self.inside.tables; history = c.self.inside.ledger.history.entries } in
     let seat = c.args.seat in
     let ns = c.new-numbers.result in
     let here = sym c.is_here.ensures ∙ c.if-not-is_here.false in

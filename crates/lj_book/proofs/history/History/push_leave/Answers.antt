@@ -20,8 +20,8 @@ invariant_of-self c =
     (subst (λ (us : List ℕ). AreWritten ls (ws ++ words) us) (sym starts)
     (more_words_written ls ws words ss entry (omega (arith, c.ranges.seat)) refl (λ all more. leave_back all c.args.seat c.args.died.now more) c.self.invariant))
 
-pub returns : goal.returns
-returns c =
+pub returns-clause-entries : goal.returns-clause-entries
+returns-clause-entries c =
     let ls : List ℤ = c.self.inside.lits.items in
     let ws : List ℕ = c.self.inside.words.items in
     let ss : List ℕ = c.self.inside.starts.items in

@@ -1,5 +1,5 @@
 use Rattle.std.proofs.Common.{◌≡◌, ap, sym, ◌∙◌, ℕ, List}
-use Rattle.std.specs.Prelude.{option_copied, slice_get, filter, Some}
+use Rattle.std.specs.Prelude.{slice_get, filter, Some}
 use Rattle.std.specs.FinMap as fin
 use Rattle.lj_book.specs.Lookup.{is_clause}
 use Rattle.lj_book.proofs.CommitLaws.{same_test}
@@ -14,7 +14,7 @@ returns-then-same c =
     let test = λ (n : ℕ). is_clause w (fin.get p n) in
     let xs = c.as_slice-number-items.result.now in
     let passes : test c.from-number.result ≡ _ =
-    ap (is_clause w) (sym c.get.ensures ∙ ap option_copied c.in-Some.is) ∙ sym (same_test c.same.result w c.in-Some.clause.now c.same.ensures) ∙ c.if-same.true in
+    ap (is_clause w) (sym c.get.ensures ∙ c.in-Some.is) ∙ sym (same_test c.same.result w c.in-Some.clause c.same.ensures) ∙ c.if-same.true in
     ap Some c.from-number.ensures
     ∙ sym (first_one test xs c.loop-number.number-index 0 c.loop-number-test.true c.loop-number.invariant (ap test (sym c.from-number.ensures) ∙ passes))
     ∙ ap (λ (ns : List ℕ). slice_get (filter test ns) 0) c.as_slice-number-items.ensures
@@ -29,9 +29,9 @@ loop-number-preserved c =
       | in-Some+else-same v ↦
           none_more test xs c.loop-number.number-index 0 c.loop-number-test.true c.loop-number.invariant
           (ap test (sym c.from-number.ensures)
-          ∙ ap (is_clause w) (sym c.get.ensures ∙ ap option_copied v.in-Some.is)
-          ∙ sym (same_test v.same.result w v.in-Some.clause.now v.same.ensures) ∙ v.if-same.false)
+          ∙ ap (is_clause w) (sym c.get.ensures ∙ v.in-Some.is)
+          ∙ sym (same_test v.same.result w v.in-Some.clause v.same.ensures) ∙ v.if-same.false)
       | in_default v ↦
           none_more test xs c.loop-number.number-index 0 c.loop-number-test.true c.loop-number.invariant
-          (ap test (sym c.from-number.ensures) ∙ ap (is_clause w) (sym c.get.ensures ∙ ap option_copied v.in_default.is))
+          (ap test (sym c.from-number.ensures) ∙ ap (is_clause w) (sym c.get.ensures ∙ v.in_default.is))
     ]

@@ -1,0 +1,287 @@
+-- Clauses whose literals stand in one list, which grows while places come and go.
+use Rattle.std.proofs.Common.{◌≡◌, ap, refl, sym, ◌∙◌, ℕ, ◌+◌, ◌-◌, ◌<◌, ◌≤◌, Bool, cond, true, false, arith, subst, append_assoc, length-append}
+use Rattle.std.specs.Prelude.{T, ℤ, List, [], ◌∷◌, ◌++◌, map, filter, length, take, drop, Option, Some, None, option_map, is_some, ◌&&◌, suc, nat_le, nat_lt}
+use Rattle.std.proofs.lemmas.Bool.{false≢true}
+use Rattle.std.proofs.lemmas.Bool.Decides.{nat_tests}
+use Rattle.std.proofs.lemmas.List.{append-nil, drop-append-le, take-append-le, length-drop}
+use Rattle.std.proofs.Math.Seq.{drop-append_seam, take-append_seam}
+use Rattle.std.specs.List.{AllByRecursion}
+use Rattle.std.specs.List.Sorted.{IsStrictlySortedBy}
+use Rattle.std.specs.declared.cmp.Ordering.{Ordering}
+use Rattle.std.specs.declared.cmp.Ordering.TheVariants.{Less, Equal, Greater}
+use Rattle.std.specs.Ordering.{nat_cmp, eq_by_cmp, is_lt}
+use Rattle.std.specs.Cmp.{nat_cmp_total}
+use Rattle.std.specs.FinMap as fin
+use Rattle.std.specs.FinMap.Entries.{find, is_sorted, below_all}
+use Rattle.lj_clause.specs.Literal.{lit_cmp}
+use Rattle.lj_clause.specs.LiteralSet.{LiteralSet, literals, from_literals}
+use Rattle.lj_clause.specs.Lemma.{LemmaValue}
+use Rattle.lj_clause.specs.ClauseMap.{ClauseMap, FormulaValue, formula_map}
+use Rattle.lj_book.specs.declared.place.Place.{Place}
+use Rattle.lj_book.specs.Lookup.{numbers_where}
+use Rattle.lj_book.specs.inner.Records.{some_lits, lemma_lits, pivot_before}
+use Rattle.lj_book.specs.inner.Slots.{slot_map, slot_entries, slot_numbers}
+use Rattle.lj_book.specs.inner.Occurrences.{Lists, AreIndexed}
+use Rattle.lj_book.specs.inner.Places.{Places, clause_in, placed, IsPlace, ArePlaces, pivots, AreRecorded}
+use Rattle.lj_book.proofs.NumberMaps.{same_map}
+use Rattle.lj_book.proofs.HistoryLaws.{past_the_end}
+use Rattle.lj_book.proofs.RecordLaws.{clause_back}
+use Rattle.lj_book.proofs.Slots.{slot_entries_are, slot_numbers_are}
+
+-- ---- what stands under a number
+
+find_mapped : {A B : Type 0} (g : A → B) (q : ℕ) (es : List (ℕ × A)) → find nat_cmp q (map (λ e. (e.0, g e.1)) es) ≡ option_map g (find nat_cmp q es)
+find_mapped g q [] = refl
+find_mapped {A} {B} g q (e ∷ es) = ap (cond (eq_by_cmp nat_cmp q e.0) (Some (g e.1))) (find_mapped g q es) ∙ by (eq_by_cmp nat_cmp q e.0)
+  where
+    by : (b : Bool) → cond b (Some (g e.1)) (option_map g (find nat_cmp q es)) ≡ option_map g (cond b (Some e.1) (find nat_cmp q es))
+    by true = refl
+    by false = refl
+
+pub get_placed : (lits : List ℤ) (m : Places) (q : ℕ) → fin.get (placed lits m) q ≡ option_map (clause_in lits) (fin.get m q)
+get_placed lits m q =
+    fin.get-from_entries nat_cmp_total (map (λ e. (e.0, clause_in lits e.1)) (fin.entries m)) q
+    ∙ find_mapped (clause_in lits) q (fin.entries m)
+    ∙ ap (option_map (clause_in lits)) (sym (fin.get-entries m q))
+
+pub found_placed : (lits : List ℤ) (m : Places) (q : ℕ) (p : Place) → fin.get m q ≡ Some p → Some (clause_in lits p) ≡ fin.get (placed lits m) q
+found_placed lits m q p e = sym (get_placed lits m q ∙ ap (option_map (clause_in lits)) e)
+
+pub none_placed : (lits : List ℤ) (m : Places) (q : ℕ) → fin.get m q ≡ None → None ≡ fin.get (placed lits m) q
+none_placed lits m q e = sym (get_placed lits m q ∙ ap (option_map (clause_in lits)) e)
+
+pub key_placed : (lits : List ℤ) (m : Places) (q : ℕ) → fin.contains_key m q ≡ fin.contains_key (placed lits m) q
+key_placed lits m q = by (fin.get m q) ∙ ap is_some (sym (get_placed lits m q))
+  where
+    by : (o : Option Place) → is_some o ≡ is_some (option_map (clause_in lits) o)
+    by None = refl
+    by (Some p) = refl
+
+pub placed_empty : (lits : List ℤ) (m : Places) → m ≡ fin.empty → placed lits m ≡ fin.empty
+placed_empty lits m is = same_map _ _ (λ q. get_placed lits m q ∙ ap (λ (n : Places). option_map (clause_in lits) (fin.get n q)) is ∙ ap (option_map (clause_in lits)) (fin.get-empty nat_cmp q) ∙ sym (fin.get-empty nat_cmp q))
+
+put_mapped : {A B : Type 0} (g : A → B) (b : Bool) (x : A) (o : Option A) → option_map g (cond b (Some x) o) ≡ cond b (Some (g x)) (option_map g o)
+put_mapped g true x o = refl
+put_mapped g false x o = refl
+
+cut_mapped : {A B : Type 0} (g : A → B) (b : Bool) (o : Option A) → option_map g (cond b None o) ≡ cond b None (option_map g o)
+cut_mapped g true o = refl
+cut_mapped g false o = refl
+
+pub placed_insert : (lits : List ℤ) (m : Places) (k : ℕ) (p : Place) → placed lits (fin.insert m k p) ≡ fin.insert (placed lits m) k (clause_in lits p)
+placed_insert lits m k p = same_map _ _ (λ q.
+    get_placed lits (fin.insert m k p) q
+    ∙ ap (option_map (clause_in lits)) (fin.get-insert nat_cmp_total m k p q)
+    ∙ put_mapped (clause_in lits) (eq_by_cmp nat_cmp q k) p (fin.get m q)
+    ∙ ap (cond (eq_by_cmp nat_cmp q k) (Some (clause_in lits p))) (sym (get_placed lits m q))
+    ∙ sym (fin.get-insert nat_cmp_total (placed lits m) k (clause_in lits p) q))
+
+pub placed_remove : (lits : List ℤ) (m : Places) (k : ℕ) → placed lits (fin.remove m k) ≡ fin.remove (placed lits m) k
+placed_remove lits m k = same_map _ _ (λ q.
+    get_placed lits (fin.remove m k) q
+    ∙ ap (option_map (clause_in lits)) (fin.get-remove nat_cmp_total m k q)
+    ∙ cut_mapped (clause_in lits) (eq_by_cmp nat_cmp q k) (fin.get m q)
+    ∙ ap (cond (eq_by_cmp nat_cmp q k) None) (sym (get_placed lits m q))
+    ∙ sym (fin.get-remove nat_cmp_total (placed lits m) k q))
+
+-- ---- more literals behind the others
+
+pub part_stays : (lits more : List ℤ) (p : Place) → p.start + p.count ≤ length lits → some_lits (lits ++ more) p.start p.count ≡ some_lits lits p.start p.count
+part_stays lits more p within =
+    let start : p.start ≤ length lits = omega (arith, within) in
+    let n : length (drop p.start lits) ≡ length lits - p.start = length-drop p.start lits in
+    let count : p.count ≤ length (drop p.start lits) = omega (arith, within, n) in
+    ap (take p.count) (drop-append-le p.start lits more start)
+    ∙ take-append-le p.count (drop p.start lits) more count
+
+pub place_stays : (lits more : List ℤ) (p : Place) → IsPlace lits p → IsPlace (lits ++ more) p
+place_stays lits more p is = record {
+  within = let n : length (lits ++ more) ≡ length lits + length more = length-append lits more in omega (arith, is.within);
+  rising = subst (λ (ls : List ℤ). IsStrictlySortedBy lit_cmp ls) (sym (part_stays lits more p is.within)) is.rising;
+}
+
+pub places_stay : (lits more : List ℤ) (m : Places) → ArePlaces lits m → ArePlaces (lits ++ more) m
+places_stay lits more m are q p e = place_stays lits more p (are q p e)
+
+pub placed_stays : (lits more : List ℤ) (m : Places) → ArePlaces lits m → placed (lits ++ more) m ≡ placed lits m
+placed_stays lits more m are = same_map _ _ (λ q. get_placed (lits ++ more) m q ∙ at q (fin.get m q) refl ∙ sym (get_placed lits m q))
+  where
+    at : (q : ℕ) (o : Option Place) → fin.get m q ≡ o → option_map (clause_in (lits ++ more)) (fin.get m q) ≡ option_map (clause_in lits) (fin.get m q)
+    at q None e = ap (option_map (clause_in (lits ++ more))) e ∙ sym (ap (option_map (clause_in lits)) e)
+    at q (Some p) e =
+        ap (option_map (clause_in (lits ++ more))) e
+        ∙ ap (λ (ls : List ℤ). Some (from_literals ls)) (part_stays lits more p (are q p e).within)
+        ∙ sym (ap (option_map (clause_in lits)) e)
+
+-- ---- places that come and go
+
+some_is : {A : Type 0} (x y z : A) → Some x ≡ Some y → x ≡ y
+some_is x y z e = ap (out z) e
+  where
+    out : {A : Type 0} → A → Option A → A
+    out z None = z
+    out z (Some y) = y
+
+pub places_insert : (lits : List ℤ) (m : Places) (k : ℕ) (p : Place) → ArePlaces lits m → IsPlace lits p → ArePlaces lits (fin.insert m k p)
+places_insert lits m k p are is q r e = by (eq_by_cmp nat_cmp q k) (sym (fin.get-insert nat_cmp_total m k p q) ∙ e)
+  where
+    by : (b : Bool) → cond b (Some p) (fin.get m q) ≡ Some r → IsPlace lits r
+    by true h = subst (IsPlace lits) (some_is p r p h) is
+    by false h = are q r h
+
+pub places_remove : (lits : List ℤ) (m : Places) (k : ℕ) → ArePlaces lits m → ArePlaces lits (fin.remove m k)
+places_remove lits m k are q r e = by (eq_by_cmp nat_cmp q k) (sym (fin.get-remove nat_cmp_total m k q) ∙ e)
+  where
+    none : {A : Type 0} (x : A) → None ≡ Some x → ⊥
+    none x h = false≢true (ap is_there h)
+      where
+        is_there : {A : Type 0} → Option A → Bool
+        is_there None = false
+        is_there (Some y) = true
+
+    by : (b : Bool) → cond b None (fin.get m q) ≡ Some r → IsPlace lits r
+    by true h = absurd (none r h)
+    by false h = are q r h
+
+pub places_empty : (lits : List ℤ) (m : Places) → m ≡ fin.empty → ArePlaces lits m
+places_empty lits m is q p e = absurd (none p (sym (fin.get-empty nat_cmp q) ∙ ap (λ (n : Places). fin.get n q) (sym is) ∙ e))
+  where
+    none : {A : Type 0} (x : A) → None ≡ Some x → ⊥
+    none x h = false≢true (ap is_there h)
+      where
+        is_there : {A : Type 0} → Option A → Bool
+        is_there None = false
+        is_there (Some y) = true
+
+-- ---- a clause behind the others
+
+less_from : (r : Ordering) → T (is_lt r) → r ≡ Less
+less_from Less h = refl
+less_from Equal h = absurd h
+less_from Greater h = absurd h
+
+halves : (a b : Bool) → T (a && b) → T a × T b
+halves true b h = (tt, h)
+halves false b h = absurd h
+
+above : (x : ℤ) (es : List (ℤ × Unit {0})) → T (below_all lit_cmp x es) → AllByRecursion (λ y. lit_cmp x y ≡ Less) (map (λ e. e.0) es)
+above x [] h = tt
+above x (e ∷ es) h = let both = halves (is_lt (lit_cmp x e.0)) (below_all lit_cmp x es) h in (less_from (lit_cmp x e.0) both.0, above x es both.1)
+
+rise : (es : List (ℤ × Unit {0})) → T (is_sorted lit_cmp es) → IsStrictlySortedBy lit_cmp (map (λ e. e.0) es)
+unfolding IsStrictlySortedBy
+rise [] h = tt
+rise (e ∷ es) h = let both = halves (below_all lit_cmp e.0 es) (is_sorted lit_cmp es) h in (above e.0 es both.0, rise es both.1)
+
+-- the literals of a set rise
+pub literals_rise : (c : LiteralSet) → IsStrictlySortedBy lit_cmp (literals c)
+literals_rise c = rise (fin.entries c) (fin.entries_sorted c)
+
+take_whole : (ls : List ℤ) → take (length ls) ls ≡ ls
+take_whole ls = ap (take (length ls)) (sym (append-nil ls)) ∙ take-append_seam ls []
+
+-- the literals of a list that is put behind others
+pub part_behind : (lits ls : List ℤ) (p : Place) → p.start ≡ length lits → p.count ≡ length ls → some_lits (lits ++ ls) p.start p.count ≡ ls
+part_behind lits ls p start count =
+    (λ i. take (count i) (drop (start i) (lits ++ ls)))
+    ∙ ap (take (length ls)) (drop-append_seam lits ls)
+    ∙ take_whole ls
+
+-- the literals of a lemma's clause, once the lemma is put behind others
+pub lemma_part : (lits : List ℤ) (pivot : Option ℤ) (ls : List ℤ) (p : Place) → p.start ≡ length lits + pivots pivot → p.count ≡ length ls → some_lits (lits ++ pivot_before pivot ls) p.start p.count ≡ ls
+lemma_part lits None ls p start count = part_behind lits ls p (let n : p.start ≡ length lits + 0 = start in omega (arith, n)) count
+lemma_part lits (Some x) ls p start count =
+    let n : length (lits ++ x ∷ []) ≡ length lits + 1 = length-append lits (x ∷ []) in
+    let at : p.start ≡ length (lits ++ x ∷ []) = start ∙ sym n in
+    ap (λ (xs : List ℤ). some_lits xs p.start p.count) (sym (append_assoc lits (x ∷ []) ls))
+    ∙ part_behind (lits ++ x ∷ []) ls p at count
+
+lemma_length : (pivot : Option ℤ) (ls : List ℤ) → length (pivot_before pivot ls) ≡ pivots pivot + length ls
+lemma_length None ls = omega arith
+lemma_length (Some x) ls = omega arith
+
+pub lemma_place : (lits : List ℤ) (lemma : LemmaValue) (p : Place) → p.start ≡ length lits + pivots lemma.pivot → p.count ≡ length (literals lemma.clause) → IsPlace (lits ++ lemma_lits lemma) p
+lemma_place lits lemma p start count = record {
+  within =
+      let n : length (lits ++ lemma_lits lemma) ≡ length lits + length (lemma_lits lemma) = length-append lits (lemma_lits lemma) in
+      let m : length (lemma_lits lemma) ≡ pivots lemma.pivot + length (literals lemma.clause) = lemma_length lemma.pivot (literals lemma.clause) in
+      omega (arith, start, count, n, m);
+  rising = subst (λ (ls : List ℤ). IsStrictlySortedBy lit_cmp ls) (sym (lemma_part lits lemma.pivot (literals lemma.clause) p start count)) (literals_rise lemma.clause);
+}
+
+pub lemma_clause : (lits : List ℤ) (lemma : LemmaValue) (p : Place) → p.start ≡ length lits + pivots lemma.pivot → p.count ≡ length (literals lemma.clause) → clause_in (lits ++ lemma_lits lemma) p ≡ lemma.clause
+lemma_clause lits lemma p start count = ap from_literals (lemma_part lits lemma.pivot (literals lemma.clause) p start count) ∙ clause_back lemma.clause
+
+-- the live clauses once a lemma is put behind the others and has its place
+pub placed_lemma : (lits : List ℤ) (m : Places) (lemma : LemmaValue) (k : ℕ) (p : Place) → ArePlaces lits m → p.start ≡ length lits + pivots lemma.pivot → p.count ≡ length (literals lemma.clause) → placed (lits ++ lemma_lits lemma) (fin.insert m k p) ≡ fin.insert (placed lits m) k lemma.clause
+placed_lemma lits m lemma k p are start count =
+    placed_insert (lits ++ lemma_lits lemma) m k p
+    ∙ (λ i. fin.insert (placed_stays lits (lemma_lits lemma) m are i) k (lemma_clause lits lemma p start count i))
+
+pub places_lemma : (lits : List ℤ) (m : Places) (lemma : LemmaValue) (k : ℕ) (p : Place) → ArePlaces lits m → p.start ≡ length lits + pivots lemma.pivot → p.count ≡ length (literals lemma.clause) → ArePlaces (lits ++ lemma_lits lemma) (fin.insert m k p)
+places_lemma lits m lemma k p are start count = places_insert (lits ++ lemma_lits lemma) m k p (places_stay lits (lemma_lits lemma) m are) (lemma_place lits lemma p start count)
+
+abbrev alone : LiteralSet → LemmaValue
+alone c = record { clause = c; pivot = None }
+
+plus_none : (n : ℕ) → n ≡ n + 0
+plus_none n = omega arith
+
+-- the same of a clause alone
+pub placed_clause : (lits : List ℤ) (m : Places) (c : LiteralSet) (k : ℕ) (p : Place) → ArePlaces lits m → p.start ≡ length lits → p.count ≡ length (literals c) → placed (lits ++ literals c) (fin.insert m k p) ≡ fin.insert (placed lits m) k c
+placed_clause lits m c k p are start count = placed_lemma lits m (alone c) k p are (start ∙ plus_none (length lits)) count
+
+pub places_clause : (lits : List ℤ) (m : Places) (c : LiteralSet) (k : ℕ) (p : Place) → ArePlaces lits m → p.start ≡ length lits → p.count ≡ length (literals c) → ArePlaces (lits ++ literals c) (fin.insert m k p)
+places_clause lits m c k p are start count = places_lemma lits m (alone c) k p are (start ∙ plus_none (length lits)) count
+
+-- ---- places that are looked through
+
+entries_mapped : {A B : Type 0} (g : A → B) (n : ℕ) (xs : List (Option A)) → map (λ e. (e.0, g e.1)) (slot_entries n xs) ≡ slot_entries n (map (option_map g) xs)
+entries_mapped g n [] = refl
+entries_mapped g n (None ∷ xs) = entries_mapped g (suc n) xs
+entries_mapped g n (Some x ∷ xs) = ap (λ es. (n, g x) ∷ es) (entries_mapped g (suc n) xs)
+
+placed_slots : (lits : List ℤ) (xs : List (Option Place)) → placed lits (slot_map xs) ≡ slot_map (map (option_map (clause_in lits)) xs)
+placed_slots lits xs = ap (λ (es : List (ℕ × LiteralSet)). fin.from_entries es) (ap (map (λ (e : ℕ × Place). (e.0, clause_in lits e.1))) (slot_entries_are xs) ∙ entries_mapped (clause_in lits) 0 xs)
+
+numbers_mapped : {A B : Type 0} (g : A → B) (test : B → Bool) (n : ℕ) (xs : List (Option A)) → slot_numbers (λ x. test (g x)) n xs ≡ slot_numbers test n (map (option_map g) xs)
+numbers_mapped g test n [] = refl
+numbers_mapped g test n (None ∷ xs) = numbers_mapped g test (suc n) xs
+numbers_mapped g test n (Some x ∷ xs) = (λ i. cond (test (g x)) (n ∷ numbers_mapped g test (suc n) xs i) (numbers_mapped g test (suc n) xs i))
+
+pub slots_pass : (lits : List ℤ) (test : LiteralSet → Bool) (xs : List (Option Place)) → slot_numbers (λ p. test (clause_in lits p)) 0 xs ≡ numbers_where test (placed lits (slot_map xs))
+slots_pass lits test xs =
+    numbers_mapped (clause_in lits) test 0 xs
+    ∙ slot_numbers_are test (map (option_map (clause_in lits)) xs)
+    ∙ ap (λ (p : ClauseMap). numbers_where test p) (sym (placed_slots lits xs))
+
+-- ---- all that a ledger keeps
+
+pub Recorded-stays : (lits more : List ℤ) (m : Places) (lists : Option Lists) (last : ℕ) → AreRecorded lits m lists last → AreRecorded (lits ++ more) m lists last
+Recorded-stays lits more m lists last are = record {
+  places_are = places_stay lits more m are.places_are;
+  indexed = subst (λ (p : ClauseMap). AreIndexed lists p last) (sym (placed_stays lits more m are.places_are)) are.indexed;
+}
+
+formula_key : (f : FormulaValue) (q : ℕ) → fin.contains_key (formula_map f) q ≡ true → q ≤ length f.clauses
+formula_key f q there = by (nat_le q (length f.clauses)) refl
+  where
+    within : (q n : ℕ) → nat_le q n ≡ true → q ≤ n
+    within q n e = grind (arith, nat_tests)
+
+    beyond : (q n : ℕ) → nat_le q n ≡ false → (nat_lt 0 q && nat_le q n) ≡ false
+    beyond q n e = grind (arith, nat_tests)
+
+    by : (b : Bool) → nat_le q (length f.clauses) ≡ b → q ≤ length f.clauses
+    by true e = within q (length f.clauses) e
+    by false e = absurd (false≢true (ap is_some (sym (past_the_end f q (beyond q (length f.clauses) e))) ∙ there))
+
+-- at first there are the clauses of the formula
+pub Recorded-opening : (lits : List ℤ) (m : Places) (f : FormulaValue) (last : ℕ) → ArePlaces lits m → placed lits m ≡ formula_map f → last ≡ length f.clauses → AreRecorded lits m None last
+Recorded-opening lits m f last are is n = record {
+  places_are = are;
+  indexed = record {
+    given = λ q there. let le : q ≤ length f.clauses = formula_key f q (ap (λ (p : ClauseMap). fin.contains_key p q) (sym is) ∙ there) in omega (arith, le, n);
+    listed = tt;
+  };
+}

@@ -1,0 +1,10 @@
+use Rattle.std.proofs.Common.{◌≡◌, ap, sym, ◌∙◌, subst}
+use Rattle.std.specs.Prelude.{ℤ, List, None}
+use Rattle.lj_book.specs.inner.Places.{placed, AreRecorded}
+use Rattle.lj_book.proofs.PlaceLaws.{Recorded-opening}
+use Rattle.lj_book.proofs.ledger.Ledger.open.Goals as goal
+
+pub invariant_of-result : goal.invariant_of-result
+invariant_of-result c =
+    subst (λ (ls : List ℤ). AreRecorded ls c.in_ok-lits.places None c.len.result) (sym c.over.ensures.lits)
+    (Recorded-opening c.in_ok-lits.lits.items c.in_ok-lits.places c.args.formula.now c.len.result c.in_ok-lits.ensures.places c.in_ok-lits.ensures.clauses c.len.ensures.len)

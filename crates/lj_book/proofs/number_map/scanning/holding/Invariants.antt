@@ -1,8 +1,0 @@
-use Rattle.std.proofs.Common.{◌≡◌, ◌++◌}
-use Rattle.std.specs.Prelude.{drop}
-use Rattle.lj_clause.specs.LiteralSet.{holds}
-use Rattle.lj_book.specs.inner.Slots.{slot_numbers}
-use Rattle.lj_book.proofs.number_map.scanning.holding.Given as goal
-
-abbrev pub invariant-loop-at : goal.invariant-loop-at
-invariant-loop-at l = l.numbers.items ++ slot_numbers (λ c. holds c l.lit) l.at (drop l.at l.slots) ≡ slot_numbers (λ c. holds c l.lit) 0 l.slots

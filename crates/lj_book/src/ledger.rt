@@ -1,0 +1,376 @@
+//! A history with the clauses that live.
+ghost use Rattle.std.specs.Prelude.{◌≡◌, ℕ, ◌+◌, ◌*◌, ◌<◌, ◌≤◌, ◌++◌, ◌∷◌, [], ◌^◌, true, length, OnOk, OnErr, IfOk, IsTrue, ◌↔◌, IfSome, Some, None, option_copied, slice_get, option_map};
+ghost use Rattle.std.specs.FinMap as fin;
+ghost use Rattle.lj_clause.specs.LiteralSet.{literals};
+ghost use Rattle.lj_clause.specs.ClauseMap.{ClauseMap, formula_map};
+ghost use Rattle.lj_text.specs.declared.step.Step.TheVariants.{Add};
+ghost use Rattle.lj_text.specs.Needed.{if_some};
+ghost use Rattle.lj_text.specs.Steps.{without};
+ghost use Rattle.lj_book.specs.declared.entry.Call.TheVariants as calls;
+ghost use Rattle.lj_book.specs.Lookup.{numbers_holding, least_number};
+ghost use Rattle.lj_book.specs.inner.Records.{binding_call, entry_of};
+ghost use Rattle.lj_book.specs.inner.Occurrences.{AreOccurrences, AreListed};
+ghost use Rattle.lj_book.specs.inner.Places.{pivots};
+
+use crate::entry::Entry;
+use crate::history::History;
+use crate::lent_clauses::LentClauses;
+use crate::occurrence_lists::OccurrenceLists;
+use crate::place::{Place, clause_at};
+use crate::place_map::PlaceMap;
+use crate::placed_clauses::clauses_of;
+use lj_clause::{Clause, ClauseView, Formula, Lemma, Lit, NoMemory};
+use lj_text::{Addition, Numbers};
+use std::alloc::Global;
+use std::marker::Model;
+
+/// A history, and the clauses that live, whose literals stand in it once: those of the formula before all entries, those
+/// of an addition with its entry.
+#[derive(Drop)]
+pub(crate) struct Ledger {
+    history: History,
+    /// Where the literals of each live clause stand.
+    places: PlaceMap,
+    /// `None` where nobody asked yet, or a growth was refused: then all clauses are looked through.
+    lists: Option<OccurrenceLists>,
+    /// The greatest number that a clause was ever given.
+    last: u64,
+}
+
+impl Model for Ledger {
+    ghost use Rattle.lj_book.specs.inner.Codes.{recorded_code};
+    ghost use Rattle.lj_book.specs.inner.Places.{Recorded, AreRecorded, placed};
+
+    ghost Value = { Recorded };
+
+    ghost coded = { recorded_code };
+
+    ghost view = { λ l. record { history = l.history; live = placed l.history.lits l.places } };
+
+    ghost invariant = { λ l. AreRecorded l.history.lits l.places l.lists l.last };
+}
+
+impl Ledger {
+    /// A history of no entries, and the clauses of the formula under their numbers.
+    ///
+    /// # Errors
+    /// [`NoMemory`] where a growth was refused.
+    pub(crate) fn open(alloc: Global, formula: &Formula) -> Result<Ledger, NoMemory>
+        ensures entries { IfOk result (λ ledger. ledger.history.entries ≡ []) }
+        ensures live { IfOk result (λ ledger. ledger.live ≡ formula_map formula.now) }
+    {
+        let (lits, places) = clauses_of(alloc, formula)?;
+        Ok(Ledger {
+            history: History::over(alloc, lits),
+            places,
+            lists: None,
+            last: formula.len() as u64,
+        })
+    }
+
+    /// What its memory comes from.
+    pub(crate) fn allocator(&self) -> Global {
+        self.history.allocator()
+    }
+
+    /// The history.
+    pub(crate) fn history(&self) -> &History
+        ensures { result.now ≡ self.now.history }
+    {
+        &self.history
+    }
+
+    /// The history, by value.
+    pub(crate) fn into_history(self) -> History
+        ensures { result ≡ self.history }
+    {
+        self.history
+    }
+
+    /// The live clauses.
+    #[inline]
+    fn lent(&self) -> LentClauses<'_>
+        ensures { result ≡ self.now.live }
+    {
+        LentClauses::new(self.history.lits(), &self.places)
+    }
+
+    /// The live clause of a number.
+    #[inline]
+    pub(crate) fn clause(&self, number: u64) -> Option<ClauseView<'_>>
+        ensures { result ≡ fin.get self.now.live number }
+    {
+        match self.places.get(number) {
+            Some(place) => Some(clause_at(self.history.lits(), place)),
+            None => None,
+        }
+    }
+
+    /// Whether a number has a live clause.
+    pub(crate) fn is_live(&self, number: u64) -> bool
+        ensures { result ≡ fin.contains_key self.now.live number }
+    {
+        self.places.contains_key(number)
+    }
+
+    /// Makes the lists of the clauses by their literals, where they aren't made yet and no growth is refused. Takes constant
+    /// time for each literal of the live clauses, amortized.
+    pub(crate) fn make_lists(&mut self)
+        ensures { self.new ≡ self.old }
+    {
+        if self.lists.is_some() {
+            return;
+        }
+        if let Ok(end) = u32::try_from(self.last.saturating_add(1)) {
+            let clauses = LentClauses::new(self.history.lits(), &self.places);
+            self.lists = lists_of(self.history.allocator(), &clauses, end).ok();
+        }
+    }
+
+    /// The numbers of the live clauses that hold the literal, rising. Takes time linear in them where the lists are made, and
+    /// otherwise in all clauses.
+    ///
+    /// # Errors
+    /// [`NoMemory`] where a growth was refused.
+    pub(crate) fn numbers_holding(&self, alloc: Global, lit: Lit) -> Result<Vec<u64>, NoMemory>
+        ensures { IfOk result (λ numbers. numbers.items ≡ numbers_holding self.now.live lit) }
+    {
+        match &self.lists {
+            Some(lists) => lists.living(alloc, lit.place() as u64, &self.lent()),
+            None => self.lent().numbers_holding(alloc, lit),
+        }
+    }
+
+    /// The least number whose live clause is exactly this one. Takes time linear in the clauses that hold that literal of it
+    /// which the fewest hold, where the lists are made, and otherwise in all clauses.
+    pub(crate) fn least_number(&self, wanted: &Clause) -> Option<u64>
+        ensures { result ≡ least_number self.now.live wanted.now }
+    {
+        match &self.lists {
+            Some(lists) => lists.first_same(lists.shortest(wanted), &self.lent(), wanted),
+            None => self.lent().least_number(wanted),
+        }
+    }
+
+    /// Takes a seat's addition behind the others, and gives its clause the step's number. Takes constant time for each number
+    /// and literal, amortized.
+    ///
+    /// # Errors
+    /// [`NoMemory`] where a growth was refused.
+    pub(crate) fn add(&mut self, seat: u32, own: u64, step: &Addition) -> Result<(), NoMemory>
+        ensures entries { OnOk result (self.new.history.entries ≡ self.old.history.entries
+            ++ entry_of seat (calls.Add own step.now.lemma) (Some (Add step.now)) ∷ []) }
+        ensures live { OnOk result
+            (self.new.live ≡ fin.insert self.old.live step.now.number step.now.lemma.clause) }
+        ensures same { OnErr result (self.new.history.entries ≡ self.old.history.entries) }
+        ensures lives { OnErr result (self.new.live ≡ self.old.live) }
+    {
+        self.history.reserve_addition(step)?;
+        let clause = step.lemma.clause();
+        let place = place_behind(self.history.lits(), &step.lemma);
+        list_clause(&mut self.lists, self.last, step.number, &clause.view());
+        if let Err(refused) = self.places.insert(step.number, place) {
+            self.lists = None;
+            return Err(refused);
+        }
+        self.history.push_addition(seat, own, step);
+        if step.number > self.last {
+            self.last = step.number;
+        }
+        Ok(())
+    }
+
+    /// Makes room for a drop of so many own numbers, or a leave, by which at most so many joint numbers die.
+    ///
+    /// # Errors
+    /// [`NoMemory`] where a growth was refused.
+    pub(crate) fn reserve_deaths(&mut self, given: usize, died: usize) -> Result<(), NoMemory>
+        ensures same { self.new.history.entries ≡ self.old.history.entries }
+        ensures lives { self.new.live ≡ self.old.live }
+        ensures words { OnOk result (3 * (3 + given + died) ≤ self.new.history.word_room) }
+        ensures room { OnOk result (0 < self.new.history.entry_room) }
+    {
+        self.history.reserve_deaths(given, died)
+    }
+
+    /// Takes a seat's drop of these numbers behind the others, by which the clauses of these joint numbers die. Takes constant
+    /// time for each number and literal, amortized.
+    pub(crate) fn push_drop(&mut self, seat: u32, given: &Numbers, died: &[u64])
+        requires words { 3 * (3 + length given.now + length died.now)
+            ≤ self.old.history.word_room }
+        requires room { 0 < self.old.history.entry_room }
+        ensures entries { self.new.history.entries ≡ self.old.history.entries
+            ++ entry_of seat (calls.Drop given.now) (if_some died.now) ∷ [] }
+        ensures lives { self.new.live ≡ without self.old.live died.now }
+    {
+        self.bury(died);
+        self.history.push_drop(seat, given, died);
+    }
+
+    /// Takes a seat's leave behind the others, by which the clauses of these joint numbers die. Takes constant time for each
+    /// number and literal, amortized.
+    pub(crate) fn push_leave(&mut self, seat: u32, died: &[u64])
+        requires words { 3 * (2 + length died.now) ≤ self.old.history.word_room }
+        requires room { 0 < self.old.history.entry_room }
+        ensures entries { self.new.history.entries ≡ self.old.history.entries
+            ++ entry_of seat calls.Leave (if_some died.now) ∷ [] }
+        ensures lives { self.new.live ≡ without self.old.live died.now }
+    {
+        self.bury(died);
+        self.history.push_leave(seat, died);
+    }
+
+    /// Makes room for an adoption, or for an import of this clause.
+    ///
+    /// # Errors
+    /// [`NoMemory`] where a growth was refused.
+    pub(crate) fn reserve_binding(&mut self, imported: Option<&Clause>) -> Result<(), NoMemory>
+        ensures same { self.new.history.entries ≡ self.old.history.entries }
+        ensures lives { self.new.live ≡ self.old.live }
+        ensures words { OnOk result (12 ≤ self.new.history.word_room) }
+        ensures lits { OnOk result (IfSome (option_copied imported.entry)
+            (λ clause. length (literals clause) ≤ self.new.history.lit_room)) }
+        ensures room { OnOk result (0 < self.new.history.entry_room) }
+    {
+        self.history.reserve_binding(imported)
+    }
+
+    /// Takes a seat's import behind the others where there is a clause, and an adoption otherwise.
+    pub(crate) fn push_binding(
+        &mut self,
+        seat: u32,
+        own: u64,
+        joint: u64,
+        imported: Option<&Clause>,
+    )
+        requires words { 12 ≤ self.old.history.word_room }
+        requires lits { IfSome (option_copied imported)
+            (λ clause. length (literals clause) ≤ self.old.history.lit_room) }
+        requires room { 0 < self.old.history.entry_room }
+        ensures entries { self.new.history.entries ≡ self.old.history.entries
+            ++ entry_of seat (binding_call own joint (option_copied imported.entry)) None ∷ [] }
+        ensures lives { self.new.live ≡ self.old.live }
+    {
+        self.history.push_binding(seat, own, joint, imported);
+    }
+
+    /// Takes the clauses of these numbers out.
+    fn bury(&mut self, numbers: &[u64])
+        ensures history { self.new.history ≡ self.old.history }
+        ensures lives { self.new.live ≡ without self.old.live numbers.now }
+    {
+        for &n in numbers {
+            self.remove(n);
+        }
+    }
+
+    /// Takes the clause of a number out. Takes constant time for each of its literals, amortized.
+    fn remove(&mut self, number: u64)
+        ensures history { self.new.history ≡ self.old.history }
+        ensures removed { self.new.live ≡ fin.remove self.old.live number }
+    {
+        if let Some(place) = self.places.remove(number) {
+            let lits = self.history.lits();
+            let dead = clause_at(lits, place);
+            let clauses = LentClauses::new(lits, &self.places);
+            count_death(&mut self.lists, &clauses, &dead);
+        }
+    }
+}
+
+/// Where the literals of a lemma's clause stand, once it is taken behind these.
+#[inline]
+fn place_behind(lits: &[Lit], lemma: &Lemma) -> Place
+    ensures start { result.start ≡ length lits.now + pivots lemma.now.pivot }
+    ensures count { result.count ≡ length (literals lemma.now.clause) }
+    ensures few { result.count < 9223372036854775808 }
+{
+    Place {
+        start: lits.len() as u64 + u64::from(lemma.pivot().is_some()),
+        count: lemma.clause().lits().len() as u64,
+    }
+}
+
+/// Lists a clause more, whose number isn't listed. The lists are given up where the number isn't beyond all others or
+/// takes more than four bytes, and where a growth was refused.
+fn list_clause(lists: &mut Option<OccurrenceLists>, last: u64, number: u64, clause: &ClauseView<'_>)
+    ensures { (p : ClauseMap) → AreListed lists.old p (last + 1)
+        → AreListed lists.new (fin.insert p number clause.now) (number + 1) }
+{
+    let is_kept = match lists {
+        Some(kept) => is_listed(kept, last, number, clause),
+        None => return,
+    };
+    if !is_kept {
+        *lists = None;
+    }
+}
+
+/// Puts the number of a clause into its lists. Answers whether it could be put there; where it couldn't, the lists are
+/// of no use.
+fn is_listed(lists: &mut OccurrenceLists, last: u64, number: u64, clause: &ClauseView<'_>) -> bool
+    ensures { (p : ClauseMap) → AreOccurrences lists.old (fin.get p) (last + 1) → result ≡ true
+        → AreOccurrences lists.new (fin.get (fin.insert p number clause.now)) (number + 1) }
+{
+    if number <= last {
+        return false;
+    }
+    let Ok(short) = u32::try_from(number) else {
+        return false;
+    };
+    match lists.add_clause(short, clause) {
+        Ok(()) => true,
+        Err(_) => false,
+    }
+}
+
+/// Counts the death of a clause in the lists, which are given up where a growth was refused.
+fn count_death(
+    lists: &mut Option<OccurrenceLists>,
+    clauses: &LentClauses<'_>,
+    clause: &ClauseView<'_>,
+)
+    ensures { (bound : ℕ) → AreListed lists.old clauses.now bound
+        → AreListed lists.new clauses.now bound }
+{
+    let is_kept = match lists {
+        Some(kept) => is_counted(kept, clauses, clause),
+        None => return,
+    };
+    if !is_kept {
+        *lists = None;
+    }
+}
+
+/// Counts the death of a clause in its lists. Answers whether it could be counted; where it couldn't, the lists are of
+/// no use.
+fn is_counted(
+    lists: &mut OccurrenceLists,
+    clauses: &LentClauses<'_>,
+    clause: &ClauseView<'_>,
+) -> bool
+    ensures { (bound : ℕ) → AreOccurrences lists.old (fin.get clauses.now) bound → result ≡ true
+        → AreOccurrences lists.new (fin.get clauses.now) bound }
+{
+    match lists.clause_died(clauses, clause) {
+        Ok(()) => true,
+        Err(_) => false,
+    }
+}
+
+/// The lists of these clauses, each of whose numbers is before the end.
+///
+/// # Errors
+/// [`NoMemory`] where a growth was refused.
+fn lists_of(alloc: Global, clauses: &LentClauses<'_>, end: u32) -> Result<OccurrenceLists, NoMemory>
+    requires { (n : ℕ) → fin.contains_key clauses.now n ≡ true → n < end }
+    ensures { IfOk result (λ lists. AreOccurrences lists (fin.get clauses.now) end) }
+{
+    let mut lists = OccurrenceLists::new(alloc);
+    for number in 0..end {
+        if let Some(clause) = clauses.get(u64::from(number)) {
+            lists.add_clause(number, &clause)?;
+        }
+    }
+    Ok(lists)
+}
