@@ -4,20 +4,26 @@ ghost use Rattle.std.specs.FinMap as fin;
 ghost use Rattle.lj_book.specs.inner.Slots.{AreApart};
 
 use crate::dying::rising;
-use crate::own_map::OwnMap;
+use crate::short_map::{SHORT_END, ShortMap};
 use crate::tree_map::TreeMap;
 use lj_clause::NoMemory;
 use std::alloc::Global;
 use std::marker::Model;
 
-/// The own numbers of a seat with the joint numbers that they are bound to, seen as a finite map. A joint number below
-/// 2^32 takes four bytes, and greater ones stand in a tree.
+/// How many slots there may be before anything is bound.
+const FIRST_SLOTS: u64 = 1024;
+
+/// The own numbers of a seat with the joint numbers that they are bound to, seen as a finite map. Own numbers up to a bound
+/// that follows how many were bound have slots of four bytes for joint numbers below 4,294,967,295; all others stand in a
+/// tree. So memory is linear in how many were bound, whatever numbers they are.
 ///
 /// A call takes constant time for an own number that has a slot, amortized, and O(log n) time for others.
 #[derive(Drop)]
 pub(crate) struct Bindings {
-    short: OwnMap<u32>,
+    short: ShortMap,
     long: TreeMap<u64>,
+    /// How many times a number was bound.
+    set: u64,
 }
 
 impl Model for Bindings {
@@ -42,8 +48,9 @@ impl Bindings {
         ensures { result ≡ fin.empty }
     {
         Bindings {
-            short: OwnMap::new(alloc),
+            short: ShortMap::new(alloc),
             long: TreeMap::new(alloc),
+            set: 0,
         }
     }
 
@@ -53,7 +60,7 @@ impl Bindings {
         ensures { result ≡ fin.get self.now own }
     {
         match self.short.get(own) {
-            Some(joint) => Some(u64::from(*joint)),
+            Some(joint) => Some(joint),
             None => self.long.get(own).copied(),
         }
     }
@@ -63,7 +70,10 @@ impl Bindings {
     pub(crate) fn short(&self, own: u64) -> Option<u32>
         ensures { IfSome result (λ joint. fin.get self.now own ≡ Some joint) }
     {
-        self.short.get(own).copied()
+        match self.short.get(own) {
+            Some(joint) => Some(joint as u32),
+            None => None,
+        }
     }
 
     /// Binds an own number that isn't bound.
@@ -75,10 +85,11 @@ impl Bindings {
         ensures ok { OnOk result (self.new ≡ fin.insert self.old own joint) }
         ensures err { OnErr result (self.new ≡ self.old) }
     {
-        match u32::try_from(joint) {
-            Ok(short) => self.short.insert(own, short),
-            Err(_) => self.long.insert(own, joint),
+        self.set = self.set.saturating_add(1);
+        if joint < SHORT_END && own / 2 <= self.set.saturating_add(FIRST_SLOTS) {
+            return self.short.insert(own, joint);
         }
+        self.long.insert(own, joint)
     }
 
     /// The own numbers, rising. Takes O(n log n) time.
@@ -99,8 +110,11 @@ impl Bindings {
         ensures before { result ≡ fin.get self.old own }
         ensures removed { self.new ≡ fin.remove self.old own }
     {
-        match self.short.remove(own) {
-            Some(joint) => Some(u64::from(joint)),
+        match self.short.get(own) {
+            Some(joint) => {
+                self.short.remove(own);
+                Some(joint)
+            }
             None => self.long.remove(own),
         }
     }

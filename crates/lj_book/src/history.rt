@@ -234,7 +234,8 @@ impl History {
         requires room { 0 < self.old.entry_room }
         ensures entries { self.new.entries ≡ self.old.entries
             ++ entry_of seat (binding_call own joint (option_copied imported.entry)) None ∷ [] }
-        ensures lits { self.new.lits ≡ self.old.lits ++ binding_lits (option_copied imported.entry) }
+        ensures lits { self.new.lits
+            ≡ self.old.lits ++ binding_lits (option_copied imported.entry) }
     {
         match imported {
             Some(clause) => self.push_import(seat, own, clause),

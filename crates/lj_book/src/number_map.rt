@@ -4,7 +4,6 @@ ghost use Rattle.std.specs.FinMap as fin;
 ghost use Rattle.lj_book.specs.inner.Slots.{slot_map};
 
 mod listing;
-mod scanning;
 
 use lj_clause::NoMemory;
 use std::alloc::Global;

@@ -1,11 +1,10 @@
 //! Maps from a seat's own numbers.
-ghost use Rattle.std.specs.Prelude.{◌≡◌, OnOk, OnErr, IfOk, option_copied, None, true, false};
+ghost use Rattle.std.specs.Prelude.{◌≡◌, OnOk, OnErr, option_copied, None, true, false};
 ghost use Rattle.std.specs.FinMap as fin;
 ghost use Rattle.lj_book.specs.inner.Slots.{AreApart};
 
 mod listing;
 
-use crate::dying::rising;
 use crate::number_map::NumberMap;
 use crate::tree_map::TreeMap;
 use lj_clause::NoMemory;
@@ -98,19 +97,6 @@ impl<V: Drop> OwnMap<V> {
             return self.far.insert(key, value);
         }
         self.near.insert(key, value)
-    }
-
-    /// The keys, rising. Takes O(n log n) time.
-    ///
-    /// # Errors
-    /// [`NoMemory`] where a growth was refused.
-    pub(crate) fn keys(&self, alloc: Global) -> Result<Vec<u64>, NoMemory>
-        ensures { IfOk result (λ keys. keys.items ≡ fin.keys self.now) }
-    {
-        let mut keys = self.near.keys(alloc)?;
-        let far = self.far.keys(alloc)?;
-        keys.extend_from_slice(&far)?;
-        Ok(rising(keys))
     }
 
     /// Takes the key out, and gives back the value that was there.

@@ -69,7 +69,8 @@ impl PlacedClauses {
 /// # Errors
 /// [`NoMemory`] where a growth was refused.
 pub(crate) fn clauses_of(alloc: Global, formula: &Formula) -> Result<(Vec<Lit>, PlaceMap), NoMemory>
-    ensures clauses { IfOk result (λ parts. placed parts.0.items parts.1 ≡ formula_map formula.now) }
+    ensures clauses { IfOk result
+        (λ parts. placed parts.0.items parts.1 ≡ formula_map formula.now) }
     ensures places { IfOk result (λ parts. ArePlaces parts.0.items parts.1) }
 {
     let clauses = all_placed(alloc, formula)?;

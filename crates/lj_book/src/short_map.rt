@@ -1,7 +1,7 @@
 //! Maps from numbers that lie close together to numbers of four bytes.
-ghost use Rattle.std.specs.Prelude.{◌≡◌, ◌<◌, ◌≤◌, OnOk, OnErr, IfSome, length, None, Some};
+ghost use Rattle.std.specs.Prelude.{◌≡◌, ◌<◌, ◌≤◌, OnOk, OnErr, IfOk, IfSome, length, None, Some, true};
 ghost use Rattle.std.specs.FinMap as fin;
-ghost use Rattle.lj_book.specs.inner.Slots.{slot_map};
+ghost use Rattle.lj_book.specs.inner.Slots.{slot_map, slot_numbers};
 
 use lj_clause::NoMemory;
 use std::alloc::Global;
@@ -48,6 +48,7 @@ impl Slot {
     }
 
     /// The number in the slot.
+    #[inline]
     fn number(&self) -> Option<u64>
         ensures number { result ≡ self.now }
         ensures few { IfSome result (λ number. number < 4294967295) }
@@ -92,6 +93,7 @@ impl ShortMap {
     }
 
     /// The value at the key.
+    #[inline(always)]
     pub(crate) fn get(&self, key: u64) -> Option<u64>
         ensures value { result ≡ fin.get self.now key }
         ensures few { IfSome result (λ value. value < 4294967295) }
@@ -100,6 +102,16 @@ impl ShortMap {
             Some(slot) => slot.number(),
             None => None,
         }
+    }
+
+    /// The keys, rising. Takes time linear in the slots.
+    ///
+    /// # Errors
+    /// [`NoMemory`] where a growth was refused.
+    pub(crate) fn keys(&self, alloc: Global) -> Result<Vec<u64>, NoMemory>
+        ensures { IfOk result (λ keys. keys.items ≡ fin.keys self.now) }
+    {
+        keys_of(alloc, &self.slots)
     }
 
     /// Sets the value at the key. Takes no memory where the key is there already.
@@ -127,6 +139,19 @@ impl ShortMap {
             self.slots[at] = Slot::empty();
         }
     }
+}
+
+/// The numbers of the slots that hold something.
+fn keys_of(alloc: Global, slots: &[Slot]) -> Result<Vec<u64>, NoMemory>
+    ensures { IfOk result (λ keys. keys.items ≡ slot_numbers (λ _. true) 0 slots.now) }
+{
+    let mut keys = Vec::new(alloc);
+    for at in 0..slots.len() {
+        if slots[at].number().is_some() {
+            keys.push(at as u64)?;
+        }
+    }
+    Ok(keys)
 }
 
 /// Adds empty slots, so that there is one at this place.

@@ -28,7 +28,8 @@ const TRIES: u32 = 64;
 /// How many looks at the verdict lie between two tries.
 const LOOKS: u32 = 64;
 
-/// A book that its seats share, on as many threads as they are on. Lines are tested outside its lock.
+/// A book that its seats share, on as many threads as they are on. Additions over clauses that their seat knows
+/// are tested outside its lock.
 #[derive(Drop)]
 pub struct Shared<L: Opening> {
     desk: Mutex<Desk<L>>,

@@ -1,14 +1,14 @@
-use Rattle.std.proofs.Common.{ap, sym, ◌∙◌, option_copied, Some}
+use Rattle.std.proofs.Common.{ap, sym, ◌∙◌}
 use Rattle.std.specs.FinMap as fin
 use Rattle.lj_book.proofs.Slots.{joined_near, joined_far}
 use Rattle.lj_book.proofs.bindings.Bindings.get.Goals as goal
 
 pub returns-in-Some : goal.returns-in-Some
 returns-in-Some c =
-    let there = sym c.get.ensures ∙ ap option_copied c.in-Some.is in
-    ap Some c.from.ensures ∙ sym (joined_near c.self.inside.short c.self.inside.long c.args.own _ there) ∙ ap (λ m. fin.get m c.args.own) c.self.view_is
+    let there = sym c.get.ensures.value ∙ c.in-Some.is in
+    sym (joined_near c.self.inside.short c.self.inside.long c.args.own _ there) ∙ ap (λ m. fin.get m c.args.own) c.self.view_is
 
 pub returns-in-None : goal.returns-in-None
 returns-in-None c =
-    let absent = sym c.get.ensures ∙ ap option_copied c.in-None.is in
+    let absent = sym c.get.ensures.value ∙ c.in-None.is in
     c.copied.ensures ∙ c.get-in-None.ensures ∙ sym (joined_far c.self.inside.short c.self.inside.long c.args.own absent) ∙ ap (λ m. fin.get m c.args.own) c.self.view_is

@@ -27,29 +27,27 @@ invariant_of-self c =
     let long = c.self.inside.long in
     let absent = no_long short long c.args.self.now c.args.own c.self.view_is c.requires in
     either_way c.insert.result _ _ _ c.insert.ensures.ok c.insert.ensures.err
-    (λ e. subst (λ m. AreApart m long) (sym e) (apart-insert_near short long c.args.own c.in-Ok.short c.self.invariant absent))
+    (λ e. subst (λ m. AreApart m long) (sym e) (apart-insert_near short long c.args.own c.args.joint c.self.invariant absent))
     (λ e. subst (λ m. AreApart m long) (sym e) c.self.invariant)
 
-pub invariant_of-self-in-Err : goal.invariant_of-self-in-Err
-invariant_of-self-in-Err c =
+pub returns-then-own-saturating_add-clause-ok : goal.returns-then-own-saturating_add-clause-ok
+returns-then-own-saturating_add-clause-ok c =
+    ok_then c.insert.result _ _ c.insert.ensures.ok (λ e. ap (λ m. joined_map m c.self.inside.long) e
+    ∙ insert_near c.self.inside.short c.self.inside.long c.args.own c.args.joint
+    ∙ ap (λ m. fin.insert m c.args.own c.args.joint) c.self.view_is)
+
+pub invariant_of-self-2 : goal.invariant_of-self-2
+invariant_of-self-2 c =
     let short = c.self.inside.short in
     let long = c.self.inside.long in
     let absent = no_short short long c.args.self.now c.args.own c.self.view_is c.requires in
-    either_way c.insert-in-Err.result _ _ _ c.insert-in-Err.ensures.ok c.insert-in-Err.ensures.err
+    either_way c.insert-2.result _ _ _ c.insert-2.ensures.ok c.insert-2.ensures.err
     (λ e. subst (AreApart short) (sym e) (apart-insert_far short long c.args.own c.args.joint c.self.invariant absent))
     (λ e. subst (AreApart short) (sym e) c.self.invariant)
 
-pub returns-in-Ok-clause-ok : goal.returns-in-Ok-clause-ok
-returns-in-Ok-clause-ok c =
-    let same : c.in-Ok.short ≡ c.args.joint = search rules in
-    ok_then c.insert.result _ _ c.insert.ensures.ok (λ e. ap (λ m. joined_map m c.self.inside.long) e
-    ∙ insert_near c.self.inside.short c.self.inside.long c.args.own c.in-Ok.short
-    ∙ ap (λ m. fin.insert m c.args.own c.in-Ok.short) c.self.view_is
-    ∙ ap (λ (v : ℕ). fin.insert c.args.self.now c.args.own v) same)
-
-pub returns-in-Err-clause-ok : goal.returns-in-Err-clause-ok
-returns-in-Err-clause-ok c =
+pub returns-clause-ok : goal.returns-clause-ok
+returns-clause-ok c =
     let absent = no_short c.self.inside.short c.self.inside.long c.args.self.now c.args.own c.self.view_is c.requires in
-    ok_then c.insert-in-Err.result _ _ c.insert-in-Err.ensures.ok (λ e. ap (joined_map c.self.inside.short) e
+    ok_then c.insert-2.result _ _ c.insert-2.ensures.ok (λ e. ap (joined_map c.self.inside.short) e
     ∙ insert_far c.self.inside.short c.self.inside.long c.args.own c.args.joint absent
     ∙ ap (λ m. fin.insert m c.args.own c.args.joint) c.self.view_is)

@@ -6,10 +6,7 @@ use Rattle.lj_book.specs.inner.Slots.{joined_map}
 use Rattle.lj_book.proofs.Slots.{joined_near}
 use Rattle.lj_book.proofs.bindings.Bindings.short.Goals as goal
 
--- what is found in the first map is what both have
-found_near : (near far m : fin.FinMap nat_cmp ℕ) (own : ℕ) (o : Option ℕ) → o ≡ fin.get near own → joined_map near far ≡ m → IfSome o (λ joint. fin.get m own ≡ Some joint)
-found_near near far m own None e is = tt
-found_near near far m own (Some joint) e is = ap (λ n. fin.get n own) (sym is) ∙ joined_near near far own joint (sym e)
-
-pub returns : goal.returns
-returns c = found_near c.self.inside.short c.self.inside.long c.args.self.now c.args.own c.copied.result (c.copied.ensures ∙ c.get.ensures) c.self.view_is
+pub returns-in-Some : goal.returns-in-Some
+returns-in-Some c =
+    ap (λ m. fin.get m c.args.own) (sym c.self.view_is)
+    ∙ joined_near c.self.inside.short c.self.inside.long c.args.own c.in-Some.joint (sym c.get.ensures.value ∙ c.in-Some.is)
