@@ -1,7 +1,7 @@
 //! Literals, clauses, lemmas and formulas: what is printed, and values worked out by hand.
 use crate::tables::{BINARY, assert_lits, clause, formula, lits, twice};
 use lj_clause::{Clause, Formula, Lemma, Lit, MAX_VARIABLE, NoMemory};
-use std::alloc::AllocError;
+use std::alloc::{AllocError, Global};
 use std::process::Abort;
 use std::test::Fail;
 
@@ -61,10 +61,26 @@ const CLAUSES: [(&[i32], &[i32], i32); 4] = [
 ];
 
 fn assert_holds(rt: &impl Abort, clause: &Clause, given: &[i32], missing: i32) {
-    assert!(rt; !clause.holds(lit(rt, missing)));
+    let view = clause.view();
+    assert!(rt; !clause.holds(lit(rt, missing)) && !view.holds(lit(rt, missing)));
     for number in given {
-        assert!(rt; clause.holds(lit(rt, *number)), "{number}");
+        let lit = lit(rt, *number);
+        assert!(rt; clause.holds(lit) && view.holds(lit), "{number}");
     }
+}
+
+/// Asserts that a clause is lent as it is, and not as the other.
+fn assert_lent(
+    rt: &impl Abort,
+    alloc: Global,
+    clause: &Clause,
+    other: &Clause,
+) -> Result<(), Fail> {
+    let view = clause.view();
+    let own = twice(|| view.to_clause(alloc))?;
+    assert!(rt; own.same(clause) && view.same(&own) && !view.same(other));
+    assert!(rt; view.lits() == clause.lits());
+    Ok(())
 }
 
 #[test]
@@ -77,6 +93,7 @@ fn clauses_are_sets(rt: HostRuntime) -> Result<(), Fail> {
         assert!(rt; clause.same(&copy) && !clause.same(&other));
         assert_lits(&rt, clause.lits(), members);
         assert_holds(&rt, &copy, given, missing);
+        assert_lent(&rt, alloc, &clause, &other)?;
     }
     Ok(())
 }
