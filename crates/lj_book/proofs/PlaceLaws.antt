@@ -1,6 +1,6 @@
 -- Clauses whose literals stand in one list, which grows while places come and go.
-use Rattle.std.proofs.Common.{◌≡◌, ap, refl, sym, ◌∙◌, ℕ, ◌+◌, ◌-◌, ◌<◌, ◌≤◌, Bool, cond, true, false, arith, subst, append_assoc, length-append}
-use Rattle.std.specs.Prelude.{T, ℤ, List, [], ◌∷◌, ◌++◌, map, filter, length, take, drop, Option, Some, None, option_map, is_some, ◌&&◌, suc, nat_le, nat_lt}
+use Rattle.std.proofs.Common.{◌≡◌, ap, refl, sym, ◌∙◌, ℕ, ◌+◌, ◌-◌, ◌≤◌, Bool, cond, true, false, arith, subst, append_assoc, length-append}
+use Rattle.std.specs.Prelude.{T, ℤ, List, [], ◌∷◌, ◌++◌, map, length, take, drop, Option, Some, None, option_map, is_some, ◌&&◌, suc, nat_le, nat_lt}
 use Rattle.std.proofs.lemmas.Bool.{false≢true}
 use Rattle.std.proofs.lemmas.Bool.Decides.{nat_tests}
 use Rattle.std.proofs.lemmas.List.{append-nil, drop-append-le, take-append-le, length-drop}

@@ -1,4 +1,4 @@
-use Rattle.std.proofs.Common.{◌≡◌, ap, ◌∙◌, arith, sym}
+use Rattle.std.proofs.Common.{◌≡◌, ap, ◌∙◌, arith}
 use Rattle.std.specs.FinMap as fin
 use Rattle.lj_book.specs.Tables.{Table, with_table, is_here}
 use Rattle.lj_book.proofs.TableLaws.{none_held, put_and_taken, here-with_table}

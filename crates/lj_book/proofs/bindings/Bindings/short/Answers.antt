@@ -1,8 +1,5 @@
-use Rattle.std.proofs.Common.{◌≡◌, ℕ, ap, sym, ◌∙◌}
-use Rattle.std.specs.Prelude.{Option, None, Some, IfSome}
-use Rattle.std.specs.Ordering.{nat_cmp}
+use Rattle.std.proofs.Common.{ap, sym, ◌∙◌}
 use Rattle.std.specs.FinMap as fin
-use Rattle.lj_book.specs.inner.Slots.{joined_map}
 use Rattle.lj_book.proofs.Slots.{joined_near}
 use Rattle.lj_book.proofs.bindings.Bindings.short.Goals as goal
 

@@ -1,11 +1,10 @@
 use Rattle.std.proofs.Common.{◌≡◌, ap, sym, ◌∙◌, subst, ℕ, ◌+◌}
-use Rattle.std.specs.Prelude.{List, [], ◌∷◌, ◌++◌, Option, Some, length}
+use Rattle.std.specs.Prelude.{[], ◌∷◌, ◌++◌, Option, Some, length}
 use Rattle.std.specs.FinMap as fin
-use Rattle.lj_clause.specs.ClauseMap.{ClauseMap}
 use Rattle.lj_text.specs.declared.step.Step.TheVariants as steps
 use Rattle.lj_book.specs.declared.entry.Call.TheVariants as calls
 use Rattle.lj_book.specs.declared.entry.Entry.{Entry}
-use Rattle.lj_book.specs.State.{State, next, live}
+use Rattle.lj_book.specs.State.{State, next}
 use Rattle.lj_book.specs.Tables.{Table, with_table, is_held}
 use Rattle.lj_book.specs.inner.Kept.{IsKept, refuted_after}
 use Rattle.lj_book.specs.History.{after_entry}

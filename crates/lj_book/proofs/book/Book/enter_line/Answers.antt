@@ -1,15 +1,13 @@
 use Rattle.std.proofs.Common.{◌≡◌, ap, sym, ◌∙◌, subst, ℕ, ◌+◌, ◌<◌, arith}
-use Rattle.std.specs.Prelude.{List, [], ◌∷◌, ◌++◌, Option, length}
+use Rattle.std.specs.Prelude.{[], ◌∷◌, ◌++◌, Option, length}
 use Rattle.std.specs.FinMap as fin
-use Rattle.lj_clause.specs.ClauseMap.{ClauseMap}
-use Rattle.lj_book.specs.declared.entry.Entry.{Entry}
-use Rattle.lj_book.specs.State.{State, addition_count, live}
+use Rattle.lj_book.specs.State.{State, addition_count}
 use Rattle.lj_book.specs.Tables.{is_held}
 use Rattle.lj_book.specs.inner.Kept.{IsKept, refuted_after}
 use Rattle.lj_book.specs.History.{after_entry}
 use Rattle.lj_book.specs.inner.JointLines.{inside_line, line_entry}
 use Rattle.lj_book.proofs.HistoryLaws.{IsSound-reached}
-use Rattle.lj_book.proofs.CommitLaws.{no_clause_at_next, not_held_at_next}
+use Rattle.lj_book.proofs.CommitLaws.{not_held_at_next}
 use Rattle.lj_book.proofs.InsideLaws.{IsPivot, entered, entered_room, entered_legal, step_kept, IsKept-line, line_state}
 use Rattle.lj_book.proofs.book.Book.enter_line.Goals as goal
 

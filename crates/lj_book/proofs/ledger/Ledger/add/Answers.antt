@@ -1,8 +1,7 @@
 use Rattle.std.proofs.Common.{◌≡◌, ap, sym, ◌∙◌, subst, ℕ, ◌+◌, ◌≤◌, ◌++◌, length, arith}
 use Rattle.std.specs.Prelude.{ℤ, List}
 use Rattle.std.specs.FinMap as fin
-use Rattle.lj_clause.specs.LiteralSet.{LiteralSet, literals}
-use Rattle.lj_clause.specs.ClauseMap.{ClauseMap}
+use Rattle.lj_clause.specs.LiteralSet.{LiteralSet}
 use Rattle.lj_book.specs.inner.Records.{lemma_lits}
 use Rattle.lj_book.specs.inner.Occurrences.{AreListed}
 use Rattle.lj_book.specs.inner.Places.{Places, placed, pivots, ArePlaces}

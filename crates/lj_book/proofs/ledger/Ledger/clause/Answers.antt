@@ -1,5 +1,5 @@
-use Rattle.std.proofs.Common.{◌≡◌, ap, sym, ◌∙◌, subst}
-use Rattle.std.specs.Prelude.{ℤ, List, Some, None}
+use Rattle.std.proofs.Common.{ap, sym, ◌∙◌, subst}
+use Rattle.std.specs.Prelude.{ℤ, List, Some}
 use Rattle.std.specs.FinMap as fin
 use Rattle.lj_book.specs.inner.Places.{clause_in, IsPlace}
 use Rattle.lj_book.proofs.PlaceLaws.{found_placed, none_placed}

@@ -1,6 +1,6 @@
-use Rattle.std.proofs.Common.{sym, subst, ap, ◌∙◌}
+use Rattle.std.proofs.Common.{sym, subst}
 use Rattle.std.specs.Prelude.{ℤ, List}
-use Rattle.lj_book.specs.inner.Places.{placed, ArePlaces}
+use Rattle.lj_book.specs.inner.Places.{ArePlaces}
 use Rattle.lj_book.proofs.ledger.Ledger.lent.Goals as goal
 
 pub new-requires : goal.new-requires

@@ -1,7 +1,6 @@
-use Rattle.std.proofs.Common.{ap, sym, ◌∙◌, subst, ℕ, ◌+◌}
+use Rattle.std.proofs.Common.{ap, sym, ◌∙◌, subst, ◌+◌}
 use Rattle.std.specs.Prelude.{Option, filter}
 use Rattle.std.specs.FinMap as fin
-use Rattle.lj_clause.specs.ClauseMap.{ClauseMap}
 use Rattle.lj_book.specs.Lookup.{numbers_holding}
 use Rattle.lj_book.specs.inner.Occurrences.{Lists, AreListed, list_at}
 use Rattle.lj_book.specs.inner.Places.{placed}

@@ -1,6 +1,6 @@
-use Rattle.std.proofs.Common.{◌≡◌, ap, sym, ◌∙◌, subst}
+use Rattle.std.proofs.Common.{sym, subst}
 use Rattle.std.specs.Prelude.{ℤ, List, None}
-use Rattle.lj_book.specs.inner.Places.{placed, AreRecorded}
+use Rattle.lj_book.specs.inner.Places.{AreRecorded}
 use Rattle.lj_book.proofs.PlaceLaws.{Recorded-opening}
 use Rattle.lj_book.proofs.ledger.Ledger.open.Goals as goal
 

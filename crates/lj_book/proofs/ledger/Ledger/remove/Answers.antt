@@ -1,5 +1,5 @@
 use Rattle.std.proofs.Common.{◌≡◌, ap, sym, ◌∙◌, subst, ◌+◌}
-use Rattle.std.specs.Prelude.{ℤ, List, Some}
+use Rattle.std.specs.Prelude.{ℤ, List}
 use Rattle.std.specs.FinMap as fin
 use Rattle.lj_clause.specs.ClauseMap.{ClauseMap}
 use Rattle.lj_book.specs.inner.Occurrences.{AreListed}

@@ -1,5 +1,5 @@
-use Rattle.std.proofs.Common.{◌≡◌, ap, sym, ◌∙◌}
-use Rattle.std.specs.Prelude.{Some, None}
+use Rattle.std.proofs.Common.{ap, sym, ◌∙◌}
+use Rattle.std.specs.Prelude.{Some}
 use Rattle.std.specs.FinMap as fin
 use Rattle.lj_book.proofs.PlaceLaws.{found_placed, none_placed}
 use Rattle.lj_book.proofs.lent_clauses.LentClauses.get.Goals as goal

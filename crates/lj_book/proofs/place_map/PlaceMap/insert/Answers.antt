@@ -1,8 +1,8 @@
-use Rattle.std.proofs.Common.{ap, sym, ◌∙◌}
+use Rattle.std.proofs.Common.{ap, ◌∙◌}
 use Rattle.std.specs.Prelude.{slice_set}
 use Rattle.std.specs.FinMap as fin
 use Rattle.lj_book.specs.inner.Slots.{slot_map}
-use Rattle.lj_book.proofs.Slots.{get_slot, slot_past, set_slot, on_err}
+use Rattle.lj_book.proofs.Slots.{set_slot}
 use Rattle.lj_book.proofs.place_map.PlaceMap.insert.Goals as goal
 
 pub returns-clause-ok : goal.returns-clause-ok
