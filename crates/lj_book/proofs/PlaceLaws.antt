@@ -21,10 +21,11 @@ use Rattle.lj_book.specs.declared.place.Place.{Place}
 use Rattle.lj_book.specs.Lookup.{numbers_where}
 use Rattle.lj_book.specs.inner.Records.{some_lits, lemma_lits, pivot_before}
 use Rattle.lj_book.specs.inner.Slots.{slot_map, slot_entries, slot_numbers}
-use Rattle.lj_book.specs.inner.Occurrences.{Lists, AreIndexed}
+use Rattle.lj_book.specs.inner.Occurrences.{Lists, AreListed, AreIndexed}
 use Rattle.lj_book.specs.inner.Places.{Places, clause_in, placed, IsPlace, ArePlaces, pivots, AreRecorded}
 use Rattle.lj_book.proofs.NumberMaps.{same_map}
 use Rattle.lj_book.proofs.HistoryLaws.{past_the_end}
+use Rattle.lj_book.proofs.OccurrenceLaws.{Indexed-insert}
 use Rattle.lj_book.proofs.RecordLaws.{clause_back}
 use Rattle.lj_book.proofs.Slots.{slot_entries_are, slot_numbers_are}
 
@@ -284,4 +285,11 @@ Recorded-opening lits m f last are is n = record {
     given = λ q there. let le : q ≤ length f.clauses = formula_key f q (ap (λ (p : ClauseMap). fin.contains_key p q) (sym is) ∙ there) in omega (arith, le, n);
     listed = tt;
   };
+}
+
+-- a lemma is put behind the others, and has its place and its number in the lists
+pub Recorded-add : (lits : List ℤ) (m : Places) (before after : Option Lists) (lemma : LemmaValue) (k last next : ℕ) (p : Place) → AreRecorded lits m before last → p.start ≡ length lits + pivots lemma.pivot → p.count ≡ length (literals lemma.clause) → AreListed after (fin.insert (placed lits m) k lemma.clause) (k + 1) → last ≤ next → k ≤ next → AreRecorded (lits ++ lemma_lits lemma) (fin.insert m k p) after next
+Recorded-add lits m before after lemma k last next p are start count listed le ke = record {
+  places_are = places_lemma lits m lemma k p are.places_are start count;
+  indexed = Indexed-insert before after (placed lits m) _ last next k lemma.clause are.indexed (placed_lemma lits m lemma k p are.places_are start count) listed le ke;
 }

@@ -1,12 +1,12 @@
-use Rattle.std.proofs.Common.{◌≡◌, ap, sym, ◌∙◌, subst, ℕ, ◌+◌, ◌≤◌, ◌++◌, length, arith}
+use Rattle.std.proofs.Common.{◌≡◌, ap, sym, ◌∙◌, subst, ℕ, ◌+◌, ◌++◌, length, arith}
 use Rattle.std.specs.Prelude.{ℤ, List}
 use Rattle.std.specs.FinMap as fin
 use Rattle.lj_clause.specs.LiteralSet.{LiteralSet}
 use Rattle.lj_book.specs.inner.Records.{lemma_lits}
 use Rattle.lj_book.specs.inner.Occurrences.{AreListed}
-use Rattle.lj_book.specs.inner.Places.{Places, placed, pivots, ArePlaces}
-use Rattle.lj_book.proofs.OccurrenceLaws.{Indexed-insert, Indexed-none}
-use Rattle.lj_book.proofs.PlaceLaws.{places_lemma, placed_lemma}
+use Rattle.lj_book.specs.inner.Places.{Places, placed, pivots, ArePlaces, AreRecorded}
+use Rattle.lj_book.proofs.OccurrenceLaws.{Indexed-none}
+use Rattle.lj_book.proofs.PlaceLaws.{placed_lemma, Recorded-add}
 use Rattle.lj_book.proofs.ledger.Ledger.add.Goals as goal
 
 pub invariant_of-self-in-Err : goal.invariant_of-self-in-Err
@@ -25,19 +25,13 @@ invariant_of-self-then-step-self c =
     let m : Places = c.self.inside.places in
     let lemma = c.args.step.now.lemma in
     let k : ℕ = c.args.step.now.number in
-    let last : ℕ = c.self.inside.last in
     let kept : c.reserve_addition.new.self.lits ≡ ls = c.in_ok-reserve_addition.ensures.kept in
     let start : c.place_behind-place.result.start ≡ length ls + pivots lemma.pivot = c.place_behind-place.ensures.start ∙ ap (λ (xs : List ℤ). length xs + pivots lemma.pivot) (c.lits.ensures ∙ kept) in
     let lits : c.push_addition.new.self.lits ≡ ls ++ lemma_lits lemma = c.push_addition.ensures.lits ∙ ap (λ (xs : List ℤ). xs ++ lemma_lits lemma) kept in
-    let is = placed_lemma ls m lemma k c.place_behind-place.result c.self.invariant.places_are start c.place_behind-place.ensures.count in
-    let le : last ≤ k = omega arith in
-    record {
-      places_are = subst (λ (xs : List ℤ). ArePlaces xs c.insert.new.self) (sym lits) (subst (ArePlaces (ls ++ lemma_lits lemma)) (sym c.in_default.ensures.ok) (places_lemma ls m lemma k c.place_behind-place.result c.self.invariant.places_are start c.place_behind-place.ensures.count));
-      indexed = Indexed-insert c.self.inside.lists c.list_clause.new.lists (placed ls m) _ last k k lemma.clause c.self.invariant.indexed
-          ((λ i. placed (lits i) (c.in_default.ensures.ok i)) ∙ is)
-          (subst (λ (d : LiteralSet). AreListed c.list_clause.new.lists (fin.insert (placed ls m) k d) (k + 1)) (c.view.ensures ∙ c.clause-clause.ensures.clause) (c.list_clause.ensures (placed ls m) c.self.invariant.indexed.listed))
-          le (omega arith);
-    }
+    let listed = subst (λ (d : LiteralSet). AreListed c.list_clause.new.lists (fin.insert (placed ls m) k d) (k + 1)) (c.view.ensures ∙ c.clause-clause.ensures.clause) (c.list_clause.ensures (placed ls m) c.self.invariant.indexed.listed) in
+    subst (λ (xs : List ℤ). AreRecorded xs c.insert.new.self c.list_clause.new.lists k) (sym lits)
+    (subst (λ (n : Places). AreRecorded (ls ++ lemma_lits lemma) n c.list_clause.new.lists k) (sym c.in_default.ensures.ok)
+    (Recorded-add ls m c.self.inside.lists c.list_clause.new.lists lemma k c.self.inside.last k c.place_behind-place.result c.self.invariant start c.place_behind-place.ensures.count listed (omega arith) (omega arith)))
 
 pub invariant_of-self-else-step-self : goal.invariant_of-self-else-step-self
 invariant_of-self-else-step-self c =
@@ -45,19 +39,13 @@ invariant_of-self-else-step-self c =
     let m : Places = c.self.inside.places in
     let lemma = c.args.step.now.lemma in
     let k : ℕ = c.args.step.now.number in
-    let last : ℕ = c.self.inside.last in
     let kept : c.reserve_addition.new.self.lits ≡ ls = c.in_ok-reserve_addition.ensures.kept in
     let start : c.place_behind-place.result.start ≡ length ls + pivots lemma.pivot = c.place_behind-place.ensures.start ∙ ap (λ (xs : List ℤ). length xs + pivots lemma.pivot) (c.lits.ensures ∙ kept) in
     let lits : c.push_addition.new.self.lits ≡ ls ++ lemma_lits lemma = c.push_addition.ensures.lits ∙ ap (λ (xs : List ℤ). xs ++ lemma_lits lemma) kept in
-    let is = placed_lemma ls m lemma k c.place_behind-place.result c.self.invariant.places_are start c.place_behind-place.ensures.count in
-    let le : k ≤ last = omega arith in
-    record {
-      places_are = subst (λ (xs : List ℤ). ArePlaces xs c.insert.new.self) (sym lits) (subst (ArePlaces (ls ++ lemma_lits lemma)) (sym c.in_default.ensures.ok) (places_lemma ls m lemma k c.place_behind-place.result c.self.invariant.places_are start c.place_behind-place.ensures.count));
-      indexed = Indexed-insert c.self.inside.lists c.list_clause.new.lists (placed ls m) _ last last k lemma.clause c.self.invariant.indexed
-          ((λ i. placed (lits i) (c.in_default.ensures.ok i)) ∙ is)
-          (subst (λ (d : LiteralSet). AreListed c.list_clause.new.lists (fin.insert (placed ls m) k d) (k + 1)) (c.view.ensures ∙ c.clause-clause.ensures.clause) (c.list_clause.ensures (placed ls m) c.self.invariant.indexed.listed))
-          (omega arith) le;
-    }
+    let listed = subst (λ (d : LiteralSet). AreListed c.list_clause.new.lists (fin.insert (placed ls m) k d) (k + 1)) (c.view.ensures ∙ c.clause-clause.ensures.clause) (c.list_clause.ensures (placed ls m) c.self.invariant.indexed.listed) in
+    subst (λ (xs : List ℤ). AreRecorded xs c.insert.new.self c.list_clause.new.lists c.self.inside.last) (sym lits)
+    (subst (λ (n : Places). AreRecorded (ls ++ lemma_lits lemma) n c.list_clause.new.lists c.self.inside.last) (sym c.in_default.ensures.ok)
+    (Recorded-add ls m c.self.inside.lists c.list_clause.new.lists lemma k c.self.inside.last c.self.inside.last c.place_behind-place.result c.self.invariant start c.place_behind-place.ensures.count listed (omega arith) (omega arith)))
 
 pub returns-then-step-self-clause-live : goal.returns-then-step-self-clause-live
 returns-then-step-self-clause-live c =
