@@ -1,8 +1,9 @@
 -- What is written of an entry is read again, and stays when more is written behind it.
 use Rattle.std.proofs.Common.{◌≡◌, ap, refl, sym, ◌∙◌, ◌+◌, ◌*◌, ◌%◌, ◌/◌, ◌<◌, ◌≤◌, arith, append_assoc, length-append, subst, cond}
-use Rattle.std.specs.Prelude.{ℕ, zero, suc, ℤ, Bool, true, false, List, [], ◌∷◌, ◌++◌, length, take, drop, get_or, Option, Some, None, filter_map, ◌||◌}
+use Rattle.std.specs.Prelude.{ℕ, zero, suc, ℤ, Bool, true, false, List, [], ◌∷◌, ◌++◌, length, take, drop, get_or, Option, Some, None, filter_map, flat_map, nat_lt, ◌||◌, ◌&&◌, if◌then◌else◌}
 use Rattle.std.specs.List.{cons_option, list_any}
-use Rattle.std.proofs.lemmas.Bool.{false≢true}
+use Rattle.std.proofs.lemmas.Bool.{false≢true, and_parts}
+use Rattle.std.proofs.lemmas.Bool.Decides.{nat_tests}
 use Rattle.std.specs.Ordering.{eq_by_cmp, is_eq}
 use Rattle.std.specs.Cmp.{tied_itself}
 use Rattle.lj_clause.specs.inner.Literal.{lit_cmp_total}
@@ -20,10 +21,11 @@ use Rattle.lj_text.specs.declared.step.Step.TheVariants as steps
 use Rattle.lj_text.specs.Needed.{if_some}
 use Rattle.lj_book.specs.declared.entry.Call.TheVariants as calls
 use Rattle.lj_book.specs.declared.entry.Entry.{Entry}
-use Rattle.lj_book.specs.inner.Words.{number_words, list_words, hint_groups_words, number_in, list_in, hint_groups_in}
-use Rattle.lj_book.specs.inner.Records.{lemma_lits, pivot_before, some_lits, head_words, add_words, drop_words, adopt_words, import_words, leave_words, lits_in, behind_lits, addition_in, call_in, step_in, entry_in, named_in, read_in, entry_of, call_lits, IsWritten, AreWritten, entries_in}
+use Rattle.lj_book.specs.declared.history.sizes.Sizes.{Sizes}
+use Rattle.lj_book.specs.inner.Words.{number_words, list_words, hint_group_words, number_in, list_in, many_in, hint_group_in}
+use Rattle.lj_book.specs.inner.Records.{lemma_lits, pivot_before, some_lits, addition_sizes, are_few, size_code, size_words, sizes_in, wide_sizes_in, coded_sizes, wide_code, seat_in, kind_in, code_in, head_words, add_words, drop_words, adopt_words, import_words, leave_words, lits_at, lits_in, addition_in, sized_addition, sized_call, sized_lits, call_in, step_in, entry_in, named_in, read_in, entry_of, call_lits, IsWritten, AreWritten, entries_in}
 use Rattle.lj_book.proofs.Lists.{not_empty}
-use Rattle.lj_book.proofs.WordLaws.{number_back, number_then, list_back, list_then, groups_back}
+use Rattle.lj_book.proofs.WordLaws.{number_back, number_then, numbers_then, list_back, list_then, groups_back}
 
 -- ---- literals
 
@@ -58,58 +60,136 @@ lemma_back lemma is = by_pivot lemma.clause lemma.pivot is
 
 -- ---- the words of an entry
 
-abbrev by_kind : List ℤ → ℕ → ℕ → List ℕ → Entry × List ℤ
-by_kind lits seat kind ws = (record { seat = seat; call = call_in lits kind ws; step = step_in lits kind ws }, named_in lits kind ws)
+abbrev by_head : List ℤ → ℕ → ℕ → ℕ → List ℕ → Entry × List ℤ
+by_head lits seat kind code ws = (record { seat = seat; call = call_in lits kind code ws; step = step_in lits kind code ws }, named_in lits kind code ws)
 
-seat_of_head : (seat kind : ℕ) → kind < 8 → (8 * seat + kind) / 8 ≡ seat
-seat_of_head seat kind lt = omega (arith, lt)
+seat_of_head : (seat kind code : ℕ) → kind < 8 → code ≤ 1048576 → seat_in (16777216 * seat + (8 * code + kind)) ≡ seat
+seat_of_head seat kind code lt few = omega (arith, lt, few)
 
-kind_of_head : (seat kind : ℕ) → kind < 8 → (8 * seat + kind) % 8 ≡ kind
-kind_of_head seat kind lt = omega (arith, lt)
+kind_of_head : (seat kind code : ℕ) → kind < 8 → code ≤ 1048576 → kind_in (16777216 * seat + (8 * code + kind)) ≡ kind
+kind_of_head seat kind code lt few = omega (arith, lt, few)
 
-head_then : (lits : List ℤ) (seat kind : ℕ) (ws more : List ℕ) → kind < 8 → read_in lits ((head_words seat kind ++ ws) ++ more) ≡ by_kind lits seat kind (ws ++ more)
+code_of_head : (seat kind code : ℕ) → kind < 8 → code ≤ 1048576 → code_in (16777216 * seat + (8 * code + kind)) ≡ code
+code_of_head seat kind code lt few = omega (arith, lt, few)
+
+coded_then : (lits : List ℤ) (seat kind code : ℕ) (ws more : List ℕ) → kind < 8 → code ≤ 1048576 → read_in lits ((head_words seat (8 * code + kind) ++ ws) ++ more) ≡ by_head lits seat kind code (ws ++ more)
+coded_then lits seat kind code ws more lt few =
+    ap (λ (p : ℕ × List ℕ). by_head lits (seat_in p.0) (kind_in p.0) (code_in p.0) p.1) (number_then (16777216 * seat + (8 * code + kind)) ws more)
+    ∙ (λ i. by_head lits (seat_of_head seat kind code lt few i) (kind_of_head seat kind code lt few i) (code_of_head seat kind code lt few i) (ws ++ more))
+
+head_then : (lits : List ℤ) (seat kind : ℕ) (ws more : List ℕ) → kind < 8 → read_in lits ((head_words seat kind ++ ws) ++ more) ≡ by_head lits seat kind 0 (ws ++ more)
 head_then lits seat kind ws more lt =
-    ap (λ (p : ℕ × List ℕ). by_kind lits (p.0 / 8) (p.0 % 8) p.1) (number_then (8 * seat + kind) ws more)
-    ∙ (λ i. by_kind lits (seat_of_head seat kind lt i) (kind_of_head seat kind lt i) (ws ++ more))
+    let none : kind ≡ 8 * 0 + kind = omega arith in
+    ap (λ k. read_in lits ((head_words seat k ++ ws) ++ more)) none ∙ coded_then lits seat kind 0 ws more lt (omega arith)
+
+-- ---- the sizes of an addition
+
+few_parts : (s : Sizes) → are_few s ≡ true → (s.lits < 256) × ((s.hints < 256) × (s.groups < 16))
+few_parts s e =
+    let outer = and_parts (nat_lt s.lits 256) (nat_lt s.hints 256 && nat_lt s.groups 16) e in
+    let inner = and_parts (nat_lt s.hints 256) (nat_lt s.groups 16) outer.1 in
+    (below s.lits 256 outer.0, (below s.hints 256 inner.0, below s.groups 16 inner.1))
+  where
+    below : (n m : ℕ) → nat_lt n m ≡ true → n < m
+    below n m e = grind (arith, nat_tests)
+
+few_code : (s : Sizes) → are_few s ≡ true → size_code s ≡ s.lits + 256 * (s.hints + 256 * s.groups)
+few_code s e = ap (λ b. if b then s.lits + 256 * (s.hints + 256 * s.groups) else wide_code) e
+
+few_words : (s : Sizes) (b : Bool) → are_few s ≡ b → size_words s ≡ (if b then [] else number_words s.lits ++ (number_words s.hints ++ number_words s.groups))
+few_words s b e = ap (λ c. if c then [] else number_words s.lits ++ (number_words s.hints ++ number_words s.groups)) e
+
+pub few_sizes : (s : Sizes) → size_code s ≤ 1048576
+few_sizes s = by (are_few s) refl
+  where
+    by : (b : Bool) → are_few s ≡ b → size_code s ≤ 1048576
+    by true e = let parts = few_parts s e in let code = few_code s e in omega (arith, parts.0, parts.1.0, parts.1.1, code)
+    by false e = let code : size_code s ≡ 1048576 = ap (λ b. if b then s.lits + 256 * (s.hints + 256 * s.groups) else wide_code) e in omega (arith, code)
+
+sizes_then : (s : Sizes) (ws more : List ℕ) → sizes_in (size_code s) ((size_words s ++ ws) ++ more) ≡ (s, ws ++ more)
+sizes_then s ws more = by (are_few s) refl
+  where
+    all : List ℕ
+    all = number_words s.lits ++ (number_words s.hints ++ number_words s.groups)
+
+    back : (l h g : ℕ) → l < 256 → h < 256 → g < 16 → coded_sizes (l + 256 * (h + 256 * g)) ≡ record { lits = l; hints = h; groups = g }
+    back l h g ll lh lg =
+        let lits : (l + 256 * (h + 256 * g)) % 256 ≡ l = omega (arith, ll) in
+        let hints : (l + 256 * (h + 256 * g)) / 256 % 256 ≡ h = omega (arith, ll, lh) in
+        let groups : (l + 256 * (h + 256 * g)) / 65536 ≡ g = omega (arith, ll, lh) in
+        λ i. record { lits = lits i; hints = hints i; groups = groups i }
+
+    below : (n : ℕ) → n < 1048576 → nat_lt n wide_code ≡ true
+    below n lt = grind (arith, nat_tests)
+
+    by : (b : Bool) → are_few s ≡ b → sizes_in (size_code s) ((size_words s ++ ws) ++ more) ≡ (s, ws ++ more)
+    by true e =
+        let parts = few_parts s e in
+        let n : ℕ = s.lits + 256 * (s.hints + 256 * s.groups) in
+        let lt : n < 1048576 = omega (arith, parts.0, parts.1.0, parts.1.1) in
+        (λ i. sizes_in (few_code s e i) ((few_words s true e i ++ ws) ++ more))
+        ∙ ap (λ b. if b then (coded_sizes n, ws ++ more) else wide_sizes_in (ws ++ more)) (below n lt)
+        ∙ ap (λ t. (t, ws ++ more)) (back s.lits s.hints s.groups parts.0 parts.1.0 parts.1.1)
+    by false e =
+        (λ i. sizes_in (ap (λ b. if b then s.lits + 256 * (s.hints + 256 * s.groups) else wide_code) e i) ((few_words s false e i ++ ws) ++ more))
+        ∙ ap wide_sizes_in (ap (λ us. us ++ more) (append_assoc (number_words s.lits) (number_words s.hints ++ number_words s.groups) ws))
+        ∙ ap (λ (p : ℕ × List ℕ). wide p.0 p.1) (number_then s.lits ((number_words s.hints ++ number_words s.groups) ++ ws) more)
+        ∙ ap (λ us. wide s.lits (us ++ more)) (append_assoc (number_words s.hints) (number_words s.groups) ws)
+        ∙ ap (λ (p : ℕ × List ℕ). wider s.lits p.0 p.1) (number_then s.hints (number_words s.groups ++ ws) more)
+        ∙ ap (λ (p : ℕ × List ℕ). widest s.lits s.hints p) (number_then s.groups ws more)
+      where
+        widest : ℕ → ℕ → ℕ × List ℕ → Sizes × List ℕ
+        widest l h p = (record { lits = l; hints = h; groups = p.0 }, p.1)
+
+        wider : ℕ → ℕ → List ℕ → Sizes × List ℕ
+        wider l h us = widest l h (number_in us)
+
+        wide : ℕ → List ℕ → Sizes × List ℕ
+        wide l us = wider l (number_in us).0 (number_in us).1
 
 named_then : (lits : List ℤ) (at n : ℕ) (ws more : List ℕ) → lits_in lits ((number_words at ++ (number_words n ++ ws)) ++ more) ≡ some_lits lits at n
 named_then lits at n ws more =
     ap (λ (p : ℕ × List ℕ). some_lits lits p.0 (number_in p.1).0) (number_then at (number_words n ++ ws) more)
     ∙ ap (λ (p : ℕ × List ℕ). some_lits lits at p.0) (number_then n ws more)
 
-behind_then : (at n : ℕ) (ws more : List ℕ) → behind_lits ((number_words at ++ (number_words n ++ ws)) ++ more) ≡ ws ++ more
-behind_then at n ws more =
-    ap (λ (p : ℕ × List ℕ). (number_in p.1).1) (number_then at (number_words n ++ ws) more)
-    ∙ ap (λ (p : ℕ × List ℕ). p.1) (number_then n ws more)
-
 -- ---- what each kind of entry is read as
 
-added_back : (lits : List ℤ) (a : Addition) (at : ℕ) (more : List ℕ) → IsLemma a.lemma → some_lits lits at (length (lemma_lits a.lemma)) ≡ lemma_lits a.lemma → addition_in lits ((number_words a.number ++ (number_words at ++ (number_words (length (lemma_lits a.lemma)) ++ (list_words a.hints ++ hint_groups_words a.groups)))) ++ more) ≡ a
+added_back : (lits : List ℤ) (a : Addition) (at : ℕ) (more : List ℕ) → IsLemma a.lemma → some_lits lits at (length (lemma_lits a.lemma)) ≡ lemma_lits a.lemma → addition_in lits (addition_sizes a) ((number_words a.number ++ (number_words at ++ (flat_map number_words a.hints ++ flat_map hint_group_words a.groups))) ++ more) ≡ a
 added_back lits a at more is there =
-    let n : ℕ = length (lemma_lits a.lemma) in
-    let hints_on : List ℕ = list_words a.hints ++ hint_groups_words a.groups in
-    let lits_on : List ℕ = number_words at ++ (number_words n ++ hints_on) in
-    ap (λ (p : ℕ × List ℕ). parts p.0 (lemma_of (lits_in lits p.1)) (list_in (behind_lits p.1))) (number_then a.number lits_on more)
-    ∙ (λ i. parts a.number (lemma_of ((named_then lits at n hints_on more ∙ there) i)) (list_in (behind_then at n hints_on more i)))
-    ∙ (λ i. parts a.number (lemma_back a.lemma is i) (list_then a.hints (hint_groups_words a.groups) more i))
+    let groups_on : List ℕ = flat_map hint_group_words a.groups in
+    let hints_on : List ℕ = flat_map number_words a.hints ++ groups_on in
+    ap (λ (p : ℕ × List ℕ). behind_number p.0 p.1) (number_then a.number (number_words at ++ hints_on) more)
+    ∙ ap (λ (p : ℕ × List ℕ). behind_place a.number (lemma_of (some_lits lits p.0 (length (lemma_lits a.lemma)))) p.1) (number_then at hints_on more)
+    ∙ ap (λ (l : LemmaValue). behind_place a.number l (hints_on ++ more)) (ap lemma_of there ∙ lemma_back a.lemma is)
+    ∙ ap (λ (p : List ℕ × List ℕ). behind_hints a.number a.lemma p) (numbers_then a.hints groups_on more)
     ∙ ap (λ (p : List HintGroup × List ℕ). addition_of a.number a.lemma a.hints p.0) (groups_back a.groups more)
   where
     addition_of : ℕ → LemmaValue → List ℕ → List HintGroup → Addition
     addition_of number lemma hints groups = record { number = number; lemma = lemma; hints = hints; groups = groups }
 
-    parts : ℕ → LemmaValue → List ℕ × List ℕ → Addition
-    parts number lemma read = addition_of number lemma read.0 (hint_groups_in read.1).0
+    behind_hints : ℕ → LemmaValue → List ℕ × List ℕ → Addition
+    behind_hints number lemma p = addition_of number lemma p.0 (many_in hint_group_in (length a.groups) p.1).0
+
+    behind_place : ℕ → LemmaValue → List ℕ → Addition
+    behind_place number lemma us = behind_hints number lemma (many_in number_in (length a.hints) us)
+
+    behind_number : ℕ → List ℕ → Addition
+    behind_number number us = behind_place number (lemma_of (lits_at lits (length (lemma_lits a.lemma)) us)) (number_in us).1
 
 pub addition_back : (lits : List ℤ) (seat own : ℕ) (a : Addition) (at : ℕ) (more : List ℕ) → IsLemma a.lemma → some_lits lits at (length (lemma_lits a.lemma)) ≡ lemma_lits a.lemma → read_in lits (add_words seat own a at ++ more) ≡ (entry_of seat (calls.Add own a.lemma) (Some (steps.Add a)), lemma_lits a.lemma)
 addition_back lits seat own a at more is there =
-    let n : ℕ = length (lemma_lits a.lemma) in
-    let hints_on : List ℕ = list_words a.hints ++ hint_groups_words a.groups in
-    let lits_on : List ℕ = number_words at ++ (number_words n ++ hints_on) in
+    let s : Sizes = addition_sizes a in
+    let lits_on : List ℕ = number_words at ++ (flat_map number_words a.hints ++ flat_map hint_group_words a.groups) in
     let added_on : List ℕ = number_words a.number ++ lits_on in
-    head_then lits seat 0 (number_words own ++ added_on) more (omega arith)
-    ∙ ap (λ (p : ℕ × List ℕ). (entry_of seat (calls.Add p.0 (addition_in lits p.1).lemma) (Some (steps.Add (addition_in lits p.1))), lits_in lits (number_in p.1).1)) (number_then own added_on more)
-    ∙ (λ i. (entry_of seat (calls.Add own (added_back lits a at more is there i).lemma) (Some (steps.Add (added_back lits a at more is there i))), lits_in lits (number_then a.number lits_on more i).1))
-    ∙ ap (λ ls. (entry_of seat (calls.Add own a.lemma) (Some (steps.Add a)), ls)) (named_then lits at n hints_on more ∙ there)
+    let own_on : List ℕ = number_words own ++ added_on in
+    let none : 8 * size_code s ≡ 8 * size_code s + 0 = omega arith in
+    ap (λ n. read_in lits ((head_words seat n ++ (size_words s ++ own_on)) ++ more)) none
+    ∙ coded_then lits seat 0 (size_code s) (size_words s ++ own_on) more (omega arith) (few_sizes s)
+    ∙ ap (λ (p : Sizes × List ℕ). (entry_of seat (sized_call lits p) (Some (steps.Add (sized_addition lits p))), sized_lits lits p)) (sizes_then s own_on more)
+    ∙ ap (λ (p : ℕ × List ℕ). (entry_of seat (calls.Add p.0 (addition_in lits s p.1).lemma) (Some (steps.Add (addition_in lits s p.1))), lits_at lits s.lits (number_in p.1).1)) (number_then own added_on more)
+    ∙ (λ i. (entry_of seat (calls.Add own (added_back lits a at more is there i).lemma) (Some (steps.Add (added_back lits a at more is there i))), lits_at lits s.lits (number_then a.number lits_on more i).1))
+    ∙ ap (λ (p : ℕ × List ℕ). (entry_of seat (calls.Add own a.lemma) (Some (steps.Add a)), some_lits lits p.0 s.lits)) (number_then at (flat_map number_words a.hints ++ flat_map hint_group_words a.groups) more)
+    ∙ ap (λ ls. (entry_of seat (calls.Add own a.lemma) (Some (steps.Add a)), ls)) there
 
 pub drop_back : (lits : List ℤ) (seat : ℕ) (given died more : List ℕ) → read_in lits (drop_words seat given died ++ more) ≡ (entry_of seat (calls.Drop given) (if_some died), [])
 drop_back lits seat given died more =
@@ -228,8 +308,8 @@ started b starts news start words is ok at = is ∙ ap (λ x. cond x (starts ++ 
 
 -- ---- what is compared
 
-pub same_addition : (lits : List ℤ) (ws : List ℕ) (a : Addition) → IsLemma a.lemma → (number_in ws).0 ≡ a.number → lits_in lits (number_in ws).1 ≡ lemma_lits a.lemma → (list_in (behind_lits (number_in ws).1)).0 ≡ a.hints → (hint_groups_in (list_in (behind_lits (number_in ws).1)).1).0 ≡ a.groups → addition_in lits ws ≡ a
-same_addition lits ws a is number literals hints groups =
+pub same_addition : (lits : List ℤ) (s : Sizes) (ws : List ℕ) (a : Addition) → IsLemma a.lemma → (number_in ws).0 ≡ a.number → lits_at lits s.lits (number_in ws).1 ≡ lemma_lits a.lemma → (many_in number_in s.hints (number_in (number_in ws).1).1).0 ≡ a.hints → (many_in hint_group_in s.groups (many_in number_in s.hints (number_in (number_in ws).1).1).1).0 ≡ a.groups → addition_in lits s ws ≡ a
+same_addition lits s ws a is number literals hints groups =
     λ i. record { number = number i; lemma = (ap lemma_of literals ∙ lemma_back a.lemma is) i; hints = hints i; groups = groups i }
 
 pub same_import : (n own : ℕ) (ls : List ℤ) (clause : LiteralSet) → n ≡ own → ls ≡ literals clause → calls.Import n (from_literals ls) ≡ calls.Import own clause

@@ -12,6 +12,7 @@ ghost use Rattle.lj_book.specs.inner.Records.{lemma_lits, addition_numbers, bind
 mod lines;
 mod matching;
 mod reading;
+mod sizes;
 mod writing;
 
 use crate::entry::Entry;
@@ -25,6 +26,9 @@ use writing::{put_addition, put_adopt, put_drop, put_import, put_leave};
 
 /// How many kinds of entries the first number of one tells apart.
 const KINDS: u64 = 8;
+
+/// What the seat is multiplied by in that number.
+const SEATS: u64 = 16_777_216;
 
 const ADDITION: u64 = 0;
 

@@ -1,12 +1,13 @@
 //! Entries that are read from words and literals.
-ghost use Rattle.std.specs.Prelude.{◌≡◌, ◌≢◌, ◌<◌, ◌/◌, IfOk, OnErr, None, drop, option_copied, option_map, slice_get};
+ghost use Rattle.std.specs.Prelude.{◌≡◌, ◌≢◌, ◌<◌, IfOk, OnErr, None, drop, option_copied, option_map, slice_get};
 ghost use Rattle.lj_text.specs.Needed.{if_some};
 ghost use Rattle.lj_book.specs.inner.Words.{number_in, list_in};
-ghost use Rattle.lj_book.specs.inner.Records.{some_lits, lits_in, behind_lits, addition_in, call_in, step_in, entry_in};
+ghost use Rattle.lj_book.specs.inner.Records.{some_lits, lits_at, lits_in, addition_in, sized_call, sized_lits, sizes_in, seat_in, kind_in, code_in, call_in, step_in, entry_in};
 
-use super::{ADDITION, ADOPT, DROP, IMPORT, KINDS};
+use super::sizes::{Sizes, read_sizes};
+use super::{ADDITION, ADOPT, DROP, IMPORT, KINDS, SEATS};
 use crate::entry::{Call, Entry};
-use crate::words::{behind_list, groups, list, number};
+use crate::words::{behind_list, groups, list, number, numbers};
 use lj_clause::{Clause, Lemma, Lit, NoMemory};
 use lj_text::{Addition, Groups, Step};
 use std::alloc::Global;
@@ -27,14 +28,34 @@ pub(super) fn words_from(words: &[u32], start: u64) -> &[u32]
     &words[words.len().min(start as usize)..]
 }
 
-/// The literals that words name by their place and their number, and what stands behind.
-pub(super) fn named<'a, 'b>(lits: &'a [Lit], words: &'b [u32]) -> (&'a [Lit], &'b [u32])
-    ensures lits { result.0.now ≡ lits_in lits.now words.now }
-    ensures rest { result.1.now ≡ behind_lits words.now }
+/// The sizes of the addition whose entry begins with this number, and what stands behind them.
+pub(super) fn head_sizes(head: u64, words: &[u32]) -> (Sizes, &[u32])
+    ensures sizes { result.0 ≡ (sizes_in (code_in head) words.now).0 }
+    ensures rest { result.1.now ≡ (sizes_in (code_in head) words.now).1 }
+{
+    read_sizes(head % SEATS / KINDS, words)
+}
+
+/// So many literals from the place on that words name, and what stands behind it.
+pub(super) fn placed<'a, 'b>(
+    lits: &'a [Lit],
+    count: u64,
+    words: &'b [u32],
+) -> (&'a [Lit], &'b [u32])
+    ensures lits { result.0.now ≡ lits_at lits.now count words.now }
+    ensures rest { result.1.now ≡ (number_in words.now).1 }
 {
     let (at, rest) = number(words);
-    let (count, rest) = number(rest);
     (some_lits(lits, at, count), rest)
+}
+
+/// The literals that words name by their place and their number.
+pub(super) fn named<'a>(lits: &'a [Lit], words: &[u32]) -> &'a [Lit]
+    ensures { result.now ≡ lits_in lits.now words.now }
+{
+    let (at, rest) = number(words);
+    let (count, _) = number(rest);
+    some_lits(lits, at, count)
 }
 
 /// So many literals from a place on.
@@ -45,17 +66,17 @@ fn some_lits(lits: &[Lit], at: u64, count: u64) -> &[Lit]
     &behind[..behind.len().min(count as usize)]
 }
 
-/// The addition behind its own number.
+/// The addition of these sizes behind its own number.
 ///
 /// # Errors
 /// [`NoMemory`] where a growth was refused.
-fn addition(alloc: Global, lits: &[Lit], words: &[u32]) -> Result<Addition, NoMemory>
-    ensures { IfOk result (λ addition. addition ≡ addition_in lits.now words.now) }
+fn addition(alloc: Global, lits: &[Lit], sizes: Sizes, words: &[u32]) -> Result<Addition, NoMemory>
+    ensures { IfOk result (λ addition. addition ≡ addition_in lits.now sizes words.now) }
 {
     let (joint, rest) = number(words);
-    let (literals, rest) = named(lits, rest);
-    let (hints, rest) = list(alloc, rest)?;
-    let (groups, _) = groups(alloc, rest)?;
+    let (literals, rest) = placed(lits, sizes.lits, rest);
+    let (hints, rest) = numbers(alloc, sizes.hints, rest)?;
+    let groups = groups(alloc, sizes.groups, rest)?;
     Ok(Addition {
         number: joint,
         lemma: Lemma::from_lits(alloc, literals)?,
@@ -79,23 +100,26 @@ fn deletion(alloc: Global, words: &[u32]) -> Result<Option<Step>, NoMemory>
     Ok(Some(Step::Delete { numbers }))
 }
 
-/// The step of a kind, behind the first number of its entry.
+/// The step of an entry, behind its first number, the head.
 ///
 /// # Errors
 /// [`NoMemory`] where a growth was refused.
 pub(super) fn step(
     alloc: Global,
     lits: &[Lit],
-    kind: u64,
+    head: u64,
     words: &[u32],
 ) -> Result<Option<Step>, NoMemory>
-    ensures same { IfOk result (λ step. step ≡ step_in lits.now kind words.now) }
-    ensures some { OnErr result (step_in lits.now kind words.now ≢ None) }
+    ensures same { IfOk result
+        (λ step. step ≡ step_in lits.now (kind_in head) (code_in head) words.now) }
+    ensures some { OnErr result
+        (step_in lits.now (kind_in head) (code_in head) words.now ≢ None) }
 {
-    match kind {
+    match head % KINDS {
         ADDITION => {
-            let (_, rest) = number(words);
-            Ok(Some(Step::Add(addition(alloc, lits, rest)?)))
+            let (sizes, rest) = head_sizes(head, words);
+            let (_, rest) = number(rest);
+            Ok(Some(Step::Add(addition(alloc, lits, sizes, rest)?)))
         }
         DROP => deletion(alloc, behind_list(words)),
         ADOPT | IMPORT => Ok(None),
@@ -103,38 +127,57 @@ pub(super) fn step(
     }
 }
 
-/// The call of a kind, behind the first number of its entry.
+/// The literals of the addition whose entry begins with this number, behind it.
+pub(super) fn added_literals<'a>(lits: &'a [Lit], head: u64, words: &[u32]) -> &'a [Lit]
+    ensures { result.now ≡ sized_lits lits.now (sizes_in (code_in head) words.now) }
+{
+    let (sizes, rest) = head_sizes(head, words);
+    let (_, rest) = number(rest);
+    let (_, rest) = number(rest);
+    let (literals, _) = placed(lits, sizes.lits, rest);
+    literals
+}
+
+/// The call of an addition, behind the first number of its entry, the head.
 ///
 /// # Errors
 /// [`NoMemory`] where a growth was refused.
-fn call(alloc: Global, lits: &[Lit], kind: u64, words: &[u32]) -> Result<Call, NoMemory>
-    ensures { IfOk result (λ call. call ≡ call_in lits.now kind words.now) }
+fn addition_call(alloc: Global, lits: &[Lit], head: u64, words: &[u32]) -> Result<Call, NoMemory>
+    ensures { IfOk result
+        (λ call. call ≡ sized_call lits.now (sizes_in (code_in head) words.now)) }
 {
-    if kind == DROP {
-        let (numbers, _) = list(alloc, words)?;
-        return Ok(Call::Drop { numbers });
-    }
+    let literals = added_literals(lits, head, words);
+    let (_, rest) = head_sizes(head, words);
+    let (own, _) = number(rest);
+    Ok(Call::Add {
+        own,
+        lemma: Lemma::from_lits(alloc, literals)?,
+    })
+}
+
+/// The call of an entry, behind its first number, the head.
+///
+/// # Errors
+/// [`NoMemory`] where a growth was refused.
+fn call(alloc: Global, lits: &[Lit], head: u64, words: &[u32]) -> Result<Call, NoMemory>
+    ensures { IfOk result
+        (λ call. call ≡ call_in lits.now (kind_in head) (code_in head) words.now) }
+{
     let (own, rest) = number(words);
-    Ok(match kind {
-        ADDITION => {
-            let (_, rest) = number(rest);
-            let (literals, _) = named(lits, rest);
-            Call::Add {
-                own,
-                lemma: Lemma::from_lits(alloc, literals)?,
-            }
+    Ok(match head % KINDS {
+        ADDITION => addition_call(alloc, lits, head, words)?,
+        DROP => {
+            let (numbers, _) = list(alloc, words)?;
+            Call::Drop { numbers }
         }
         ADOPT => {
             let (joint, _) = number(rest);
             Call::Adopt { own, joint }
         }
-        IMPORT => {
-            let (literals, _) = named(lits, rest);
-            Call::Import {
-                own,
-                clause: Clause::from_lits(alloc, literals)?,
-            }
-        }
+        IMPORT => Call::Import {
+            own,
+            clause: Clause::from_lits(alloc, named(lits, rest))?,
+        },
         _ => Call::Leave,
     })
 }
@@ -148,11 +191,10 @@ pub(super) fn entry(alloc: Global, lits: &[Lit], words: &[u32]) -> Result<Entry,
     ensures { IfOk result (λ entry. entry ≡ entry_in lits.now words.now) }
 {
     let (head, rest) = number(words);
-    let kind = head % KINDS;
     Ok(Entry {
-        seat: (head / KINDS) as u32,
-        call: call(alloc, lits, kind, rest)?,
-        step: step(alloc, lits, kind, rest)?,
+        seat: (head / SEATS) as u32,
+        call: call(alloc, lits, head, rest)?,
+        step: step(alloc, lits, head, rest)?,
     })
 }
 
@@ -169,14 +211,14 @@ pub(super) fn entry_step(
     ensures some { OnErr result ((entry_in lits.now words.now).step ≢ None) }
 {
     let (head, rest) = number(words);
-    step(alloc, lits, head % KINDS, rest)
+    step(alloc, lits, head, rest)
 }
 
 /// The seat of the entry whose words these begin with.
 pub(super) fn seat(words: &[u32]) -> u32
-    requires { (number_in words.now).0 / 8 < 4294967296 }
-    ensures { result ≡ (number_in words.now).0 / 8 }
+    requires { seat_in (number_in words.now).0 < 4294967296 }
+    ensures { result ≡ seat_in (number_in words.now).0 }
 {
     let (head, _) = number(words);
-    (head / KINDS) as u32
+    (head / SEATS) as u32
 }

@@ -1,6 +1,6 @@
 //! Words that are compared with numbers.
 ghost use Rattle.std.specs.Prelude.{◌≡◌, IfSome, IfNone};
-ghost use Rattle.lj_book.specs.inner.Words.{list_in, hint_group_in, hint_groups_in};
+ghost use Rattle.lj_book.specs.inner.Words.{number_in, list_in, many_in, hint_group_in};
 
 use super::reading::number;
 use lj_text::{Group, Numbers};
@@ -10,10 +10,20 @@ pub(crate) fn list_matches<'a>(words: &'a [u32], numbers: &Numbers) -> Option<&'
     ensures same { IfSome result (λ rest. list_in words.now ≡ (numbers.now, rest.now)) }
     ensures other { IfNone result ((list_in words.now).0 ≡ numbers.now → ⊥) }
 {
-    let (count, mut rest) = number(words);
+    let (count, rest) = number(words);
+    are_numbers(rest, count, numbers)
+}
+
+/// What stands behind so many numbers at the front of the words, if they are these.
+pub(crate) fn are_numbers<'a>(words: &'a [u32], count: u64, numbers: &Numbers) -> Option<&'a [u32]>
+    ensures same { IfSome result
+        (λ rest. many_in number_in count words.now ≡ (numbers.now, rest.now)) }
+    ensures other { IfNone result ((many_in number_in count words.now).0 ≡ numbers.now → ⊥) }
+{
     if count != numbers.len() as u64 {
         return None;
     }
+    let mut rest = words;
     for wanted in numbers.iter() {
         let (next, after) = number(rest);
         if next != wanted {
@@ -55,15 +65,17 @@ fn group_matches<'a>(words: &'a [u32], group: &Group) -> Option<&'a [u32]>
     list_matches(rest, &group.hints)
 }
 
-/// What stands behind the list at the front of the words, if it has these groups.
-pub(crate) fn groups_match<'a>(words: &'a [u32], groups: &[Group]) -> Option<&'a [u32]>
-    ensures same { IfSome result (λ rest. hint_groups_in words.now ≡ (groups.now, rest.now)) }
-    ensures other { IfNone result ((hint_groups_in words.now).0 ≡ groups.now → ⊥) }
+/// What stands behind so many groups at the front of the words, if they are these.
+pub(crate) fn are_groups<'a>(words: &'a [u32], count: u64, groups: &[Group]) -> Option<&'a [u32]>
+    ensures same { IfSome result
+        (λ rest. many_in hint_group_in count words.now ≡ (groups.now, rest.now)) }
+    ensures other { IfNone result
+        ((many_in hint_group_in count words.now).0 ≡ groups.now → ⊥) }
 {
-    let (count, mut rest) = number(words);
     if count != groups.len() as u64 {
         return None;
     }
+    let mut rest = words;
     for group in groups {
         match group_matches(rest, group) {
             Some(after) => rest = after,

@@ -1,6 +1,6 @@
 //! Numbers that are read from words.
 ghost use Rattle.std.specs.Prelude.{◌≡◌, ◌≢◌, [], IfOk, OnErr};
-ghost use Rattle.lj_book.specs.inner.Words.{long_in, number_in, list_in, hint_group_in, hint_groups_in};
+ghost use Rattle.lj_book.specs.inner.Words.{long_in, number_in, list_in, many_in, hint_group_in};
 
 use super::LONG_MARK;
 use lj_clause::NoMemory;
@@ -54,11 +54,27 @@ pub(crate) fn list(alloc: Global, words: &[u32]) -> Result<(Numbers, &[u32]), No
     ensures some { OnErr result ((list_in words.now).0 ≢ []) }
 {
     let (count, behind) = number(words);
+    numbers(alloc, count, behind)
+}
+
+/// So many numbers at the front of the words, and what stands behind them.
+///
+/// # Errors
+/// [`NoMemory`] where a growth was refused, and only where there is a number.
+pub(crate) fn numbers(
+    alloc: Global,
+    count: u64,
+    words: &[u32],
+) -> Result<(Numbers, &[u32]), NoMemory>
+    ensures list { IfOk result (λ read. read.0 ≡ (many_in number_in count words.now).0) }
+    ensures rest { IfOk result (λ read. read.1.now ≡ (many_in number_in count words.now).1) }
+    ensures some { OnErr result ((many_in number_in count words.now).0 ≢ []) }
+{
     if count == 0 {
-        return Ok((Numbers::new(Vec::new(alloc)), behind));
+        return Ok((Numbers::new(Vec::new(alloc)), words));
     }
     let mut list = Numbers::with_capacity(alloc, count as usize)?;
-    let mut rest = behind;
+    let mut rest = words;
     for _ in 0..count {
         let (next, after) = number(rest);
         list.push(next)?;
@@ -80,21 +96,20 @@ fn group(alloc: Global, words: &[u32]) -> Result<(Group, &[u32]), NoMemory>
     Ok((Group { candidate, hints }, rest))
 }
 
-/// The list of groups at the front of the words, and what stands behind it.
+/// So many groups at the front of the words.
 ///
 /// # Errors
 /// [`NoMemory`] where a growth was refused.
-pub(crate) fn groups(alloc: Global, words: &[u32]) -> Result<(Vec<Group>, &[u32]), NoMemory>
-    ensures groups { IfOk result (λ read. read.0.items ≡ (hint_groups_in words.now).0) }
-    ensures rest { IfOk result (λ read. read.1.now ≡ (hint_groups_in words.now).1) }
+pub(crate) fn groups(alloc: Global, count: u64, words: &[u32]) -> Result<Vec<Group>, NoMemory>
+    ensures { IfOk result
+        (λ groups. groups.items ≡ (many_in hint_group_in count words.now).0) }
 {
-    let (count, behind) = number(words);
     let mut groups = Vec::new(alloc);
-    let mut rest = behind;
+    let mut rest = words;
     for _ in 0..count {
         let (next, after) = group(alloc, rest)?;
         groups.push(next)?;
         rest = after;
     }
-    Ok((groups, rest))
+    Ok(groups)
 }
