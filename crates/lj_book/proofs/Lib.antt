@@ -21,6 +21,7 @@ mod HolderBounds
 mod PlaceLaws
 pub mod PlayLaws
 mod Slots
+mod Bounds
 mod OccurrenceLaws
 mod Listings
 pub mod InsideLaws

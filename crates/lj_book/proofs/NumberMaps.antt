@@ -1,6 +1,6 @@
 -- A map from numbers that is kept as a list of entries in order.
-use Rattle.std.proofs.Common.{◌≡◌, ap, refl, sym, ◌∙◌, ℕ, Bool, cond}
-use Rattle.std.specs.Prelude.{List, [], ◌∷◌, Some, None, filter}
+use Rattle.std.proofs.Common.{◌≡◌, ap, refl, sym, ◌∙◌, ℕ, Bool, cond, true, false, arith}
+use Rattle.std.specs.Prelude.{List, [], ◌∷◌, Some, None, filter, length, is_some}
 use Rattle.std.specs.Map.{lookup}
 use Rattle.std.specs.BTreeMap.{is_at}
 use Rattle.std.specs.Ordering.{nat_cmp, eq_by_cmp}
@@ -19,6 +19,21 @@ get_key es q = fin.get-from_entries nat_cmp_total es q ∙ find_key es q
 
 pub same_map : {X : Type 0} (m n : fin.FinMap nat_cmp X) → ((q : ℕ) → fin.get m q ≡ fin.get n q) → m ≡ n
 same_map m n h = fin.same_map nat_cmp_total nat_cmp-IsAntisymmetric m n h
+
+-- a list without an entry makes the map without one, and no other list does
+pub no_entries : {X : Type 0} (es : List (ℕ × X)) → length es ≡ 0 → fin.from_entries {R = nat_cmp} es ≡ fin.empty
+no_entries [] h = same_map _ _ (λ q. get_key [] q ∙ sym (fin.get-empty nat_cmp q))
+no_entries (e ∷ es) h = absurd (grind arith)
+
+pub entries_none : {X : Type 0} (es : List (ℕ × X)) → fin.from_entries {R = nat_cmp} es ≡ fin.empty → length es ≡ 0
+entries_none [] h = refl
+entries_none {X} (e ∷ es) h = absurd (distinct (ap is_some (sym first ∙ ap (λ m. fin.get m e.0) h ∙ fin.get-empty nat_cmp e.0)))
+  where
+    first : fin.get (fin.from_entries {R = nat_cmp} (e ∷ es)) e.0 ≡ Some e.1
+    first = fin.get-from_entries nat_cmp_total (e ∷ es) e.0 ∙ ap (λ b. cond b (Some e.1) (find nat_cmp e.0 es)) ((eq_by_cmp_equiv nat_cmp_total).refl e.0)
+
+    distinct : true ≡ false → ⊥
+    distinct f = grind arith
 
 swapped : (k q : ℕ) → eq_by_cmp nat_cmp q k ≡ eq_by_cmp nat_cmp k q
 swapped k q = (eq_by_cmp_equiv nat_cmp_total).symm q k

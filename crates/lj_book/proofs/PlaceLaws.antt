@@ -1,6 +1,6 @@
 -- Clauses whose literals stand in one list, which grows while places come and go.
 use Rattle.std.proofs.Common.{◌≡◌, ap, refl, sym, ◌∙◌, ℕ, ◌+◌, ◌-◌, ◌≤◌, Bool, cond, true, false, arith, subst, append_assoc, length-append}
-use Rattle.std.specs.Prelude.{T, ℤ, List, [], ◌∷◌, ◌++◌, map, length, take, drop, Option, Some, None, option_map, is_some, ◌&&◌, suc, nat_le, nat_lt}
+use Rattle.std.specs.Prelude.{T, ℤ, List, [], ◌∷◌, ◌++◌, map, length, take, drop, Option, Some, None, option_map, is_some, ◌&&◌, nat_le, nat_lt}
 use Rattle.std.proofs.lemmas.Bool.{false≢true}
 use Rattle.std.proofs.lemmas.Bool.Decides.{nat_tests}
 use Rattle.std.proofs.lemmas.List.{append-nil, drop-append-le, take-append-le, length-drop}
@@ -18,16 +18,14 @@ use Rattle.lj_clause.specs.LiteralSet.{LiteralSet, literals, from_literals}
 use Rattle.lj_clause.specs.Lemma.{LemmaValue}
 use Rattle.lj_clause.specs.ClauseMap.{ClauseMap, FormulaValue, formula_map}
 use Rattle.lj_book.specs.declared.place.Place.{Place}
-use Rattle.lj_book.specs.Lookup.{numbers_where}
 use Rattle.lj_book.specs.inner.Records.{some_lits, lemma_lits, pivot_before}
-use Rattle.lj_book.specs.inner.Slots.{slot_map, slot_entries, slot_numbers}
+use Rattle.lj_book.specs.inner.Slots.{AreBefore}
 use Rattle.lj_book.specs.inner.Occurrences.{Lists, AreListed, AreIndexed}
 use Rattle.lj_book.specs.inner.Places.{Places, clause_in, placed, IsPlace, ArePlaces, pivots, AreRecorded}
 use Rattle.lj_book.proofs.NumberMaps.{same_map}
 use Rattle.lj_book.proofs.HistoryLaws.{past_the_end}
 use Rattle.lj_book.proofs.OccurrenceLaws.{Indexed-insert}
 use Rattle.lj_book.proofs.RecordLaws.{clause_back}
-use Rattle.lj_book.proofs.Slots.{slot_entries_are, slot_numbers_are}
 
 -- ---- what stands under a number
 
@@ -50,6 +48,10 @@ found_placed lits m q p e = sym (get_placed lits m q ∙ ap (option_map (clause_
 
 pub none_placed : (lits : List ℤ) (m : Places) (q : ℕ) → fin.get m q ≡ None → None ≡ fin.get (placed lits m) q
 none_placed lits m q e = sym (get_placed lits m q ∙ ap (option_map (clause_in lits)) e)
+
+-- where the places end, the clauses do
+pub before-placed : (lits : List ℤ) (m : Places) (n : ℕ) → AreBefore n m → AreBefore n (placed lits m)
+before-placed lits m n before q h = sym (none_placed lits m q (before q h))
 
 pub key_placed : (lits : List ℤ) (m : Places) (q : ℕ) → fin.contains_key m q ≡ fin.contains_key (placed lits m) q
 key_placed lits m q = by (fin.get m q) ∙ ap is_some (sym (get_placed lits m q))
@@ -234,27 +236,6 @@ placed_clause lits m c k p are start count = placed_lemma lits m (alone c) k p a
 
 pub places_clause : (lits : List ℤ) (m : Places) (c : LiteralSet) (k : ℕ) (p : Place) → ArePlaces lits m → p.start ≡ length lits → p.count ≡ length (literals c) → ArePlaces (lits ++ literals c) (fin.insert m k p)
 places_clause lits m c k p are start count = places_lemma lits m (alone c) k p are (start ∙ plus_none (length lits)) count
-
--- ---- places that are looked through
-
-entries_mapped : {A B : Type 0} (g : A → B) (n : ℕ) (xs : List (Option A)) → map (λ e. (e.0, g e.1)) (slot_entries n xs) ≡ slot_entries n (map (option_map g) xs)
-entries_mapped g n [] = refl
-entries_mapped g n (None ∷ xs) = entries_mapped g (suc n) xs
-entries_mapped g n (Some x ∷ xs) = ap (λ es. (n, g x) ∷ es) (entries_mapped g (suc n) xs)
-
-placed_slots : (lits : List ℤ) (xs : List (Option Place)) → placed lits (slot_map xs) ≡ slot_map (map (option_map (clause_in lits)) xs)
-placed_slots lits xs = ap (λ (es : List (ℕ × LiteralSet)). fin.from_entries es) (ap (map (λ (e : ℕ × Place). (e.0, clause_in lits e.1))) (slot_entries_are xs) ∙ entries_mapped (clause_in lits) 0 xs)
-
-numbers_mapped : {A B : Type 0} (g : A → B) (test : B → Bool) (n : ℕ) (xs : List (Option A)) → slot_numbers (λ x. test (g x)) n xs ≡ slot_numbers test n (map (option_map g) xs)
-numbers_mapped g test n [] = refl
-numbers_mapped g test n (None ∷ xs) = numbers_mapped g test (suc n) xs
-numbers_mapped g test n (Some x ∷ xs) = (λ i. cond (test (g x)) (n ∷ numbers_mapped g test (suc n) xs i) (numbers_mapped g test (suc n) xs i))
-
-pub slots_pass : (lits : List ℤ) (test : LiteralSet → Bool) (xs : List (Option Place)) → slot_numbers (λ p. test (clause_in lits p)) 0 xs ≡ numbers_where test (placed lits (slot_map xs))
-slots_pass lits test xs =
-    numbers_mapped (clause_in lits) test 0 xs
-    ∙ slot_numbers_are test (map (option_map (clause_in lits)) xs)
-    ∙ ap (λ (p : ClauseMap). numbers_where test p) (sym (placed_slots lits xs))
 
 -- ---- all that a ledger keeps
 

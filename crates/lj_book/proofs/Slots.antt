@@ -207,6 +207,18 @@ remove_far near far k h = same_map _ _ (λ q.
     ∙ ap (cond (eq_by_cmp nat_cmp q k) None) (sym (get_joined near far q))
     ∙ sym (fin.get-remove nat_cmp_total (joined_map near far) k q))
 
+cut_both : {V : Type 0} (b : Bool) (o p : Option V) → option_or (cond b None o) (cond b None p) ≡ cond b None (option_or o p)
+cut_both true o p = refl
+cut_both false o p = refl
+
+pub remove_both : {V : Type 0} (near far : Numbered V) (k : ℕ) → joined_map (fin.remove near k) (fin.remove far k) ≡ fin.remove (joined_map near far) k
+remove_both near far k = same_map _ _ (λ q.
+    get_joined (fin.remove near k) (fin.remove far k) q
+    ∙ (λ i. option_or (fin.get-remove nat_cmp_total near k q i) (fin.get-remove nat_cmp_total far k q i))
+    ∙ cut_both (eq_by_cmp nat_cmp q k) (fin.get near q) (fin.get far q)
+    ∙ ap (cond (eq_by_cmp nat_cmp q k) None) (sym (get_joined near far q))
+    ∙ sym (fin.get-remove nat_cmp_total (joined_map near far) k q))
+
 not_some : {V : Type 0} (o : Option V) → o ≡ None → is_some o ≡ true → ⊥
 not_some o h e = distinct (ap is_some (sym h) ∙ e)
   where

@@ -1,5 +1,5 @@
 -- The lines of the steps of a history, word by word.
-use Rattle.std.proofs.Common.{◌≡◌, ℕ, ◌+◌, ◌-◌, ◌%◌, ◌<◌, List, [], ◌∷◌, ◌++◌, map, length, take, drop, get_or, refl, sym, ap, ◌∙◌, append_assoc, append-nil, subst, arith, add-one}
+use Rattle.std.proofs.Common.{◌≡◌, ℕ, ◌+◌, ◌-◌, ◌<◌, List, [], ◌∷◌, ◌++◌, map, length, take, drop, get_or, refl, sym, ap, ◌∙◌, append_assoc, append-nil, subst, arith, add-one}
 use Rattle.std.specs.Prelude.{ℤ, Bool, true, false, not, filter, filter_map, Option, Some, None, ◌==◌, ◌||◌, if◌then◌else◌}
 use Rattle.std.specs.FinMap as fin
 use Rattle.std.specs.Fmt.{signed_decimal}
@@ -21,7 +21,7 @@ use Rattle.lj_text.specs.Writing.{IsCutShort, spaced_word}
 use Rattle.lj_text.specs.inner.Writing.{spaced_words}
 use Rattle.lj_text.specs.WordWriting.{WordState, MayBeGiven, WasGiven}
 use Rattle.lj_text.proofs.WritingLemmas.{beginning-self, beginning-trans}
-use Rattle.lj_book.specs.inner.Words.{many_in, number_in}
+use Rattle.lj_book.specs.inner.Words.{number_in}
 use Rattle.lj_book.specs.inner.Records.{lemma_lits, kind_in, code_in, step_in}
 use Rattle.lj_book.proofs.RecordLaws.{step_at, step_at-is}
 use Rattle.lj_book.specs.inner.StepLines.{kept_as_written, entry_text, entry_greatest, ends_proof, Remains}

@@ -1,13 +1,11 @@
 //! Live clauses, lent with the list of their literals.
-ghost use Rattle.std.specs.Prelude.{◌≡◌, IfOk, slice_get};
+ghost use Rattle.std.specs.Prelude.{◌≡◌, IfOk};
 ghost use Rattle.std.specs.FinMap as fin;
-ghost use Rattle.lj_clause.specs.LiteralSet.{holds};
-ghost use Rattle.lj_book.specs.Lookup.{is_same, numbers_holding, least_number};
-ghost use Rattle.lj_book.specs.inner.Slots.{slot_map, slot_numbers};
-ghost use Rattle.lj_book.specs.inner.Places.{clause_in, placed, ArePlaces};
+ghost use Rattle.lj_book.specs.Lookup.{numbers_holding, least_number};
+ghost use Rattle.lj_book.specs.inner.Places.{placed, ArePlaces};
 
 use crate::place::clause_at;
-use crate::place_map::{PlaceMap, PlaceSlot};
+use crate::place_map::PlaceMap;
 use lj_clause::{Clause, ClauseView, Lit, NoMemory};
 use std::alloc::Global;
 use std::marker::Model;
@@ -70,46 +68,30 @@ impl<'a> LentClauses<'a> {
     pub(crate) fn numbers_holding(&self, alloc: Global, lit: Lit) -> Result<Vec<u64>, NoMemory>
         ensures { IfOk result (λ numbers. numbers.items ≡ numbers_holding self.now lit) }
     {
-        holding(alloc, self.lits, self.places.slots(), lit)
+        let mut numbers = Vec::new(alloc);
+        let end = self.places.end();
+        for number in 0..end {
+            if let Some(clause) = self.get(number) {
+                if clause.holds(lit) {
+                    numbers.push(number)?;
+                }
+            }
+        }
+        Ok(numbers)
     }
 
     /// The least number whose clause is exactly this one. Takes time linear in the slots.
     pub(crate) fn least_number(&self, wanted: &Clause) -> Option<u64>
         ensures { result ≡ least_number self.now wanted.now }
     {
-        first_same(self.lits, self.places.slots(), wanted)
-    }
-}
-
-/// The numbers of the slots whose clause holds the literal.
-fn holding(alloc: Global, lits: &[Lit], slots: &[PlaceSlot], lit: Lit) -> Result<Vec<u64>, NoMemory>
-    requires { ArePlaces lits.now (slot_map slots.now) }
-    ensures { IfOk result (λ numbers. numbers.items
-        ≡ slot_numbers (λ p. holds (clause_in lits.now p) lit) 0 slots.now) }
-{
-    let mut numbers = Vec::new(alloc);
-    for at in 0..slots.len() {
-        if let Some(place) = slots[at].place() {
-            if clause_at(lits, place).holds(lit) {
-                numbers.push(at as u64)?;
+        let end = self.places.end();
+        for number in 0..end {
+            if let Some(clause) = self.get(number) {
+                if clause.same(wanted) {
+                    return Some(number);
+                }
             }
         }
+        None
     }
-    Ok(numbers)
-}
-
-/// The number of the first slot whose clause is this one.
-fn first_same(lits: &[Lit], slots: &[PlaceSlot], wanted: &Clause) -> Option<u64>
-    requires { ArePlaces lits.now (slot_map slots.now) }
-    ensures { result ≡ slice_get
-        (slot_numbers (λ p. is_same wanted.now (clause_in lits.now p)) 0 slots.now) 0 }
-{
-    for at in 0..slots.len() {
-        if let Some(place) = slots[at].place() {
-            if clause_at(lits, place).same(wanted) {
-                return Some(at as u64);
-            }
-        }
-    }
-    None
 }

@@ -36,6 +36,14 @@ impl<V: Drop> TreeMap<V> {
         }
     }
 
+    /// Whether there is no entry.
+    #[inline]
+    pub(crate) fn is_empty(&self) -> bool
+        ensures { IsTrue result ↔ (self.now ≡ fin.empty) }
+    {
+        self.entries.is_empty()
+    }
+
     /// The value at the key.
     pub(crate) fn get(&self, key: u64) -> Option<&V>
         ensures { option_copied result ≡ fin.get self.now key }

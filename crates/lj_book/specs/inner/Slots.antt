@@ -1,5 +1,5 @@
 -- How a map from numbers is kept: in slots by number, and in a tree beside them.
-use Rattle.std.specs.Prelude.{◌≡◌, ℕ, zero, suc, Bool, true, if◌then◌else◌, List, [], ◌∷◌, ◌++◌, Option, Some, None, is_some}
+use Rattle.std.specs.Prelude.{◌≡◌, ◌≤◌, ℕ, zero, suc, Bool, true, if◌then◌else◌, List, [], ◌∷◌, ◌++◌, Option, Some, None, is_some}
 use Rattle.std.specs.Ordering.{nat_cmp}
 use Rattle.std.specs.FinMap as fin
 
@@ -26,6 +26,10 @@ joined_map near far = fin.from_entries (fin.entries near ++ fin.entries far)
 -- no number is in both maps
 abbrev pub AreApart : {V : Type 0} → fin.FinMap nat_cmp V → fin.FinMap nat_cmp V → Type 0
 AreApart near far = (q : ℕ) → is_some (fin.get near q) ≡ true → fin.get far q ≡ None
+
+-- every number of the map is below the end
+abbrev pub AreBefore : {V : Type 0} → ℕ → fin.FinMap nat_cmp V → Type 0
+AreBefore end m = (q : ℕ) → end ≤ q → fin.get m q ≡ None
 
 -- the numbers of the slots whose value passes the test
 abbrev pub slot_numbers : {V : Type 0} → (V → Bool) → ℕ → List (Option V) → List ℕ

@@ -1,4 +1,4 @@
-use Rattle.std.proofs.Common.{◌≡◌, ℕ, ℤ, List, [], ◌++◌, ◌+◌, ◌%◌, drop, get_or, sym, ap, ◌∙◌}
+use Rattle.std.proofs.Common.{◌≡◌, ℕ, ℤ, List, [], ◌++◌, ◌+◌, drop, get_or, sym, ap, ◌∙◌}
 use Rattle.std.specs.Prelude.{filter_map, true, false}
 use Rattle.std.proofs.Math.ListN.{drop_of_length-le}
 use Rattle.lj_text.specs.declared.step.Step.{Step}

@@ -1,4 +1,4 @@
-use Rattle.std.proofs.Common.{◌≡◌, ap, sym, ◌∙◌, ◌+◌, ◌-◌, ◌++◌, ℕ, suc, arith, List}
+use Rattle.std.proofs.Common.{◌≡◌, ap, sym, ◌∙◌, ◌+◌, ◌-◌, ◌++◌, ℕ, suc, arith}
 use Rattle.std.specs.Prelude.{flat_map}
 use Rattle.lj_text.specs.StepText.{group_words}
 use Rattle.lj_text.specs.inner.Writing.{spaced_words}

@@ -1,0 +1,97 @@
+-- Maps whose numbers are below an end, and what is found in them number by number.
+use Rattle.std.proofs.Common.{◌≡◌, ap, refl, sym, ◌∙◌, ℕ, Bool, cond, arith, suc, zero, ◌+◌, ◌<◌, ◌≤◌, true, false}
+use Rattle.std.specs.Prelude.{List, [], ◌∷◌, drop, length, Option, Some, None, slice_index_or, slice_set, nat_lt}
+use Rattle.std.proofs.lemmas.Bool.Decides.{nat_tests}
+use Rattle.std.specs.Ordering.{nat_cmp, eq_by_cmp}
+use Rattle.std.specs.Cmp.{nat_cmp_total}
+use Rattle.std.specs.FinMap as fin
+use Rattle.lj_book.specs.inner.Slots.{slot_map, slot_numbers, joined_map, AreBefore}
+use Rattle.lj_book.proofs.NumberMaps.{same_map}
+use Rattle.lj_book.proofs.Scans.{numbers_in}
+use Rattle.lj_book.proofs.Slots.{slot, get_slot, slot_within, slot_past, joined_far, numbers-empty, numbers-taken, numbers-passed, numbers-end, slot_numbers_are}
+
+abbrev Numbered : Type 0 → Type 0
+Numbered V = fin.FinMap nat_cmp V
+
+pub before-empty : {V : Type 0} (n : ℕ) → AreBefore n (fin.empty {X = V})
+before-empty n q h = fin.get-empty nat_cmp q
+
+pub before-more : {V : Type 0} (n k : ℕ) (m : Numbered V) → n ≤ k → AreBefore n m → AreBefore k m
+before-more n k m le before q h = before q (grind arith)
+
+pub before-insert : {V : Type 0} (n : ℕ) (m : Numbered V) (k : ℕ) (v : V) → k < n → AreBefore n m → AreBefore n (fin.insert m k v)
+before-insert n m k v lt before q h =
+    fin.get-insert nat_cmp_total m k v q
+    ∙ ap (λ b. cond b (Some v) (fin.get m q)) (differ q k (grind arith))
+    ∙ before q h
+  where
+    differ : (q k : ℕ) → k < q → eq_by_cmp nat_cmp q k ≡ false
+    differ q k h = grind arith
+
+pub before-remove : {V : Type 0} (n : ℕ) (m : Numbered V) (k : ℕ) → AreBefore n m → AreBefore n (fin.remove m k)
+before-remove n m k before q h = fin.get-remove nat_cmp_total m k q ∙ by (eq_by_cmp nat_cmp q k)
+  where
+    by : (b : Bool) → cond b None (fin.get m q) ≡ None
+    by true = refl
+    by false = before q h
+
+-- slots with a map beside them
+pub before-joined : {V : Type 0} (xs : List (Option V)) (far : Numbered V) → AreBefore (length xs) far → AreBefore (length xs) (joined_map (slot_map xs) far)
+before-joined xs far before q h = joined_far (slot_map xs) far q (get_slot xs q ∙ slot_past xs q h) ∙ before q h
+
+pub length-slice_set : {V : Type 0} (xs : List V) (k : ℕ) (x : V) → length (slice_set xs k x) ≡ length xs
+length-slice_set [] k x = refl
+length-slice_set (y ∷ xs) zero x = refl
+length-slice_set (y ∷ xs) (suc k) x = ap suc (length-slice_set xs k x)
+
+-- ---- a map seen as slots
+
+-- what the map has at so many numbers from this one on
+abbrev pub slots_from : {V : Type 0} → Numbered V → ℕ → ℕ → List (Option V)
+slots_from m n zero = []
+slots_from m n (suc k) = fin.get m n ∷ slots_from m (suc n) k
+
+length-slots_from : {V : Type 0} (m : Numbered V) (n k : ℕ) → length (slots_from m n k) ≡ k
+length-slots_from m n zero = refl
+length-slots_from m n (suc k) = ap suc (length-slots_from m (suc n) k)
+
+slot_from : {V : Type 0} (m : Numbered V) (n k i q : ℕ) → i < k → q ≡ n + i → slot (slots_from m n k) i ≡ fin.get m q
+slot_from m n zero i q h e = absurd (grind arith)
+slot_from m n (suc k) zero q h e = ap (fin.get m) (grind arith)
+slot_from m n (suc k) (suc i) q h e = slot_from m (suc n) k i q (grind arith) (grind arith)
+
+same_slots : {V : Type 0} (m : Numbered V) (n : ℕ) → AreBefore n m → slot_map (slots_from m 0 n) ≡ m
+same_slots m n before = same_map _ _ (λ q. get_slot (slots_from m 0 n) q ∙ by q (nat_lt q n) refl)
+  where
+    by : (q : ℕ) (b : Bool) → nat_lt q n ≡ b → slot (slots_from m 0 n) q ≡ fin.get m q
+    by q true e = slot_from m 0 n q q (grind (arith, nat_tests)) (grind arith)
+    by q false e =
+        let le : n ≤ q = grind (arith, nat_tests) in
+        let length_is : length (slots_from m 0 n) ≡ n = length-slots_from m 0 n in
+        slot_past (slots_from m 0 n) q (omega (arith, le, length_is)) ∙ sym (before q le)
+
+-- the numbers from k on, up to the end, whose value passes
+abbrev pub numbers_from : {V : Type 0} → (V → Bool) → Numbered V → ℕ → ℕ → List ℕ
+numbers_from test m end k = slot_numbers test k (drop k (slots_from m 0 end))
+
+within : {V : Type 0} (m : Numbered V) (end k : ℕ) → k < end → k < length (slots_from m 0 end)
+within m end k h = let length_is : length (slots_from m 0 end) ≡ end = length-slots_from m 0 end in omega (arith, h, length_is)
+
+slot_is : {V : Type 0} (m : Numbered V) (end k : ℕ) (o : Option V) → k < end → fin.get m k ≡ o → slice_index_or (slots_from m 0 end) k None ≡ o
+slot_is m end k o h e = sym (slot_within (slots_from m 0 end) k None (within m end k h)) ∙ slot_from m 0 end k k h (grind arith) ∙ e
+
+pub from-empty : {V : Type 0} (test : V → Bool) (m : Numbered V) (end k : ℕ) → k < end → fin.get m k ≡ None → numbers_from test m end (k + 1) ≡ numbers_from test m end k
+from-empty test m end k h e = numbers-empty test (slots_from m 0 end) k None (within m end k h) (slot_is m end k None h e)
+
+pub from-taken : {V : Type 0} (test : V → Bool) (m : Numbered V) (end k : ℕ) (v : V) → k < end → fin.get m k ≡ Some v → test v ≡ true → numbers_from test m end k ≡ k ∷ numbers_from test m end (k + 1)
+from-taken test m end k v h e t = numbers-taken test (slots_from m 0 end) k None v (within m end k h) (slot_is m end k (Some v) h e) t
+
+pub from-passed : {V : Type 0} (test : V → Bool) (m : Numbered V) (end k : ℕ) (v : V) → k < end → fin.get m k ≡ Some v → test v ≡ false → numbers_from test m end (k + 1) ≡ numbers_from test m end k
+from-passed test m end k v h e t = numbers-passed test (slots_from m 0 end) k None v (within m end k h) (slot_is m end k (Some v) h e) t
+
+pub from-end : {V : Type 0} (test : V → Bool) (m : Numbered V) (end k : ℕ) → end ≤ k → numbers_from test m end k ≡ []
+from-end test m end k h = numbers-end test (slots_from m 0 end) k (let length_is : length (slots_from m 0 end) ≡ end = length-slots_from m 0 end in omega (arith, h, length_is))
+
+-- from 0 on they are all
+pub from-first : {V : Type 0} (test : V → Bool) (m : Numbered V) (end : ℕ) → AreBefore end m → numbers_from test m end 0 ≡ numbers_in test (fin.entries m)
+from-first test m end before = slot_numbers_are test (slots_from m 0 end) ∙ ap (λ n. numbers_in test (fin.entries n)) (same_slots m end before)
