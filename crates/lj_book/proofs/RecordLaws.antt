@@ -1,5 +1,5 @@
 -- What is written of an entry is read again, and stays when more is written behind it.
-use Rattle.std.proofs.Common.{◌≡◌, ap, refl, sym, ◌∙◌, ◌+◌, ◌*◌, ◌%◌, ◌/◌, ◌<◌, ◌≤◌, arith, append_assoc, length-append, subst, cond}
+use Rattle.std.proofs.Common.{◌≡◌, ap, refl, sym, ◌∙◌, ◌+◌, ◌*◌, ◌%◌, ◌/◌, ◌<◌, ◌≤◌, arith, append_assoc, length-append, subst}
 use Rattle.std.specs.Prelude.{ℕ, zero, suc, ℤ, Bool, true, false, List, [], ◌∷◌, ◌++◌, length, take, drop, get_or, Option, Some, None, filter_map, flat_map, nat_lt, ◌||◌, ◌&&◌, if◌then◌else◌}
 use Rattle.std.specs.List.{cons_option, list_any}
 use Rattle.std.proofs.lemmas.Bool.{false≢true, and_parts}
@@ -301,10 +301,6 @@ pub more_words_entries : (lits : List ℤ) (words ws : List ℕ) (starts : List 
 more_words_entries lits words ws starts e back are =
     ap (λ (ls : List ℤ). entries_in ls (words ++ ws) (starts ++ length words ∷ [])) (sym (append-nil lits))
     ∙ more_entries lits [] words ws starts e (λ all more _. back all more) are
-
--- the starts once one more was put behind them
-pub started : (b : Bool) (starts news : List ℕ) (start : ℕ) (words : List ℕ) → news ≡ cond b (starts ++ start ∷ []) starts → b ≡ true → start ≡ length words → news ≡ starts ++ length words ∷ []
-started b starts news start words is ok at = is ∙ ap (λ x. cond x (starts ++ start ∷ []) starts) ok ∙ ap (λ k. starts ++ k ∷ []) at
 
 -- ---- what is compared
 

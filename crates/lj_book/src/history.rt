@@ -13,6 +13,7 @@ mod lines;
 mod matching;
 mod reading;
 mod sizes;
+mod starts;
 mod writing;
 
 use crate::entry::Entry;
@@ -20,6 +21,7 @@ use lines::write_entries;
 use lj_clause::{Clause, Lit, NoMemory};
 use lj_text::{Addition, Numbers, Sink, SinkFault, Step, WordWriter};
 use reading::{words_at, words_from};
+use starts::Starts;
 use std::alloc::Global;
 use std::marker::Model;
 use writing::{put_addition, put_adopt, put_drop, put_import, put_leave};
@@ -46,7 +48,7 @@ pub(crate) struct History {
     words: Vec<u32>,
     lits: Vec<Lit>,
     /// Where the words of each entry begin.
-    starts: Vec<u64>,
+    starts: Starts,
 }
 
 impl Model for History {
@@ -63,7 +65,7 @@ impl Model for History {
       lits = h.lits.items;
       word_room = vec_capacity h.words - vec_len h.words;
       lit_room = vec_capacity h.lits - vec_len h.lits;
-      entry_room = vec_capacity h.starts - vec_len h.starts;
+      entry_room = h.starts.room;
     } };
 
     ghost invariant = { λ h. AreWritten h.lits.items h.words.items h.starts.items };
@@ -78,7 +80,7 @@ impl History {
         History {
             words: Vec::new(alloc),
             lits,
-            starts: Vec::new(alloc),
+            starts: Starts::new(alloc),
         }
     }
 
@@ -117,7 +119,7 @@ impl History {
     {
         self.words.reserve(numbers.saturating_mul(3))?;
         self.lits.reserve(lits)?;
-        self.starts.reserve(1)?;
+        self.starts.reserve()?;
         Ok(())
     }
 
@@ -181,7 +183,7 @@ impl History {
         let _ = step.lemma.pivot();
         let start = self.words.len() as u64;
         put_addition(&mut self.words, &mut self.lits, seat, own, step);
-        self.starts.push(start).unwrap();
+        self.starts.push(start);
     }
 
     /// Takes a seat's drop of these numbers behind the others, by which these joint numbers died.
@@ -194,7 +196,7 @@ impl History {
     {
         let start = self.words.len() as u64;
         put_drop(&mut self.words, seat, given, died);
-        self.starts.push(start).unwrap();
+        self.starts.push(start);
     }
 
     /// Takes a seat's adoption behind the others.
@@ -207,7 +209,7 @@ impl History {
     {
         let start = self.words.len() as u64;
         put_adopt(&mut self.words, seat, own, joint);
-        self.starts.push(start).unwrap();
+        self.starts.push(start);
     }
 
     /// Takes a seat's import behind the others.
@@ -221,7 +223,7 @@ impl History {
     {
         let start = self.words.len() as u64;
         put_import(&mut self.words, &mut self.lits, seat, own, clause);
-        self.starts.push(start).unwrap();
+        self.starts.push(start);
     }
 
     /// Takes a seat's import behind the others where there is a clause, and an adoption otherwise.
@@ -257,7 +259,7 @@ impl History {
     {
         let start = self.words.len() as u64;
         put_leave(&mut self.words, seat, died);
-        self.starts.push(start).unwrap();
+        self.starts.push(start);
     }
 
     /// A copy of the entry at a place, counted from 0. Takes time linear in its contents.
@@ -284,8 +286,8 @@ impl History {
     {
         let alloc = self.allocator();
         let mut steps = Vec::new(alloc);
-        for start in &self.starts {
-            let words = words_from(&self.words, *start);
+        for index in 0..self.starts.len() {
+            let words = words_from(&self.words, self.starts.at(index));
             if let Some(step) = reading::entry_step(alloc, &self.lits, words)? {
                 steps.push(step)?;
             }

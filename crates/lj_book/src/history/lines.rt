@@ -14,6 +14,7 @@ ghost use Rattle.lj_book.specs.inner.StepLines.{kept_as_written, entry_text, ent
 
 use super::reading::{added_literals, head_sizes, placed, words_from};
 use super::sizes::Sizes;
+use super::starts::Starts;
 use super::{ADDITION, ADOPT, DROP, IMPORT, KINDS};
 use crate::words::{behind_list, number};
 use lj_clause::Lit;
@@ -219,19 +220,19 @@ pub(super) fn write_entries<W: Sink>(
     clauses: u64,
     lits: &[Lit],
     words: &[u32],
-    starts: &[u64],
+    starts: &Starts,
 )
     requires may { MayBeGiven (word_state (W.taken sink.old) (W.failures sink.old) writer.old) }
-    requires written { AreWritten lits.now words.now starts.now }
+    requires written { AreWritten lits.now words.now starts.now.items }
 
     ensures given { WasGiven (word_state (W.taken sink.old) (W.failures sink.old) writer.old)
         (text_after clauses (up_to_empty
-        (filter_map (λ e. e.step) (entries_in lits.now words.now starts.now))))
+        (filter_map (λ e. e.step) (entries_in lits.now words.now starts.now.items))))
         (word_state (W.taken sink.new) (W.failures sink.new) writer.new) }
 {
     let mut greatest = clauses;
-    for start in starts {
-        let (head, rest) = number(words_from(words, *start));
+    for index in 0..starts.len() {
+        let (head, rest) = number(words_from(words, starts.at(index)));
         greatest = write_step(writer, sink, greatest, lits, head, rest);
         if ends_proof(lits, head, rest) {
             return;

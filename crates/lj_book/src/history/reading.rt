@@ -5,6 +5,7 @@ ghost use Rattle.lj_book.specs.inner.Words.{number_in, list_in};
 ghost use Rattle.lj_book.specs.inner.Records.{some_lits, lits_at, lits_in, addition_in, sized_call, sized_lits, sizes_in, seat_in, kind_in, code_in, call_in, step_in, entry_in};
 
 use super::sizes::{Sizes, read_sizes};
+use super::starts::Starts;
 use super::{ADDITION, ADOPT, DROP, IMPORT, KINDS, SEATS};
 use crate::entry::{Call, Entry};
 use crate::words::{behind_list, groups, list, number, numbers};
@@ -13,11 +14,11 @@ use lj_text::{Addition, Groups, Step};
 use std::alloc::Global;
 
 /// The words of the entry at a place, and what stands behind them.
-pub(super) fn words_at<'a>(starts: &[u64], words: &'a [u32], place: u64) -> Option<&'a [u32]>
+pub(super) fn words_at<'a>(starts: &Starts, words: &'a [u32], place: u64) -> Option<&'a [u32]>
     ensures { option_copied result
-        ≡ option_map (λ start. drop start words.now) (slice_get starts.now place) }
+        ≡ option_map (λ start. drop start words.now) (slice_get starts.now.items place) }
 {
-    let start = *starts.get(place as usize)?;
+    let start = starts.get(place)?;
     Some(words_from(words, start))
 }
 

@@ -1,10 +1,10 @@
 use Rattle.std.proofs.Common.{◌≡◌, ap, sym, ◌∙◌, subst, ℕ, refl, arith}
-use Rattle.std.specs.Prelude.{List, ℤ, [], ◌∷◌, ◌++◌, length, is_ok, Some}
+use Rattle.std.specs.Prelude.{List, ℤ, [], ◌∷◌, ◌++◌, length, Some}
 use Rattle.lj_text.specs.declared.step.Step.TheVariants.{Add}
 use Rattle.lj_book.specs.declared.entry.Call.TheVariants as calls
 use Rattle.lj_book.specs.declared.entry.Entry.{Entry}
 use Rattle.lj_book.specs.inner.Records.{entry_of, lemma_lits, add_words, AreWritten, entries_in}
-use Rattle.lj_book.proofs.RecordLaws.{addition_back, more_written, more_entries, started}
+use Rattle.lj_book.proofs.RecordLaws.{addition_back, more_written, more_entries}
 use Rattle.lj_book.proofs.history.History.push_addition.Goals as goal
 
 pub invariant_of-self : goal.invariant_of-self
@@ -16,7 +16,7 @@ invariant_of-self c =
     let words : List ℕ = add_words c.args.seat c.args.own c.args.step.now (length ls) in
     let entry : Entry = entry_of c.args.seat (calls.Add c.args.own c.args.step.now.lemma) (Some (Add c.args.step.now)) in
     let at : c.len-start.result ≡ length ws = c.len-start.ensures ∙ c.self.inside.words.ok.0 in
-    let starts : c.push.new.self.items ≡ ss ++ length ws ∷ [] = started (is_ok c.push.result) ss c.push.new.self.items c.len-start.result ws c.push.ensures.items (ap is_ok c.unwrap.ensures) at in
+    let starts : c.push.new.self.items ≡ ss ++ length ws ∷ [] = c.push.ensures ∙ ap (λ (k : ℕ). ss ++ k ∷ []) at in
     subst (λ (xs : List ℤ). AreWritten xs c.put_addition.new.words.items c.push.new.self.items) (sym c.put_addition.ensures.lits)
     (subst (λ (us : List ℕ). AreWritten (ls ++ new) us c.push.new.self.items) (sym c.put_addition.ensures.words)
     (subst (λ (us : List ℕ). AreWritten (ls ++ new) (ws ++ words) us) (sym starts)
@@ -31,7 +31,7 @@ returns-clause-entries c =
     let words : List ℕ = add_words c.args.seat c.args.own c.args.step.now (length ls) in
     let entry : Entry = entry_of c.args.seat (calls.Add c.args.own c.args.step.now.lemma) (Some (Add c.args.step.now)) in
     let at : c.len-start.result ≡ length ws = c.len-start.ensures ∙ c.self.inside.words.ok.0 in
-    let starts : c.push.new.self.items ≡ ss ++ length ws ∷ [] = started (is_ok c.push.result) ss c.push.new.self.items c.len-start.result ws c.push.ensures.items (ap is_ok c.unwrap.ensures) at in
+    let starts : c.push.new.self.items ≡ ss ++ length ws ∷ [] = c.push.ensures ∙ ap (λ (k : ℕ). ss ++ k ∷ []) at in
     (λ i. entries_in (c.put_addition.ensures.lits i) (c.put_addition.ensures.words i) (starts i))
     ∙ more_entries ls new ws words ss entry (λ all more there. addition_back all c.args.seat c.args.own c.args.step.now (length ls) more c.pivot.ensures.lemma there) c.self.invariant
     ∙ ap (λ (es : List Entry). es ++ entry ∷ []) (ap (λ h. h.entries) c.self.view_is)

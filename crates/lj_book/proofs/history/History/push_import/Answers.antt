@@ -1,10 +1,10 @@
 use Rattle.std.proofs.Common.{◌≡◌, ap, sym, ◌∙◌, subst, ℕ, refl, arith}
-use Rattle.std.specs.Prelude.{List, ℤ, [], ◌∷◌, ◌++◌, length, is_ok, None}
+use Rattle.std.specs.Prelude.{List, ℤ, [], ◌∷◌, ◌++◌, length, None}
 use Rattle.lj_clause.specs.LiteralSet.{literals}
 use Rattle.lj_book.specs.declared.entry.Call.TheVariants as calls
 use Rattle.lj_book.specs.declared.entry.Entry.{Entry}
 use Rattle.lj_book.specs.inner.Records.{entry_of, import_words, AreWritten, entries_in}
-use Rattle.lj_book.proofs.RecordLaws.{import_back, more_written, more_entries, started}
+use Rattle.lj_book.proofs.RecordLaws.{import_back, more_written, more_entries}
 use Rattle.lj_book.proofs.history.History.push_import.Goals as goal
 
 pub invariant_of-self : goal.invariant_of-self
@@ -16,7 +16,7 @@ invariant_of-self c =
     let words : List ℕ = import_words c.args.seat c.args.own c.args.clause.now (length ls) in
     let entry : Entry = entry_of c.args.seat (calls.Import c.args.own c.args.clause.now) None in
     let at : c.len-start.result ≡ length ws = c.len-start.ensures ∙ c.self.inside.words.ok.0 in
-    let starts : c.push.new.self.items ≡ ss ++ length ws ∷ [] = started (is_ok c.push.result) ss c.push.new.self.items c.len-start.result ws c.push.ensures.items (ap is_ok c.unwrap.ensures) at in
+    let starts : c.push.new.self.items ≡ ss ++ length ws ∷ [] = c.push.ensures ∙ ap (λ (k : ℕ). ss ++ k ∷ []) at in
     subst (λ (xs : List ℤ). AreWritten xs c.put_import.new.words.items c.push.new.self.items) (sym c.put_import.ensures.lits)
     (subst (λ (us : List ℕ). AreWritten (ls ++ new) us c.push.new.self.items) (sym c.put_import.ensures.words)
     (subst (λ (us : List ℕ). AreWritten (ls ++ new) (ws ++ words) us) (sym starts)
@@ -31,7 +31,7 @@ returns-clause-entries c =
     let words : List ℕ = import_words c.args.seat c.args.own c.args.clause.now (length ls) in
     let entry : Entry = entry_of c.args.seat (calls.Import c.args.own c.args.clause.now) None in
     let at : c.len-start.result ≡ length ws = c.len-start.ensures ∙ c.self.inside.words.ok.0 in
-    let starts : c.push.new.self.items ≡ ss ++ length ws ∷ [] = started (is_ok c.push.result) ss c.push.new.self.items c.len-start.result ws c.push.ensures.items (ap is_ok c.unwrap.ensures) at in
+    let starts : c.push.new.self.items ≡ ss ++ length ws ∷ [] = c.push.ensures ∙ ap (λ (k : ℕ). ss ++ k ∷ []) at in
     (λ i. entries_in (c.put_import.ensures.lits i) (c.put_import.ensures.words i) (starts i))
     ∙ more_entries ls new ws words ss entry (λ all more there. import_back all c.args.seat c.args.own c.args.clause.now (length ls) more there) c.self.invariant
     ∙ ap (λ (es : List Entry). es ++ entry ∷ []) (ap (λ h. h.entries) c.self.view_is)
