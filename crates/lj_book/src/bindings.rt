@@ -1,5 +1,5 @@
 //! The bindings of a seat.
-ghost use Rattle.std.specs.Prelude.{◌≡◌, OnOk, OnErr, IfOk, IfSome, None, Some};
+ghost use Rattle.std.specs.Prelude.{◌≡◌, OnOk, OnErr, IfOk, None};
 ghost use Rattle.std.specs.FinMap as fin;
 ghost use Rattle.lj_book.specs.inner.Slots.{AreApart};
 
@@ -62,17 +62,6 @@ impl Bindings {
         match self.short.get(own) {
             Some(joint) => Some(joint),
             None => self.long.get(own).copied(),
-        }
-    }
-
-    /// The joint number that the own number is bound to, where it is at hand in four bytes. None tells nothing of it.
-    #[inline(always)]
-    pub(crate) fn short(&self, own: u64) -> Option<u32>
-        ensures { IfSome result (λ joint. fin.get self.now own ≡ Some joint) }
-    {
-        match self.short.get(own) {
-            Some(joint) => Some(joint as u32),
-            None => None,
         }
     }
 

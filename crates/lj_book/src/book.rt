@@ -20,6 +20,7 @@ use crate::committing::{enter_addition, first_stale, refuted_at, step_of};
 use crate::dying::{no_longer_held, rising};
 use crate::entry::{Added, Dropped, Entry};
 use crate::ledger::Ledger;
+use crate::lent_addition::LentAddition;
 use crate::refusal::Refusal;
 use crate::seat_tables::SeatTables;
 use crate::steps::Steps;
@@ -45,6 +46,8 @@ pub struct Book {
     added: u32,
     /// The place of the first entry that adds the empty clause.
     refuted: Option<u64>,
+    /// Room for the joint hints of a line. What it holds between calls means nothing.
+    joints: Numbers,
 }
 
 impl Model for Book {
@@ -95,6 +98,7 @@ impl Book {
             ledger,
             added: 0,
             refuted: None,
+            joints: Numbers::from_short(Vec::new(alloc)),
         })
     }
 
@@ -262,12 +266,8 @@ impl Book {
         ensures err { OnErr result (self.new ≡ self.old) }
     {
         let joint = self.formula.len() as u64 + 1 + u64::from(self.added);
-        let step = Addition {
-            number: joint,
-            lemma: step.lemma,
-            hints: step.hints,
-            groups: step.groups,
-        };
+        let groups = step.groups.as_slice();
+        let step = LentAddition::new(joint, &step.lemma, &step.hints, groups);
         let place = self.ledger.history().len();
         let (seat, own) = (receipt.seat(), receipt.own());
         enter_addition(&mut self.ledger, &mut self.tables, seat, own, &step)?;

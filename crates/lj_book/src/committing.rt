@@ -11,6 +11,7 @@ ghost use Rattle.lj_book.specs.inner.Records.{entry_of};
 ghost use Rattle.lj_book.specs.inner.Kept.{refuted_after};
 
 use crate::ledger::Ledger;
+use crate::lent_addition::LentAddition;
 use crate::seat_tables::SeatTables;
 use lj_clause::{Clause, NoMemory};
 use lj_hint::{Pair, Receipt};
@@ -74,7 +75,7 @@ pub(crate) fn enter_addition(
     tables: &mut SeatTables,
     seat: u32,
     own: u64,
-    step: &Addition,
+    step: &LentAddition<'_>,
 ) -> Result<(), NoMemory>
     requires here { is_here tables.old seat ≡ true }
     requires unbound { is_bound tables.old seat own ≡ false }

@@ -31,7 +31,7 @@ pub(crate) fn copy_of_addition(alloc: Global, addition: &Addition) -> Result<Add
         number: addition.number,
         lemma: addition.lemma.copy()?,
         hints: addition.hints.copy()?,
-        groups: copy_of_groups(alloc, &addition.groups)?,
+        groups: copy_of_groups(alloc, addition.groups.as_slice())?,
     })
 }
 
@@ -39,10 +39,9 @@ pub(crate) fn copy_of_addition(alloc: Global, addition: &Addition) -> Result<Add
 ///
 /// # Errors
 /// [`NoMemory`] where a growth was refused.
-fn copy_of_groups(alloc: Global, groups: &Groups) -> Result<Groups, NoMemory>
+pub(crate) fn copy_of_groups(alloc: Global, groups: &[Group]) -> Result<Groups, NoMemory>
     ensures { IfOk result (λ copy. copy ≡ groups.now) }
 {
-    let groups = groups.as_slice();
     let mut copies = Vec::with_capacity(alloc, groups.len())?;
     for group in groups {
         let hints = group.hints.copy()?;

@@ -17,9 +17,10 @@ mod starts;
 mod writing;
 
 use crate::entry::Entry;
+use crate::lent_addition::LentAddition;
 use lines::write_entries;
 use lj_clause::{Clause, Lit, NoMemory};
-use lj_text::{Addition, Numbers, Sink, SinkFault, Step, WordWriter};
+use lj_text::{Numbers, Sink, SinkFault, Step, WordWriter};
 use reading::{words_at, words_from};
 use starts::Starts;
 use std::alloc::Global;
@@ -127,7 +128,7 @@ impl History {
     ///
     /// # Errors
     /// [`NoMemory`] where a growth was refused.
-    pub(crate) fn reserve_addition(&mut self, step: &Addition) -> Result<(), NoMemory>
+    pub(crate) fn reserve_addition(&mut self, step: &LentAddition<'_>) -> Result<(), NoMemory>
         ensures same { self.new.entries ≡ self.old.entries }
         ensures kept { self.new.lits ≡ self.old.lits }
         ensures words { OnOk result (3 * addition_numbers step.now ≤ self.new.word_room) }
@@ -135,8 +136,10 @@ impl History {
         ensures room { OnOk result (0 < self.new.entry_room) }
     {
         let numbers = numbers_of(step);
-        let lits = step.lemma.clause().lits().len();
-        self.reserve(numbers, lits + usize::from(step.lemma.pivot().is_some()))
+        self.reserve(
+            numbers,
+            step.clause.lits().len() + usize::from(step.lemma.pivot().is_some()),
+        )
     }
 
     /// Makes room for a drop of so many own numbers, or a leave, by which at most so many joint numbers die.
@@ -172,7 +175,7 @@ impl History {
     }
 
     /// Takes a seat's addition behind the others.
-    pub(crate) fn push_addition(&mut self, seat: u32, own: u64, step: &Addition)
+    pub(crate) fn push_addition(&mut self, seat: u32, own: u64, step: &LentAddition<'_>)
         requires words { 3 * addition_numbers step.now ≤ self.old.word_room }
         requires lits { length (lemma_lits step.now.lemma) ≤ self.old.lit_room }
         requires room { 0 < self.old.entry_room }
@@ -350,11 +353,11 @@ impl History {
 }
 
 /// How many numbers an addition is written as, or the greatest number where they are more.
-fn numbers_of(step: &Addition) -> usize
+fn numbers_of(step: &LentAddition<'_>) -> usize
     ensures { result < 2 ^ 63 → addition_numbers step.now ≤ result }
 {
     let mut count = step.hints.len().saturating_add(7);
-    for group in step.groups.as_slice() {
+    for group in step.groups {
         count = count.saturating_add(group.hints.len()).saturating_add(2);
     }
     count

@@ -14,13 +14,14 @@ ghost use Rattle.lj_book.specs.inner.Places.{pivots};
 
 use crate::entry::Entry;
 use crate::history::History;
+use crate::lent_addition::LentAddition;
 use crate::lent_clauses::LentClauses;
 use crate::occurrence_lists::OccurrenceLists;
 use crate::place::{Place, clause_at};
 use crate::place_map::PlaceMap;
 use crate::placed_clauses::clauses_of;
-use lj_clause::{Clause, ClauseView, Formula, Lemma, Lit, NoMemory};
-use lj_text::{Addition, Numbers};
+use lj_clause::{Clause, ClauseView, Formula, Lit, NoMemory};
+use lj_text::Numbers;
 use std::alloc::Global;
 use std::marker::Model;
 
@@ -157,7 +158,12 @@ impl Ledger {
     ///
     /// # Errors
     /// [`NoMemory`] where a growth was refused.
-    pub(crate) fn add(&mut self, seat: u32, own: u64, step: &Addition) -> Result<(), NoMemory>
+    pub(crate) fn add(
+        &mut self,
+        seat: u32,
+        own: u64,
+        step: &LentAddition<'_>,
+    ) -> Result<(), NoMemory>
         ensures entries { OnOk result (self.new.history.entries ≡ self.old.history.entries
             ++ entry_of seat (calls.Add own step.now.lemma) (Some (Add step.now)) ∷ []) }
         ensures live { OnOk result
@@ -166,9 +172,8 @@ impl Ledger {
         ensures lives { OnErr result (self.new.live ≡ self.old.live) }
     {
         self.history.reserve_addition(step)?;
-        let clause = step.lemma.clause();
-        let place = place_behind(self.history.lits(), &step.lemma);
-        list_clause(&mut self.lists, self.last, step.number, &clause.view());
+        let place = place_behind(self.history.lits(), step);
+        list_clause(&mut self.lists, self.last, step.number, &step.clause);
         if let Err(refused) = self.places.insert(step.number, place) {
             self.lists = None;
             return Err(refused);
@@ -278,16 +283,16 @@ impl Ledger {
     }
 }
 
-/// Where the literals of a lemma's clause stand, once it is taken behind these.
+/// Where the literals of an addition's clause stand, once it is taken behind these.
 #[inline]
-fn place_behind(lits: &[Lit], lemma: &Lemma) -> Place
-    ensures start { result.start ≡ length lits.now + pivots lemma.now.pivot }
-    ensures count { result.count ≡ length (literals lemma.now.clause) }
+fn place_behind(lits: &[Lit], step: &LentAddition<'_>) -> Place
+    ensures start { result.start ≡ length lits.now + pivots step.now.lemma.pivot }
+    ensures count { result.count ≡ length (literals step.now.lemma.clause) }
     ensures few { result.count < 9223372036854775808 }
 {
     Place {
-        start: lits.len() as u64 + u64::from(lemma.pivot().is_some()),
-        count: lemma.clause().lits().len() as u64,
+        start: lits.len() as u64 + u64::from(step.lemma.pivot().is_some()),
+        count: step.clause.lits().len() as u64,
     }
 }
 

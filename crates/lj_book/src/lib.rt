@@ -12,6 +12,7 @@ mod event;
 mod history;
 mod joint_line;
 mod ledger;
+mod lent_addition;
 mod lent_clauses;
 mod line_tests;
 mod number_list;

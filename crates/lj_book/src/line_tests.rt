@@ -1,18 +1,17 @@
 //! The test of a line over the live clauses.
-ghost use Rattle.std.specs.Prelude.{◌≡◌, take};
+ghost use Rattle.std.specs.Prelude.{◌≡◌, ℕ};
 ghost use Rattle.lj_clause.specs.LiteralSet.{negations};
 ghost use Rattle.lj_clause.specs.Walk.{walk};
 ghost use Rattle.lj_hint.specs.declared.live_line.LineRefusal.TheVariants.{Rat};
 ghost use Rattle.lj_hint.specs.LineTest.{line_reply, IsLineReply};
-ghost use Rattle.lj_book.specs.Calls.{IsReply};
+ghost use Rattle.lj_book.specs.Calls.{IsReplyBy};
 ghost use Rattle.lj_book.specs.inner.JointLines.{addition_of_parts, tested_line, refusal_of};
 
-use crate::joint_line::JointLine;
 use crate::ledger::Ledger;
 use crate::refusal::Refusal;
 use lj_clause::{ClauseView, Lemma, Lit, NoMemory};
 use lj_hint::{LineRefusal, Live, Marks, Passed, RatRefusal, test_line};
-use lj_text::{Addition, Groups, Numbers};
+use lj_text::{Group, Groups, Numbers};
 use std::alloc::Global;
 
 /// The live clauses of a book, lent.
@@ -35,38 +34,34 @@ impl Live for LiveClauses<'_> {
     }
 }
 
-/// The recorded form, under a joint number, of an addition in joint numbers that the live clauses accept. Where the
-/// candidates of a pivot were asked for, the lists of the clauses are made.
+/// The groups in the recorded form of an addition in joint numbers that the live clauses accept, and its hints in place of
+/// those that were given. Where the candidates of a pivot were asked for, the lists of the clauses are made.
 ///
 /// # Errors
 /// The refusal of its test, and [`Refusal::NoMemory`] where a growth was refused.
+#[inline]
 pub(crate) fn tested_line(
     alloc: Global,
     ledger: &mut Ledger,
-    number: u64,
     lemma: &Lemma,
-    line: JointLine,
+    hints: &mut Numbers,
+    groups: &[Group],
     marks: &mut Marks,
-) -> Result<Addition, Refusal>
-    ensures reply { IsReply result (tested_line ledger.old.live
-        (addition_of_parts number lemma.now (line.hints, line.groups.items))) }
+) -> Result<Groups, Refusal>
+    ensures reply { (number : ℕ) → IsReplyBy
+        (λ recorded. addition_of_parts number lemma.now (hints.new, recorded)) result
+        (tested_line ledger.old.live
+        (addition_of_parts number lemma.now (hints.old, groups.now))) }
     ensures same { ledger.new ≡ ledger.old }
 {
-    match test_over(alloc, ledger, lemma, &line, marks) {
-        Ok(Passed::Closed(read)) => Ok(Addition {
-            number,
-            lemma: lemma.copy()?,
-            hints: first(line.hints, read),
-            groups: Groups::new(Vec::new(alloc)),
-        }),
-        Ok(Passed::Covered(groups)) => {
+    match test_over(alloc, ledger, lemma, hints, groups, marks) {
+        Ok(Passed::Closed(read)) => {
+            hints.truncate(read);
+            Ok(Groups::new(Vec::new(alloc)))
+        }
+        Ok(Passed::Covered(covered)) => {
             ledger.make_lists();
-            Ok(Addition {
-                number,
-                lemma: lemma.copy()?,
-                hints: line.hints,
-                groups,
-            })
+            Ok(covered)
         }
         Err(LineRefusal::Stuck(place)) => Err(Refusal::HintNotUnit(place)),
         Err(LineRefusal::Rat(refusal)) => {
@@ -80,27 +75,20 @@ pub(crate) fn tested_line(
 ///
 /// # Errors
 /// As [`test_line`].
+#[inline]
 fn test_over(
     alloc: Global,
     ledger: &Ledger,
     lemma: &Lemma,
-    line: &JointLine,
+    hints: &Numbers,
+    groups: &[Group],
     marks: &mut Marks,
 ) -> Result<Passed, LineRefusal>
-    ensures { IsLineReply result (line_reply ledger.now.live lemma.now.pivot line.now.groups.items
-        (walk ledger.now.live (negations lemma.now.clause) line.now.hints)) }
+    ensures { IsLineReply result (line_reply ledger.now.live lemma.now.pivot groups.now
+        (walk ledger.now.live (negations lemma.now.clause) hints.now)) }
 {
     let live = LiveClauses { alloc, ledger };
-    let groups = line.groups.as_slice();
-    test_line(alloc, &live, lemma, &line.hints, groups, marks)
-}
-
-/// The first numbers, so many.
-fn first(mut numbers: Numbers, count: usize) -> Numbers
-    ensures { result ≡ take count numbers }
-{
-    numbers.truncate(count);
-    numbers
+    test_line(alloc, &live, lemma, hints, groups, marks)
 }
 
 /// The book's word for a refusal by the pivot.

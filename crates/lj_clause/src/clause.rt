@@ -39,13 +39,25 @@ impl Clause {
     ///
     /// # Errors
     /// [`NoMemory`] where a growth was refused.
+    #[inline]
     pub fn from_lits(alloc: Global, lits: &[Lit]) -> Result<Clause, NoMemory>
         ensures { IfOk result (λ clause. clause ≡ from_literals lits.now) }
     {
-        let lits = match LiteralList::few(lits) {
-            Some(few) => few,
-            None => LiteralList::many(alloc, in_order(alloc, lits)?)?,
-        };
+        match LiteralList::few(lits) {
+            Some(lits) => Ok(Clause { lits }),
+            None => Clause::from_many(alloc, lits),
+        }
+    }
+
+    /// The same of literals that don't stand in the clause itself.
+    ///
+    /// # Errors
+    /// [`NoMemory`] where a growth was refused.
+    #[inline(never)]
+    fn from_many(alloc: Global, lits: &[Lit]) -> Result<Clause, NoMemory>
+        ensures { IfOk result (λ clause. clause ≡ from_literals lits.now) }
+    {
+        let lits = LiteralList::many(alloc, in_order(alloc, lits)?)?;
         Ok(Clause { lits })
     }
 

@@ -33,6 +33,7 @@ impl Lemma {
     ///
     /// # Errors
     /// [`NoMemory`] where a growth was refused.
+    #[inline]
     pub fn from_lits(alloc: Global, lits: &[Lit]) -> Result<Lemma, NoMemory>
         ensures { IfOk result (λ lemma. lemma ≡ lemma_of lits.now) }
     {

@@ -17,10 +17,8 @@ use std::sync::Arc;
 #[derive(Debug, Drop)]
 pub enum LiteralList {
     Nothing,
-    One([Lit; 1]),
-    Two([Lit; 2]),
-    Three([Lit; 3]),
     /// So many of these literals, from the first on.
+    Few { count: u8, lits: [Lit; 3] },
     Eight { count: u8, lits: Arc<[Lit; 8]> },
     Sixteen { count: u8, lits: Arc<[Lit; 16]> },
     Many(Arc<Vec<Lit>>),
@@ -29,6 +27,7 @@ pub enum LiteralList {
 impl LiteralList {
     /// The literals, each once, in strict order, if they are so few that they stand in the list itself. None also where
     /// one stands twice.
+    #[inline(always)]
     pub fn few(lits: &[Lit]) -> Option<LiteralList>
         ensures rising { IfSome result (λ list. IsStrictlySortedBy lit_cmp (literals_in list)) }
         ensures same { IfSome result
@@ -36,12 +35,21 @@ impl LiteralList {
     {
         match lits {
             [] => Some(LiteralList::Nothing),
-            [a] => Some(LiteralList::One([*a])),
+            [a] => Some(LiteralList::Few {
+                count: 1,
+                lits: [*a; 3],
+            }),
             [a, b] => {
                 let (first, last) = two(*a, *b)?;
-                Some(LiteralList::Two([first, last]))
+                Some(LiteralList::Few {
+                    count: 2,
+                    lits: [first, last, last],
+                })
             }
-            [a, b, c] => Some(LiteralList::Three(three(*a, *b, *c)?)),
+            [a, b, c] => Some(LiteralList::Few {
+                count: 3,
+                lits: three(*a, *b, *c)?,
+            }),
             _ => None,
         }
     }
@@ -71,11 +79,12 @@ impl LiteralList {
     pub fn as_slice(&self) -> &[Lit]
         ensures { result.now ≡ literals_in self.now }
     {
+        if let LiteralList::Few { count, lits } = self {
+            return first_lits(*count, lits);
+        }
         match self {
             LiteralList::Nothing => &[],
-            LiteralList::One(lits) => lits,
-            LiteralList::Two(lits) => lits,
-            LiteralList::Three(lits) => lits,
+            LiteralList::Few { count, lits } => first_lits(*count, lits),
             LiteralList::Eight { count, lits } => first_lits(*count, &**lits),
             LiteralList::Sixteen { count, lits } => first_lits(*count, &**lits),
             LiteralList::Many(lits) => lits,
@@ -92,9 +101,10 @@ impl LiteralList {
     {
         Ok(match self {
             LiteralList::Nothing => LiteralList::Nothing,
-            LiteralList::One(lits) => LiteralList::One(*lits),
-            LiteralList::Two(lits) => LiteralList::Two(*lits),
-            LiteralList::Three(lits) => LiteralList::Three(*lits),
+            LiteralList::Few { count, lits } => LiteralList::Few {
+                count: *count,
+                lits: *lits,
+            },
             LiteralList::Eight { count, lits } => LiteralList::Eight {
                 count: *count,
                 lits: Arc::try_clone(lits)?,
@@ -109,7 +119,7 @@ impl LiteralList {
 }
 
 /// Two literals, the smaller first, if they differ.
-#[inline]
+#[inline(always)]
 fn two(a: Lit, b: Lit) -> Option<(Lit, Lit)>
     ensures rising { IfSome result (λ lits. lit_cmp lits.0 lits.1 ≡ Less) }
     ensures same { IfSome result
@@ -123,7 +133,7 @@ fn two(a: Lit, b: Lit) -> Option<(Lit, Lit)>
 }
 
 /// Three literals in strict order, if all differ.
-#[inline]
+#[inline(always)]
 fn three(a: Lit, b: Lit, c: Lit) -> Option<[Lit; 3]>
     ensures rising { IfSome result (λ lits. IsStrictlySortedBy lit_cmp lits) }
     ensures same { IfSome result (λ lits. from_literals lits ≡ from_literals (a ∷ b ∷ c ∷ [])) }

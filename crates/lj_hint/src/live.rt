@@ -26,6 +26,38 @@ pub trait Live {
             ≡ map (λ e. e.0) (filter (λ e. holds e.1 lit) (fin.entries (live self.now)))) };
 }
 
+/// Hints that name live clauses by their numbers, which take four bytes each.
+#[derive(Drop)]
+pub(crate) struct ShortHints<'a, L> {
+    pub live: &'a L,
+    pub numbers: &'a [u32],
+}
+
+impl<L: Live> HintList for ShortHints<'_, L> {
+    ghost hints = { λ h. hints_in (L.live h.live.now) h.numbers.now };
+
+    #[inline]
+    fn count(&self) -> usize {
+        self.numbers.len()
+    }
+
+    #[inline]
+    fn number(&self, index: usize) -> u64 {
+        match self.numbers.get(index) {
+            Some(number) => u64::from(*number),
+            None => 0,
+        }
+    }
+
+    #[inline]
+    fn clause(&self, index: usize) -> Option<ClauseView<'_>> {
+        match self.numbers.get(index) {
+            Some(number) => self.live.clause(u64::from(*number)),
+            None => None,
+        }
+    }
+}
+
 /// Hints that name live clauses by their numbers.
 #[derive(Drop)]
 pub(crate) struct LiveHints<'a, L> {

@@ -1,19 +1,20 @@
 //! The test of a line in joint numbers, over the live clauses.
-ghost use Rattle.std.specs.Prelude.{◌≡◌, IfOk, false};
+ghost use Rattle.std.specs.Prelude.{◌≡◌, IfOk, Ok, false};
 ghost use Rattle.lj_clause.specs.LiteralSet.{from_literals, negations};
-ghost use Rattle.lj_clause.specs.Walk.{hints_in, walk, is_contradictory};
+ghost use Rattle.lj_clause.specs.Walk.{hints_in, walk, is_contradictory, Open};
+ghost use Rattle.lj_hint.specs.inner.Ending.{ending_of};
 ghost use Rattle.lj_clause.specs.Rat.{groups_in};
 ghost use Rattle.lj_hint.specs.inner.Lent.{lent_groups};
 ghost use Rattle.lj_hint.specs.RatTest.{rat_reply, IsRatReply};
 ghost use Rattle.lj_hint.specs.LineTest.{line_reply, IsLineReply};
 
-use crate::live::{Live, LiveHints};
+use crate::live::{Live, LiveHints, ShortHints};
 use crate::marks::Marks;
 use crate::rat::{LentGroup, cover};
 use crate::rat_refusal::RatRefusal;
 use crate::true_lits::TrueLits;
 use crate::walk::{Ending, walk_negation};
-use lj_clause::{Lemma, Lit, NoMemory};
+use lj_clause::{Clause, Lemma, Lit, NoMemory};
 use lj_text::{Group, Groups, Numbers};
 use std::alloc::Global;
 
@@ -56,11 +57,7 @@ pub fn test_line<L: Live>(
     ensures { IsLineReply result (line_reply (L.live live.now) lemma.now.pivot groups.now
         (walk (L.live live.now) (negations lemma.now.clause) hints.now)) }
 {
-    let hints = LiveHints {
-        live,
-        numbers: hints,
-    };
-    match walk_negation(&mut marks.lits, lemma.clause(), &hints) {
+    match walk_live(&mut marks.lits, live, lemma.clause(), hints) {
         Ok(Ending::ClosedAfter(read)) => Ok(Passed::Closed(read)),
         Ok(Ending::StuckAt(place)) => Err(LineRefusal::Stuck(place)),
         Ok(Ending::StaysOpen) => {
@@ -70,6 +67,31 @@ pub fn test_line<L: Live>(
             }
         }
         Err(refused) => Err(LineRefusal::Rat(RatRefusal::NoMemory(refused))),
+    }
+}
+
+/// The walk of a clause's negation over hints that name live clauses.
+///
+/// # Errors
+/// [`NoMemory`] where a growth was refused.
+#[inline]
+fn walk_live<L: Live>(
+    held: &mut TrueLits,
+    live: &L,
+    clause: &Clause,
+    numbers: &Numbers,
+) -> Result<Ending, NoMemory>
+    ensures ending { IfOk result (λ ending. ending
+        ≡ ending_of (walk (L.live live.now) (negations clause.now) numbers.now)) }
+    ensures held { result ≡ Ok Ending.StaysOpen
+        → walk (L.live live.now) (negations clause.now) numbers.now
+        ≡ Open (from_literals held.new) }
+    ensures consistent { result ≡ Ok Ending.StaysOpen
+        → is_contradictory (from_literals held.new) ≡ false }
+{
+    match numbers.as_short() {
+        Some(numbers) => walk_negation(held, clause, &ShortHints { live, numbers }),
+        None => walk_negation(held, clause, &LiveHints { live, numbers }),
     }
 }
 

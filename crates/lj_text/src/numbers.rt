@@ -79,7 +79,7 @@ impl Numbers {
     ///
     /// # Errors
     /// [`AllocError`] where a growth was refused, and then nothing has changed.
-    #[inline]
+    #[inline(always)]
     pub fn push(&mut self, number: u64) -> Result<(), AllocError>
         ensures ok { OnOk result (self.new ≡ self.old ++ number ∷ []) }
         ensures err { OnErr result (self.new ≡ self.old) }
@@ -89,6 +89,17 @@ impl Numbers {
                 numbers.push(number as u32)?;
                 Ok(())
             }
+            _ => self.push_other(number),
+        }
+    }
+
+    /// The same, where the numbers stand in the list itself, or the number takes eight bytes.
+    #[inline(never)]
+    fn push_other(&mut self, number: u64) -> Result<(), AllocError>
+        ensures ok { OnOk result (self.new ≡ self.old ++ number ∷ []) }
+        ensures err { OnErr result (self.new ≡ self.old) }
+    {
+        match &mut self.form {
             Form::Few(numbers) if number <= MAX_SHORT && numbers.has_room() => {
                 numbers.push(number as u32);
                 Ok(())
@@ -97,7 +108,7 @@ impl Numbers {
         }
     }
 
-    /// The same, where a number takes eight bytes, or has no room among the few.
+    /// The same, where the number takes eight bytes, or has no room among the few.
     #[cold]
     fn push_long(&mut self, number: u64) -> Result<(), AllocError>
         ensures ok { OnOk result (self.new ≡ self.old ++ number ∷ []) }
@@ -121,15 +132,26 @@ impl Numbers {
         }
     }
 
-    /// Keeps the first numbers, so many, and gives the room of the others back. Takes constant time where there are no
-    /// others.
+    /// Keeps the first numbers, so many, and the room of the others. Takes constant time.
     pub fn truncate(&mut self, count: usize)
         ensures { self.new ≡ take count self.old }
     {
         match &mut self.form {
             Form::Few(numbers) => numbers.truncate(count),
-            Form::Short(numbers) => cut(numbers, count),
-            Form::Long(numbers) => cut(numbers, count),
+            Form::Short(numbers) => numbers.truncate(count),
+            Form::Long(numbers) => numbers.truncate(count),
+        }
+    }
+
+    /// Lets go of the numbers, and keeps the room where they take four bytes each. Takes constant time.
+    #[inline]
+    pub fn clear(&mut self)
+        ensures { self.new ≡ [] }
+    {
+        match &mut self.form {
+            Form::Few(numbers) => numbers.truncate(0),
+            Form::Short(numbers) => numbers.clear(),
+            Form::Long(numbers) => self.form = Form::Short(Vec::new(*numbers.allocator())),
         }
     }
 
@@ -264,16 +286,6 @@ fn with_few(numbers: &FewNumbers, number: u64) -> Result<Form, AllocError>
     let mut long = lengthened(alloc, numbers.as_slice())?;
     long.push(number)?;
     Ok(Form::Long(long))
-}
-
-/// Keeps the first numbers, so many, in exactly the room that they need.
-fn cut<T: Copy>(numbers: &mut Vec<T>, count: usize)
-    ensures { numbers.new.items ≡ take count numbers.old.items }
-{
-    if count < numbers.len() {
-        numbers.truncate(count);
-        numbers.shrink_to_fit();
-    }
 }
 
 /// The list of these numbers, in exactly the room that it needs.

@@ -3,19 +3,22 @@ ghost use Rattle.std.specs.Prelude.{◌≡◌, ◌==◌, OnOk, OnErr, IfOk, IfSo
 ghost use Rattle.lj_clause.specs.Literal.{variable_of};
 ghost use Rattle.lj_clause.specs.LiteralSet.{holds};
 ghost use Rattle.lj_book.specs.History.{after_entry, IsReached};
-ghost use Rattle.lj_book.specs.Calls.{IsReply, free_refusal, commit_told};
+ghost use Rattle.lj_book.specs.State.{next};
+ghost use Rattle.lj_book.specs.Calls.{IsReply, IsReplyBy, free_refusal, commit_told};
 ghost use Rattle.lj_book.specs.Inside.{inside_reply, inside_entry};
-ghost use Rattle.lj_book.specs.inner.JointLines.{inside_line, line_entry};
+ghost use Rattle.lj_book.specs.inner.JointLines.{addition_of_parts, inside_line, line_entry};
 
 use crate::book::Book;
 use crate::committing::{enter_addition, refuted_at};
 use crate::entry::Added;
 use crate::joint_line::joint_line;
+use crate::lent_addition::LentAddition;
 use crate::line_tests::tested_line;
 use crate::refusal::Refusal;
 use lj_clause::{Lemma, NoMemory};
 use lj_hint::Marks;
-use lj_text::Addition;
+use lj_text::{Addition, Groups, Numbers};
+use std::mem::replace;
 
 impl Book {
     /// Tests a seat's addition over the live clauses, those of all seats, and enters it in recorded form: by hinted
@@ -44,17 +47,60 @@ impl Book {
             (self.new ≡ after_entry self.old (inside_entry self.old seat addition.now)) }
         ensures err { OnErr result (self.new ≡ self.old) }
     {
-        let step = match self.inside_line(seat, addition, marks) {
-            Ok(step) => step,
+        let mut hints = self.lend_joints();
+        let added = self.add_line(seat, addition, &mut hints, marks);
+        self.joints = hints;
+        added
+    }
+
+    /// The same, with a list for the hints in joint numbers.
+    ///
+    /// # Errors
+    /// As [`Book::add_inside`].
+    fn add_line(
+        &mut self,
+        seat: u32,
+        addition: &Addition,
+        hints: &mut Numbers,
+        marks: &mut Marks,
+    ) -> Result<Added, Refusal>
+        ensures reply { IsReply result (inside_reply self.old seat addition.now) }
+        ensures refused { IfSome (free_refusal self.old seat addition.now.number)
+            (λ e. result ≡ Err e) }
+        ensures ok { OnOk result
+            (self.new ≡ after_entry self.old (inside_entry self.old seat addition.now)) }
+        ensures err { OnErr result (self.new ≡ self.old) }
+    {
+        let groups = match self.inside_line(seat, addition, hints, marks) {
+            Ok(groups) => groups,
             Err(refusal) => return Err(refusal),
         };
-        match self.enter_line(seat, addition, step) {
+        let step = LentAddition::new(self.next(), &addition.lemma, hints, groups.as_slice());
+        match self.enter_line(seat, addition, &step) {
             Ok(added) => Ok(added),
             Err(refused) => Err(Refusal::NoMemory(refused)),
         }
     }
 
-    /// The step of a seat's addition, in recorded form. The book stays as it is.
+    /// The room for joint hints, which has to come back.
+    pub(crate) fn lend_joints(&mut self) -> Numbers
+        ensures { self.new ≡ self.old }
+    {
+        let alloc = self.ledger.allocator();
+        replace(&mut self.joints, Numbers::from_short(Vec::new(alloc)))
+    }
+
+    /// The next joint number.
+    #[inline]
+    pub(crate) fn next(&self) -> u64
+        ensures { result ≡ next self.now }
+    {
+        let added = self.added;
+        self.formula.len() as u64 + 1 + u64::from(added)
+    }
+
+    /// The hints, in a list that was used before, and the groups of a seat's addition, in recorded form. The book stays as it
+    /// is.
     ///
     /// # Errors
     /// As [`Book::add_inside`].
@@ -62,9 +108,12 @@ impl Book {
         &mut self,
         seat: u32,
         addition: &Addition,
+        hints: &mut Numbers,
         marks: &mut Marks,
-    ) -> Result<Addition, Refusal>
-        ensures reply { IsReply result (inside_line self.old seat addition.now) }
+    ) -> Result<Groups, Refusal>
+        ensures reply { IsReplyBy
+            (λ groups. addition_of_parts (next self.old) addition.now.lemma (hints.new, groups))
+            result (inside_line self.old seat addition.now) }
         ensures reached { IsReached self.old }
         ensures refused { IfSome (free_refusal self.old seat addition.now.number)
             (λ e. result ≡ Err e) }
@@ -76,20 +125,19 @@ impl Book {
         if let Some(refusal) = self.free_refusal(seat, addition.number) {
             return Err(refusal);
         }
-        let line = match joint_line(alloc, &self.tables, seat, addition) {
-            Ok(line) => line,
+        let groups = match joint_line(alloc, &self.tables, seat, addition, hints) {
+            Ok(groups) => groups,
             Err(refusal) => return Err(refusal),
         };
-        let number = self.formula.len() as u64 + 1 + u64::from(added);
         let lemma = &addition.lemma;
-        let step = match tested_line(alloc, &mut self.ledger, number, lemma, line, marks) {
-            Ok(step) => step,
+        let groups = match tested_line(alloc, &mut self.ledger, lemma, hints, &groups, marks) {
+            Ok(groups) => groups,
             Err(refusal) => return Err(refusal),
         };
         if added >= max_steps {
             return Err(Refusal::Full);
         }
-        Ok(step)
+        Ok(groups)
     }
 
     /// Enters an addition with the step that was found for it.
@@ -100,19 +148,19 @@ impl Book {
         &mut self,
         seat: u32,
         addition: &Addition,
-        step: Addition,
+        step: &LentAddition<'_>,
     ) -> Result<Added, NoMemory>
-        requires { inside_line self.old seat addition.now ≡ Ok step }
+        requires { inside_line self.old seat addition.now ≡ Ok step.now }
         ensures told { IfOk result (λ added. added ≡ commit_told self.old) }
         ensures ok { OnOk result
-            (self.new ≡ after_entry self.old (line_entry seat addition.now.number step)) }
+            (self.new ≡ after_entry self.old (line_entry seat addition.now.number step.now)) }
         ensures err { OnErr result (self.new ≡ self.old) }
     {
         let _ = has_pivot(&addition.lemma);
         let own = addition.number;
         let joint = step.number;
         let place = self.ledger.history().len();
-        enter_addition(&mut self.ledger, &mut self.tables, seat, own, &step)?;
+        enter_addition(&mut self.ledger, &mut self.tables, seat, own, step)?;
         self.refuted = refuted_at(self.refuted, place, step.lemma.clause());
         self.added += 1;
         Ok(Added { place, joint })

@@ -7,9 +7,9 @@ ghost use Rattle.lj_book.specs.inner.JointLines.{line_entry};
 ghost use Rattle.lj_book.specs.Telling.{without_receipt};
 
 use crate::book::{Book, deletion_of};
-use crate::copying::copy_of_addition;
 use crate::dying::{no_longer_held, rising};
 use crate::entry::{Added, Call, Dropped, Entry, Imported};
+use crate::lent_addition::LentAddition;
 use crate::ready::Ready;
 use crate::refusal::Refusal;
 use lj_clause::{Clause, NoMemory};
@@ -105,15 +105,42 @@ impl Book {
             (self.new ≡ after_entry self.old (inside_entry self.old seat addition.now)) }
         ensures err { OnErr result (self.new ≡ self.old) }
     {
-        let step = match self.inside_line(seat, addition, marks) {
-            Ok(step) => step,
+        let mut hints = self.lend_joints();
+        let told = self.add_line_telling(seat, addition, &mut hints, marks);
+        self.joints = hints;
+        told
+    }
+
+    /// The same, with a list for the hints in joint numbers.
+    ///
+    /// # Errors
+    /// As [`Book::add_inside`].
+    fn add_line_telling(
+        &mut self,
+        seat: u32,
+        addition: &Addition,
+        hints: &mut Numbers,
+        marks: &mut Marks,
+    ) -> Result<(Added, Entry), Refusal>
+        ensures reply { IsReplyBy (λ told. told.0) result
+            (inside_reply self.old seat addition.now) }
+        ensures refused { IfSome (free_refusal self.old seat addition.now.number)
+            (λ e. result ≡ Err e) }
+        ensures told { IfOk result (λ told. told.1 ≡ inside_entry self.old seat addition.now) }
+        ensures ok { OnOk result
+            (self.new ≡ after_entry self.old (inside_entry self.old seat addition.now)) }
+        ensures err { OnErr result (self.new ≡ self.old) }
+    {
+        let groups = match self.inside_line(seat, addition, hints, marks) {
+            Ok(groups) => groups,
             Err(refusal) => return Err(refusal),
         };
+        let step = LentAddition::new(self.next(), &addition.lemma, hints, groups.as_slice());
         let entry = match entry_of_line(self.ledger.allocator(), seat, addition.number, &step) {
             Ok(entry) => entry,
             Err(refused) => return Err(Refusal::NoMemory(refused)),
         };
-        match self.enter_line(seat, addition, step) {
+        match self.enter_line(seat, addition, &step) {
             Ok(added) => Ok((added, entry)),
             Err(refused) => Err(Refusal::NoMemory(refused)),
         }
@@ -241,13 +268,18 @@ impl Book {
 ///
 /// # Errors
 /// [`NoMemory`] where a growth was refused.
-fn entry_of_line(alloc: Global, seat: u32, own: u64, step: &Addition) -> Result<Entry, NoMemory>
+fn entry_of_line(
+    alloc: Global,
+    seat: u32,
+    own: u64,
+    step: &LentAddition<'_>,
+) -> Result<Entry, NoMemory>
     ensures { IfOk result (λ entry. entry ≡ line_entry seat own step.now) }
 {
     let call = Call::Add {
         own,
         lemma: step.lemma.copy()?,
     };
-    let step = Some(Step::Add(copy_of_addition(alloc, step)?));
+    let step = Some(Step::Add(step.copy(alloc)?));
     Ok(Entry { seat, call, step })
 }

@@ -3,8 +3,8 @@ ghost use Rattle.std.specs.Prelude.{◌≡◌, ◌+◌, ◌*◌, ◌≤◌, ◌<
 ghost use Rattle.lj_book.specs.inner.Words.{number_words};
 ghost use Rattle.lj_book.specs.inner.Records.{addition_sizes, are_few, size_code, size_words, sizes_in, wide_sizes_in};
 
+use crate::lent_addition::LentAddition;
 use crate::words::{number, put_number};
-use lj_text::Addition;
 
 /// The code of sizes that stand as numbers of their own.
 const WIDE: u64 = 1_048_576;
@@ -19,14 +19,13 @@ pub(crate) struct Sizes {
 
 /// How many literals, hints and groups this addition has.
 #[inline]
-pub(super) fn sizes_of(step: &Addition) -> Sizes
+pub(super) fn sizes_of(step: &LentAddition<'_>) -> Sizes
     ensures { result ≡ addition_sizes step.now }
 {
-    let literals = step.lemma.clause().lits().len();
     Sizes {
-        lits: literals as u64 + u64::from(step.lemma.pivot().is_some()),
+        lits: step.clause.lits().len() as u64 + u64::from(step.lemma.pivot().is_some()),
         hints: step.hints.len() as u64,
-        groups: step.groups.as_slice().len() as u64,
+        groups: step.groups.len() as u64,
     }
 }
 

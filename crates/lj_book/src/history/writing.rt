@@ -5,9 +5,10 @@ ghost use Rattle.lj_book.specs.inner.Records.{lemma_lits, head_words, add_words,
 
 use super::sizes::{put_sizes, size_code, sizes_of};
 use super::{ADDITION, ADOPT, DROP, IMPORT, KINDS, LEAVE, SEATS};
+use crate::lent_addition::LentAddition;
 use crate::words::{put_all, put_groups, put_list, put_number, put_numbers};
-use lj_clause::{Clause, Lemma, Lit};
-use lj_text::{Addition, Numbers};
+use lj_clause::{Clause, Lit};
+use lj_text::Numbers;
 
 /// Puts the first number of an entry behind the words, which have room for it.
 #[inline]
@@ -23,15 +24,15 @@ fn put_head(words: &mut Vec<u32>, seat: u32, kind: u64)
 
 /// Puts the literals of a lemma behind the others, which have room for them: its pivot first.
 #[inline]
-fn put_lemma(lits: &mut Vec<Lit>, lemma: &Lemma)
-    requires { vec_len lits.old + length (lemma_lits lemma.now) ≤ vec_capacity lits.old }
-    ensures lits { lits.new.items ≡ lits.old.items ++ lemma_lits lemma.now }
-    ensures len { vec_len lits.new ≡ vec_len lits.old + length (lemma_lits lemma.now) }
+fn put_lemma(lits: &mut Vec<Lit>, step: &LentAddition<'_>)
+    requires { vec_len lits.old + length (lemma_lits step.now.lemma) ≤ vec_capacity lits.old }
+    ensures lits { lits.new.items ≡ lits.old.items ++ lemma_lits step.now.lemma }
+    ensures len { vec_len lits.new ≡ vec_len lits.old + length (lemma_lits step.now.lemma) }
 {
-    if let Some(pivot) = lemma.pivot() {
+    if let Some(pivot) = step.lemma.pivot() {
         lits.push(pivot).unwrap();
     }
-    lits.extend_from_slice(lemma.clause().lits()).unwrap();
+    lits.extend_from_slice(step.clause.lits()).unwrap();
 }
 
 /// Puts the words and the literals of a seat's addition behind the others, which have room for them.
@@ -40,7 +41,7 @@ pub(super) fn put_addition(
     lits: &mut Vec<Lit>,
     seat: u32,
     own: u64,
-    step: &Addition,
+    step: &LentAddition<'_>,
 )
     requires words { vec_len words.old + 3 * addition_numbers step.now ≤ vec_capacity words.old }
     requires lits { vec_len lits.old + length (lemma_lits step.now.lemma) ≤ vec_capacity lits.old }
@@ -49,15 +50,15 @@ pub(super) fn put_addition(
     ensures lits { lits.new.items ≡ lits.old.items ++ lemma_lits step.now.lemma }
 {
     let at = lits.len();
-    put_lemma(lits, &step.lemma);
+    put_lemma(lits, step);
     let sizes = sizes_of(step);
     put_head(words, seat, KINDS * size_code(sizes) + ADDITION);
     put_sizes(words, sizes);
     put_number(words, own);
     put_number(words, step.number);
     put_number(words, at as u64);
-    put_all(words, &step.hints);
-    put_groups(words, step.groups.as_slice());
+    put_all(words, step.hints);
+    put_groups(words, step.groups);
 }
 
 /// Puts the words of a seat's drop behind the others, which have room for them.

@@ -1,35 +1,16 @@
-use Rattle.std.proofs.Common.{ap, sym, ◌∙◌}
-use Rattle.std.specs.Prelude.{Ok}
+use Rattle.std.proofs.Common.{◌≡◌, sym, subst}
+use Rattle.std.specs.Prelude.{OnOk}
 use Rattle.lj_book.specs.State.{State}
 use Rattle.lj_book.specs.History.{after_entry}
-use Rattle.lj_book.specs.Calls.{commit_told}
-use Rattle.lj_book.specs.inner.JointLines.{line_entry}
-use Rattle.lj_book.proofs.HistoryLaws.{IsSound-reached}
-use Rattle.lj_book.proofs.InsideLaws.{refusal_passes, inside_refused, entered, entered_reply, entered_entry}
+use Rattle.lj_book.specs.Calls.{IsReply}
+use Rattle.lj_book.specs.Inside.{inside_reply, inside_entry}
 use Rattle.lj_book.proofs.book.Book.add_inside.Goals as goal
 
-pub returns-in-Err-clause-reply : goal.returns-in-Err-clause-reply
-returns-in-Err-clause-reply c =
-    let s : State = c.args.self.now in
-    let told = c.in-Err.ensures in
-    refusal_passes c.in-Err.refusal _ _ (λ x h. inside_refused s c.args.seat c.args.addition.now x (IsSound-reached s told.reached) h) told.reply
+pub returns-clause-reply : goal.returns-clause-reply
+returns-clause-reply c = subst (λ (t : State). IsReply c.add_line-added.result (inside_reply t c.args.seat c.args.addition.now)) c.lend_joints-hints.ensures c.add_line-added.ensures.reply
 
-pub returns-in-Ok-enter_line-clause-reply : goal.returns-in-Ok-enter_line-clause-reply
-returns-in-Ok-enter_line-clause-reply c =
-    let s : State = c.args.self.now in
-    let told = c.in-Ok.ensures in
-    let done = c.in-Ok-enter_line.ensures in
-    let e = entered s c.args.seat c.args.addition.now c.in-Ok.step told.reply in
-    entered_reply s c.args.seat c.args.addition.now c.in-Ok.step e.0 (IsSound-reached s told.reached) e.1
-    ∙ ap (λ (t : State). Ok (commit_told t)) (sym told.same)
-    ∙ ap Ok (sym done.told)
-
-pub returns-in-Ok-enter_line-clause-ok : goal.returns-in-Ok-enter_line-clause-ok
-returns-in-Ok-enter_line-clause-ok c =
-    let s : State = c.args.self.now in
-    let told = c.in-Ok.ensures in
-    let done = c.in-Ok-enter_line.ensures in
-    let e = entered s c.args.seat c.args.addition.now c.in-Ok.step told.reply in
-    done.ok
-    ∙ ap (λ (t : State). after_entry t (line_entry c.args.seat c.args.addition.now.number c.in-Ok.step)) told.same
-    ∙ ap (after_entry s) (sym (entered_entry s c.args.seat c.args.addition.now c.in-Ok.step e.0 (IsSound-reached s told.reached) e.1))
+pub returns-clause-ok : goal.returns-clause-ok
+returns-clause-ok c =
+    let s : State = record { formula = c.self.inside.formula; max_steps = c.self.inside.max_steps; tables = c.self.inside.tables; history = c.self.inside.ledger.history.entries } in
+    subst (λ (t : State). OnOk c.add_line-added.result (s ≡ after_entry t (inside_entry t c.args.seat c.args.addition.now))) c.lend_joints-hints.ensures
+    (subst (λ (u : State). OnOk c.add_line-added.result (u ≡ after_entry c.lend_joints-hints.new.self (inside_entry c.lend_joints-hints.new.self c.args.seat c.args.addition.now))) (sym c.self.view_is) c.add_line-added.ensures.ok)

@@ -1,6 +1,8 @@
 use Rattle.std.proofs.Common.{◌≡◌, ap, sym, ◌∙◌, subst, ℕ, ◌+◌}
-use Rattle.std.specs.Prelude.{[], ◌∷◌, ◌++◌, Option, Some, length}
+use Rattle.std.specs.Prelude.{List, [], ◌∷◌, ◌++◌, Option, Some, length}
 use Rattle.std.specs.FinMap as fin
+use Rattle.lj_clause.specs.Rat.{HintGroup}
+use Rattle.lj_text.specs.declared.line.Addition.{Addition}
 use Rattle.lj_text.specs.declared.step.Step.TheVariants as steps
 use Rattle.lj_book.specs.declared.entry.Call.TheVariants as calls
 use Rattle.lj_book.specs.declared.entry.Entry.{Entry}
@@ -9,6 +11,7 @@ use Rattle.lj_book.specs.Tables.{Table, with_table, is_held}
 use Rattle.lj_book.specs.inner.Kept.{IsKept, refuted_after}
 use Rattle.lj_book.specs.History.{after_entry}
 use Rattle.lj_book.specs.Calls.{commit_refusal, commit_entry, entry_with}
+use Rattle.lj_book.specs.inner.JointLines.{addition_of_parts}
 use Rattle.lj_book.specs.inner.Ready.{numbered}
 use Rattle.lj_book.proofs.HistoryLaws.{IsSound-reached}
 use Rattle.lj_book.proofs.CommitLaws.{IsKept-commit, committed_state, not_held_at_next, can_commit, lemma_called}
@@ -18,7 +21,7 @@ pub enter_addition-requires-clause-unheld : goal.enter_addition-requires-clause-
 enter_addition-requires-clause-unheld c =
     let s : State = record { formula = c.self.inside.formula; max_steps = c.self.inside.max_steps; tables = c.self.inside.tables; history = c.self.inside.ledger.history.entries } in
     let is : c.len.result + 1 + c.from.result ≡ next s = λ i. c.len.ensures.len i + 1 + (c.from.ensures ∙ c.self.invariant.additions) i in
-    ap (is_held s.tables) is ∙ not_held_at_next s (IsSound-reached s c.self.invariant.reached)
+    ap (λ (a : Addition). is_held s.tables a.number) c.new-step.ensures ∙ ap (is_held s.tables) is ∙ not_held_at_next s (IsSound-reached s c.self.invariant.reached)
 
 pub invariant_of-self-2 : goal.invariant_of-self-2
 invariant_of-self-2 c =
@@ -30,14 +33,15 @@ invariant_of-self-2 c =
     let made : ℕ → ℕ → Entry = λ seat own. record { seat = seat; call = calls.Add own step.lemma; step = Some (steps.Add step) } in
     let entry : Entry = made c.seat-seat.result c.own-own.result in
     let is_entry : entry ≡ entry_with (c.len.result + 1 + c.from.result) r = (λ i. made (c.seat-seat.ensures i) (c.own-own.ensures i)) ∙ c.requires.step (c.len.result + 1 + c.from.result) in
-    let pushed : c.enter_addition.new.ledger.history.entries ≡ s.history ++ entry ∷ [] = c.in_ok-enter_addition.ensures.entries in
+    let lent : c.new-step.result ≡ step = c.new-step.ensures ∙ ap (λ (gs : List HintGroup). addition_of_parts (c.len.result + 1 + c.from.result) c.args.step.lemma (c.args.step.hints, gs)) c.as_slice-groups.ensures in
+    let pushed : c.enter_addition.new.ledger.history.entries ≡ s.history ++ entry ∷ [] = c.in_ok-enter_addition.ensures.entries ∙ ap (λ (a : Addition). s.history ++ record { seat = c.seat-seat.result; call = calls.Add c.own-own.result a.lemma; step = Some (steps.Add a) } ∷ []) lent in
     let is_lemma : c.args.step.lemma ≡ r.lemma = ap (λ (e : Entry). lemma_called e.call r.lemma) (c.requires.step (c.len.result + 1 + c.from.result)) in
-    let is = committed_state s r (c.len.result + 1 + c.from.result) entry c.enter_addition.new.tables c.enter_addition.new.ledger.history.entries joint is_entry (c.in_ok-enter_addition.ensures.tables ∙ (λ i. with_table (λ (t : Table). fin.insert t (c.own-own.ensures i) (c.len.result + 1 + c.from.result)) s.tables (c.seat-seat.ensures i))) pushed in
+    let is = committed_state s r (c.len.result + 1 + c.from.result) entry c.enter_addition.new.tables c.enter_addition.new.ledger.history.entries joint is_entry (c.in_ok-enter_addition.ensures.tables ∙ ap (λ (a : Addition). with_table (λ (t : Table). fin.insert t c.own-own.result a.number) s.tables c.seat-seat.result) lent ∙ (λ i. with_table (λ (t : Table). fin.insert t (c.own-own.ensures i) (c.len.result + 1 + c.from.result)) s.tables (c.seat-seat.ensures i))) pushed in
     let place : c.len-place.result ≡ length s.history = c.len-place.ensures.len ∙ ap (λ h. length h.entries) c.history.ensures in
     let refuted = c.refuted_at-self-inside.ensures ∙ ap (λ (n : ℕ). refuted_after c.self.inside.refuted n c.clause.result.now) place ∙ ap (refuted_after c.self.inside.refuted (length s.history)) (c.clause.ensures.clause ∙ ap (λ l. l.clause) c.lemma.ensures.lemma) in
     subst (λ (o : Option ℕ). IsKept (record { formula = s.formula; max_steps = s.max_steps; tables = c.enter_addition.new.tables; history = c.enter_addition.new.ledger.history.entries }) c.enter_addition.new.ledger.live (c.self.inside.added + 1) o) (sym refuted)
     (subst (λ (t : State). IsKept t c.enter_addition.new.ledger.live (c.self.inside.added + 1) (refuted_after c.self.inside.refuted (length s.history) r.lemma.clause)) (sym is)
-    (IsKept-commit s r c.self.inside.ledger.live c.enter_addition.new.ledger.live c.self.inside.added c.self.inside.refuted c.self.invariant c.lemma.ensures.receipt can (c.in_ok-enter_addition.ensures.live ∙ (λ i. fin.insert c.self.inside.ledger.live (joint i) (ap (λ l. l.clause) is_lemma i)))))
+    (IsKept-commit s r c.self.inside.ledger.live c.enter_addition.new.ledger.live c.self.inside.added c.self.inside.refuted c.self.invariant c.lemma.ensures.receipt can (c.in_ok-enter_addition.ensures.live ∙ ap (λ (a : Addition). fin.insert c.self.inside.ledger.live a.number a.lemma.clause) lent ∙ (λ i. fin.insert c.self.inside.ledger.live (joint i) (ap (λ l. l.clause) is_lemma i)))))
 
 pub returns-clause-ok : goal.returns-clause-ok
 returns-clause-ok c =
@@ -49,6 +53,7 @@ returns-clause-ok c =
     let made : ℕ → ℕ → Entry = λ seat own. record { seat = seat; call = calls.Add own step.lemma; step = Some (steps.Add step) } in
     let entry : Entry = made c.seat-seat.result c.own-own.result in
     let is_entry : entry ≡ entry_with (c.len.result + 1 + c.from.result) r = (λ i. made (c.seat-seat.ensures i) (c.own-own.ensures i)) ∙ c.requires.step (c.len.result + 1 + c.from.result) in
-    let pushed : c.enter_addition.new.ledger.history.entries ≡ s.history ++ entry ∷ [] = c.in_ok-enter_addition.ensures.entries in
-    let is = committed_state s r (c.len.result + 1 + c.from.result) entry c.enter_addition.new.tables c.enter_addition.new.ledger.history.entries joint is_entry (c.in_ok-enter_addition.ensures.tables ∙ (λ i. with_table (λ (t : Table). fin.insert t (c.own-own.ensures i) (c.len.result + 1 + c.from.result)) s.tables (c.seat-seat.ensures i))) pushed in
+    let lent : c.new-step.result ≡ step = c.new-step.ensures ∙ ap (λ (gs : List HintGroup). addition_of_parts (c.len.result + 1 + c.from.result) c.args.step.lemma (c.args.step.hints, gs)) c.as_slice-groups.ensures in
+    let pushed : c.enter_addition.new.ledger.history.entries ≡ s.history ++ entry ∷ [] = c.in_ok-enter_addition.ensures.entries ∙ ap (λ (a : Addition). s.history ++ record { seat = c.seat-seat.result; call = calls.Add c.own-own.result a.lemma; step = Some (steps.Add a) } ∷ []) lent in
+    let is = committed_state s r (c.len.result + 1 + c.from.result) entry c.enter_addition.new.tables c.enter_addition.new.ledger.history.entries joint is_entry (c.in_ok-enter_addition.ensures.tables ∙ ap (λ (a : Addition). with_table (λ (t : Table). fin.insert t c.own-own.result a.number) s.tables c.seat-seat.result) lent ∙ (λ i. with_table (λ (t : Table). fin.insert t (c.own-own.ensures i) (c.len.result + 1 + c.from.result)) s.tables (c.seat-seat.ensures i))) pushed in
     is ∙ ap (λ (t : State). after_entry t (commit_entry t r)) c.self.view_is

@@ -1,5 +1,7 @@
 use Rattle.std.proofs.Common.{◌≡◌, ap, sym, ◌∙◌, subst, ℕ, refl, arith}
 use Rattle.std.specs.Prelude.{List, ℤ, [], ◌∷◌, ◌++◌, length, Some}
+use Rattle.lj_clause.specs.Lemma.{IsLemma}
+use Rattle.lj_text.specs.declared.line.Addition.{Addition}
 use Rattle.lj_text.specs.declared.step.Step.TheVariants.{Add}
 use Rattle.lj_book.specs.declared.entry.Call.TheVariants as calls
 use Rattle.lj_book.specs.declared.entry.Entry.{Entry}
@@ -12,6 +14,7 @@ invariant_of-self c =
     let ls : List ℤ = c.self.inside.lits.items in
     let ws : List ℕ = c.self.inside.words.items in
     let ss : List ℕ = c.self.inside.starts.items in
+    let lemma : IsLemma c.args.step.now.lemma = subst (λ (a : Addition). IsLemma a.lemma) c.step.view_is c.pivot.ensures.lemma in
     let new : List ℤ = lemma_lits c.args.step.now.lemma in
     let words : List ℕ = add_words c.args.seat c.args.own c.args.step.now (length ls) in
     let entry : Entry = entry_of c.args.seat (calls.Add c.args.own c.args.step.now.lemma) (Some (Add c.args.step.now)) in
@@ -20,18 +23,19 @@ invariant_of-self c =
     subst (λ (xs : List ℤ). AreWritten xs c.put_addition.new.words.items c.push.new.self.items) (sym c.put_addition.ensures.lits)
     (subst (λ (us : List ℕ). AreWritten (ls ++ new) us c.push.new.self.items) (sym c.put_addition.ensures.words)
     (subst (λ (us : List ℕ). AreWritten (ls ++ new) (ws ++ words) us) (sym starts)
-    (more_written ls new ws words ss entry (omega (arith, c.ranges.seat)) refl (λ all more there. addition_back all c.args.seat c.args.own c.args.step.now (length ls) more c.pivot.ensures.lemma there) c.self.invariant)))
+    (more_written ls new ws words ss entry (omega (arith, c.ranges.seat)) refl (λ all more there. addition_back all c.args.seat c.args.own c.args.step.now (length ls) more lemma there) c.self.invariant)))
 
 pub returns-clause-entries : goal.returns-clause-entries
 returns-clause-entries c =
     let ls : List ℤ = c.self.inside.lits.items in
     let ws : List ℕ = c.self.inside.words.items in
     let ss : List ℕ = c.self.inside.starts.items in
+    let lemma : IsLemma c.args.step.now.lemma = subst (λ (a : Addition). IsLemma a.lemma) c.step.view_is c.pivot.ensures.lemma in
     let new : List ℤ = lemma_lits c.args.step.now.lemma in
     let words : List ℕ = add_words c.args.seat c.args.own c.args.step.now (length ls) in
     let entry : Entry = entry_of c.args.seat (calls.Add c.args.own c.args.step.now.lemma) (Some (Add c.args.step.now)) in
     let at : c.len-start.result ≡ length ws = c.len-start.ensures ∙ c.self.inside.words.ok.0 in
     let starts : c.push.new.self.items ≡ ss ++ length ws ∷ [] = c.push.ensures ∙ ap (λ (k : ℕ). ss ++ k ∷ []) at in
     (λ i. entries_in (c.put_addition.ensures.lits i) (c.put_addition.ensures.words i) (starts i))
-    ∙ more_entries ls new ws words ss entry (λ all more there. addition_back all c.args.seat c.args.own c.args.step.now (length ls) more c.pivot.ensures.lemma there) c.self.invariant
+    ∙ more_entries ls new ws words ss entry (λ all more there. addition_back all c.args.seat c.args.own c.args.step.now (length ls) more lemma there) c.self.invariant
     ∙ ap (λ (es : List Entry). es ++ entry ∷ []) (ap (λ h. h.entries) c.self.view_is)

@@ -2,6 +2,7 @@ use Rattle.std.proofs.Common.{◌≡◌, ap, sym, ◌∙◌, subst, ℕ, ◌+◌
 use Rattle.std.specs.Prelude.{ℤ, List}
 use Rattle.std.specs.FinMap as fin
 use Rattle.lj_clause.specs.LiteralSet.{LiteralSet}
+use Rattle.lj_text.specs.declared.line.Addition.{Addition}
 use Rattle.lj_book.specs.inner.Records.{lemma_lits}
 use Rattle.lj_book.specs.inner.Occurrences.{AreListed}
 use Rattle.lj_book.specs.inner.Places.{Places, placed, pivots, ArePlaces, AreRecorded}
@@ -24,11 +25,11 @@ invariant_of-self-then-step-self c =
     let ls : List ℤ = c.self.inside.history.lits in
     let m : Places = c.self.inside.places in
     let lemma = c.args.step.now.lemma in
-    let k : ℕ = c.args.step.now.number in
+    let k : ℕ = c.step.inside.number in
     let kept : c.reserve_addition.new.self.lits ≡ ls = c.in_ok-reserve_addition.ensures.kept in
     let start : c.place_behind-place.result.start ≡ length ls + pivots lemma.pivot = c.place_behind-place.ensures.start ∙ ap (λ (xs : List ℤ). length xs + pivots lemma.pivot) (c.lits.ensures ∙ kept) in
     let lits : c.push_addition.new.self.lits ≡ ls ++ lemma_lits lemma = c.push_addition.ensures.lits ∙ ap (λ (xs : List ℤ). xs ++ lemma_lits lemma) kept in
-    let listed = subst (λ (d : LiteralSet). AreListed c.list_clause.new.lists (fin.insert (placed ls m) k d) (k + 1)) (c.view.ensures ∙ c.clause-clause.ensures.clause) (c.list_clause.ensures (placed ls m) c.self.invariant.indexed.listed) in
+    let listed = subst (λ (d : LiteralSet). AreListed c.list_clause.new.lists (fin.insert (placed ls m) k d) (k + 1)) (c.step.invariant ∙ ap (λ (a : Addition). a.lemma.clause) c.step.view_is) (c.list_clause.ensures (placed ls m) c.self.invariant.indexed.listed) in
     subst (λ (xs : List ℤ). AreRecorded xs c.insert.new.self c.list_clause.new.lists k) (sym lits)
     (subst (λ (n : Places). AreRecorded (ls ++ lemma_lits lemma) n c.list_clause.new.lists k) (sym c.in_default.ensures.ok)
     (Recorded-add ls m c.self.inside.lists c.list_clause.new.lists lemma k c.self.inside.last k c.place_behind-place.result c.self.invariant start c.place_behind-place.ensures.count listed (omega arith) (omega arith)))
@@ -38,11 +39,11 @@ invariant_of-self-else-step-self c =
     let ls : List ℤ = c.self.inside.history.lits in
     let m : Places = c.self.inside.places in
     let lemma = c.args.step.now.lemma in
-    let k : ℕ = c.args.step.now.number in
+    let k : ℕ = c.step.inside.number in
     let kept : c.reserve_addition.new.self.lits ≡ ls = c.in_ok-reserve_addition.ensures.kept in
     let start : c.place_behind-place.result.start ≡ length ls + pivots lemma.pivot = c.place_behind-place.ensures.start ∙ ap (λ (xs : List ℤ). length xs + pivots lemma.pivot) (c.lits.ensures ∙ kept) in
     let lits : c.push_addition.new.self.lits ≡ ls ++ lemma_lits lemma = c.push_addition.ensures.lits ∙ ap (λ (xs : List ℤ). xs ++ lemma_lits lemma) kept in
-    let listed = subst (λ (d : LiteralSet). AreListed c.list_clause.new.lists (fin.insert (placed ls m) k d) (k + 1)) (c.view.ensures ∙ c.clause-clause.ensures.clause) (c.list_clause.ensures (placed ls m) c.self.invariant.indexed.listed) in
+    let listed = subst (λ (d : LiteralSet). AreListed c.list_clause.new.lists (fin.insert (placed ls m) k d) (k + 1)) (c.step.invariant ∙ ap (λ (a : Addition). a.lemma.clause) c.step.view_is) (c.list_clause.ensures (placed ls m) c.self.invariant.indexed.listed) in
     subst (λ (xs : List ℤ). AreRecorded xs c.insert.new.self c.list_clause.new.lists c.self.inside.last) (sym lits)
     (subst (λ (n : Places). AreRecorded (ls ++ lemma_lits lemma) n c.list_clause.new.lists c.self.inside.last) (sym c.in_default.ensures.ok)
     (Recorded-add ls m c.self.inside.lists c.list_clause.new.lists lemma k c.self.inside.last c.self.inside.last c.place_behind-place.result c.self.invariant start c.place_behind-place.ensures.count listed (omega arith) (omega arith)))
@@ -52,23 +53,25 @@ returns-then-step-self-clause-live c =
     let ls : List ℤ = c.self.inside.history.lits in
     let m : Places = c.self.inside.places in
     let lemma = c.args.step.now.lemma in
-    let k : ℕ = c.args.step.now.number in
+    let k : ℕ = c.step.inside.number in
     let kept : c.reserve_addition.new.self.lits ≡ ls = c.in_ok-reserve_addition.ensures.kept in
     let start : c.place_behind-place.result.start ≡ length ls + pivots lemma.pivot = c.place_behind-place.ensures.start ∙ ap (λ (xs : List ℤ). length xs + pivots lemma.pivot) (c.lits.ensures ∙ kept) in
     let lits : c.push_addition.new.self.lits ≡ ls ++ lemma_lits lemma = c.push_addition.ensures.lits ∙ ap (λ (xs : List ℤ). xs ++ lemma_lits lemma) kept in
     (λ i. placed (lits i) (c.in_default.ensures.ok i))
     ∙ placed_lemma ls m lemma k c.place_behind-place.result c.self.invariant.places_are start c.place_behind-place.ensures.count
     ∙ ap (λ r. fin.insert r.live k lemma.clause) c.self.view_is
+    ∙ ap (λ (a : Addition). fin.insert c.args.self.now.live a.number lemma.clause) c.step.view_is
 
 pub returns-else-step-self-clause-live : goal.returns-else-step-self-clause-live
 returns-else-step-self-clause-live c =
     let ls : List ℤ = c.self.inside.history.lits in
     let m : Places = c.self.inside.places in
     let lemma = c.args.step.now.lemma in
-    let k : ℕ = c.args.step.now.number in
+    let k : ℕ = c.step.inside.number in
     let kept : c.reserve_addition.new.self.lits ≡ ls = c.in_ok-reserve_addition.ensures.kept in
     let start : c.place_behind-place.result.start ≡ length ls + pivots lemma.pivot = c.place_behind-place.ensures.start ∙ ap (λ (xs : List ℤ). length xs + pivots lemma.pivot) (c.lits.ensures ∙ kept) in
     let lits : c.push_addition.new.self.lits ≡ ls ++ lemma_lits lemma = c.push_addition.ensures.lits ∙ ap (λ (xs : List ℤ). xs ++ lemma_lits lemma) kept in
     (λ i. placed (lits i) (c.in_default.ensures.ok i))
     ∙ placed_lemma ls m lemma k c.place_behind-place.result c.self.invariant.places_are start c.place_behind-place.ensures.count
     ∙ ap (λ r. fin.insert r.live k lemma.clause) c.self.view_is
+    ∙ ap (λ (a : Addition). fin.insert c.args.self.now.live a.number lemma.clause) c.step.view_is

@@ -1,0 +1,77 @@
+//! Additions that are lent part by part.
+ghost use Rattle.std.specs.Prelude.{◌≡◌, IfOk};
+ghost use Rattle.lj_book.specs.inner.JointLines.{addition_of_parts};
+
+use crate::copying::copy_of_groups;
+use lj_clause::{ClauseView, Lemma, NoMemory};
+use lj_text::{Addition, Group, Numbers};
+use std::alloc::Global;
+use std::marker::Model;
+
+/// An addition whose parts are lent, so that who enters it makes none of them.
+#[derive(Drop)]
+pub(crate) struct LentAddition<'a> {
+    pub number: u64,
+    pub lemma: &'a Lemma,
+    /// The clause of the lemma.
+    pub clause: ClauseView<'a>,
+    pub hints: &'a Numbers,
+    pub groups: &'a [Group],
+}
+
+impl<'a> Model for LentAddition<'a> {
+    ghost use Rattle.std.specs.Prelude.{◌≡◌};
+    ghost use Rattle.lj_text.specs.declared.line.Addition.{Addition};
+    ghost use Rattle.lj_book.specs.inner.Codes.{addition_code};
+
+    ghost Value = { Addition };
+
+    ghost coded = { addition_code };
+
+    ghost view = { λ a. record {
+      number = a.number;
+      lemma = a.lemma.now;
+      hints = a.hints.now;
+      groups = a.groups.now;
+    } };
+
+    ghost invariant = { λ a. a.clause ≡ a.lemma.now.clause };
+}
+
+impl<'a> LentAddition<'a> {
+    /// The addition of these parts.
+    #[inline]
+    pub(crate) fn new(
+        number: u64,
+        lemma: &'a Lemma,
+        hints: &'a Numbers,
+        groups: &'a [Group],
+    ) -> LentAddition<'a>
+        ensures { result
+            ≡ addition_of_parts number lemma.now (hints.now, groups.now) }
+    {
+        let clause = lemma.clause().view();
+        LentAddition {
+            number,
+            lemma,
+            clause,
+            hints,
+            groups,
+        }
+    }
+
+    /// An addition of its own with the same contents.
+    ///
+    /// # Errors
+    /// [`NoMemory`] where a growth was refused.
+    pub(crate) fn copy(&self, alloc: Global) -> Result<Addition, NoMemory>
+        ensures { IfOk result (λ copy. copy ≡ self.now) }
+    {
+        Ok(Addition {
+            number: self.number,
+            lemma: self.lemma.copy()?,
+            hints: self.hints.copy()?,
+            groups: copy_of_groups(alloc, self.groups)?,
+        })
+    }
+}
