@@ -29,3 +29,4 @@ pub mod LineLaws
 pub mod WordLaws
 pub mod RecordLaws
 pub mod StepLineLemmas
+mod RisingGroups

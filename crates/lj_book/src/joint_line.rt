@@ -3,7 +3,7 @@ ghost use Rattle.std.specs.Prelude.{◌≡◌, []};
 ghost use Rattle.std.specs.FinMap as fin;
 ghost use Rattle.lj_book.specs.Tables.{joint_of};
 ghost use Rattle.lj_book.specs.Calls.{IsReplyBy};
-ghost use Rattle.lj_book.specs.inner.JointLines.{joints_in, joint_groups_in, joint_parts};
+ghost use Rattle.lj_book.specs.inner.JointLines.{joints_in, joint_groups_in, joint_parts, rising_from};
 
 use crate::bindings::Bindings;
 use crate::refusal::Refusal;
@@ -39,10 +39,27 @@ pub(crate) fn joint_line(
         Ok(joints) => joints,
         Err(refusal) => return Err(refusal),
     };
+    if are_rising(&joints) {
+        return Ok(joints);
+    }
     if let Some(own) = repeated_group(alloc, tables, seat, groups)? {
         return Err(Refusal::GroupRepeated(own));
     }
     Ok(joints)
+}
+
+/// Whether the candidates of these groups rise, so that none stands twice.
+fn are_rising(groups: &[Group]) -> bool
+    ensures { result ≡ rising_from 0 groups.now }
+{
+    let mut last = 0;
+    for group in groups {
+        if group.candidate <= last {
+            return false;
+        }
+        last = group.candidate;
+    }
+    true
 }
 
 /// Puts the joint numbers of these own numbers into a list, in place of what it has.

@@ -1,5 +1,5 @@
 //! The test of a pivot's candidates: resolution asymmetric tautologies.
-ghost use Rattle.std.specs.Prelude.{◌≡◌, ◌≤◌, ℕ, neg_ℤ, take, length, IfOk, OnOk, is_some, option_copied, option_map, false, [], ◌∷◌, ◌++◌};
+ghost use Rattle.std.specs.Prelude.{◌≡◌, ◌≤◌, ℕ, neg_ℤ, take, length, IfOk, IfSome, OnOk, is_some, option_copied, option_map, false, [], ◌∷◌, ◌++◌};
 ghost use Rattle.std.specs.BTreeMap.{get};
 ghost use Rattle.std.specs.Ordering.{nat_cmp};
 ghost use Rattle.lj_clause.specs.LiteralSet.{from_literals};
@@ -20,6 +20,9 @@ use lj_clause::{ClauseView, Lit, NoMemory};
 use lj_text::{Group, Numbers};
 use std::alloc::Global;
 use std::collections::BTreeMap;
+
+/// Among so many groups that of a candidate is looked for one by one, and no map is made.
+const FEW: usize = 8;
 
 /// A candidate's hints, with the clauses that they name.
 #[derive(Drop)]
@@ -44,7 +47,7 @@ pub(crate) fn cover<L: Live, H: HintList>(
     ensures { IsRatReply result (rat_told (rat_over (from_literals held.old) pivot
         (lent_groups H.hints groups.now) (candidates (L.live live.now) pivot))) }
 {
-    let places = places_of(alloc, groups)?;
+    let places = places_among(alloc, groups)?;
     let numbers = live.candidates(pivot.negated())?;
     let mut covered = Vec::new(alloc);
     for &number in &numbers {
@@ -171,6 +174,24 @@ fn numbers_of<H: HintList>(alloc: Global, hints: &H, count: usize) -> Result<Num
     Ok(numbers)
 }
 
+/// Where the first group of each candidate stands, unless there are few groups.
+///
+/// # Errors
+/// [`NoMemory`] where a growth was refused.
+fn places_among<H: HintList>(
+    alloc: Global,
+    groups: &[LentGroup<H>],
+) -> Result<Option<BTreeMap<u64, usize>>, NoMemory>
+    ensures { IfOk result (λ found. IfSome found
+        (λ places. (n : ℕ) → group_at H.hints groups.now (get nat_cmp places n)
+        ≡ group_of n (lent_groups H.hints groups.now))) }
+{
+    if groups.len() <= FEW {
+        return Ok(None);
+    }
+    Ok(Some(places_of(alloc, groups)?))
+}
+
 /// Where the first group of each candidate stands.
 ///
 /// # Errors
@@ -193,6 +214,37 @@ fn places_of<H: HintList>(
 
 /// The hints of a candidate's group, if it has one.
 fn hints_for<'a, H: HintList>(
+    groups: &'a [LentGroup<H>],
+    places: &Option<BTreeMap<u64, usize>>,
+    number: u64,
+) -> Option<&'a H>
+    requires { IfSome places.now
+        (λ places. (n : ℕ) → group_at H.hints groups.now (get nat_cmp places n)
+        ≡ group_of n (lent_groups H.hints groups.now)) }
+    ensures { option_map H.hints (option_copied result)
+        ≡ group_of number (lent_groups H.hints groups.now) }
+{
+    match places {
+        Some(places) => hints_at(groups, places, number),
+        None => first_hints(groups, number),
+    }
+}
+
+/// The hints of the first group of a candidate, if it has one.
+fn first_hints<H: HintList>(groups: &[LentGroup<H>], number: u64) -> Option<&H>
+    ensures { option_map H.hints (option_copied result)
+        ≡ group_of number (lent_groups H.hints groups.now) }
+{
+    for group in groups {
+        if group.candidate == number {
+            return Some(&group.hints);
+        }
+    }
+    None
+}
+
+/// The hints of the group that stands where these places tell, if there is one.
+fn hints_at<'a, H: HintList>(
     groups: &'a [LentGroup<H>],
     places: &BTreeMap<u64, usize>,
     number: u64,

@@ -1,5 +1,5 @@
 -- A seat's addition in joint numbers.
-use Rattle.std.specs.Prelude.{ℕ, List, [], ◌∷◌, Option, Some, None, Result, Ok, Err}
+use Rattle.std.specs.Prelude.{ℕ, Bool, true, false, nat_lt, if◌then◌else◌, List, [], ◌∷◌, Option, Some, None, Result, Ok, Err}
 use Rattle.lj_clause.specs.Lemma.{LemmaValue}
 use Rattle.lj_clause.specs.ClauseMap.{ClauseMap}
 use Rattle.lj_clause.specs.Rat.{HintGroup}
@@ -44,6 +44,11 @@ abbrev pub joint_groups_in : (ℕ → Option ℕ) → List HintGroup → Result 
 joint_groups_in joint [] = Ok []
 joint_groups_in joint (g ∷ gs) = if_bound g.candidate (joint g.candidate)
     (λ j. with_joint_group j (joints_in joint g.hints) (joint_groups_in joint gs))
+
+-- whether the candidates of these groups rise, and are all greater than this number
+abbrev pub rising_from : ℕ → List HintGroup → Bool
+rising_from last [] = true
+rising_from last (g ∷ gs) = if nat_lt last g.candidate then rising_from g.candidate gs else false
 
 -- the hints and the groups of an addition
 abbrev pub LineParts : Type 0

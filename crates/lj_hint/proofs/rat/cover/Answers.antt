@@ -41,7 +41,7 @@ returns-in-Err g c =
     let are = candidate_numbers live c.args.pivot _ ns c.negated.ensures (c.deref-number-items.ensures.value ∙ c.in_ok-numbers.ensures) in
     let within : i < length es = omega (arith, ap length are, length-map es first) in
     let is : IsCandidate es i n d = candidate_is live q i n d within (ap (λ (ms : List ℕ). get_or ms i 0) are) (sym c.in-Some.is ∙ c.clause.ensures) in
-    let group : option_map hints (option_copied c.hints_for-hints.result) ≡ group_of n named = c.hints_for-hints.ensures ∙ c.in_ok-places.ensures n in
+    let group : option_map hints (option_copied c.hints_for-hints.result) ≡ group_of n named = c.hints_for-hints.ensures in
     let told = ap (λ (o : Option (List Hint)). candidate_told n (is_some o) (candidate_walk a q d o)) (sym group) ∙ ap (λ b. candidate_told n b (candidate_walk a q d (option_map hints (option_copied c.hints_for-hints.result)))) (has_hints hints c.hints_for-hints.result) in
     let replies = c.in-Err.ensures in
     refusal_told c.in-Err.refusal _ _
@@ -67,7 +67,7 @@ loop-number-preserved g c =
     let are = candidate_numbers live c.args.pivot _ ns c.negated.ensures (c.deref-number-items.ensures.value ∙ c.in_ok-numbers.ensures) in
     let within : i < length es = omega (arith, ap length are, length-map es first) in
     let is : IsCandidate es i n d = candidate_is live q i n d within (ap (λ (ms : List ℕ). get_or ms i 0) are) (sym c.in-Some.is ∙ c.clause.ensures) in
-    let group : option_map hints (option_copied c.hints_for-hints.result) ≡ group_of n named = c.hints_for-hints.ensures ∙ c.in_ok-places.ensures n in
+    let group : option_map hints (option_copied c.hints_for-hints.result) ≡ group_of n named = c.hints_for-hints.ensures in
     let replies = c.in-Ok.ensures in
     let told : at_one a q named n d ≡ Ok c.in-Ok.group =
     ap (λ (o : Option (List Hint)). candidate_told n (is_some o) (candidate_walk a q d o)) (sym group)
@@ -79,6 +79,7 @@ loop-number-preserved g c =
       told = subst (λ (h : List ℤ). later h c.add.new.groups.items) (sym replies.back)
           (subst (later c.loop-number.held) (sym c.in_ok-add-in-Ok.ensures)
           (candidate_covered a q named es i n d c.loop-number.covered.items c.in-Ok.group is told ∙ c.loop-number.invariant.told));
+      placed = c.loop-number.invariant.placed;
     }
 
 pub returns : goal.returns
@@ -94,3 +95,6 @@ returns g c =
     ap (λ (h : List ℤ). rat_told (rat_over (from_literals h) q named es)) (sym c.loop-number.invariant.same)
     ∙ sym c.loop-number.invariant.told
     ∙ all_covered (from_literals c.loop-number.held) q named es i c.loop-number.covered.items (omega (arith, ap length are, length-map es first))
+
+pub hints_for-hints-requires : goal.hints_for-hints-requires
+hints_for-hints-requires g c = c.loop-number.invariant.placed
