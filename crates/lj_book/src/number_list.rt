@@ -119,23 +119,19 @@ impl NumberList {
         }
     }
 
-    /// Counts a death. Answers whether the dead are to be taken out, and counts none from then on where they are.
+    /// Counts a death. Answers whether the dead are to be taken out.
     #[inline]
     fn is_due(&mut self) -> bool
         ensures { self.new ≡ self.old }
     {
         if let Form::Many { dead, numbers } = &mut self.form {
-            let counted = dead.wrapping_add(1);
-            if u64::from(counted) <= numbers.len() as u64 / 2 {
-                *dead = counted;
-                return false;
-            }
-            *dead = 0;
+            *dead = dead.wrapping_add(1);
+            return u64::from(*dead) > numbers.len() as u64 / 2;
         }
         true
     }
 
-    /// Takes the numbers out that have no clause.
+    /// Takes the numbers out that have no clause, and counts none from then on.
     #[inline(never)]
     fn sweep(&mut self, clauses: &LentClauses<'_>)
         ensures { self.new ≡ filter (λ n. fin.contains_key clauses.now n) self.old }
@@ -145,7 +141,10 @@ impl NumberList {
             Form::One(numbers) => self.form = few_living(numbers, clauses),
             Form::Two(numbers) => self.form = few_living(numbers, clauses),
             Form::Three(numbers) => self.form = few_living(numbers, clauses),
-            Form::Many { dead: _, numbers } => keep_living(numbers, clauses),
+            Form::Many { dead, numbers } => {
+                *dead = 0;
+                keep_living(numbers, clauses);
+            }
         }
     }
 

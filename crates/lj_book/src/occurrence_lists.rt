@@ -50,7 +50,7 @@ impl OccurrenceLists {
     ///
     /// # Errors
     /// [`NoMemory`] where a growth was refused. The lists are of no use then.
-    #[inline(never)]
+    #[inline(always)]
     pub(crate) fn add_clause(
         &mut self,
         number: u32,

@@ -156,7 +156,7 @@ impl PlaceMap {
     ///
     /// # Errors
     /// [`NoMemory`] where a growth was refused.
-    #[inline]
+    #[inline(always)]
     pub(crate) fn insert(&mut self, key: u64, place: Place) -> Result<(), NoMemory>
         ensures ok { OnOk result (self.new ≡ fin.insert self.old key place) }
         ensures err { OnErr result (self.new ≡ self.old) }
