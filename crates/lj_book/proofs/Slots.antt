@@ -129,6 +129,27 @@ remove_absent m k h = same_map _ _ (λ q. fin.get-remove nat_cmp_total m k q ∙
     by q true e = ap (λ b. cond b None (fin.get m q)) e ∙ sym (ap (fin.get m) (to_equal q k e) ∙ h)
     by q false e = ap (λ b. cond b None (fin.get m q)) e
 
+not_none : (n : ℕ) → (suc n == zero) ≡ false
+not_none n = grind arith
+
+none_not : (n : ℕ) → (zero == suc n) ≡ false
+none_not n = grind arith
+
+both_more : (q n : ℕ) → (suc q == suc n) ≡ (q == n)
+both_more q n = grind arith
+
+slot_behind : {V : Type 0} (xs : List (Option V)) (x : Option V) (q : ℕ) → slot (xs ++ x ∷ []) q ≡ cond (q == length xs) x (slot xs q)
+slot_behind [] x zero = refl
+slot_behind [] x (suc q) = sym (ap (λ b. cond b x None) (not_none q))
+slot_behind (y ∷ xs) x zero = sym (ap (λ b. cond b x y) (none_not (length xs)))
+slot_behind (y ∷ xs) x (suc q) = slot_behind xs x q ∙ sym (ap (λ b. cond b x (slot xs q)) (both_more q (length xs)))
+
+-- a slot that is put behind the others
+pub push_slot : {V : Type 0} (xs : List (Option V)) (k : ℕ) (v : V) → k ≡ length xs → slot_map (xs ++ Some v ∷ []) ≡ fin.insert (slot_map xs) k v
+push_slot xs k v e = same_map _ _ (λ q.
+    get_slot (xs ++ Some v ∷ []) q ∙ slot_behind xs (Some v) q ∙ ap (λ n. cond (q == n) (Some v) (slot xs q)) (sym e)
+    ∙ sym (fin.get-insert nat_cmp_total (slot_map xs) k v q ∙ ap (λ b. cond b (Some v) (fin.get (slot_map xs) q)) (same_number q k) ∙ ap (cond (q == k) (Some v)) (get_slot xs q)))
+
 pub push_empty : {V : Type 0} (xs : List (Option V)) → slot_map (xs ++ None ∷ []) ≡ slot_map xs
 push_empty xs = same_map _ _ (λ q. get_slot (xs ++ None ∷ []) q ∙ slot_push xs q ∙ sym (get_slot xs q))
 
@@ -152,6 +173,22 @@ joined_near near far k v h = get_joined near far k ∙ ap (λ x. option_or x (fi
 
 pub joined_far : {V : Type 0} (near far : Numbered V) (k : ℕ) → fin.get near k ≡ None → fin.get (joined_map near far) k ≡ fin.get far k
 joined_far near far k h = get_joined near far k ∙ or_none _ _ h
+
+-- where the second map has nothing
+pub joined_alone : {V : Type 0} (near far : Numbered V) (k : ℕ) → fin.get far k ≡ None → fin.get (joined_map near far) k ≡ fin.get near k
+joined_alone near far k h = get_joined near far k ∙ ap (option_or (fin.get near k)) h ∙ alone (fin.get near k)
+  where
+    alone : {V : Type 0} (o : Option V) → option_or o None ≡ o
+    alone (Some v) = refl
+    alone None = refl
+
+-- whether two maps in one have something at a number
+pub joined_some : {V : Type 0} (near far : Numbered V) (k : ℕ) (b : Bool) → is_some (fin.get near k) ≡ b → is_some (fin.get (joined_map near far) k) ≡ (b || is_some (fin.get far k))
+joined_some near far k b h = ap is_some (get_joined near far k) ∙ either (fin.get near k) (fin.get far k) ∙ ap (λ x. x || is_some (fin.get far k)) h
+  where
+    either : {V : Type 0} (o p : Option V) → is_some (option_or o p) ≡ (is_some o || is_some p)
+    either (Some v) p = refl
+    either None p = refl
 
 pub joined_empty : {V : Type 0} → joined_map (fin.empty {X = V}) fin.empty ≡ fin.empty
 joined_empty {V} = same_map (joined_map (fin.empty {X = V}) fin.empty) fin.empty (λ q. get_joined fin.empty fin.empty q ∙ or_none (fin.get fin.empty q) (fin.get fin.empty q) (fin.get-empty nat_cmp q))

@@ -197,7 +197,7 @@ joint_in_table ts seat own t at = ap (option_and_then (λ (u : Table). fin.get u
 pub set-same : (ts : Tables) (seat : ℕ) (t : Table) → table_of ts seat ≡ Some t → set ts seat (Some t) ≡ ts
 set-same ts seat t at = with_table-set (λ u. u) ts seat t at ∙ with_table-id (λ u. u) ts seat t at refl
 
-AreHolders-with_table : (change : Table → Table) (ts : Tables) (seat : ℕ) (t m n : Table) → table_of ts seat ≡ Some t → AreHolders ts m → ((q : ℕ) → count_at n q + count_in (Some t) q ≡ count_at m q + count_in (Some (change t)) q) → AreHolders (with_table change ts seat) n
+pub AreHolders-with_table : (change : Table → Table) (ts : Tables) (seat : ℕ) (t m n : Table) → table_of ts seat ≡ Some t → AreHolders ts m → ((q : ℕ) → count_at n q + count_in (Some t) q ≡ count_at m q + count_in (Some (change t)) q) → AreHolders (with_table change ts seat) n
 AreHolders-with_table change ts seat t m n at holders changes = λ q.
     let a = holders-with_table change ts seat t q at in
     let b = holders q in
@@ -227,7 +227,7 @@ AreHolders-bind ts seat own joint t m at holders free =
     subst (λ (us : Tables). AreHolders us (fin.insert m joint (count_at m joint + 1))) (sym (with_table-set (λ u. fin.insert u own joint) ts seat t at))
     (AreHolders-with_table (λ u. fin.insert u own joint) ts seat t m _ at holders (λ q. bound_counts t m own joint q free))
 
-count_removed : (t : Table) (own q : ℕ) (o : Option ℕ) → fin.get t own ≡ o → count_in (Some t) q ≡ one_if_at o q + count_in (Some (fin.remove t own)) q
+pub count_removed : (t : Table) (own q : ℕ) (o : Option ℕ) → fin.get t own ≡ o → count_in (Some t) q ≡ one_if_at o q + count_in (Some (fin.remove t own)) q
 count_removed t own q None e = let same = ap (λ (u : Table). count_in (Some u) q) (sym (remove-absent t own e)) in omega arith
 count_removed t own q (Some j) e = count-remove t own j q e
 

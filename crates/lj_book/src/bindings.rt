@@ -61,7 +61,7 @@ impl Bindings {
     {
         match self.short.get(own) {
             Some(joint) => Some(joint),
-            None => self.long.get(own).copied(),
+            None => long_joint(&self.long, own),
         }
     }
 
@@ -69,6 +69,7 @@ impl Bindings {
     ///
     /// # Errors
     /// [`NoMemory`] where a growth was refused.
+    #[inline]
     pub(crate) fn insert(&mut self, own: u64, joint: u64) -> Result<(), NoMemory>
         requires { fin.get self.old own ≡ None }
         ensures ok { OnOk result (self.new ≡ fin.insert self.old own joint) }
@@ -95,6 +96,7 @@ impl Bindings {
     }
 
     /// Gives the own number up. Answers the joint number that it was bound to.
+    #[inline]
     pub(crate) fn remove(&mut self, own: u64) -> Option<u64>
         ensures before { result ≡ fin.get self.old own }
         ensures removed { self.new ≡ fin.remove self.old own }
@@ -107,4 +109,13 @@ impl Bindings {
             None => self.long.remove(own),
         }
     }
+}
+
+/// The joint number that the tree has for the own number.
+#[cold]
+#[inline(never)]
+fn long_joint(long: &TreeMap<u64>, own: u64) -> Option<u64>
+    ensures { result ≡ fin.get long.now own }
+{
+    long.get(own).copied()
 }

@@ -47,6 +47,7 @@ impl Counts {
     }
 
     /// The count at a number, if there is one.
+    #[inline]
     pub(crate) fn get(&self, number: u64) -> Option<u64>
         ensures { result ≡ fin.get self.now number }
     {
@@ -60,7 +61,22 @@ impl Counts {
     ///
     /// # Errors
     /// [`NoMemory`] where a growth was refused.
+    #[inline(always)]
     pub(crate) fn insert(&mut self, number: u64, count: u64) -> Result<(), NoMemory>
+        ensures ok { OnOk result (self.new ≡ fin.insert self.old number count) }
+        ensures err { OnErr result (self.new ≡ self.old) }
+        ensures no_less { OnErr result (count_at self.old number ≤ count) }
+    {
+        if count < SHORT_END && self.long.is_empty() {
+            return self.short.insert(number, count);
+        }
+        self.insert_by_both(number, count)
+    }
+
+    /// The same where the tree has to be asked.
+    #[cold]
+    #[inline(never)]
+    fn insert_by_both(&mut self, number: u64, count: u64) -> Result<(), NoMemory>
         ensures ok { OnOk result (self.new ≡ fin.insert self.old number count) }
         ensures err { OnErr result (self.new ≡ self.old) }
         ensures no_less { OnErr result (count_at self.old number ≤ count) }

@@ -83,7 +83,7 @@ impl NumberList {
     ///
     /// # Errors
     /// [`NoMemory`] where a growth was refused.
-    #[inline]
+    #[inline(always)]
     pub(crate) fn add(&mut self, number: u32) -> Result<(), NoMemory>
         ensures ok { OnOk result (self.new ≡ self.old ++ number ∷ []) }
         ensures err { OnErr result (self.new ≡ self.old) }
@@ -92,12 +92,22 @@ impl NumberList {
             numbers.push(number)?;
             return Ok(());
         }
+        self.add_to_few(number)
+    }
+
+    /// The same where the numbers stand in the list itself.
+    #[inline(never)]
+    fn add_to_few(&mut self, number: u32) -> Result<(), NoMemory>
+        ensures ok { OnOk result (self.new ≡ self.old ++ number ∷ []) }
+        ensures err { OnErr result (self.new ≡ self.old) }
+    {
         self.form = with_few(self.alloc, self.as_slice(), number)?;
         Ok(())
     }
 
     /// Counts the death of one of the clauses. Where the numbers are few, or more than half of their clauses have died, takes
     /// the numbers out that have no clause any more, so that a death takes constant time, amortized.
+    #[inline]
     pub(crate) fn one_died(&mut self, clauses: &LentClauses<'_>)
         ensures rising { IsStrictlySortedBy nat_cmp self.old → IsStrictlySortedBy nat_cmp self.new }
         ensures living { (n : ℕ) → fin.contains_key clauses.now n ≡ true
@@ -109,22 +119,20 @@ impl NumberList {
         }
     }
 
-    /// Counts a death. Answers whether the dead are to be taken out, and counts none from then on where they are.
+    /// Counts a death. Answers whether the dead are to be taken out.
     #[inline]
     fn is_due(&mut self) -> bool
         ensures { self.new ≡ self.old }
     {
         if let Form::Many { dead, numbers } = &mut self.form {
-            *dead = dead.saturating_add(1);
-            if u64::from(*dead) <= numbers.len() as u64 / 2 {
-                return false;
-            }
-            *dead = 0;
+            *dead = dead.wrapping_add(1);
+            return u64::from(*dead) > numbers.len() as u64 / 2;
         }
         true
     }
 
-    /// Takes the numbers out that have no clause.
+    /// Takes the numbers out that have no clause, and counts none from then on.
+    #[inline(never)]
     fn sweep(&mut self, clauses: &LentClauses<'_>)
         ensures { self.new ≡ filter (λ n. fin.contains_key clauses.now n) self.old }
     {
@@ -133,7 +141,10 @@ impl NumberList {
             Form::One(numbers) => self.form = few_living(numbers, clauses),
             Form::Two(numbers) => self.form = few_living(numbers, clauses),
             Form::Three(numbers) => self.form = few_living(numbers, clauses),
-            Form::Many { dead: _, numbers } => keep_living(numbers, clauses),
+            Form::Many { dead, numbers } => {
+                *dead = 0;
+                keep_living(numbers, clauses);
+            }
         }
     }
 

@@ -50,6 +50,7 @@ impl OccurrenceLists {
     ///
     /// # Errors
     /// [`NoMemory`] where a growth was refused. The lists are of no use then.
+    #[inline(always)]
     pub(crate) fn add_clause(
         &mut self,
         number: u32,
@@ -162,6 +163,7 @@ impl OccurrenceLists {
     ///
     /// # Errors
     /// [`NoMemory`] where a growth was refused. The list is lost then.
+    #[inline(always)]
     fn add(&mut self, place: u64, number: u32) -> Result<(), NoMemory>
         ensures { OnOk result
             (self.new ≡ fin.insert self.old place (list_at self.old place ++ number ∷ [])) }
@@ -169,6 +171,14 @@ impl OccurrenceLists {
         if self.lists.add(place, number)? {
             return Ok(());
         }
+        self.add_list(place, number)
+    }
+
+    /// Makes the list under a place that has none.
+    #[inline(never)]
+    fn add_list(&mut self, place: u64, number: u32) -> Result<(), NoMemory>
+        ensures { OnOk result (self.new ≡ fin.insert self.old place (number ∷ [])) }
+    {
         let mut list = NumberList::new(self.alloc);
         list.add(number)?;
         self.lists.insert(place, list)

@@ -1,6 +1,7 @@
 //! Maps from numbers that lie close together to places of clauses.
 ghost use Rattle.std.specs.Prelude.{◌≡◌, ◌<◌, ◌≤◌, OnOk, OnErr, IfSome, is_some, length, None, Some, true};
 ghost use Rattle.std.specs.FinMap as fin;
+ghost use Rattle.lj_book.specs.declared.place.Place.{Place};
 ghost use Rattle.lj_book.specs.inner.Slots.{slot_map, AreBefore};
 
 use crate::place::Place;
@@ -53,6 +54,14 @@ impl PlaceSlot {
             return Some(PlaceSlot { start, code });
         }
         None
+    }
+
+    /// Whether there is a place in the slot.
+    #[inline]
+    fn is_set(&self) -> bool
+        ensures { result ≡ is_some self.now }
+    {
+        self.code > 0
     }
 
     /// The place in the slot.
@@ -137,26 +146,44 @@ impl PlaceMap {
     pub(crate) fn contains_key(&self, key: u64) -> bool
         ensures { result ≡ fin.contains_key self.now key }
     {
-        self.get(key).is_some()
+        match self.slots.get(key as usize) {
+            Some(slot) => slot.is_set() || self.far.contains_key(key),
+            None => false,
+        }
     }
 
     /// Sets the place at the key.
     ///
     /// # Errors
     /// [`NoMemory`] where a growth was refused.
+    #[inline(always)]
     pub(crate) fn insert(&mut self, key: u64, place: Place) -> Result<(), NoMemory>
         ensures ok { OnOk result (self.new ≡ fin.insert self.old key place) }
         ensures err { OnErr result (self.new ≡ self.old) }
     {
         match PlaceSlot::of(place) {
             Some(slot) => {
-                let at = key as usize;
-                cover(&mut self.slots, at)?;
-                self.slots[at] = slot;
-                Ok(())
+                if key as usize == self.slots.len() {
+                    self.slots.push(slot)?;
+                    return Ok(());
+                }
+                self.insert_slot(key, slot)
             }
             None => self.insert_far(key, place),
         }
+    }
+
+    /// The same of the slot of a place, wherever it belongs.
+    #[inline(never)]
+    fn insert_slot(&mut self, key: u64, slot: PlaceSlot) -> Result<(), NoMemory>
+        ensures ok { (place : Place) → slot ≡ Some place
+            → OnOk result (self.new ≡ fin.insert self.old key place) }
+        ensures err { OnErr result (self.new ≡ self.old) }
+    {
+        let at = key as usize;
+        cover(&mut self.slots, at)?;
+        self.slots[at] = slot;
+        Ok(())
     }
 
     /// The same by way of the tree.
@@ -174,7 +201,27 @@ impl PlaceMap {
     }
 
     /// Takes the key out, and gives back the place that was there.
+    #[inline]
     pub(crate) fn remove(&mut self, key: u64) -> Option<Place>
+        ensures before { result ≡ fin.get self.old key }
+        ensures removed { self.new ≡ fin.remove self.old key }
+    {
+        if !self.far.is_empty() {
+            return self.remove_from_both(key);
+        }
+        let at = key as usize;
+        if at >= self.slots.len() {
+            return None;
+        }
+        let before = self.slots[at].place();
+        self.slots[at] = PlaceSlot::empty();
+        before
+    }
+
+    /// The same where the tree has entries.
+    #[cold]
+    #[inline(never)]
+    fn remove_from_both(&mut self, key: u64) -> Option<Place>
         ensures before { result ≡ fin.get self.old key }
         ensures removed { self.new ≡ fin.remove self.old key }
     {

@@ -3,7 +3,7 @@ ghost use Rattle.std.specs.Prelude.{◌≡◌, ℕ, ◌+◌, ◌^◌, ◌<◌, �
 ghost use Rattle.std.specs.FinMap as fin;
 ghost use Rattle.lj_book.specs.Tables.{up_to, table_of, is_here, joint_of, is_bound, with_table, without_keys, without_seat, is_held, keys_lost};
 ghost use Rattle.lj_book.specs.inner.Tables.{own_numbers};
-ghost use Rattle.lj_book.specs.inner.Holders.{count_at, holders_of, one_if_at, all_up_to};
+ghost use Rattle.lj_book.specs.inner.Holders.{count_in, count_at, holders_of, one_if_at, all_up_to};
 
 use crate::bindings::Bindings;
 use crate::counts::Counts;
@@ -132,6 +132,32 @@ impl SeatTables {
         ensures removed { self.new ≡ with_table (without_keys numbers.now) self.old seat }
         ensures count { result ≡ keys_lost numbers.now (table_of self.old seat) }
     {
+        match numbers.as_short() {
+            Some(owns) => self.unbind_short(seat, owns),
+            None => self.unbind_each(seat, numbers),
+        }
+    }
+
+    /// The same of numbers of four bytes, for which the table is looked up once.
+    fn unbind_short(&mut self, seat: u32, owns: &[u32]) -> u64
+        requires here { is_here self.old seat ≡ true }
+        ensures removed { self.new ≡ with_table (without_keys owns.now) self.old seat }
+        ensures count { result ≡ keys_lost owns.now (table_of self.old seat) }
+    {
+        let at = seat as usize;
+        match &mut self.seats[at] {
+            Some(table) => unbind_all_in(table, &mut self.holders, owns),
+            None => 0,
+        }
+    }
+
+    /// The same, each number by itself.
+    #[cold]
+    fn unbind_each(&mut self, seat: u32, numbers: &Numbers) -> u64
+        requires here { is_here self.old seat ≡ true }
+        ensures removed { self.new ≡ with_table (without_keys numbers.now) self.old seat }
+        ensures count { result ≡ keys_lost numbers.now (table_of self.old seat) }
+    {
         let mut count = 0;
         for index in 0..numbers.len() {
             if let Some(own) = numbers.get(index) {
@@ -188,13 +214,13 @@ impl SeatTables {
         ensures { IfOk result
             (λ joints. joints.items ≡ filter_map (joint_of self.now seat) numbers.now) }
     {
-        let mut joints = Vec::new(alloc);
-        for own in numbers.iter() {
-            if let Some(joint) = self.joint(seat, own) {
-                joints.push(joint)?;
-            }
+        let Some(table) = table_in(&self.seats, seat) else {
+            return Ok(Vec::new(alloc));
+        };
+        match numbers.as_short() {
+            Some(owns) => short_joints(alloc, table, owns),
+            None => each_joint(alloc, table, numbers),
         }
-        Ok(joints)
     }
 }
 
@@ -236,6 +262,7 @@ fn counts_up_to(alloc: Global, last: u64, count: u64) -> Result<Counts, NoMemory
 }
 
 /// Binds the own number in the table, and sets the count of the joint number: both, or neither.
+#[inline]
 fn bind_in(
     table: &mut Bindings,
     holders: &mut Counts,
@@ -257,6 +284,7 @@ fn bind_in(
 }
 
 /// Takes the own number out of the table, and one from the count of its joint number. Answers whether it was there.
+#[inline(always)]
 fn unbind_in(table: &mut Bindings, holders: &mut Counts, own: u64) -> bool
     requires { (joint : ℕ) → fin.get table.old own ≡ Some joint → 0 < count_at holders.old joint }
     ensures bound { result ≡ fin.contains_key table.old own }
@@ -272,6 +300,57 @@ fn unbind_in(table: &mut Bindings, holders: &mut Counts, own: u64) -> bool
     true
 }
 
+/// Takes the own numbers out of the table, and for each that was there one from the count of its joint number. Answers how
+/// many were there.
+fn unbind_all_in(table: &mut Bindings, holders: &mut Counts, owns: &[u32]) -> u64
+    requires { (joint : ℕ) → count_in (Some table.old) joint ≤ count_at holders.old joint }
+    ensures count { result ≡ keys_lost owns.now (Some table.old) }
+    ensures table { table.new ≡ without_keys owns.now table.old }
+    ensures holders { (joint : ℕ) → count_at holders.new joint + count_in (Some table.old) joint
+        ≡ count_at holders.old joint + count_in (Some table.new) joint }
+{
+    let mut count = 0;
+    for own in owns {
+        if unbind_in(table, holders, u64::from(*own)) {
+            count += 1;
+        }
+    }
+    count
+}
+
+/// The joint numbers that these own numbers are bound to, for those that are.
+///
+/// # Errors
+/// [`NoMemory`] where a growth was refused.
+fn short_joints(alloc: Global, table: &Bindings, owns: &[u32]) -> Result<Vec<u64>, NoMemory>
+    ensures { IfOk result (λ joints. joints.items ≡ filter_map (fin.get table.now) owns.now) }
+{
+    let mut joints = Vec::with_capacity(alloc, owns.len())?;
+    for own in owns {
+        if let Some(joint) = table.get(u64::from(*own)) {
+            joints.push(joint)?;
+        }
+    }
+    Ok(joints)
+}
+
+/// The same, where the numbers aren't at hand in four bytes.
+///
+/// # Errors
+/// [`NoMemory`] where a growth was refused.
+#[cold]
+fn each_joint(alloc: Global, table: &Bindings, numbers: &Numbers) -> Result<Vec<u64>, NoMemory>
+    ensures { IfOk result (λ joints. joints.items ≡ filter_map (fin.get table.now) numbers.now) }
+{
+    let mut joints = Vec::new(alloc);
+    for own in numbers.iter() {
+        if let Some(joint) = table.get(own) {
+            joints.push(joint)?;
+        }
+    }
+    Ok(joints)
+}
+
 /// The table of a seat.
 fn table_in(seats: &[Option<Bindings>], seat: u32) -> Option<&Bindings>
     ensures { option_copied result ≡ table_of seats.now seat }
@@ -283,6 +362,7 @@ fn table_in(seats: &[Option<Bindings>], seat: u32) -> Option<&Bindings>
 }
 
 /// The count at a number, which is 0 where there is none.
+#[inline]
 fn count(counts: &Counts, number: u64) -> u64
     ensures { result ≡ count_at counts.now number }
 {

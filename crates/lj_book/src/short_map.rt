@@ -31,6 +31,7 @@ impl Model for Slot {
 
 impl Slot {
     /// A slot without a number.
+    #[inline]
     fn empty() -> Slot
         ensures { result ≡ None }
     {
@@ -38,6 +39,7 @@ impl Slot {
     }
 
     /// The slot of a number.
+    #[inline]
     fn of(number: u64) -> Slot
         requires { number < 4294967295 }
         ensures { result ≡ Some number }
@@ -118,7 +120,29 @@ impl ShortMap {
     ///
     /// # Errors
     /// [`NoMemory`] where a growth was refused.
+    #[inline(always)]
     pub(crate) fn insert(&mut self, key: u64, value: u64) -> Result<(), NoMemory>
+        requires { value < 4294967295 }
+        ensures ok { OnOk result (self.new ≡ fin.insert self.old key value) }
+        ensures err { OnErr result (self.new ≡ self.old) }
+        ensures absent { OnErr result (fin.get self.old key ≡ None) }
+    {
+        let at = key as usize;
+        if at == self.slots.len() {
+            self.slots.push(Slot::of(value))?;
+            return Ok(());
+        }
+        if at < self.slots.len() {
+            self.slots[at] = Slot::of(value);
+            return Ok(());
+        }
+        self.insert_beyond(key, value)
+    }
+
+    /// The same, where slots may be lacking before that of the key.
+    #[cold]
+    #[inline(never)]
+    fn insert_beyond(&mut self, key: u64, value: u64) -> Result<(), NoMemory>
         requires { value < 4294967295 }
         ensures ok { OnOk result (self.new ≡ fin.insert self.old key value) }
         ensures err { OnErr result (self.new ≡ self.old) }
@@ -131,6 +155,7 @@ impl ShortMap {
     }
 
     /// Takes the key out.
+    #[inline]
     pub(crate) fn remove(&mut self, key: u64)
         ensures { self.new ≡ fin.remove self.old key }
     {

@@ -45,23 +45,39 @@ impl<V: Drop> TreeMap<V> {
     }
 
     /// The value at the key.
+    #[inline]
     pub(crate) fn get(&self, key: u64) -> Option<&V>
+        ensures { option_copied result ≡ fin.get self.now key }
+    {
+        if self.is_empty() {
+            return None;
+        }
+        self.get_in_nodes(key)
+    }
+
+    /// The same by way of the nodes.
+    #[cold]
+    #[inline(never)]
+    fn get_in_nodes(&self, key: u64) -> Option<&V>
         ensures { option_copied result ≡ fin.get self.now key }
     {
         self.entries.get(&key)
     }
 
     /// Whether there is a value at the key.
+    #[inline]
     pub(crate) fn contains_key(&self, key: u64) -> bool
         ensures { result ≡ fin.contains_key self.now key }
     {
-        self.entries.contains_key(&key)
+        self.get(key).is_some()
     }
 
     /// Sets the value at the key. Takes no memory where the key is there already.
     ///
     /// # Errors
     /// [`NoMemory`] where a growth was refused.
+    #[cold]
+    #[inline(never)]
     pub(crate) fn insert(&mut self, key: u64, value: V) -> Result<(), NoMemory>
         ensures ok { OnOk result (self.new ≡ fin.insert self.old key value) }
         ensures err { OnErr result (self.new ≡ self.old) }
@@ -86,7 +102,21 @@ impl<V: Drop> TreeMap<V> {
     }
 
     /// Takes the key out, and gives back the value that was there.
+    #[inline]
     pub(crate) fn remove(&mut self, key: u64) -> Option<V>
+        ensures before { result ≡ fin.get self.old key }
+        ensures removed { self.new ≡ fin.remove self.old key }
+    {
+        if self.is_empty() {
+            return None;
+        }
+        self.remove_from_nodes(key)
+    }
+
+    /// The same by way of the nodes.
+    #[cold]
+    #[inline(never)]
+    fn remove_from_nodes(&mut self, key: u64) -> Option<V>
         ensures before { result ≡ fin.get self.old key }
         ensures removed { self.new ≡ fin.remove self.old key }
     {

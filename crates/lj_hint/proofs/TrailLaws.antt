@@ -9,6 +9,7 @@ use Rattle.std.proofs.lemmas.List.{take-append-le, append-nil}
 use Rattle.std.proofs.Math.ListN.{get_or-append}
 use Rattle.std.proofs.Math.Seq.{take-append_seam, get_or-append_seam}
 use Rattle.std.proofs.lemmas.Bool.{eqb-true}
+use lib.IntN.{neg_ℤ-neg_ℤ}
 use Rattle.lj_clause.specs.Literal.{lit_cmp, place_of, variable_of}
 use Rattle.lj_clause.specs.LiteralSet.{LiteralSet, holds, with_literal, from_literals}
 use Rattle.lj_clause.proofs.Literals.{same_literal}
@@ -61,12 +62,25 @@ lower k n lt e = grind (arith, nat_tests)
 itself : (a : ℕ) → (a == a) ≡ true
 itself a = grind (arith, nat_tests)
 
+-- two negations are the same where the literals are
+neg_tied : (q l : ℤ) → (place_of (neg_ℤ q) == place_of (neg_ℤ l)) ≡ (place_of q == place_of l)
+neg_tied q l = elim (place_of q == place_of l) as (λ b. (place_of q == place_of l) ≡ b → (place_of (neg_ℤ q) == place_of (neg_ℤ l)) ≡ b) [
+  | true ↦ λ e. ap (λ k. place_of (neg_ℤ k) == place_of (neg_ℤ l)) (same_literal q l (tied q l ∙ e)) ∙ itself (place_of (neg_ℤ l))
+  | false ↦ λ e. elim (place_of (neg_ℤ q) == place_of (neg_ℤ l)) as (λ b. (place_of (neg_ℤ q) == place_of (neg_ℤ l)) ≡ b → b ≡ false) [
+    | true ↦ λ f. sym (back (same_literal (neg_ℤ q) (neg_ℤ l) (tied (neg_ℤ q) (neg_ℤ l) ∙ f))) ∙ e
+    | false ↦ λ f. refl
+  ] refl
+] refl
+  where
+    back : neg_ℤ q ≡ neg_ℤ l → (place_of q == place_of l) ≡ true
+    back e = ap (λ k. place_of k == place_of l) (sym (neg_ℤ-neg_ℤ q) ∙ ap neg_ℤ e ∙ neg_ℤ-neg_ℤ l) ∙ itself (place_of l)
+
 -- where each stamp is below the new one, no literal has it
 pub fresh_marks : (stamps : Stamped) (stamp : ℕ) → ((place : ℕ) → stamp_at stamps place < stamp) → AreMarks stamps stamp []
 fresh_marks stamps stamp below = record {
   some = let h = below 0 in omega arith;
   greatest = λ place. let h = below place in omega arith;
-  marked = λ l. older (stamp_at stamps (place_of l)) stamp (below (place_of l)) ∙ sym (holds-no_literals l);
+  marked = λ l. older (stamp_at stamps (place_of (neg_ℤ l))) stamp (below (place_of (neg_ℤ l))) ∙ sym (holds-no_literals l);
   once = λ k lt. absurd (omega arith);
 }
   where
@@ -78,15 +92,15 @@ pub same_marks : (stamps others : Stamped) (stamp : ℕ) (trail : List ℤ) → 
 same_marks stamps others stamp trail is m = record {
   some = m.some;
   greatest = λ place. let e = is place in let h = m.greatest place in omega arith;
-  marked = λ l. ap (λ n. n == stamp) (is (place_of l)) ∙ m.marked l;
+  marked = λ l. ap (λ n. n == stamp) (is (place_of (neg_ℤ l))) ∙ m.marked l;
   once = m.once;
 }
 
-pub pushed_marks : (stamps others : Stamped) (stamp : ℕ) (trail : List ℤ) (l : ℤ) → holds (from_literals trail) l ≡ false → ((place : ℕ) → stamp_at others place ≡ (if place == place_of l then stamp else stamp_at stamps place)) → AreMarks stamps stamp trail → AreMarks others stamp (trail ++ l ∷ [])
+pub pushed_marks : (stamps others : Stamped) (stamp : ℕ) (trail : List ℤ) (l : ℤ) → holds (from_literals trail) l ≡ false → ((place : ℕ) → stamp_at others place ≡ (if place == place_of (neg_ℤ l) then stamp else stamp_at stamps place)) → AreMarks stamps stamp trail → AreMarks others stamp (trail ++ l ∷ [])
 pushed_marks stamps others stamp trail l new is m = record {
   some = m.some;
-  greatest = λ place. highest (stamp_at others place) (place == place_of l) (stamp_at stamps place) (is place) (m.greatest place);
-  marked = λ q. ap (λ n. n == stamp) (is (place_of q)) ∙ chosen (place_of q == place_of l) (stamp_at stamps (place_of q)) (holds (from_literals trail) q) (m.marked q) ∙ sym (holds-push trail l q);
+  greatest = λ place. highest (stamp_at others place) (place == place_of (neg_ℤ l)) (stamp_at stamps place) (is place) (m.greatest place);
+  marked = λ q. ap (λ n. n == stamp) (is (place_of (neg_ℤ q))) ∙ chosen (place_of (neg_ℤ q) == place_of (neg_ℤ l)) (stamp_at stamps (place_of (neg_ℤ q))) (holds (from_literals trail) q) (m.marked q) ∙ ap (λ b. b || holds (from_literals trail) q) (neg_tied q l) ∙ sym (holds-push trail l q);
   once = λ k lt. elim (less_or_last k (length trail) (omega (arith, length-append trail (l ∷ [])))) [
     | inl below ↦ ap (λ t. holds (from_literals t) (get_or (trail ++ l ∷ []) k (pos 0))) (take-append-le k trail (l ∷ []) (omega arith)) ∙ ap (holds (from_literals (take k trail))) (get_or-append trail (l ∷ []) (pos 0) k below) ∙ m.once k below
     | inr last ↦ (λ i. holds (from_literals ((ap (λ n. take n (trail ++ l ∷ [])) last ∙ take-append_seam trail (l ∷ [])) i)) ((ap (λ n. get_or (trail ++ l ∷ []) n (pos 0)) last ∙ get_or-append_seam trail l [] (pos 0)) i)) ∙ new
@@ -105,11 +119,11 @@ pushed_marks stamps others stamp trail l new is m = record {
     less_or_last k n lt = elim (k == n) as (λ b. (k == n) ≡ b → (k < n) ⊎ (k ≡ n)) [ true ↦ λ e. inr (eqb-true k n e) | false ↦ λ e. inl (lower k n lt e) ] refl
 
 -- where the last literal is taken out, its stamp is
-pub popped_marks : (stamps others : Stamped) (stamp : ℕ) (trail : List ℤ) (l : ℤ) → ((place : ℕ) → stamp_at others place ≡ (if place == place_of l then 0 else stamp_at stamps place)) → AreMarks stamps stamp (trail ++ l ∷ []) → AreMarks others stamp trail
+pub popped_marks : (stamps others : Stamped) (stamp : ℕ) (trail : List ℤ) (l : ℤ) → ((place : ℕ) → stamp_at others place ≡ (if place == place_of (neg_ℤ l) then 0 else stamp_at stamps place)) → AreMarks stamps stamp (trail ++ l ∷ []) → AreMarks others stamp trail
 popped_marks stamps others stamp trail l is m = record {
   some = m.some;
-  greatest = λ place. lower_or_none (stamp_at others place) (place == place_of l) (stamp_at stamps place) (is place) (m.greatest place);
-  marked = λ q. ap (λ n. n == stamp) (is (place_of q)) ∙ chosen q (place_of q == place_of l) refl;
+  greatest = λ place. lower_or_none (stamp_at others place) (place == place_of (neg_ℤ l)) (stamp_at stamps place) (is place) (m.greatest place);
+  marked = λ q. ap (λ n. n == stamp) (is (place_of (neg_ℤ q))) ∙ chosen q (place_of (neg_ℤ q) == place_of (neg_ℤ l)) refl;
   once = λ k lt.
       (λ i. holds (from_literals (sym (take-append-le k trail (l ∷ []) (omega arith)) i)) (sym (get_or-append trail (l ∷ []) (pos 0) k lt) i))
       ∙ m.once k (omega (arith, length-append trail (l ∷ [])));
@@ -127,9 +141,9 @@ popped_marks stamps others stamp trail l is m = record {
     not_none : (n : ℕ) → 0 < n → (0 == n) ≡ false
     not_none n lt = grind (arith, nat_tests)
 
-    chosen : (q : ℤ) (b : Bool) → (place_of q == place_of l) ≡ b → ((if b then 0 else stamp_at stamps (place_of q)) == stamp) ≡ holds (from_literals trail) q
-    chosen q true e = not_none stamp m.some ∙ sym (ap (holds (from_literals trail)) (same_literal q l (tied q l ∙ e)) ∙ gone)
-    chosen q false e = m.marked q ∙ holds-push trail l q ∙ ap (λ b. b || holds (from_literals trail) q) e
+    chosen : (q : ℤ) (b : Bool) → (place_of (neg_ℤ q) == place_of (neg_ℤ l)) ≡ b → ((if b then 0 else stamp_at stamps (place_of (neg_ℤ q))) == stamp) ≡ holds (from_literals trail) q
+    chosen q true e = not_none stamp m.some ∙ sym (ap (holds (from_literals trail)) (same_literal q l (tied q l ∙ sym (neg_tied q l) ∙ e)) ∙ gone)
+    chosen q false e = m.marked q ∙ holds-push trail l q ∙ ap (λ b. b || holds (from_literals trail) q) (sym (neg_tied q l) ∙ e)
 
 -- ---- how a trail grows
 

@@ -43,14 +43,6 @@ impl Stamps {
         }
     }
 
-    /// The stamp at a place. Takes constant time.
-    #[inline]
-    pub(crate) fn get(&self, place: usize) -> u32
-        ensures { result ≡ stamp_at self.now place }
-    {
-        self.lent().get(place)
-    }
-
     /// The stamps, lent to who reads many of them.
     #[inline]
     pub(crate) fn lent(&self) -> LentStamps<'_>
@@ -62,16 +54,16 @@ impl Stamps {
         }
     }
 
-    /// The stamp at a place, as [`Stamps::get`] tells it: for a place beyond the list.
+    /// Whether this is the stamp at a place, as [`LentStamps::is`] tells it: for a place beyond the list.
     #[cold]
     #[inline(never)]
-    fn get_beyond(&self, place: usize) -> u32
-        ensures { result ≡ stamp_at self.now place }
+    fn is_beyond(&self, place: usize, stamp: u32) -> bool
+        ensures { result ≡ (stamp_at self.now place == stamp) }
     {
         if place >= NEAR {
-            return self.far.get(place);
+            return self.far.get(place) == stamp;
         }
-        self.near.get(place)
+        self.near.get(place) == stamp
     }
 
     /// Sets the stamp at a place. Takes constant time, amortized.
@@ -159,14 +151,14 @@ impl<'a> Model for LentStamps<'a> {
 }
 
 impl<'a> LentStamps<'a> {
-    /// The stamp at a place. Takes constant time.
+    /// Whether this is the stamp at a place. Takes constant time.
     #[inline(always)]
-    pub(crate) fn get(&self, place: usize) -> u32
-        ensures { result ≡ stamp_at self.now place }
+    pub(crate) fn is(&self, place: usize, stamp: u32) -> bool
+        ensures { result ≡ (stamp_at self.now place == stamp) }
     {
         match self.near.get(place) {
-            Some(stamp) => *stamp,
-            None => self.stamps.get_beyond(place),
+            Some(found) => *found == stamp,
+            None => self.stamps.is_beyond(place, stamp),
         }
     }
 }

@@ -92,11 +92,11 @@ impl Trail {
         ensures ok { OnOk result (self.new ≡ self.old ++ lit ∷ []) }
         ensures err { OnErr result (self.new ≡ self.old) }
     {
-        let len = self.lits.len();
-        self.lits.push(lit)?;
-        if let Err(refused) = self.stamps.set(lit.place(), self.stamp) {
-            self.lits.truncate(len);
-            return Err(refused);
+        let place = lit.negated().place();
+        self.stamps.set(place, self.stamp)?;
+        if let Err(refused) = self.lits.push(lit) {
+            self.stamps.erase(place);
+            return Err(NoMemory::from(refused));
         }
         Ok(())
     }
@@ -107,7 +107,7 @@ impl Trail {
         ensures { self.new ≡ take (length self.old - 1) self.old }
     {
         if let Some(lit) = self.lits.pop() {
-            self.stamps.erase(lit.place());
+            self.stamps.erase(lit.negated().place());
         }
     }
 }
@@ -137,6 +137,6 @@ impl<'a> LentTrail<'a> {
     pub(crate) fn holds(&self, lit: Lit) -> bool
         ensures { result ≡ holds (from_literals self.now) lit }
     {
-        self.stamps.get(lit.place()) == self.stamp
+        self.stamps.is(lit.negated().place(), self.stamp)
     }
 }

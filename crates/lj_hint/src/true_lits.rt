@@ -95,7 +95,7 @@ impl TrueLits {
         if self.trail.holds(lit) {
             return Ok(());
         }
-        prove!(lit.variable() > 0);
+        let _ = lit.variable();
         let met = self.trail.holds(lit.negated());
         self.trail.push(lit)?;
         self.contradictory |= met;
@@ -117,7 +117,7 @@ impl TrueLits {
         if self.trail.holds(lit) {
             return Ok(());
         }
-        prove!(lit.variable() > 0);
+        let _ = lit.variable();
         self.trail.push(lit)?;
         Ok(())
     }

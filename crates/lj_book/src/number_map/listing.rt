@@ -13,7 +13,7 @@ impl NumberMap<NumberList> {
     ///
     /// # Errors
     /// [`NoMemory`] where a growth was refused.
-    #[inline]
+    #[inline(always)]
     pub(crate) fn add(&mut self, key: u64, number: u32) -> Result<bool, NoMemory>
         ensures there { IfOk result (λ there. there ≡ fin.contains_key self.old key) }
         ensures added { IfOk result

@@ -15,7 +15,7 @@ impl OwnMap<NumberList> {
     ///
     /// # Errors
     /// [`NoMemory`] where a growth was refused. The list is lost then.
-    #[inline]
+    #[inline(always)]
     pub(crate) fn add(&mut self, key: u64, number: u32) -> Result<bool, NoMemory>
         ensures there { IfOk result (λ there. there ≡ fin.contains_key self.old key) }
         ensures added { IfOk result
@@ -50,6 +50,8 @@ impl OwnMap<NumberList> {
 ///
 /// # Errors
 /// [`NoMemory`] where a growth was refused. The list is lost then.
+#[cold]
+#[inline(never)]
 fn add_far(far: &mut TreeMap<NumberList>, key: u64, number: u32) -> Result<bool, NoMemory>
     ensures there { IfOk result (λ there. there ≡ fin.contains_key far.old key) }
     ensures added { IfOk result
@@ -69,6 +71,8 @@ fn add_far(far: &mut TreeMap<NumberList>, key: u64, number: u32) -> Result<bool,
 ///
 /// # Errors
 /// [`NoMemory`] where a growth was refused. The list is lost then.
+#[cold]
+#[inline(never)]
 fn one_died_far(
     far: &mut TreeMap<NumberList>,
     key: u64,

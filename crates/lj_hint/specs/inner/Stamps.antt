@@ -1,5 +1,5 @@
 -- Stamps of literals by their place.
-use Rattle.std.specs.Prelude.{◌≡◌, ℕ, nat_lt, if◌then◌else◌, ◌/◌, ◌%◌, ◌<◌, ◌≤◌, ◌==◌, List, [], ℤ, pos, false, length, take, slice_index, slice_index_or}
+use Rattle.std.specs.Prelude.{◌≡◌, ℕ, nat_lt, if◌then◌else◌, ◌/◌, ◌%◌, ◌<◌, ◌≤◌, ◌==◌, List, [], ℤ, pos, neg_ℤ, false, length, take, slice_index, slice_index_or}
 use Rattle.lj_clause.specs.Literal.{place_of}
 use Rattle.lj_clause.specs.LiteralSet.{holds, from_literals}
 use Rattle.lj_hint.specs.declared.pages.TheConstants.{PAGE}
@@ -26,10 +26,11 @@ unfoldable pub stamp_at : Stamped → ℕ → ℕ
 stamp_at stamps place = if nat_lt place NEAR then slice_index stamps.0 place
     else page_stamp stamps.1 place
 
--- The literals that have the current stamp are those of the trail, in which each stands once.
+-- The literals whose negation has the current stamp at its place are those of the trail, in which each stands once. So
+-- whoever asks for the negations of many literals, as a walk does, reads at their own places.
 pub record AreMarks (stamps : Stamped) (stamp : ℕ) (trail : List ℤ) : Type 0 where
   pub some : 0 < stamp
   pub greatest : (place : ℕ) → stamp_at stamps place ≤ stamp
-  pub marked : (l : ℤ) → (stamp_at stamps (place_of l) == stamp) ≡ holds (from_literals trail) l
+  pub marked : (l : ℤ) → (stamp_at stamps (place_of (neg_ℤ l)) == stamp) ≡ holds (from_literals trail) l
   pub once : (k : ℕ) → k < length trail
       → holds (from_literals (take k trail)) (slice_index_or trail k (pos 0)) ≡ false

@@ -1,7 +1,8 @@
 use Rattle.std.proofs.Common.{ap, sym, ◌∙◌}
+use Rattle.std.specs.Ordering.{nat_cmp}
 use Rattle.std.specs.FinMap as fin
-use Rattle.lj_book.proofs.NumberMaps.{get_key}
 use Rattle.lj_book.proofs.tree_map.TreeMap.get.Goals as goal
 
-pub returns : goal.returns
-returns g c = c.get.ensures.value ∙ sym (get_key c.self.inside.entries.entries c.args.key) ∙ ap (λ m. fin.get m c.args.key) c.self.view_is
+pub returns-then-is_empty : goal.returns-then-is_empty
+returns-then-is_empty g c =
+    sym (ap (λ m. fin.get m c.args.key) (c.is_empty.ensures.0 c.if-is_empty.true) ∙ fin.get-empty nat_cmp c.args.key)

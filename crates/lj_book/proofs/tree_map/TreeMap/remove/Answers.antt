@@ -1,12 +1,14 @@
 use Rattle.std.proofs.Common.{ap, sym, ◌∙◌}
+use Rattle.std.specs.Ordering.{nat_cmp}
 use Rattle.std.specs.FinMap as fin
-use Rattle.lj_book.proofs.NumberMaps.{get_key, one_removed}
+use Rattle.lj_book.proofs.Slots.{remove_absent}
 use Rattle.lj_book.proofs.tree_map.TreeMap.remove.Goals as goal
 
-pub returns-clause-before : goal.returns-clause-before
-returns-clause-before g c = c.remove.ensures.value ∙ sym (get_key c.self.inside.entries.entries c.args.key) ∙ ap (λ m. fin.get m c.args.key) c.self.view_is
+pub returns-then-is_empty-clause-before : goal.returns-then-is_empty-clause-before
+returns-then-is_empty-clause-before g c =
+    sym (ap (λ m. fin.get m c.args.key) (c.is_empty.ensures.0 c.if-is_empty.true) ∙ fin.get-empty nat_cmp c.args.key)
 
-pub returns-clause-removed : goal.returns-clause-removed
-returns-clause-removed g c =
-    one_removed c.self.inside.entries.entries c.remove.new.self.entries c.args.key c.remove.ensures.updates.0
-    ∙ ap (λ m. fin.remove m c.args.key) c.self.view_is
+pub returns-then-is_empty-clause-removed : goal.returns-then-is_empty-clause-removed
+returns-then-is_empty-clause-removed g c =
+    let none = c.is_empty.ensures.0 c.if-is_empty.true in
+    sym (remove_absent c.args.self.now c.args.key (ap (λ m. fin.get m c.args.key) none ∙ fin.get-empty nat_cmp c.args.key))

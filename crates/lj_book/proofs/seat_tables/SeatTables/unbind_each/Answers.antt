@@ -6,8 +6,8 @@ use Rattle.std.proofs.lemmas.List.{take_more}
 use Rattle.std.proofs.lemmas.Option.{slice_get_within, slice_get-get_or, get_or_from_slice_get}
 use Rattle.lj_book.specs.Tables.{Tables, table_of, is_here, is_bound, with_table, without_keys, keys_lost}
 use Rattle.lj_book.proofs.TableLaws.{with_table-none, keys_lost-none, here-with_table, bound-with_table, with_table-push, keys_lost-push}
-use Rattle.lj_book.proofs.seat_tables.SeatTables.unbind_all.Goals as goal
-use Rattle.lj_book.proofs.seat_tables.SeatTables.unbind_all.Goals.{in-Some+then-unbind, in-Some+else-unbind, in_default}
+use Rattle.lj_book.proofs.seat_tables.SeatTables.unbind_each.Goals as goal
+use Rattle.lj_book.proofs.seat_tables.SeatTables.unbind_each.Goals.{in-Some+then-unbind, in-Some+else-unbind, in_default}
 
 counted : (lost before count now : ℕ) {b : Bool} → lost ≡ before + (if b then 1 else 0) → b ≡ true → count ≡ before → now ≡ count + 1 → now ≡ lost
 counted lost before count now {b = true} e h f g = omega arith

@@ -1,6 +1,6 @@
 use Rattle.std.proofs.Common.{◌≡◌, ◌≤◌, take}
 use Rattle.lj_book.specs.Tables.{with_table, without_keys, table_of, keys_lost}
-use Rattle.lj_book.proofs.seat_tables.SeatTables.unbind_all.Given as goal
+use Rattle.lj_book.proofs.seat_tables.SeatTables.unbind_each.Given as goal
 
 abbrev pub invariant-loop-index : goal.invariant-loop-index
 invariant-loop-index l = record {
