@@ -67,14 +67,15 @@ impl Starts {
     }
 
     /// Takes one more, for which there is room.
+    #[inline]
     pub(super) fn push(&mut self, start: u64)
         requires { 0 < self.old.room }
         ensures { self.new.items ≡ self.old.items ++ start ∷ [] }
     {
         if self.long.is_empty() && start < SHORT_END {
-            self.short.push(start as u32).unwrap();
+            self.short.push_reserved(start as u32);
         } else {
-            self.long.push(start).unwrap();
+            self.long.push_reserved(start);
         }
     }
 

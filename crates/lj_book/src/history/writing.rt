@@ -10,6 +10,9 @@ use crate::words::{put_all, put_groups, put_list, put_number, put_numbers};
 use lj_clause::{Clause, Lit};
 use lj_text::Numbers;
 
+/// So many literals are copied one by one, and more as they stand.
+const FEW: usize = 8;
+
 /// Puts the first number of an entry behind the words, which have room for it.
 #[inline]
 fn put_head(words: &mut Vec<u32>, seat: u32, kind: u64)
@@ -30,9 +33,25 @@ fn put_lemma(lits: &mut Vec<Lit>, step: &LentAddition<'_>)
     ensures len { vec_len lits.new ≡ vec_len lits.old + length (lemma_lits step.now.lemma) }
 {
     if let Some(pivot) = step.lemma.pivot() {
-        lits.push(pivot).unwrap();
+        lits.push_reserved(pivot);
     }
-    lits.extend_from_slice(step.clause.lits()).unwrap();
+    put_lits(lits, step.clause.lits());
+}
+
+/// Puts literals behind the others, which have room for them.
+#[inline]
+fn put_lits(lits: &mut Vec<Lit>, more: &[Lit])
+    requires { vec_len lits.old + length more.now ≤ vec_capacity lits.old }
+    ensures lits { lits.new.items ≡ lits.old.items ++ more.now }
+    ensures len { vec_len lits.new ≡ vec_len lits.old + length more.now }
+{
+    if more.len() > FEW {
+        lits.extend_from_slice(more).unwrap();
+        return;
+    }
+    for lit in more {
+        lits.push_reserved(*lit);
+    }
 }
 
 /// Puts the words and the literals of a seat's addition behind the others, which have room for them.

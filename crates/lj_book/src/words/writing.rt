@@ -5,6 +5,9 @@ ghost use Rattle.lj_book.specs.inner.Words.{long_mark, number_words, list_words,
 use super::LONG_MARK;
 use lj_text::{Group, Numbers};
 
+/// So many numbers are copied one by one, and more as they stand.
+const FEW: usize = 8;
+
 /// Puts a number behind the words, which have room for it.
 #[inline]
 pub(crate) fn put_number(words: &mut Vec<u32>, number: u64)
@@ -14,7 +17,7 @@ pub(crate) fn put_number(words: &mut Vec<u32>, number: u64)
     ensures capacity { vec_capacity words.old ≤ vec_capacity words.new }
 {
     if number < u64::from(LONG_MARK) {
-        words.push(number as u32).unwrap();
+        words.push_reserved(number as u32);
     } else {
         put_long(words, number);
     }
@@ -29,9 +32,9 @@ fn put_long(words: &mut Vec<u32>, number: u64)
     ensures len { vec_len words.new ≤ vec_len words.old + 3 }
     ensures capacity { vec_capacity words.old ≤ vec_capacity words.new }
 {
-    words.push(LONG_MARK).unwrap();
-    words.push((number % 4_294_967_296) as u32).unwrap();
-    words.push((number / 4_294_967_296) as u32).unwrap();
+    words.push_reserved(LONG_MARK);
+    words.push_reserved((number % 4_294_967_296) as u32);
+    words.push_reserved((number / 4_294_967_296) as u32);
 }
 
 /// Puts numbers of four bytes each behind the words, which have room for them.
@@ -42,6 +45,10 @@ fn put_short(words: &mut Vec<u32>, numbers: &[u32])
     ensures len { vec_len words.new ≤ vec_len words.old + 3 * length numbers.now }
     ensures capacity { vec_capacity words.old ≤ vec_capacity words.new }
 {
+    if numbers.len() <= FEW {
+        put_each(words, numbers);
+        return;
+    }
     if numbers.contains(&LONG_MARK) {
         put_each(words, numbers);
     } else {
@@ -49,8 +56,8 @@ fn put_short(words: &mut Vec<u32>, numbers: &[u32])
     }
 }
 
-/// The same, where the mark may be one of them.
-#[cold]
+/// The same, one by one.
+#[inline]
 fn put_each(words: &mut Vec<u32>, numbers: &[u32])
     requires { vec_len words.old + 3 * length numbers.now ≤ vec_capacity words.old }
     ensures words { words.new.items ≡ words.old.items ++ flat_map number_words numbers.now }
