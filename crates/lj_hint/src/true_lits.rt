@@ -126,6 +126,7 @@ impl TrueLits {
     ///
     /// # Errors
     /// [`NoMemory`] where a growth was refused.
+    #[inline(always)]
     pub(crate) fn insert_negations(&mut self, lits: &[Lit]) -> Result<(), NoMemory>
         ensures ok { OnOk result
             (from_literals self.new ≡ with_negations (from_literals self.old) lits.now) }
