@@ -10,7 +10,7 @@ use lj_clause::NoMemory;
 use std::alloc::Global;
 use std::marker::Model;
 
-/// How many slots there may be before anything is bound.
+/// How far slots reach, halved, before anything is bound.
 const FIRST_SLOTS: u64 = 1024;
 
 /// The own numbers of a seat with the joint numbers that they are bound to, seen as a finite map. Own numbers up to a bound
@@ -22,8 +22,8 @@ const FIRST_SLOTS: u64 = 1024;
 pub(crate) struct Bindings {
     short: ShortMap,
     long: TreeMap<u64>,
-    /// How many times a number was bound.
-    set: u64,
+    /// Own numbers up to twice this have slots: one more for each time that a number was bound.
+    reach: u64,
 }
 
 impl Model for Bindings {
@@ -50,7 +50,7 @@ impl Bindings {
         Bindings {
             short: ShortMap::new(alloc),
             long: TreeMap::new(alloc),
-            set: 0,
+            reach: FIRST_SLOTS,
         }
     }
 
@@ -75,8 +75,8 @@ impl Bindings {
         ensures ok { OnOk result (self.new ≡ fin.insert self.old own joint) }
         ensures err { OnErr result (self.new ≡ self.old) }
     {
-        self.set = self.set.saturating_add(1);
-        if joint < SHORT_END && own / 2 <= self.set.saturating_add(FIRST_SLOTS) {
+        self.reach = self.reach.wrapping_add(1);
+        if joint < SHORT_END && own / 2 <= self.reach {
             return self.short.insert(own, joint);
         }
         self.long.insert(own, joint)

@@ -30,8 +30,8 @@ invariant_of-self c =
     (λ e. subst (λ m. AreApart m long) (sym e) (apart-insert_near short long c.args.own c.args.joint c.self.invariant absent))
     (λ e. subst (λ m. AreApart m long) (sym e) c.self.invariant)
 
-pub returns-then-own-saturating_add-clause-ok : goal.returns-then-own-saturating_add-clause-ok
-returns-then-own-saturating_add-clause-ok c =
+pub returns-then-own-self-clause-ok : goal.returns-then-own-self-clause-ok
+returns-then-own-self-clause-ok c =
     ok_then c.insert.result _ _ c.insert.ensures.ok (λ e. ap (λ m. joined_map m c.self.inside.long) e
     ∙ insert_near c.self.inside.short c.self.inside.long c.args.own c.args.joint
     ∙ ap (λ m. fin.insert m c.args.own c.args.joint) c.self.view_is)
