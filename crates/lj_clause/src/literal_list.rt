@@ -29,6 +29,7 @@ pub enum LiteralList {
 impl LiteralList {
     /// The literals, each once, in strict order, if they are so few that they stand in the list itself. None also where
     /// one stands twice.
+    #[inline(always)]
     pub fn few(lits: &[Lit]) -> Option<LiteralList>
         ensures rising { IfSome result (λ list. IsStrictlySortedBy lit_cmp (literals_in list)) }
         ensures same { IfSome result
@@ -50,19 +51,19 @@ impl LiteralList {
     ///
     /// # Errors
     /// [`NoMemory`] where a growth was refused.
-    pub fn many(alloc: Global, lits: Vec<Lit>) -> Result<LiteralList, NoMemory>
-        ensures { IfOk result (λ list. literals_in list ≡ lits.items) }
+    pub fn many(alloc: Global, lits: &[Lit]) -> Result<LiteralList, NoMemory>
+        ensures { IfOk result (λ list. literals_in list ≡ lits.now) }
     {
         match lits.first() {
             Some(first) if lits.len() <= 8 => Ok(LiteralList::Eight {
                 count: lits.len() as u8,
-                lits: Arc::new(alloc, filled(*first, &lits))?,
+                lits: Arc::new(alloc, filled(*first, lits))?,
             }),
             Some(first) if lits.len() <= 16 => Ok(LiteralList::Sixteen {
                 count: lits.len() as u8,
-                lits: Arc::new(alloc, filled(*first, &lits))?,
+                lits: Arc::new(alloc, filled(*first, lits))?,
             }),
-            _ => Ok(LiteralList::Many(Arc::new(alloc, lits)?)),
+            _ => Ok(LiteralList::Many(Arc::new(alloc, Vec::from_slice(alloc, lits)?)?)),
         }
     }
 
@@ -109,7 +110,7 @@ impl LiteralList {
 }
 
 /// Two literals, the smaller first, if they differ.
-#[inline]
+#[inline(always)]
 fn two(a: Lit, b: Lit) -> Option<(Lit, Lit)>
     ensures rising { IfSome result (λ lits. lit_cmp lits.0 lits.1 ≡ Less) }
     ensures same { IfSome result
@@ -123,7 +124,7 @@ fn two(a: Lit, b: Lit) -> Option<(Lit, Lit)>
 }
 
 /// Three literals in strict order, if all differ.
-#[inline]
+#[inline(always)]
 fn three(a: Lit, b: Lit, c: Lit) -> Option<[Lit; 3]>
     ensures rising { IfSome result (λ lits. IsStrictlySortedBy lit_cmp lits) }
     ensures same { IfSome result (λ lits. from_literals lits ≡ from_literals (a ∷ b ∷ c ∷ [])) }
