@@ -3,6 +3,7 @@ ghost use Rattle.std.specs.Prelude.{◌≡◌, ◌↔◌, IsTrue, IfOk};
 ghost use Rattle.std.specs.List.Sorted.{IsStrictlySortedBy};
 ghost use Rattle.lj_clause.specs.Literal.{lit_cmp};
 ghost use Rattle.lj_clause.specs.LiteralSet.{holds, literals, from_literals};
+ghost use Rattle.lj_clause.specs.inner.LiteralList.{literals_in};
 
 use crate::clause_view::ClauseView;
 use crate::lit::Lit;
@@ -39,25 +40,29 @@ impl Clause {
     ///
     /// # Errors
     /// [`NoMemory`] where a growth was refused.
-    #[inline]
+    #[inline(always)]
     pub fn from_lits(alloc: Global, lits: &[Lit]) -> Result<Clause, NoMemory>
         ensures { IfOk result (λ clause. clause ≡ from_literals lits.now) }
     {
-        match LiteralList::few(lits) {
-            Some(lits) => Ok(Clause { lits }),
-            None => Clause::from_many(alloc, lits),
-        }
+        let lits = match LiteralList::few(lits) {
+            Some(few) => few,
+            None => many(alloc, &mut Vec::from_slice(alloc, lits)?)?,
+        };
+        Ok(Clause { lits })
     }
 
-    /// The same of literals that don't stand in the clause itself.
+    /// The same of a list that may lose its order. It takes no memory for the list.
     ///
     /// # Errors
     /// [`NoMemory`] where a growth was refused.
-    #[inline(never)]
-    fn from_many(alloc: Global, lits: &[Lit]) -> Result<Clause, NoMemory>
-        ensures { IfOk result (λ clause. clause ≡ from_literals lits.now) }
+    #[inline(always)]
+    pub fn from_room(alloc: Global, lits: &mut Vec<Lit>) -> Result<Clause, NoMemory>
+        ensures { IfOk result (λ clause. clause ≡ from_literals lits.old.items) }
     {
-        let lits = LiteralList::many(alloc, in_order(alloc, lits)?)?;
+        let lits = match LiteralList::few(lits) {
+            Some(few) => few,
+            None => many(alloc, lits)?,
+        };
         Ok(Clause { lits })
     }
 
@@ -71,7 +76,7 @@ impl Clause {
     {
         let lits = match LiteralList::few(lits) {
             Some(few) => few,
-            None => LiteralList::many(alloc, Vec::from_slice(alloc, lits)?)?,
+            None => LiteralList::many(alloc, lits)?,
         };
         Ok(Clause { lits })
     }
@@ -119,15 +124,27 @@ impl Clause {
     }
 }
 
-/// The literals of a list, each once, in strict order.
-fn in_order(alloc: Global, lits: &[Lit]) -> Result<Vec<Lit>, NoMemory>
-    ensures rising { IfOk result (λ v. IsStrictlySortedBy lit_cmp v.items) }
-    ensures same { IfOk result (λ v. from_literals v.items ≡ from_literals lits.now) }
+/// The literals of a list that may be long, each once, in strict order.
+///
+/// # Errors
+/// [`NoMemory`] where a growth was refused.
+fn many(alloc: Global, lits: &mut Vec<Lit>) -> Result<LiteralList, NoMemory>
+    ensures rising { IfOk result (λ list. IsStrictlySortedBy lit_cmp (literals_in list)) }
+    ensures same { IfOk result
+        (λ list. from_literals (literals_in list) ≡ from_literals lits.old.items) }
 {
-    let mut sorted = Vec::from_slice(alloc, lits)?;
-    sorted.sort_unstable();
-    sorted.dedup();
-    Ok(sorted)
+    put_in_order(lits);
+    LiteralList::many(alloc, lits)
+}
+
+/// Puts the literals in strict order, each once.
+#[inline]
+fn put_in_order(lits: &mut Vec<Lit>)
+    ensures rising { IsStrictlySortedBy lit_cmp lits.new.items }
+    ensures same { from_literals lits.new.items ≡ from_literals lits.old.items }
+{
+    lits.sort_unstable();
+    lits.dedup();
 }
 
 /// Whether a list in strict order has the literal.

@@ -33,7 +33,7 @@ impl Lemma {
     ///
     /// # Errors
     /// [`NoMemory`] where a growth was refused.
-    #[inline]
+    #[inline(always)]
     pub fn from_lits(alloc: Global, lits: &[Lit]) -> Result<Lemma, NoMemory>
         ensures { IfOk result (λ lemma. lemma ≡ lemma_of lits.now) }
     {
@@ -41,6 +41,19 @@ impl Lemma {
             clause: Clause::from_lits(alloc, lits)?,
             pivot: lits.first().copied(),
         })
+    }
+
+    /// The same of a list that may lose its order. It takes no memory for the list.
+    ///
+    /// # Errors
+    /// [`NoMemory`] where a growth was refused.
+    #[inline(always)]
+    pub fn from_room(alloc: Global, lits: &mut Vec<Lit>) -> Result<Lemma, NoMemory>
+        ensures { IfOk result (λ lemma. lemma ≡ lemma_of lits.old.items) }
+    {
+        let pivot = lits.first().copied();
+        let clause = Clause::from_room(alloc, lits)?;
+        Ok(Lemma { clause, pivot })
     }
 
     /// The set of its literals.

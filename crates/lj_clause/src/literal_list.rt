@@ -58,19 +58,19 @@ impl LiteralList {
     ///
     /// # Errors
     /// [`NoMemory`] where a growth was refused.
-    pub fn many(alloc: Global, lits: Vec<Lit>) -> Result<LiteralList, NoMemory>
-        ensures { IfOk result (λ list. literals_in list ≡ lits.items) }
+    pub fn many(alloc: Global, lits: &[Lit]) -> Result<LiteralList, NoMemory>
+        ensures { IfOk result (λ list. literals_in list ≡ lits.now) }
     {
         match lits.first() {
             Some(first) if lits.len() <= 8 => Ok(LiteralList::Eight {
                 count: lits.len() as u8,
-                lits: Arc::new(alloc, filled(*first, &lits))?,
+                lits: Arc::new(alloc, filled(*first, lits))?,
             }),
             Some(first) if lits.len() <= 16 => Ok(LiteralList::Sixteen {
                 count: lits.len() as u8,
-                lits: Arc::new(alloc, filled(*first, &lits))?,
+                lits: Arc::new(alloc, filled(*first, lits))?,
             }),
-            _ => Ok(LiteralList::Many(Arc::new(alloc, lits)?)),
+            _ => Ok(LiteralList::Many(Arc::new(alloc, Vec::from_slice(alloc, lits)?)?)),
         }
     }
 

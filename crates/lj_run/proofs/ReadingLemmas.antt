@@ -1,6 +1,6 @@
 -- The steps of reading a stream's lines.
 use Rattle.std.proofs.Common.{◌≡◌, ℕ, ◌+◌, true, false, List, [], ◌∷◌, ◌++◌, length, take, Option, None, Some, Result, Ok, Err, refl, sym, ap, ◌∙◌, subst, append_assoc, add-zero, inl, inr}
-use Rattle.std.specs.Prelude.{slice_get, MatchBool, IfErr, IsErrAnd, IsOk}
+use Rattle.std.specs.Prelude.{slice_get, MatchBool, IfErr, IfOk, IsErrAnd, IsOk}
 use Rattle.std.proofs.lemmas.List.{append-nil}
 use Rattle.std.proofs.lemmas.Bool.{false≢true}
 use Rattle.lj_text.specs.declared.line.Line.{Line}
@@ -230,3 +230,21 @@ piece_missed max fed handed old mid new start before after miss max_is goes mid_
       stops = subst (λ n. FailsAt max (fed ++ f.piece) handed n) (sym (is.1 ∙ line_at)) stops;
       goes_on = is.2;
     })
+
+-- what was read by a reader that passed silent lines alone is what its caller's reader would have read
+pub read_behind : (old mid new : LinesRead) (before after : SourceState) (r : Result (Option Line) Miss) → mid.max ≡ old.max
+    → ((fed : List ℕ) (handed : ℕ) → LineReaderStandsAt old fed handed → LineReaderStandsAt mid fed (handed + 0))
+    → IfOk r (λ line. (fed : List ℕ) (handed : ℕ) → LineReaderStandsAt mid fed handed → LineRead mid.max fed handed new before after line)
+    → IfOk r (λ line. (fed : List ℕ) (handed : ℕ) → LineReaderStandsAt old fed handed → LineRead old.max fed handed new before after line)
+read_behind old mid new before after (Ok line) e on read = λ fed handed was.
+    subst (λ m. LineRead m fed handed new before after line) e (read fed handed (subst (λ n. LineReaderStandsAt mid fed n) (add-zero handed) (on fed handed was)))
+read_behind old mid new before after (Err miss) e on read = tt
+
+-- and so is a miss
+pub missed_behind : (old mid : LinesRead) (at : ℕ) (before after : SourceState) (r : Result (Option Line) Miss) → mid.max ≡ old.max
+    → ((fed : List ℕ) (handed : ℕ) → LineReaderStandsAt old fed handed → LineReaderStandsAt mid fed (handed + 0))
+    → IfErr r (λ miss. (fed : List ℕ) (handed : ℕ) → LineReaderStandsAt mid fed handed → LineMissed mid.max fed handed at before after miss)
+    → IfErr r (λ miss. (fed : List ℕ) (handed : ℕ) → LineReaderStandsAt old fed handed → LineMissed old.max fed handed at before after miss)
+missed_behind old mid at before after (Ok line) e on missed = tt
+missed_behind old mid at before after (Err miss) e on missed = λ fed handed was.
+    subst (λ m. LineMissed m fed handed at before after miss) e (missed fed handed (subst (λ n. LineReaderStandsAt mid fed n) (add-zero handed) (on fed handed was)))

@@ -123,6 +123,47 @@ pub(crate) fn next_line<R: Wait, S: Source>(
     ensures failures { IfErr result (λ miss. S.failures source.new ≡ reads_failed miss) }
     ensures max { reader.new.max ≡ reader.old.max }
 {
+    if *ended {
+        return read_on(rt, source, reader, ended, room);
+    }
+    match reader.next() {
+        Ok(Some(line)) => Ok(Some(line)),
+        Ok(None) => read_on(rt, source, reader, ended, room),
+        Err(fault) => Err(Miss::AtFault(fault)),
+    }
+}
+
+/// The same, where a piece may have to be pulled first.
+#[cold]
+fn read_on<R: Wait, S: Source>(
+    rt: &R,
+    source: &mut S,
+    reader: &mut LineReader,
+    ended: &mut bool,
+    room: &mut [u8],
+) -> Result<Option<Line>, Miss>
+    requires room { 0 < length room.old }
+    requires unfailed { S.failures source.old ≡ 0 }
+    requires may_read { MayRead reader.old ended.old }
+    requires ended { ended.old ≡ true
+        → HasEnded (source_state S.given S.ended S.rest S.failures source.old) }
+
+    ensures line { IfOk result (λ line. (fed : List ℕ) (handed : ℕ)
+        → LineReaderStandsAt reader.old fed handed → LineRead reader.old.max fed handed reader.new
+        (source_state S.given S.ended S.rest S.failures source.old)
+        (source_state S.given S.ended S.rest S.failures source.new) line) }
+    ensures miss { IfErr result (λ miss. (fed : List ℕ) (handed : ℕ)
+        → LineReaderStandsAt reader.old fed handed → LineMissed reader.old.max fed handed
+        reader.new.at (source_state S.given S.ended S.rest S.failures source.old)
+        (source_state S.given S.ended S.rest S.failures source.new) miss) }
+
+    ensures may_read { OnOk result (MayRead reader.new ended.new) }
+    ensures ended { OnOk result (ended.new ≡ true
+        → HasEnded (source_state S.given S.ended S.rest S.failures source.new)) }
+    ensures unfailed { OnOk result (S.failures source.new ≡ 0) }
+    ensures failures { IfErr result (λ miss. S.failures source.new ≡ reads_failed miss) }
+    ensures max { reader.new.max ≡ reader.old.max }
+{
     for _ in rt.forever() {
         if *ended {
             match reader.finish() {

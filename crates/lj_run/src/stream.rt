@@ -61,8 +61,11 @@ pub(crate) fn run_stream<R: Wait, S: Source>(
             Ok(None) => return tally.ending(End::Ended),
             Err(miss) => return tally.ending(missed(miss, reader.at())),
         };
-        match enter(book, seat, line, &mut marks) {
-            Ok(count) => tally.count(count, book.history_len()),
+        match enter(book, seat, &line, &mut marks) {
+            Ok(count) => {
+                tally.count(count, book.history_len());
+                reader.reuse(line);
+            }
             Err(end) => return tally.ending(End::Line(reader.at(), end)),
         }
     }
@@ -119,23 +122,23 @@ pub(crate) enum Count {
 pub(crate) fn enter(
     book: &mut Book,
     seat: u32,
-    line: Line,
+    line: &Line,
     marks: &mut Marks,
 ) -> Result<Count, LineEnd>
     ensures { MatchResult result
-        (λ count. (reply_to_line book.old seat line ≡ Ok book.new) × IsCounted line count)
-        (λ end. (book.new ≡ book.old) × IsLineEnd end (reply_to_line book.old seat line)) }
+        (λ count. (reply_to_line book.old seat line.now ≡ Ok book.new) × IsCounted line.now count)
+        (λ end. (book.new ≡ book.old) × IsLineEnd end (reply_to_line book.old seat line.now)) }
 {
     match line {
-        Line::Add(addition) => match book.add_inside(seat, &addition, marks) {
+        Line::Add(addition) => match book.add_inside(seat, addition, marks) {
             Ok(_) => Ok(Count::Addition),
             Err(refusal) => Err(LineEnd::Refused(refusal)),
         },
-        Line::Delete(numbers) => match delete(book, seat, &numbers) {
+        Line::Delete(numbers) => match delete(book, seat, numbers) {
             Ok(()) => Ok(Count::Deletion),
             Err(refusal) => Err(LineEnd::Refused(refusal)),
         },
-        Line::Import { number, clause } => match book.import(seat, number, &clause) {
+        Line::Import { number, clause } => match book.import(seat, *number, clause) {
             Ok(_) => Ok(Count::Importing),
             Err(refusal) => Err(LineEnd::Refused(refusal)),
         },

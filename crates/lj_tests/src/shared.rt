@@ -5,7 +5,7 @@ mod provers;
 use crate::tables::{Line, ListedStep, addition, assert_numbers, assert_step, clause};
 use lj_book::{Call, Entry, Refusal};
 use lj_share::{Closed, Opening, Seat, Shared, Told};
-use lj_text::{Line as ProofLine, Numbers};
+use lj_text::{Boxed, Line as ProofLine, Numbers};
 use std::alloc::Global;
 use std::process::Abort;
 use std::sync::Wait;
@@ -33,11 +33,13 @@ fn call<L: Opening, R: Wait>(
     called: &Called,
 ) -> Result<Told, Refusal> {
     let line = match called {
-        Called::Add(line) => ProofLine::Add(addition(alloc, line)?),
-        Called::Drop(numbers) => ProofLine::Delete(Numbers::from_slice(alloc, numbers)?),
+        Called::Add(line) => ProofLine::Add(Boxed::new(alloc, addition(alloc, line)?)?),
+        Called::Drop(numbers) => {
+            ProofLine::Delete(Boxed::new(alloc, Numbers::from_slice(alloc, numbers)?)?)
+        }
         Called::Import(number, lits) => ProofLine::Import {
             number: *number,
-            clause: clause(alloc, lits)?,
+            clause: Boxed::new(alloc, clause(alloc, lits)?)?,
         },
         Called::Adopt(own, joint) => return shared.adopt(rt, seat, *own, *joint),
         Called::Leave => return shared.leave(rt, seat),

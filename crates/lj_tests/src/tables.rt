@@ -184,8 +184,11 @@ pub fn steps_of(alloc: Global, lines: &str) -> Result<Vec<Step>, Fail> {
     let mut steps = Vec::new(alloc);
     for _ in 0..lines.len() {
         match next_line(&mut reader)? {
-            Some(ProofLine::Add(addition)) => steps.push(Step::Add(addition))?,
-            Some(ProofLine::Delete(numbers)) => steps.push(Step::Delete { numbers })?,
+            Some(ProofLine::Add(addition)) => steps.push(Step::Add(addition.into_inner()))?,
+            Some(ProofLine::Delete(numbers)) => {
+                let numbers = numbers.into_inner();
+                steps.push(Step::Delete { numbers })?;
+            }
             _ => break,
         }
     }

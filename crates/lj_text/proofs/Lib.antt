@@ -4,7 +4,6 @@ pub mod NeededLaws
 mod CnfLemmas
 mod CutLemmas
 mod DigitLemmas
-mod FrontLemmas
 mod HeldLemmas
 mod JudgeLemmas
 mod PassLemmas

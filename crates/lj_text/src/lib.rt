@@ -2,6 +2,7 @@
 #![tactic(auto)]
 
 mod as_step;
+mod boxed;
 mod bytes;
 mod bytes_so_far;
 mod cnf;
@@ -17,10 +18,11 @@ mod step;
 mod writer;
 
 pub use as_step::AsStep;
+pub use boxed::Boxed;
 pub use cnf::{CnfFault, CnfFaultKind, CnfReader, spells_or_has_a_fault};
 pub use line::{Addition, Line};
 pub use lines::{LineFault, LineFaultKind, LineReader};
-pub use numbers::{Group, Groups, NumberRoom, Numbers, NumbersIter};
+pub use numbers::{Group, Groups, Numbers, NumbersIter};
 pub use sink::{MemorySink, Sink, SinkFault, WriterSink, write_all};
 pub use source::{MemorySource, ReaderSource, Source, SourceFault};
 pub use step::Step;

@@ -1,4 +1,5 @@
 //! Lines of an LRAT proof, under the numbers of whoever wrote them.
+use crate::boxed::Boxed;
 use crate::numbers::{Groups, Numbers};
 use lj_clause::{Clause, Lemma};
 
@@ -11,13 +12,13 @@ pub struct Addition {
     pub groups: Groups,
 }
 
-/// One line of an LRAT proof.
+/// One line of an LRAT proof. What it says stands in memory of its own, which a reader takes back for lines to come.
 #[derive(Debug, Drop)]
 pub enum Line {
     /// Adds a lemma.
-    Add(Addition),
+    Add(Boxed<Addition>),
     /// Gives numbers up, in the order in which they are written.
-    Delete(Numbers),
+    Delete(Boxed<Numbers>),
     /// Binds a number to a live clause with exactly these literals.
-    Import { number: u64, clause: Clause },
+    Import { number: u64, clause: Boxed<Clause> },
 }

@@ -1,9 +1,11 @@
 //! Lists of clause numbers, and hint groups.
-ghost use Rattle.std.specs.Prelude.{◌≡◌, ◌==◌, ◌∷◌, ◌++◌, [], length, take, slice_get, IfOk, IfSome, OnOk, OnErr};
+ghost use Rattle.std.specs.Prelude.{◌≡◌, ◌==◌, ◌≤◌, ◌∷◌, ◌++◌, [], length, take, slice_get, IfOk, IfSome, OnOk, OnErr};
 ghost use Rattle.lj_text.specs.inner.Numbers.{numbers_in, numbers_left};
+ghost use Rattle.lj_text.specs.inner.LineReading.{IsReadOn};
 
+use crate::bytes::short_number;
 use crate::few_numbers::{FEW, FewNumbers};
-use std::alloc::{AllocError, Global};
+use std::alloc::{AllocError, AllocFailed, Global};
 use std::marker::Model;
 use std::mem::replace;
 
@@ -132,6 +134,33 @@ impl Numbers {
         }
     }
 
+    /// Lets go of the numbers, and keeps the room of those of four bytes.
+    #[inline(always)]
+    pub fn clear(&mut self)
+        ensures { self.new ≡ [] }
+    {
+        match &mut self.form {
+            Form::Short(numbers) => numbers.clear(),
+            Form::Few(numbers) => numbers.truncate(0),
+            Form::Long(numbers) => {
+                self.form = Form::Short(Vec::new(*numbers.allocator()));
+            }
+        }
+    }
+
+    /// Takes the short numbers at the front of a line's bytes behind the others, where they go behind them at no cost, and
+    /// answers the bytes that follow.
+    #[inline]
+    pub(crate) fn read_short<'a>(&mut self, bytes: &'a [u8]) -> &'a [u8]
+        ensures read { IsReadOn self.old bytes.now self.new result.now }
+        ensures within { length result.now ≤ length bytes.now }
+    {
+        match &mut self.form {
+            Form::Short(numbers) => short_numbers(numbers, bytes),
+            _ => bytes,
+        }
+    }
+
     /// Keeps the first numbers, so many, and the room of the others. Takes constant time.
     pub fn truncate(&mut self, count: usize)
         ensures { self.new ≡ take count self.old }
@@ -140,18 +169,6 @@ impl Numbers {
             Form::Few(numbers) => numbers.truncate(count),
             Form::Short(numbers) => numbers.truncate(count),
             Form::Long(numbers) => numbers.truncate(count),
-        }
-    }
-
-    /// Lets go of the numbers, and keeps the room where they take four bytes each. Takes constant time.
-    #[inline]
-    pub fn clear(&mut self)
-        ensures { self.new ≡ [] }
-    {
-        match &mut self.form {
-            Form::Few(numbers) => numbers.truncate(0),
-            Form::Short(numbers) => numbers.clear(),
-            Form::Long(numbers) => self.form = Form::Short(Vec::new(*numbers.allocator())),
         }
     }
 
@@ -237,7 +254,7 @@ impl Numbers {
     {
         let form = match &self.form {
             Form::Few(numbers) => Form::Few(numbers.copy()),
-            Form::Short(numbers) => Form::Short(Vec::from_slice(*numbers.allocator(), numbers)?),
+            Form::Short(numbers) => form_of(*numbers.allocator(), numbers)?,
             Form::Long(numbers) => Form::Long(Vec::from_slice(*numbers.allocator(), numbers)?),
         };
         Ok(Numbers { form })
@@ -256,6 +273,21 @@ impl Numbers {
             Form::Long(numbers) => Vec::from_slice(*numbers.allocator(), numbers),
         }
     }
+}
+
+/// Takes the short numbers at the front of a line's bytes behind the others, up to a 0, and answers the bytes that follow.
+fn short_numbers<'a>(numbers: &mut Vec<u32>, bytes: &'a [u8]) -> &'a [u8]
+    ensures read { IsReadOn numbers.old.items bytes.now numbers.new.items result.now }
+    ensures within { length result.now ≤ length bytes.now }
+{
+    let mut rest = bytes;
+    while let Some((number, after)) = short_number(rest) {
+        if number == 0 || numbers.push(number).is_err() {
+            return rest;
+        }
+        rest = after;
+    }
+    rest
 }
 
 /// The number at a place among those of four bytes.
@@ -376,99 +408,6 @@ impl<'a> Iterator for NumbersIter<'a> {
     }
 }
 
-/// Room for the numbers of a list, which is used again for the next list.
-#[derive(Debug, Drop)]
-pub struct NumberRoom {
-    short: Vec<u32>,
-    /// All the numbers, from the first on that takes eight bytes.
-    long: Vec<u64>,
-}
-
-impl Model for NumberRoom {
-    ghost use Rattle.std.specs.Prelude.{List, ℕ, ◌≡◌, ◌<◌, ◌++◌, [], length};
-
-    ghost Value = { List ℕ };
-
-    ghost view = { λ r. r.short.items ++ r.long.items };
-
-    ghost invariant = { λ r. 0 < length r.long.items → r.short.items ≡ [] };
-}
-
-impl NumberRoom {
-    /// Room that holds no numbers. Takes no memory.
-    pub fn new(alloc: Global) -> NumberRoom
-        ensures { result ≡ [] }
-    {
-        NumberRoom {
-            short: Vec::new(alloc),
-            long: Vec::new(alloc),
-        }
-    }
-
-    /// Lets go of the numbers, and keeps the room.
-    pub fn clear(&mut self)
-        ensures { self.new ≡ [] }
-    {
-        self.short.clear();
-        self.long.clear();
-    }
-
-    /// Takes a number behind the others, in constant time, but for the growth of the room.
-    ///
-    /// # Errors
-    /// [`AllocError`] where a growth was refused, and then nothing has changed.
-    #[inline]
-    pub fn push(&mut self, number: u64) -> Result<(), AllocError>
-        ensures ok { OnOk result (self.new ≡ self.old ++ number ∷ []) }
-        ensures err { OnErr result (self.new ≡ self.old) }
-    {
-        if number <= MAX_SHORT && self.long.is_empty() {
-            self.short.push(number as u32)?;
-            return Ok(());
-        }
-        self.push_long(number)
-    }
-
-    /// The same, where a number takes eight bytes.
-    #[cold]
-    fn push_long(&mut self, number: u64) -> Result<(), AllocError>
-        ensures ok { OnOk result (self.new ≡ self.old ++ number ∷ []) }
-        ensures err { OnErr result (self.new ≡ self.old) }
-    {
-        if self.short.is_empty() {
-            self.long.push(number)?;
-            return Ok(());
-        }
-        let mut long = lengthened(*self.short.allocator(), &self.short)?;
-        long.push(number)?;
-        self.long = long;
-        self.short.clear();
-        Ok(())
-    }
-
-    /// The numbers, in a list in exactly the room that it needs. Takes time linear in how many there are.
-    ///
-    /// # Errors
-    /// [`AllocError`] where a growth was refused, and then nothing has changed.
-    pub fn take(&mut self) -> Result<Numbers, AllocError>
-        ensures ok { IfOk result (λ numbers. numbers ≡ self.old) }
-        ensures emptied { OnOk result (self.new ≡ []) }
-        ensures err { OnErr result (self.new ≡ self.old) }
-    {
-        let alloc = *self.short.allocator();
-        if self.long.is_empty() {
-            let form = form_of(alloc, &self.short)?;
-            self.short.clear();
-            return Ok(Numbers { form });
-        }
-        let mut numbers = replace(&mut self.long, Vec::new(alloc));
-        numbers.shrink_to_fit();
-        Ok(Numbers {
-            form: Form::Long(numbers),
-        })
-    }
-}
-
 /// The hints for one candidate.
 #[derive(Debug, Drop)]
 pub struct Group {
@@ -519,6 +458,27 @@ impl Groups {
         ensures { result.now ≡ self.now }
     {
         &self.groups
+    }
+
+    /// Takes a group behind the others.
+    ///
+    /// # Errors
+    /// [`AllocFailed`] where a growth was refused, and then nothing has changed.
+    pub(crate) fn push(&mut self, group: Group) -> Result<(), AllocFailed<Group>>
+        ensures { OnOk result (self.new ≡ self.old ++ group ∷ []) }
+    {
+        self.groups.push(group)
+    }
+
+    /// Lets go of the groups, and of their room.
+    #[inline(always)]
+    pub(crate) fn clear(&mut self)
+        ensures { self.new ≡ [] }
+    {
+        if !self.groups.is_empty() {
+            self.groups.clear();
+            self.groups.shrink_to_fit();
+        }
     }
 
     /// Gives the groups back. Takes no memory.

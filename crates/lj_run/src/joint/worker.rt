@@ -88,8 +88,11 @@ fn run_lines<L: Opening, R: Wait, S: Source, G: Gate>(
             Ok(None) => return tally.ending(End::Ended),
             Err(miss) => return tally.ending(missed(miss, reader.at())),
         };
-        match enter(rt, shared, gate, seat, told, line, reader.at()) {
-            Ok(count) => tally.count(count, seat.count()),
+        match enter(rt, shared, gate, seat, told, &line, reader.at()) {
+            Ok(count) => {
+                tally.count(count, seat.count());
+                reader.reuse(line);
+            }
             Err(refusal) => {
                 return tally.ending(End::Line(reader.at(), LineEnd::Refused(refusal)));
             }
@@ -106,19 +109,19 @@ fn enter<L: Opening, R: Wait, G: Gate>(
     gate: &G,
     seat: &mut Seat<L>,
     told: &mut Vec<Told>,
-    line: Line,
+    line: &Line,
     at: u64,
 ) -> Result<Count, Refusal>
-    ensures told { OnOk result (IsToldOf (call_of line) told.old.items told.new.items) }
-    ensures count { IfOk result (IsCounted line) }
+    ensures told { OnOk result (IsToldOf (call_of line.now) told.old.items told.new.items) }
+    ensures count { IfOk result (IsCounted line.now) }
     ensures counted { OnOk result (seat.new ≡ counting_one seat.old) }
     ensures told_before { OnErr result (told.new.items ≡ told.old.items) }
     ensures kept { OnErr result (seat.new ≡ seat.old) }
 {
     told.reserve(1)?;
-    let token = shared.submit_at(rt, seat, &line, at, gate)?;
+    let token = shared.submit_at(rt, seat, line, at, gate)?;
     told.push(token).unwrap();
-    Ok(count_of(&line))
+    Ok(count_of(line))
 }
 
 /// What a line is counted as.

@@ -6,7 +6,7 @@ use lj_book::Refusal;
 use lj_clause::{Formula, NoMemory};
 use lj_hint::{Marks, Receipt, Tested};
 use lj_share::{Opening, Seat, SeatsOut, Shared};
-use lj_text::{Line, Numbers};
+use lj_text::{Boxed, Line, Numbers};
 use std::alloc::Global;
 use std::marker::Brand;
 use std::process::Abort;
@@ -17,11 +17,12 @@ use std::thread::{Threads, join};
 
 fn addition(alloc: Global, number: u64, lemma: &[i32], hints: &[u64]) -> Result<Line, NoMemory> {
     let listed = tables::Line(number, lemma, hints, &[]);
-    Ok(Line::Add(tables::addition(alloc, &listed)?))
+    let addition = tables::addition(alloc, &listed)?;
+    Ok(Line::Add(Boxed::new(alloc, addition)?))
 }
 
 fn import(alloc: Global, number: u64, literals: &[i32]) -> Result<Line, NoMemory> {
-    let clause = clause(alloc, literals)?;
+    let clause = Boxed::new(alloc, clause(alloc, literals)?)?;
     Ok(Line::Import { number, clause })
 }
 
@@ -116,7 +117,8 @@ fn drop_first<L: Opening, R: Wait>(
     shared: &Shared<L>,
     seat: &mut Seat<L>,
 ) -> Result<(), Fail> {
-    let deletion = Line::Delete(Numbers::from_slice(alloc, &[1])?);
+    let numbers = Numbers::from_slice(alloc, &[1])?;
+    let deletion = Line::Delete(Boxed::new(alloc, numbers)?);
     shared.submit(rt, seat, &deletion)?;
     Ok(())
 }

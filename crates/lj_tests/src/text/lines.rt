@@ -95,9 +95,20 @@ enum Said {
     Fault(String),
 }
 
-fn said_of(alloc: Global, at: u64, answer: Result<Option<Line>, LineFault>) -> Result<Said, Fail> {
+/// What the reader's answer tells. A line is given back to it, so that the next one is written where it stood.
+fn said_of(
+    alloc: Global,
+    reader: &mut LineReader,
+    answer: Result<Option<Line>, LineFault>,
+) -> Result<Said, Fail>
+    ensures { reader.new ≡ reader.old }
+{
     Ok(match answer {
-        Ok(Some(line)) => Said::Line(describe(alloc, &line, at)?),
+        Ok(Some(line)) => {
+            let said = describe(alloc, &line, reader.at())?;
+            reader.reuse(line);
+            Said::Line(said)
+        }
         Ok(None) => Said::Nothing,
         Err(fault) => {
             let line = fault.line;
@@ -110,12 +121,12 @@ fn next_said(alloc: Global, reader: &mut LineReader) -> Result<Said, Fail>
     ensures { reader.new.finished ≡ reader.old.finished }
 {
     let answer = reader.next();
-    said_of(alloc, reader.at(), answer)
+    said_of(alloc, reader, answer)
 }
 
 fn last_said(alloc: Global, reader: &mut LineReader) -> Result<Said, Fail> {
     let answer = reader.finish();
-    said_of(alloc, reader.at(), answer)
+    said_of(alloc, reader, answer)
 }
 
 /// Tells what is said. The answer is whether it is a line.

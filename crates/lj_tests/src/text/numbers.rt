@@ -1,6 +1,6 @@
 //! Lists of numbers of both widths.
 use crate::tables::assert_numbers;
-use lj_text::{Line, LineReader, NumberRoom, Numbers};
+use lj_text::{Line, LineReader, Numbers};
 use std::alloc::Global;
 use std::process::Abort;
 use std::test::Fail;
@@ -8,15 +8,14 @@ use std::test::Fail;
 /// The least number that takes eight bytes.
 const LONG: u64 = 4_294_967_296;
 
-/// The numbers as they are taken out of room, which is then empty.
-fn taken(rt: &impl Abort, alloc: Global, numbers: &[u64]) -> Result<Numbers, Fail> {
-    let mut room = NumberRoom::new(alloc);
+/// The numbers as they are pushed into a list whose room is used again, and a copy of its own of them.
+fn pushed(rt: &impl Abort, room: &mut Numbers, numbers: &[u64]) -> Result<Numbers, Fail> {
+    room.clear();
+    assert!(rt; room.is_empty());
     for number in numbers {
         room.push(*number)?;
     }
-    let taken = room.take()?;
-    assert!(rt; room.take()?.is_empty());
-    Ok(taken)
+    Ok(room.copy()?)
 }
 
 fn assert_are(rt: &impl Abort, numbers: &Numbers, wanted: &[u64; 3]) {
@@ -28,11 +27,12 @@ fn assert_are(rt: &impl Abort, numbers: &Numbers, wanted: &[u64; 3]) {
 #[test]
 fn both_widths(rt: HostRuntime) -> Result<(), Fail> {
     let alloc = rt.alloc();
-    for wanted in [[1, 7, LONG - 1], [1, LONG, 7]] {
-        let taken = taken(&rt, alloc, &wanted)?;
-        assert_are(&rt, &taken, &wanted);
+    let mut room = Numbers::with_capacity(alloc, 9)?;
+    for wanted in [[1, 7, LONG - 1], [1, LONG, 7], [7, 1, 1]] {
+        let pushed = pushed(&rt, &mut room, &wanted)?;
+        assert_are(&rt, &pushed, &wanted);
         assert_are(&rt, &Numbers::from_slice(alloc, &wanted)?, &wanted);
-        assert_are(&rt, &Numbers::new(taken.to_vec()?).copy()?, &wanted);
+        assert_are(&rt, &Numbers::new(pushed.to_vec()?).copy()?, &wanted);
     }
     Ok(())
 }

@@ -1,11 +1,11 @@
 -- What the parts of the line reader give.
-use Rattle.std.specs.Prelude.{◌≡◌, ℕ, Bool, false, IsOk, List, [], ◌∷◌, map, Option, Some, None, Result, Ok, Err, ℤ, MatchOption, MatchResult, if◌then◌else◌}
+use Rattle.std.specs.Prelude.{◌≡◌, ℕ, Bool, false, IsOk, List, [], ◌∷◌, ◌++◌, map, Option, Some, None, Result, Ok, Err, ℤ, MatchOption, MatchResult, if◌then◌else◌}
 use Rattle.std.specs.Borrow.{Bor}
 use Rattle.lj_text.specs.declared.lines.fault.LineFaultKind.{LineFaultKind}
 use Rattle.lj_text.specs.declared.lines.fault.LineFaultKind.TheVariants.{BadNumber, NumberRange, Syntax, Truncated, NoMemory}
 use Rattle.lj_clause.specs.Rat.{HintGroup}
 use Rattle.lj_text.specs.Bytes.{number_of, tokens_of, is_silent}
-use Rattle.lj_text.specs.Lines.{with_read, hints_of, line_of}
+use Rattle.lj_text.specs.Lines.{with_read, numbers_of, hints_of, line_of}
 use Rattle.lj_text.specs.declared.line.Line.{Line}
 use Rattle.lj_text.specs.LinesRead.{is_line_no_memory}
 
@@ -31,6 +31,32 @@ abbrev pub Gives : {X Y : Type 0} → (X → Y) → Result X LineFaultKind → R
     → Type 0
 Gives view (Ok x) read = read ≡ Ok (view x)
 Gives view (Err kind) read = IsLineTold kind read
+
+-- What was read before, and what is still read, of numbers,
+abbrev pub behind_numbers : List ℕ → Result (List ℕ) LineFaultKind → Result (List ℕ) LineFaultKind
+behind_numbers front read = with_read (λ ns. front ++ ns) read
+
+-- of literals,
+abbrev pub behind_literals : List ℤ → Result (List ℤ × List (Option ℤ)) LineFaultKind
+    → Result (List ℤ × List (Option ℤ)) LineFaultKind
+behind_literals front read = with_read (λ r. (front ++ r.0, r.1)) read
+
+-- of hints,
+abbrev pub behind_hints : List ℕ → Result (List ℕ × List HintGroup) LineFaultKind
+    → Result (List ℕ × List HintGroup) LineFaultKind
+behind_hints front read = with_read (λ r. (front ++ r.0, r.1)) read
+
+-- and of groups
+abbrev pub behind_groups : List HintGroup → Result (List HintGroup) LineFaultKind
+    → Result (List HintGroup) LineFaultKind
+behind_groups front read = with_read (λ gs. front ++ gs) read
+
+-- Numbers were read on, from some bytes to others: as hints, and as numbers of a deletion.
+pub record IsReadOn (old : List ℕ) (bytes : List ℕ) (new : List ℕ) (rest : List ℕ) : Type 0 where
+  pub hints : (ended : Bool) → behind_hints new (hints_of ended (words_of rest))
+      ≡ behind_hints old (hints_of ended (words_of bytes))
+  pub numbers : (ended : Bool) → behind_numbers new (numbers_of ended (words_of rest))
+      ≡ behind_numbers old (numbers_of ended (words_of bytes))
 
 -- hints and groups behind a candidate are its group and the others
 abbrev pub group_before : ℕ → List ℕ × List HintGroup → List HintGroup

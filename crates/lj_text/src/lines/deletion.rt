@@ -4,29 +4,20 @@ ghost use Rattle.lj_text.specs.inner.LineReading.{Gives, words_of};
 
 use super::closing::{check_closed, cut_short};
 use super::fault::LineFaultKind;
-use crate::bytes::{Word, next_word, short_number};
-use crate::numbers::NumberRoom;
+use crate::bytes::{Word, next_word};
+use crate::numbers::Numbers;
 
 /// The numbers up to the closing 0.
 pub(super) fn read_numbers(
-    numbers: &mut NumberRoom,
+    numbers: &mut Numbers,
     ended: bool,
     bytes: &[u8],
 ) -> Result<(), LineFaultKind>
     ensures { Gives (λ _. numbers.new) result (numbers_of ended (words_of bytes.now)) }
 {
     numbers.clear();
-    let mut rest = bytes;
+    let mut rest = numbers.read_short(bytes);
     loop {
-        if let Some((number, after)) = short_number(rest) {
-            if number == 0 {
-                check_closed(after)?;
-                return Ok(());
-            }
-            numbers.push(u64::from(number))?;
-            rest = after;
-            continue;
-        }
         let Some((word, after)) = next_word(rest) else {
             return Err(cut_short(ended));
         };
@@ -40,6 +31,6 @@ pub(super) fn read_numbers(
             Word::Negative(_) => return Err(LineFaultKind::Syntax),
             Word::Beyond => return Err(LineFaultKind::NumberRange),
         }
-        rest = after;
+        rest = numbers.read_short(after);
     }
 }

@@ -110,7 +110,27 @@ impl Held {
     }
 
     /// Lets go of all but the last bytes, which begin a line.
+    #[inline(always)]
     pub fn keep_last(&mut self, count: u128)
+        requires within { count ≤ length self.old }
+        requires begins { 0 < count → BeginsLineAt self.old (length self.old - count) }
+        ensures { self.new ≡ drop (length self.old - count) self.old }
+    {
+        let front = match self.runs.front() {
+            Some(run) => run.bytes().len(),
+            None => self.rest.len(),
+        };
+        let place = self.count - count;
+        if place < front as u128 {
+            self.start = place as usize;
+            return;
+        }
+        self.let_go_before(count);
+    }
+
+    /// The same, where runs may be let go of.
+    #[cold]
+    fn let_go_before(&mut self, count: u128)
         requires within { count ≤ length self.old }
         requires begins { 0 < count → BeginsLineAt self.old (length self.old - count) }
         ensures { self.new ≡ drop (length self.old - count) self.old }

@@ -1,36 +1,26 @@
 //! Hints and groups of hints.
-ghost use Rattle.std.specs.Prelude.{◌<◌, length, IfSome, IfOk};
+ghost use Rattle.std.specs.Prelude.{◌≡◌, ◌<◌, [], length, IfSome, IfOk};
 ghost use Rattle.lj_text.specs.Lines.{hints_of, with_read};
-ghost use Rattle.lj_text.specs.inner.LineReading.{Gives, HintsGive, words_of, group_before};
+ghost use Rattle.lj_text.specs.inner.LineReading.{Gives, HintsGive, words_of, group_before, behind_hints};
 
 use super::closing::{check_closed, cut_short};
 use super::fault::LineFaultKind;
-use crate::bytes::{Word, next_word, short_number};
-use crate::numbers::{Group, NumberRoom, Numbers};
-use std::alloc::Global;
+use crate::bytes::{Word, next_word};
+use crate::numbers::{Group, Groups, Numbers};
 
-/// The hints up to the closing 0 or a candidate, and that candidate with what follows it.
+/// The hints up to the closing 0 or a candidate, behind those that were read, and that candidate with what follows it.
 fn read_hints<'a>(
-    hints: &mut NumberRoom,
+    hints: &mut Numbers,
     ended: bool,
     bytes: &'a [u8],
 ) -> Result<Option<(u64, &'a [u8])>, LineFaultKind>
-    ensures hints { HintsGive ended hints.new result (hints_of ended (words_of bytes.now)) }
+    ensures hints { HintsGive ended hints.new result
+        (behind_hints hints.old (hints_of ended (words_of bytes.now))) }
     ensures shorter { IfOk result
         (λ next. IfSome next (λ next. length next.1.now < length bytes.now)) }
 {
-    hints.clear();
-    let mut rest = bytes;
+    let mut rest = hints.read_short(bytes);
     loop {
-        if let Some((number, after)) = short_number(rest) {
-            if number == 0 {
-                check_closed(after)?;
-                return Ok(None);
-            }
-            hints.push(u64::from(number))?;
-            rest = after;
-            continue;
-        }
         let Some((word, after)) = next_word(rest) else {
             return Err(cut_short(ended));
         };
@@ -44,32 +34,33 @@ fn read_hints<'a>(
             Word::NoNumber => return Err(LineFaultKind::BadNumber),
             Word::Beyond => return Err(LineFaultKind::NumberRange),
         }
-        rest = after;
+        rest = hints.read_short(after);
     }
 }
 
 /// The groups up to the closing 0, where the first one's candidate was read.
 fn read_groups(
-    alloc: Global,
-    room: &mut NumberRoom,
+    groups: &mut Groups,
+    room: &mut Numbers,
     ended: bool,
     first: u64,
     bytes: &[u8],
-) -> Result<Vec<Group>, LineFaultKind>
-    ensures { Gives (λ v. v.items) result
+) -> Result<(), LineFaultKind>
+    requires { groups.old ≡ [] }
+    ensures { Gives (λ _. groups.new) result
         (with_read (group_before first) (hints_of ended (words_of bytes.now))) }
 {
-    let mut groups = Vec::new(alloc);
     let mut candidate = first;
     let mut rest = bytes;
     loop {
+        room.clear();
         let next = read_hints(room, ended, rest)?;
         groups.push(Group {
             candidate,
-            hints: room.take()?,
+            hints: room.copy()?,
         })?;
         match next {
-            None => return Ok(groups),
+            None => return Ok(()),
             Some((number, after)) => {
                 candidate = number;
                 rest = after;
@@ -78,21 +69,40 @@ fn read_groups(
     }
 }
 
-/// The hints and the groups up to the closing 0.
-#[inline(always)]
-pub(super) fn read_proof(
-    alloc: Global,
-    room: &mut NumberRoom,
+/// The hints behind those that were read, and the groups, up to the closing 0.
+fn read_rest(
+    hints: &mut Numbers,
+    groups: &mut Groups,
+    room: &mut Numbers,
     ended: bool,
     bytes: &[u8],
-) -> Result<(Numbers, Vec<Group>), LineFaultKind>
-    ensures { Gives (λ read. (read.0, read.1.items)) result (hints_of ended (words_of bytes.now)) }
+) -> Result<(), LineFaultKind>
+    requires { groups.old ≡ [] }
+    ensures { Gives (λ _. (hints.new, groups.new)) result
+        (behind_hints hints.old (hints_of ended (words_of bytes.now))) }
 {
-    let next = read_hints(room, ended, bytes)?;
-    let hints = room.take()?;
-    let groups = match next {
-        None => Vec::new(alloc),
-        Some((candidate, after)) => read_groups(alloc, room, ended, candidate, after)?,
-    };
-    Ok((hints, groups))
+    if let Some((candidate, after)) = read_hints(hints, ended, bytes)? {
+        read_groups(groups, room, ended, candidate, after)?;
+    }
+    Ok(())
+}
+
+/// Reads the hints and the groups up to the closing 0.
+#[inline(always)]
+pub(super) fn read_proof(
+    hints: &mut Numbers,
+    groups: &mut Groups,
+    room: &mut Numbers,
+    ended: bool,
+    bytes: &[u8],
+) -> Result<(), LineFaultKind>
+    ensures { Gives (λ _. (hints.new, groups.new)) result (hints_of ended (words_of bytes.now)) }
+{
+    hints.clear();
+    groups.clear();
+    let rest = hints.read_short(bytes);
+    if let [b'0'] = rest {
+        return Ok(());
+    }
+    read_rest(hints, groups, room, ended, rest)
 }

@@ -4,6 +4,7 @@ ghost use Rattle.lj_text.specs.Bytes.{number_of, tokens_of, is_silent};
 ghost use Rattle.lj_text.specs.Lines.{addition_of, deletion_of, import_of, after_zero, after_number, greatest, line_of};
 ghost use Rattle.lj_text.specs.inner.LineReading.{Gives, IsLineTold, words_of, line_said};
 ghost use Rattle.lj_text.specs.LinesRead.{is_line_no_memory};
+ghost use Rattle.lj_text.specs.declared.line.Line.TheVariants.{Add};
 ghost use Rattle.lj_clause.specs.declared.lit.TheConstants.{MAX_VARIABLE};
 
 use super::closing::{check_closed, cut_short};
@@ -13,9 +14,9 @@ use super::hints::read_proof;
 use super::judge::judge;
 use super::literals::read_literals;
 use super::room::Room;
+use crate::boxed::Boxed;
 use crate::bytes::{Word, after_blanks, first_word, next_token, short_number, word_of};
 use crate::line::{Addition, Line};
-use crate::numbers::Groups;
 use lj_clause::{Clause, Lemma};
 
 /// The literals, hints and groups of an addition.
@@ -30,22 +31,45 @@ fn addition(
     requires { max ≤ MAX_VARIABLE }
     ensures { Gives (λ line. line) result (addition_of max ended number (words_of bytes.now)) }
 {
+    let mut place = room.addition()?;
+    write_addition(&mut place, room, max, ended, number, bytes)?;
+    Ok(Line::Add(Boxed::from_box(place)))
+}
+
+/// Writes the literals, hints and groups of an addition into a place.
+#[inline(always)]
+fn write_addition(
+    place: &mut Addition,
+    room: &mut Room,
+    max: u32,
+    ended: bool,
+    number: u64,
+    bytes: &[u8],
+) -> Result<(), LineFaultKind>
+    requires { max ≤ MAX_VARIABLE }
+    ensures { Gives (λ _. Add place.new) result
+        (addition_of max ended number (words_of bytes.now)) }
+{
     let rest = read_literals(&mut room.literals, max, ended, bytes)?;
-    let (hints, groups) = read_proof(room.alloc, &mut room.numbers, ended, rest)?;
-    Ok(Line::Add(Addition {
-        number,
-        lemma: Lemma::from_lits(room.alloc, &room.literals)?,
-        hints,
-        groups: Groups::new(groups),
-    }))
+    read_proof(
+        &mut place.hints,
+        &mut place.groups,
+        &mut room.hints,
+        ended,
+        rest,
+    )?;
+    place.number = number;
+    place.lemma = Lemma::from_room(room.alloc, &mut room.literals)?;
+    Ok(())
 }
 
 /// The numbers of a deletion.
 fn deletion(room: &mut Room, ended: bool, bytes: &[u8]) -> Result<Line, LineFaultKind>
     ensures { Gives (λ line. line) result (deletion_of ended (words_of bytes.now)) }
 {
-    read_numbers(&mut room.numbers, ended, bytes)?;
-    Ok(Line::Delete(room.numbers.take()?))
+    let mut place = room.deletion()?;
+    read_numbers(&mut place, ended, bytes)?;
+    Ok(Line::Delete(Boxed::from_box(place)))
 }
 
 /// The literals of an import.
@@ -63,7 +87,10 @@ fn import(
     check_closed(rest)?;
     Ok(Line::Import {
         number,
-        clause: Clause::from_lits(room.alloc, &room.literals)?,
+        clause: Boxed::new(
+            room.alloc,
+            Clause::from_room(room.alloc, &mut room.literals)?,
+        )?,
     })
 }
 

@@ -205,6 +205,18 @@ impl LineReader {
         }
     }
 
+    /// Takes a line back that is done, so that a line to come is written where it stood.
+    #[inline]
+    pub fn reuse(&mut self, line: Line)
+        ensures { self.new ≡ self.old }
+    {
+        match line {
+            Line::Add(addition) => self.room.addition = Some(addition.into_box()),
+            Line::Delete(numbers) => self.room.deletion = Some(numbers.into_box()),
+            Line::Import { .. } => {}
+        }
+    }
+
     /// The number of the line that was handed out last; after an answer without a line, of the line being read.
     pub fn at(&self) -> u64
         ensures { result ≡ self.now.at }

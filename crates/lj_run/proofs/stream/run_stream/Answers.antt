@@ -1,7 +1,8 @@
 use Rattle.std.proofs.Common.{rules, ◌≡◌, ◌+◌, true, false, Option, Some, None, sym, ap, ◌∙◌, subst, arith}
 use Rattle.lj_text.specs.Streams.{source_state}
 use Rattle.lj_book.specs.State.{State}
-use Rattle.lj_run.specs.inner.Reading.{LineRead, LineMissed}
+use Rattle.lj_text.specs.LinesRead.{LinesRead}
+use Rattle.lj_run.specs.inner.Reading.{LineRead, LineMissed, MayRead}
 use Rattle.lj_run.specs.Run.{IsStreamRun, progress_of, has_verdict}
 use Rattle.lj_run.specs.declared.stream.Tally.{Tally}
 use Rattle.lj_run.specs.declared.outcome.End.TheVariants.{Line as AtLine}
@@ -89,11 +90,12 @@ loop-preserved g c =
       goes = tt;
       finite = tt;
       unfailed = c.in-Ok-Some.ensures.unfailed;
-      may_read = c.in-Ok-Some.ensures.may_read;
+      may_read = subst (λ (q : LinesRead). MayRead q c.next_line.new.ended) (sym c.reuse.ensures) c.in-Ok-Some.ensures.may_read;
       ended = c.in-Ok-Some.ensures.ended;
-      max = c.in-Ok-Some.ensures.max ∙ c.loop.invariant.max;
+      max = ap (λ (q : LinesRead). q.max) c.reuse.ensures ∙ c.in-Ok-Some.ensures.max ∙ c.loop.invariant.max;
       room = search rules;
       counted = omega (arith, longer, more, c.loop.invariant.counted);
       formula = entered_formula c.loop.book c.enter.new.book c.args.seat c.in-Ok-Some.line c.in-Ok.ensures.0 ∙ c.loop.invariant.formula;
-      runs = subst (λ (t : Tally). RunsTo c.args.seat (seen c.args.source.now) after start (progress_of c.enter.new.book t.added t.deleted t.imported) new) (sym c.count.ensures) on;
+      runs = subst (λ (q : LinesRead). RunsTo c.args.seat (seen c.args.source.now) after start (progress_of c.enter.new.book c.count.new.self.added c.count.new.self.deleted c.count.new.self.imported) q) (sym c.reuse.ensures)
+          (subst (λ (t : Tally). RunsTo c.args.seat (seen c.args.source.now) after start (progress_of c.enter.new.book t.added t.deleted t.imported) new) (sym c.count.ensures) on);
     }

@@ -2,9 +2,10 @@ use Rattle.std.proofs.Common.{rules, ◌+◌, true, Option, Some, None, sym, ap,
 use Rattle.lj_text.specs.Streams.{source_state}
 use Rattle.lj_run.specs.Joint.{IsStreamBeside, AreCountsOf}
 use Rattle.lj_run.specs.inner.Joint.{report_of}
-use Rattle.lj_run.specs.inner.Reading.{LineRead, LineMissed}
+use Rattle.lj_text.specs.LinesRead.{LinesRead}
+use Rattle.lj_run.specs.inner.Reading.{LineRead, LineMissed, MayRead}
 use Rattle.lj_run.specs.declared.stream.Tally.{Tally}
-use Rattle.lj_run.proofs.JointLemmas.{beside_stopped, beside_ended, beside_missed, beside_refused, submitted_on, counts_on}
+use Rattle.lj_run.proofs.JointLemmas.{beside_stopped, beside_ended, beside_missed, beside_refused, submitted_on, counts_on, SubmittedTo}
 use Rattle.lj_run.proofs.RunLemmas.{count_more}
 use Rattle.lj_run.proofs.joint.worker.run_lines.Goals as goal
 use Rattle.lj_clause.specs.declared.lit.TheConstants.{MAX_VARIABLE}
@@ -71,11 +72,12 @@ loop-preserved g c =
       goes = tt;
       finite = tt;
       unfailed = c.in-Ok-Some.ensures.unfailed;
-      may_read = c.in-Ok-Some.ensures.may_read;
+      may_read = subst (λ (q : LinesRead). MayRead q c.next_line.new.ended) (sym c.reuse.ensures) c.in-Ok-Some.ensures.may_read;
       ended = c.in-Ok-Some.ensures.ended;
-      max = c.in-Ok-Some.ensures.max ∙ i.max;
+      max = ap (λ (q : LinesRead). q.max) c.reuse.ensures ∙ c.in-Ok-Some.ensures.max ∙ i.max;
       room = search rules;
       counted = ap (λ s. s.count) c.in-Ok.ensures.counted ∙ ap (λ n. n + 1) i.counted ∙ sym more;
       counts = subst (λ (t : Tally). AreCountsOf c.enter.new.told.items t.added t.deleted t.imported) (sym c.count-in-Ok.ensures) counts;
-      runs = submitted_on c.loop.told.items c.enter.new.told.items c.in-Ok-Some.line c.loop.reader new (seen c.args.source.now) before after r read c.in-Ok.ensures.told;
+      runs = subst (λ (q : LinesRead). SubmittedTo (seen c.args.source.now) after c.enter.new.told.items q) (sym c.reuse.ensures)
+          (submitted_on c.loop.told.items c.enter.new.told.items c.in-Ok-Some.line c.loop.reader new (seen c.args.source.now) before after r read c.in-Ok.ensures.told);
     }

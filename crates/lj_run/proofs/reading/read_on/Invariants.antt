@@ -3,7 +3,7 @@ use Rattle.lj_text.specs.LinesRead.{LineReaderStandsAt}
 use Rattle.lj_text.specs.Streams.{source_state, HasEnded}
 use Rattle.lj_run.specs.inner.Reading.{MayRead}
 use Rattle.lj_run.proofs.ReadingLemmas.{FedSince}
-use Rattle.lj_run.proofs.reading.next_line.Given as goal
+use Rattle.lj_run.proofs.reading.read_on.Given as goal
 
 abbrev pub invariant-loop : goal.invariant-loop
 invariant-loop g l =

@@ -9,7 +9,7 @@ use Rattle.lj_clause.specs.Literal.{lit_cmp}
 use Rattle.lj_clause.specs.inner.Literal.{lit_cmp_total}
 use Rattle.lj_clause.proofs.Literals.{same_literal}
 use Rattle.lj_clause.proofs.LiteralSets.{from_literals-same, list_any-dedup}
-use Rattle.lj_clause.proofs.clause.in_order.Goals as goal
+use Rattle.lj_clause.proofs.clause.put_in_order.Goals as goal
 
 pub returns-clause-rising : goal.returns-clause-rising
 returns-clause-rising c =
@@ -21,5 +21,4 @@ returns-clause-same c =
     from_literals-same _ _ (λ q.
     ap (list_any (eq_by_cmp lit_cmp q)) (dedup_is (eq_by_cmp lit_cmp) _ _ c.dedup.ensures.filtered)
     ∙ list_any-dedup (eq_by_cmp lit_cmp) (eq_by_cmp lit_cmp q) (λ x k e. ap (eq_by_cmp lit_cmp q) (same_literal x k e)) c.sort_unstable.new.self.items
-    ∙ sym (list_any-IsPermutation (eq_by_cmp lit_cmp q) c.in_ok-sorted.sorted.items c.sort_unstable.new.self.items c.sort_unstable.ensures.permutation)
-    ∙ ap (list_any (eq_by_cmp lit_cmp q)) c.in_ok-sorted.ensures.items)
+    ∙ sym (list_any-IsPermutation (eq_by_cmp lit_cmp q) c.args.lits.now.items c.sort_unstable.new.self.items c.sort_unstable.ensures.permutation))
