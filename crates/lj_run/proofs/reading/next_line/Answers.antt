@@ -1,9 +1,6 @@
-use Rattle.std.proofs.Common.{◌≡◌, ◌+◌, ◌++◌, Option, Some, Ok, Err, refl, sym, ap, ◌∙◌, subst}
-use Rattle.std.specs.Prelude.{slice_get}
-use Rattle.lj_text.specs.Lines.{all_said}
+use Rattle.std.proofs.Common.{◌+◌, ◌++◌, Option, Some, Ok, refl, sym, ap, ◌∙◌, subst}
 use Rattle.lj_text.specs.LinesRead.{LineReaderStandsAt, IsReadingAt, last_number, handed_out}
 use Rattle.lj_text.specs.Streams.{source_state}
-use Rattle.lj_run.specs.Reading.{IsRightLine}
 use Rattle.lj_run.proofs.ReadingLemmas.{fed_none, line_of_text, fault_of_text, right_of_text, line_read, line_faulty, read_behind, missed_behind}
 use Rattle.lj_run.proofs.reading.next_line.Goals as goal
 
