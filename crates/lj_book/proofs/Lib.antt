@@ -1,5 +1,6 @@
 pub mod Lists
 pub mod NumberMaps
+mod Mapped
 pub mod TableLaws
 pub mod HistoryLaws
 pub mod DropLaws
@@ -23,7 +24,7 @@ pub mod PlayLaws
 mod Slots
 mod Bounds
 mod OccurrenceLaws
-mod Listings
+mod Chains
 pub mod InsideLaws
 pub mod LineLaws
 pub mod WordLaws

@@ -1,6 +1,6 @@
 -- Lists as far as a loop has come.
-use Rattle.std.proofs.Common.{◌≡◌, ap, refl, ◌∙◌, ℕ, zero, suc, ◌+◌, ◌<◌, ◌≤◌, take, get_or, Bool, cond, true, false, arith}
-use Rattle.std.specs.Prelude.{List, [], ◌∷◌, ◌++◌, length, Option, Some, None, filter, filter_map, slice_get, not}
+use Rattle.std.proofs.Common.{◌≡◌, ap, refl, ◌∙◌, ℕ, ◌+◌, ◌<◌, ◌≤◌, take, get_or, Bool, cond, true, false, arith}
+use Rattle.std.specs.Prelude.{List, [], ◌∷◌, ◌++◌, length, Option, Some, None, filter, filter_map, not}
 use Rattle.std.proofs.lemmas.Bool.{false≢true}
 use Rattle.std.proofs.lemmas.List.Filters.{length-filter_both}
 use Rattle.std.specs.List.{cons_option}
@@ -32,20 +32,6 @@ filter-push test (y ∷ xs) x =
       | false ↦ filter-push test xs x
     ]
 
--- one more element that passes, and one that doesn't
-pub one_kept : {X : Type 0} (test : X → Bool) (xs : List X) (i : ℕ) (d : X) → i < length xs → test (get_or xs i d) ≡ true → filter test (take (i + 1) xs) ≡ filter test (take i xs) ++ get_or xs i d ∷ []
-one_kept test xs i d lt passes =
-    ap (filter test) (take_more xs i d lt)
-    ∙ filter-push test (take i xs) (get_or xs i d)
-    ∙ ap (λ b. filter test (take i xs) ++ cond b (get_or xs i d ∷ []) []) passes
-
-pub one_left : {X : Type 0} (test : X → Bool) (xs : List X) (i : ℕ) (d : X) → i < length xs → test (get_or xs i d) ≡ false → filter test (take (i + 1) xs) ≡ filter test (take i xs)
-one_left test xs i d lt fails =
-    ap (filter test) (take_more xs i d lt)
-    ∙ filter-push test (take i xs) (get_or xs i d)
-    ∙ ap (λ b. filter test (take i xs) ++ cond b (get_or xs i d ∷ []) []) fails
-    ∙ append-nil (filter test (take i xs))
-
 pub none_more : {X : Type 0} (test : X → Bool) (xs : List X) (i : ℕ) (d : X) → i < length xs → filter test (take i xs) ≡ [] → test (get_or xs i d) ≡ false → filter test (take (i + 1) xs) ≡ []
 none_more test xs i d lt none fails =
     ap (filter test) (take_more xs i d lt)
@@ -60,15 +46,6 @@ is_nothing (x ∷ xs) = false
 pub not_empty : {X : Type 0} (x : X) (xs : List X) → x ∷ xs ≡ [] → ⊥
 unfolding is_nothing
 not_empty x xs e = false≢true (ap is_nothing e)
-
-pub first_one : {X : Type 0} (test : X → Bool) (xs : List X) (i : ℕ) (d : X) → i < length xs → filter test (take i xs) ≡ [] → test (get_or xs i d) ≡ true → slice_get (filter test xs) 0 ≡ Some (get_or xs i d)
-first_one test [] i d lt none passes = absurd (grind arith)
-first_one test (x ∷ xs) zero d lt none passes = ap (λ b. slice_get (cond b (x ∷ filter test xs) (filter test xs)) 0) passes
-first_one {X} test (x ∷ xs) (suc i) d lt none passes =
-    elim (test x) as (λ b. cond b (x ∷ filter test (take i xs)) (filter test (take i xs)) ≡ [] → slice_get (cond b (x ∷ filter test xs) (filter test xs)) 0 ≡ Some (get_or xs i d)) [
-      | true ↦ λ e. absurd (not_empty x (filter test (take i xs)) e)
-      | false ↦ λ e. first_one test xs i d (grind arith) e passes
-    ] none
 
 -- ---- how long what passes a test is
 

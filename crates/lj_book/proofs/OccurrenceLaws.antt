@@ -21,7 +21,6 @@ use Rattle.lj_clause.proofs.SortedEntries.{none_below, less_not_equal, is_sorted
 use Rattle.lj_book.specs.Tables.{is_among}
 use Rattle.lj_book.specs.Lookup.{is_same, is_clause, numbers_where, numbers_holding, least_number}
 use Rattle.lj_book.specs.inner.Occurrences.{Lists, places_of, list_or_empty, list_at, put_if, AreOccurrences, AreListed, AreIndexed}
-use Rattle.lj_book.proofs.NumberMaps.{same_map}
 use Rattle.lj_book.proofs.TableLaws.{among_push}
 use Rattle.lj_book.proofs.HistoryLaws.{among-filter, among_tied}
 use Rattle.lj_book.proofs.DropLaws.{Rises-sorted, sorted-keys, same_rising}
@@ -36,28 +35,6 @@ pub list-insert : (m : Lists) (place : ℕ) (ns : List ℕ) (k : ℕ) → list_a
 list-insert m place ns k =
     ap list_or_empty (fin.get-insert nat_cmp_total m place ns k ∙ ap (λ b. cond b (Some ns) (fin.get m k)) (unsigned_tied k place))
     ∙ (elim (k == place) as (λ b. list_or_empty (cond b (Some ns) (fin.get m k)) ≡ cond b ns (list_at m k)) [ true ↦ refl | false ↦ refl ])
-
--- a list that was taken out and is put back
-pub put_back : (m : Lists) (place : ℕ) (ns : List ℕ) → fin.insert (fin.remove m place) place ns ≡ fin.insert m place ns
-put_back m place ns = same_map _ _ (λ q.
-    fin.get-insert nat_cmp_total (fin.remove m place) place ns q
-    ∙ ap (cond (eq_by_cmp nat_cmp q place) (Some ns)) (fin.get-remove nat_cmp_total m place q)
-    ∙ twice (eq_by_cmp nat_cmp q place) ns (fin.get m q)
-    ∙ sym (fin.get-insert nat_cmp_total m place ns q))
-  where
-    twice : (b : Bool) (ns : List ℕ) (o : Option (List ℕ)) → cond b (Some ns) (cond b None o) ≡ cond b (Some ns) o
-    twice true ns o = refl
-    twice false ns o = refl
-
--- nothing is taken out where there is no list
-pub none_taken : (m : Lists) (place : ℕ) → fin.get m place ≡ None → fin.remove m place ≡ m
-none_taken m place none = same_map _ _ (λ q.
-    fin.get-remove nat_cmp_total m place q
-    ∙ ap (λ b. cond b None (fin.get m q)) (unsigned_tied q place)
-    ∙ (elim (q == place) as (λ b. (q == place) ≡ b → cond b None (fin.get m q) ≡ fin.get m q) [
-      | true ↦ λ e. sym (ap (fin.get m) (eqb-true q place e) ∙ none)
-      | false ↦ λ e. refl
-    ]) refl)
 
 -- ---- a number put at the end
 

@@ -12,7 +12,7 @@ use Rattle.std.specs.declared.cmp.Ordering.TheVariants.{Less, Equal, Greater}
 use Rattle.std.specs.Ordering.{nat_cmp, eq_by_cmp, is_lt}
 use Rattle.std.specs.Cmp.{nat_cmp_total}
 use Rattle.std.specs.FinMap as fin
-use Rattle.std.specs.FinMap.Entries.{find, is_sorted, below_all}
+use Rattle.std.specs.FinMap.Entries.{is_sorted, below_all}
 use Rattle.lj_clause.specs.Literal.{lit_cmp}
 use Rattle.lj_clause.specs.LiteralSet.{LiteralSet, literals, from_literals}
 use Rattle.lj_clause.specs.Lemma.{LemmaValue}
@@ -23,25 +23,15 @@ use Rattle.lj_book.specs.inner.Slots.{AreBefore}
 use Rattle.lj_book.specs.inner.Occurrences.{Lists, AreListed, AreIndexed}
 use Rattle.lj_book.specs.inner.Places.{Places, clause_in, placed, IsPlace, ArePlaces, pivots, AreRecorded}
 use Rattle.lj_book.proofs.NumberMaps.{same_map}
+use Rattle.lj_book.proofs.Mapped.{get_mapped, mapped_empty, mapped_insert, mapped_remove}
 use Rattle.lj_book.proofs.HistoryLaws.{past_the_end}
 use Rattle.lj_book.proofs.OccurrenceLaws.{Indexed-insert}
 use Rattle.lj_book.proofs.RecordLaws.{clause_back}
 
 -- ---- what stands under a number
 
-find_mapped : {A B : Type 0} (g : A → B) (q : ℕ) (es : List (ℕ × A)) → find nat_cmp q (map (λ e. (e.0, g e.1)) es) ≡ option_map g (find nat_cmp q es)
-find_mapped g q [] = refl
-find_mapped {A} {B} g q (e ∷ es) = ap (cond (eq_by_cmp nat_cmp q e.0) (Some (g e.1))) (find_mapped g q es) ∙ by (eq_by_cmp nat_cmp q e.0)
-  where
-    by : (b : Bool) → cond b (Some (g e.1)) (option_map g (find nat_cmp q es)) ≡ option_map g (cond b (Some e.1) (find nat_cmp q es))
-    by true = refl
-    by false = refl
-
 pub get_placed : (lits : List ℤ) (m : Places) (q : ℕ) → fin.get (placed lits m) q ≡ option_map (clause_in lits) (fin.get m q)
-get_placed lits m q =
-    fin.get-from_entries nat_cmp_total (map (λ e. (e.0, clause_in lits e.1)) (fin.entries m)) q
-    ∙ find_mapped (clause_in lits) q (fin.entries m)
-    ∙ ap (option_map (clause_in lits)) (sym (fin.get-entries m q))
+get_placed lits m q = get_mapped (clause_in lits) m q
 
 pub found_placed : (lits : List ℤ) (m : Places) (q : ℕ) (p : Place) → fin.get m q ≡ Some p → Some (clause_in lits p) ≡ fin.get (placed lits m) q
 found_placed lits m q p e = sym (get_placed lits m q ∙ ap (option_map (clause_in lits)) e)
@@ -61,31 +51,13 @@ key_placed lits m q = by (fin.get m q) ∙ ap is_some (sym (get_placed lits m q)
     by (Some p) = refl
 
 pub placed_empty : (lits : List ℤ) (m : Places) → m ≡ fin.empty → placed lits m ≡ fin.empty
-placed_empty lits m is = same_map _ _ (λ q. get_placed lits m q ∙ ap (λ (n : Places). option_map (clause_in lits) (fin.get n q)) is ∙ ap (option_map (clause_in lits)) (fin.get-empty nat_cmp q) ∙ sym (fin.get-empty nat_cmp q))
-
-put_mapped : {A B : Type 0} (g : A → B) (b : Bool) (x : A) (o : Option A) → option_map g (cond b (Some x) o) ≡ cond b (Some (g x)) (option_map g o)
-put_mapped g true x o = refl
-put_mapped g false x o = refl
-
-cut_mapped : {A B : Type 0} (g : A → B) (b : Bool) (o : Option A) → option_map g (cond b None o) ≡ cond b None (option_map g o)
-cut_mapped g true o = refl
-cut_mapped g false o = refl
+placed_empty lits m is = mapped_empty (clause_in lits) m is
 
 pub placed_insert : (lits : List ℤ) (m : Places) (k : ℕ) (p : Place) → placed lits (fin.insert m k p) ≡ fin.insert (placed lits m) k (clause_in lits p)
-placed_insert lits m k p = same_map _ _ (λ q.
-    get_placed lits (fin.insert m k p) q
-    ∙ ap (option_map (clause_in lits)) (fin.get-insert nat_cmp_total m k p q)
-    ∙ put_mapped (clause_in lits) (eq_by_cmp nat_cmp q k) p (fin.get m q)
-    ∙ ap (cond (eq_by_cmp nat_cmp q k) (Some (clause_in lits p))) (sym (get_placed lits m q))
-    ∙ sym (fin.get-insert nat_cmp_total (placed lits m) k (clause_in lits p) q))
+placed_insert lits m k p = mapped_insert (clause_in lits) m k p
 
 pub placed_remove : (lits : List ℤ) (m : Places) (k : ℕ) → placed lits (fin.remove m k) ≡ fin.remove (placed lits m) k
-placed_remove lits m k = same_map _ _ (λ q.
-    get_placed lits (fin.remove m k) q
-    ∙ ap (option_map (clause_in lits)) (fin.get-remove nat_cmp_total m k q)
-    ∙ cut_mapped (clause_in lits) (eq_by_cmp nat_cmp q k) (fin.get m q)
-    ∙ ap (cond (eq_by_cmp nat_cmp q k) None) (sym (get_placed lits m q))
-    ∙ sym (fin.get-remove nat_cmp_total (placed lits m) k q))
+placed_remove lits m k = mapped_remove (clause_in lits) m k
 
 -- ---- more literals behind the others
 

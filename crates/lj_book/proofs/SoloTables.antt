@@ -4,17 +4,17 @@ use Rattle.std.specs.Prelude.{◌⊎◌, List, [], ◌∷◌, map, length, Optio
 use Rattle.std.proofs.lemmas.Bool.{false≢true}
 use Rattle.std.proofs.lemmas.Bool.Decides.{nat_tests}
 use Rattle.std.specs.declared.cmp.Ordering.TheVariants.{Equal}
-use Rattle.std.specs.Ordering.{nat_cmp, eq_by_cmp, is_eq}
+use Rattle.std.specs.Ordering.{nat_cmp, eq_by_cmp}
 use Rattle.std.specs.Cmp.{nat_cmp_total}
 use Rattle.std.specs.FinMap as fin
 use Rattle.std.specs.FinMap.{nat_cmp-IsAntisymmetric}
-use Rattle.std.specs.FinMap.Entries.{find}
 use Rattle.lj_clause.specs.LiteralSet.{LiteralSet, no_literals}
 use Rattle.lj_clause.specs.ClauseMap.{ClauseMap}
 use Rattle.lj_book.specs.Tables.{Table, Tables, table_of, joint_of, with_table, with_binding, without_seat, is_among, without_keys, is_held}
 use Rattle.lj_book.specs.inner.Holders.{count_in}
 use Rattle.lj_book.specs.Solo.{Holdings, with_clause, holdings_of, without_holdings}
 use Rattle.lj_book.proofs.NumberMaps.{same_map}
+use Rattle.lj_book.proofs.Mapped.{get_mapped}
 use Rattle.lj_book.proofs.TableLaws.{held_counts, count-remove, holders_at_least, self_counts, get-without_keys, joint_in_table}
 use Rattle.lj_book.proofs.HistoryLaws.{among-keys}
 use Rattle.lj_book.proofs.DropLaws.{Rises-keys, same_rising}
@@ -109,20 +109,9 @@ bound_is_held ts seat own joint is = go (table_of ts seat) refl
 
 -- ---- holdings
 
-find-mapped : {X Y : Type 0} (f : X → Y) (es : List (ℕ × X)) (q : ℕ) → find nat_cmp q (map (λ e. (e.0, f e.1)) es) ≡ option_map f (find nat_cmp q es)
-find-mapped f [] q = refl
-find-mapped f (e ∷ es) q =
-    elim (is_eq (nat_cmp q e.0)) as (λ b. cond b (Some (f e.1)) (find nat_cmp q (map (λ e. (e.0, f e.1)) es)) ≡ option_map f (cond b (Some e.1) (find nat_cmp q es))) [
-      | true ↦ refl
-      | false ↦ find-mapped f es q
-    ]
-
 -- an own number is bound to its joint number, with that number's clause
 pub get-holdings : (p : ClauseMap) (t : Table) (own : ℕ) → fin.get (holdings_of p t) own ≡ option_map (with_clause p) (fin.get t own)
-get-holdings p t own =
-    fin.get-from_entries nat_cmp_total (map (λ e. (e.0, with_clause p e.1)) (fin.entries t)) own
-    ∙ find-mapped (with_clause p) (fin.entries t) own
-    ∙ ap (option_map (with_clause p)) (sym (fin.get-entries t own))
+get-holdings p t own = get_mapped (with_clause p) t own
 
 pub same_holdings : (h g : Holdings) → ((q : ℕ) → fin.get h q ≡ fin.get g q) → h ≡ g
 same_holdings h g e = same_map h g e

@@ -13,4 +13,4 @@ pub mod Fronts
 pub mod Solo
 pub mod Slots
 pub mod Occurrences
-pub mod NumberLists
+pub mod Chains

@@ -82,6 +82,31 @@ impl Bindings {
         self.long.insert(own, joint)
     }
 
+    /// Binds an own number, whether it is bound or not. Where a growth was refused, it isn't bound any more.
+    ///
+    /// # Errors
+    /// [`NoMemory`] where a growth was refused.
+    #[inline(always)]
+    pub(crate) fn set(&mut self, own: u64, joint: u64) -> Result<(), NoMemory>
+        ensures ok { OnOk result (self.new ≡ fin.insert self.old own joint) }
+        ensures err { OnErr result (self.new ≡ fin.remove self.old own) }
+    {
+        if joint < SHORT_END && self.short.get(own).is_some() {
+            return self.short.insert(own, joint);
+        }
+        self.set_anew(own, joint)
+    }
+
+    /// The same, where the own number may have no slot yet.
+    #[inline(never)]
+    fn set_anew(&mut self, own: u64, joint: u64) -> Result<(), NoMemory>
+        ensures ok { OnOk result (self.new ≡ fin.insert self.old own joint) }
+        ensures err { OnErr result (self.new ≡ fin.remove self.old own) }
+    {
+        let _ = self.remove(own);
+        self.insert(own, joint)
+    }
+
     /// The own numbers, rising. Takes O(n log n) time.
     ///
     /// # Errors

@@ -109,8 +109,9 @@ impl Book {
         &self.formula
     }
 
-    /// The numbers of the live clauses that hold a literal, rising. Takes time linear in them once an addition or an
-    /// import has asked for clauses by their literals, and in all live clauses before.
+    /// The numbers of the live clauses that hold a literal, rising. Once an addition or an import has asked for clauses by
+    /// their literals, takes time linear in them and in those that died since one asked for this literal; before, in all
+    /// live clauses.
     ///
     /// # Errors
     /// [`NoMemory`] where a growth was refused.
@@ -271,7 +272,7 @@ impl Book {
         let place = self.ledger.history().len();
         let (seat, own) = (receipt.seat(), receipt.own());
         enter_addition(&mut self.ledger, &mut self.tables, seat, own, &step)?;
-        self.refuted = refuted_at(self.refuted, place, receipt.lemma().clause());
+        self.refuted = refuted_at(self.refuted, place, &receipt.lemma().clause().view());
         self.added += 1;
         Ok(Added { place, joint })
     }

@@ -13,7 +13,7 @@ ghost use Rattle.lj_book.specs.inner.Kept.{refuted_after};
 use crate::ledger::Ledger;
 use crate::lent_addition::LentAddition;
 use crate::seat_tables::SeatTables;
-use lj_clause::{Clause, NoMemory};
+use lj_clause::{ClauseView, NoMemory};
 use lj_hint::{Pair, Receipt};
 use lj_text::{Addition, Groups, Numbers};
 use std::alloc::Global;
@@ -99,7 +99,7 @@ pub(crate) fn enter_addition(
 }
 
 /// The place of the first empty clause, where this clause enters at that place.
-pub(crate) fn refuted_at(refuted: Option<u64>, place: u64, clause: &Clause) -> Option<u64>
+pub(crate) fn refuted_at(refuted: Option<u64>, place: u64, clause: &ClauseView<'_>) -> Option<u64>
     ensures { result ≡ refuted_after refuted place clause.now }
 {
     match refuted {

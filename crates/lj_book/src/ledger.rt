@@ -20,7 +20,7 @@ use crate::occurrence_lists::OccurrenceLists;
 use crate::place::{Place, clause_at};
 use crate::place_map::PlaceMap;
 use crate::placed_clauses::clauses_of;
-use lj_clause::{Clause, ClauseView, Formula, Lit, NoMemory};
+use lj_clause::{Clause, ClauseView, Formula, Lemma, Lit, NoMemory};
 use lj_text::Numbers;
 use std::alloc::Global;
 use std::marker::Model;
@@ -124,12 +124,31 @@ impl Ledger {
         }
         if let Ok(end) = u32::try_from(self.last.saturating_add(1)) {
             let clauses = LentClauses::new(self.history.lits(), &self.places);
-            self.lists = lists_of(self.history.allocator(), &clauses, end).ok();
+            self.lists = lists_of(self.history.allocator(), &clauses, end);
         }
     }
 
-    /// The numbers of the live clauses that hold the literal, rising. Takes time linear in them where the lists are made, and
-    /// otherwise in all clauses.
+    /// Makes the lists as [`Ledger::make_lists`] does, and sweeps the one in which the candidates of the lemma's pivot were looked
+    /// up. So a number whose clause died is looked at a few times, however often the literal is asked for.
+    pub(crate) fn tend_lists(&mut self, lemma: &Lemma)
+        ensures { self.new ≡ self.old }
+    {
+        self.make_lists();
+        if let Some(pivot) = lemma.pivot() {
+            self.sweep_list(pivot.negated().place() as u64);
+        }
+    }
+
+    /// Sweeps the list under a place, if the lists are made. They are given up where a growth was refused.
+    fn sweep_list(&mut self, place: u64)
+        ensures { self.new ≡ self.old }
+    {
+        let clauses = LentClauses::new(self.history.lits(), &self.places);
+        sweep_one(&mut self.lists, place, &clauses);
+    }
+
+    /// The numbers of the live clauses that hold the literal, rising. Takes time linear in the numbers of its list, dead ones
+    /// among them, where the lists are made, and otherwise in all clauses.
     ///
     /// # Errors
     /// [`NoMemory`] where a growth was refused.
@@ -142,15 +161,19 @@ impl Ledger {
         }
     }
 
-    /// The least number whose live clause is exactly this one. Takes time linear in the clauses that hold that literal of it
-    /// which the fewest hold, where the lists are made, and otherwise in all clauses.
-    pub(crate) fn least_number(&self, wanted: &Clause) -> Option<u64>
-        ensures { result ≡ least_number self.now.live wanted.now }
+    /// The least number whose live clause is exactly this one. Takes time linear in the list of that literal of it which has the
+    /// shortest, for each of its literals, where the lists are made, and otherwise in all clauses; and sweeps that list.
+    pub(crate) fn least_number(&mut self, wanted: &Clause) -> Option<u64>
+        ensures least { result ≡ least_number self.old.live wanted.now }
+        ensures same { self.new ≡ self.old }
     {
-        match &self.lists {
-            Some(lists) => lists.first_same(lists.shortest(wanted), &self.lent(), wanted),
-            None => self.lent().least_number(wanted),
-        }
+        let Some(lists) = &self.lists else {
+            return self.lent().least_number(wanted);
+        };
+        let place = lists.short_place(wanted);
+        let least = lists.first_same(place, &self.lent(), wanted);
+        self.sweep_list(place);
+        least
     }
 
     /// Takes a seat's addition behind the others, and gives its clause the step's number. Takes constant time for each number
@@ -269,17 +292,12 @@ impl Ledger {
         }
     }
 
-    /// Takes the clause of a number out. Takes constant time for each of its literals, amortized.
+    /// Takes the clause of a number out. Takes constant time.
     fn remove(&mut self, number: u64)
         ensures history { self.new.history ≡ self.old.history }
         ensures removed { self.new.live ≡ fin.remove self.old.live number }
     {
-        if let Some(place) = self.places.remove(number) {
-            let lits = self.history.lits();
-            let dead = clause_at(lits, place);
-            let clauses = LentClauses::new(lits, &self.places);
-            count_death(&mut self.lists, &clauses, &dead);
-        }
+        let _ = self.places.remove(number);
     }
 }
 
@@ -323,23 +341,16 @@ fn is_listed(lists: &mut OccurrenceLists, last: u64, number: u64, clause: &Claus
     let Ok(short) = u32::try_from(number) else {
         return false;
     };
-    match lists.add_clause(short, clause) {
-        Ok(()) => true,
-        Err(_) => false,
-    }
+    lists.add_clause(short, clause)
 }
 
-/// Counts the death of a clause in the lists, which are given up where a growth was refused.
-fn count_death(
-    lists: &mut Option<OccurrenceLists>,
-    clauses: &LentClauses<'_>,
-    clause: &ClauseView<'_>,
-)
+/// Sweeps the list under a place, if there are lists, which are given up where a growth was refused.
+fn sweep_one(lists: &mut Option<OccurrenceLists>, place: u64, clauses: &LentClauses<'_>)
     ensures { (bound : ℕ) → AreListed lists.old clauses.now bound
         → AreListed lists.new clauses.now bound }
 {
     let is_kept = match lists {
-        Some(kept) => is_counted(kept, clauses, clause),
+        Some(kept) => kept.sweep(place, clauses),
         None => return,
     };
     if !is_kept {
@@ -347,35 +358,19 @@ fn count_death(
     }
 }
 
-/// Counts the death of a clause in its lists. Answers whether it could be counted; where it couldn't, the lists are of
-/// no use.
-fn is_counted(
-    lists: &mut OccurrenceLists,
-    clauses: &LentClauses<'_>,
-    clause: &ClauseView<'_>,
-) -> bool
-    ensures { (bound : ℕ) → AreOccurrences lists.old (fin.get clauses.now) bound → result ≡ true
-        → AreOccurrences lists.new (fin.get clauses.now) bound }
-{
-    match lists.clause_died(clauses, clause) {
-        Ok(()) => true,
-        Err(_) => false,
-    }
-}
-
-/// The lists of these clauses, each of whose numbers is before the end.
-///
-/// # Errors
-/// [`NoMemory`] where a growth was refused.
-fn lists_of(alloc: Global, clauses: &LentClauses<'_>, end: u32) -> Result<OccurrenceLists, NoMemory>
+/// The lists of these clauses, each of whose numbers is before the end, if no growth was refused and there aren't too many
+/// literals.
+fn lists_of(alloc: Global, clauses: &LentClauses<'_>, end: u32) -> Option<OccurrenceLists>
     requires { (n : ℕ) → fin.contains_key clauses.now n ≡ true → n < end }
-    ensures { IfOk result (λ lists. AreOccurrences lists (fin.get clauses.now) end) }
+    ensures { IfSome result (λ lists. AreOccurrences lists (fin.get clauses.now) end) }
 {
     let mut lists = OccurrenceLists::new(alloc);
     for number in 0..end {
         if let Some(clause) = clauses.get(u64::from(number)) {
-            lists.add_clause(number, &clause)?;
+            if !lists.add_clause(number, &clause) {
+                return None;
+            }
         }
     }
-    Ok(lists)
+    Some(lists)
 }

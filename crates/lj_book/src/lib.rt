@@ -15,7 +15,6 @@ mod ledger;
 mod lent_addition;
 mod lent_clauses;
 mod line_tests;
-mod number_list;
 mod number_map;
 mod occurrence_lists;
 mod own_map;

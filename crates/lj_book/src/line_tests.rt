@@ -35,7 +35,7 @@ impl Live for LiveClauses<'_> {
 }
 
 /// The groups in the recorded form of an addition in joint numbers that the live clauses accept, and its hints in place of
-/// those that were given. Where the candidates of a pivot were asked for, the lists of the clauses are made.
+/// those that were given. Where the candidates of a pivot were asked for, the lists of the clauses are made, and its list is tended.
 ///
 /// # Errors
 /// The refusal of its test, and [`Refusal::NoMemory`] where a growth was refused.
@@ -60,12 +60,12 @@ pub(crate) fn tested_line(
             Ok(Groups::new(Vec::new(alloc)))
         }
         Ok(Passed::Covered(covered)) => {
-            ledger.make_lists();
+            ledger.tend_lists(lemma);
             Ok(covered)
         }
         Err(LineRefusal::Stuck(place)) => Err(Refusal::HintNotUnit(place)),
         Err(LineRefusal::Rat(refusal)) => {
-            ledger.make_lists();
+            ledger.tend_lists(lemma);
             Err(refused(refusal))
         }
     }

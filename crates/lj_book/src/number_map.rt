@@ -3,8 +3,6 @@ ghost use Rattle.std.specs.Prelude.{◌≡◌, ◌<◌, ◌≤◌, OnOk, OnErr, 
 ghost use Rattle.std.specs.FinMap as fin;
 ghost use Rattle.lj_book.specs.inner.Slots.{slot_map};
 
-mod listing;
-
 use lj_clause::NoMemory;
 use std::alloc::Global;
 use std::marker::Model;

@@ -1,38 +1,62 @@
 //! Lists of the clauses that hold a literal.
-ghost use Rattle.std.specs.Prelude.{◌≡◌, ℕ, [], ◌∷◌, ◌++◌, OnOk, IfOk, true, length, filter, slice_get};
+ghost use Rattle.std.specs.Prelude.{◌≡◌, ◌≤◌, ℕ, [], ◌∷◌, ◌++◌, IfOk, IfSome, true, length, filter, map, slice_get};
 ghost use Rattle.std.specs.FinMap as fin;
+ghost use Rattle.lj_clause.specs.Literal.{place_of};
 ghost use Rattle.lj_book.specs.Tables.{is_among};
 ghost use Rattle.lj_book.specs.Lookup.{is_clause};
-ghost use Rattle.lj_book.specs.inner.Occurrences.{AreOccurrences, list_at, places_of, put_if};
+ghost use Rattle.lj_book.specs.inner.Occurrences.{AreOccurrences, list_at, places_of, put_if, with_number};
+ghost use Rattle.lj_book.specs.inner.Chains.{AreChains, AreLinked, chain, last_at, with_list};
 
+use crate::bindings::Bindings;
 use crate::lent_clauses::LentClauses;
-use crate::number_list::NumberList;
-use crate::own_map::OwnMap;
-use lj_clause::{Clause, ClauseView, NoMemory};
+use lj_clause::{Clause, ClauseView, Lit, NoMemory};
 use std::alloc::Global;
 use std::marker::Model;
 
 /// The place of the list of the empty clauses, which no literal has.
 const EMPTY_PLACE: u64 = 1;
 
+/// A list of so many numbers stays as it is, however many of their clauses have died.
+const FEW: usize = 16;
+
+/// How many links there are at most, so that each can be named by four bytes.
+const MOST_LINKS: usize = u32::MAX as usize;
+
+/// Every list has fewer numbers than two to the power of this.
+const LIMITS: u32 = 32;
+
+/// A number in a list, with the link of the one before it: links are counted from 1, and 0 is none.
+#[derive(Clone, Copy, Debug)]
+struct Link {
+    number: u32,
+    before: u32,
+}
+
 /// For each literal the numbers that were given to clauses which hold it, under its place, and for the empty clauses
-/// theirs.
+/// theirs. A clause that dies stays listed: its number is taken out when the list is next swept.
+///
+/// Each number takes eight bytes, and putting it there constant time.
 #[derive(Drop)]
 pub(crate) struct OccurrenceLists {
     alloc: Global,
-    lists: OwnMap<NumberList>,
+    links: Vec<Link>,
+    /// The last link of each list.
+    lasts: Bindings,
 }
 
 impl Model for OccurrenceLists {
     ghost use Rattle.std.specs.Coded.{coded_ℕ, coded_list};
     ghost use Rattle.std.specs.FinMap as fin;
     ghost use Rattle.lj_book.specs.inner.Occurrences.{Lists};
+    ghost use Rattle.lj_book.specs.inner.Chains.{chained, AreChains};
 
     ghost Value = { Lists };
 
     ghost coded = { fin.code coded_ℕ (coded_list coded_ℕ) };
 
-    ghost view = { λ o. o.lists };
+    ghost view = { λ o. chained o.links.items o.lasts };
+
+    ghost invariant = { λ o. AreChains o.links.items o.lasts };
 }
 
 impl OccurrenceLists {
@@ -42,56 +66,47 @@ impl OccurrenceLists {
     {
         OccurrenceLists {
             alloc,
-            lists: OwnMap::new(alloc),
+            links: Vec::new(alloc),
+            lasts: Bindings::new(alloc),
         }
     }
 
-    /// Puts the number of a clause at the end of its lists.
-    ///
-    /// # Errors
-    /// [`NoMemory`] where a growth was refused. The lists are of no use then.
+    /// Puts the number of a clause at the end of its lists. Answers whether it could be put there: where a growth was
+    /// refused or there are too many numbers, the lists are of no use.
     #[inline(always)]
-    pub(crate) fn add_clause(
-        &mut self,
-        number: u32,
-        clause: &ClauseView<'_>,
-    ) -> Result<(), NoMemory>
-        ensures { OnOk result ((k : ℕ) → list_at self.new k
-            ≡ put_if (is_among (places_of clause.now) k) (list_at self.old k) number) }
+    pub(crate) fn add_clause(&mut self, number: u32, clause: &ClauseView<'_>) -> bool
+        ensures { result ≡ true → (k : ℕ) → list_at self.new k
+            ≡ put_if (is_among (places_of clause.now) k) (list_at self.old k) number }
     {
         let lits = clause.lits();
         if lits.is_empty() {
             return self.add(EMPTY_PLACE, number);
         }
         for lit in lits {
-            self.add(lit.place() as u64, number)?;
+            if !self.add(lit.place() as u64, number) {
+                return false;
+            }
         }
-        Ok(())
+        true
     }
 
-    /// Counts the death of a clause in its lists. Takes constant time for each of its literals, amortized.
-    ///
-    /// # Errors
-    /// [`NoMemory`] where a growth was refused. The lists are of no use then.
-    pub(crate) fn clause_died(
-        &mut self,
-        clauses: &LentClauses<'_>,
-        clause: &ClauseView<'_>,
-    ) -> Result<(), NoMemory>
-        ensures { (bound : ℕ) → AreOccurrences self.old (fin.get clauses.now) bound
-            → OnOk result (AreOccurrences self.new (fin.get clauses.now) bound) }
+    /// Puts a number at the end of a list. Answers whether it could be put there.
+    #[inline(always)]
+    fn add(&mut self, place: u64, number: u32) -> bool
+        ensures { result ≡ true → self.new ≡ with_number self.old place number }
     {
-        let lits = clause.lits();
-        if lits.is_empty() {
-            return self.one_died(EMPTY_PLACE, clauses);
+        let count = self.links.len();
+        if count >= MOST_LINKS {
+            return false;
         }
-        for lit in lits {
-            self.one_died(lit.place() as u64, clauses)?;
+        let before = last_of(&self.lasts, place) as u32;
+        if self.links.push(Link { number, before }).is_err() {
+            return false;
         }
-        Ok(())
+        self.lasts.set(place, count as u64 + 1).is_ok()
     }
 
-    /// The numbers under a place that have a clause. Takes time linear in them.
+    /// The numbers under a place that have a clause. Takes time linear in the numbers there.
     ///
     /// # Errors
     /// [`NoMemory`] where a growth was refused.
@@ -104,10 +119,7 @@ impl OccurrenceLists {
         ensures { IfOk result
             (λ v. v.items ≡ filter (λ n. fin.contains_key clauses.now n) (list_at self.now place)) }
     {
-        match self.lists.get(place) {
-            Some(list) => list.living(alloc, clauses),
-            None => Ok(Vec::new(alloc)),
-        }
+        living_before(alloc, &self.links, last_of(&self.lasts, place), clauses)
     }
 
     /// The first number under a place whose clause is this one.
@@ -122,77 +134,158 @@ impl OccurrenceLists {
             (filter (λ n. is_clause wanted.now (fin.get clauses.now n)) (list_at self.now place))
             0 }
     {
-        match self.lists.get(place) {
-            Some(list) => list.first_same(clauses, wanted),
-            None => None,
-        }
+        first_before(&self.links, last_of(&self.lasts, place), clauses, wanted)
     }
 
-    /// The place of the shortest list of a clause.
-    pub(crate) fn shortest(&self, clause: &Clause) -> u64
+    /// The place of a list of a clause, which is less than twice as long as the shortest. Takes time linear in the clause's
+    /// literals, for each number of the shortest.
+    pub(crate) fn short_place(&self, clause: &Clause) -> u64
         ensures { is_among (places_of clause.now) result ≡ true }
     {
         let lits = clause.lits();
         let Some(first) = lits.first() else {
             return EMPTY_PLACE;
         };
-        let mut shortest = first.place() as u64;
-        let mut least = self.len(shortest);
-        for lit in lits {
-            let place = lit.place() as u64;
-            let len = self.len(place);
-            if len < least {
-                shortest = place;
-                least = len;
+        for power in 0..LIMITS {
+            if let Some(place) = self.place_within(lits, 1 << power) {
+                return place;
             }
         }
-        shortest
+        first.place() as u64
     }
 
-    /// How many numbers are under a place.
-    fn len(&self, place: u64) -> usize
-        ensures { result ≡ length (list_at self.now place) }
+    /// The place of one of the literals whose list has so many numbers at most.
+    fn place_within(&self, lits: &[Lit], limit: usize) -> Option<u64>
+        ensures { IfSome result (λ place. is_among (map place_of lits.now) place ≡ true) }
     {
-        match self.lists.get(place) {
-            Some(list) => list.len(),
-            None => 0,
+        for lit in lits {
+            let place = lit.place() as u64;
+            if is_within(&self.links, last_of(&self.lasts, place), limit) {
+                return Some(place);
+            }
         }
+        None
     }
 
-    /// Puts a number at the end of a list.
+    /// Takes the numbers without a clause out of a list, where they are more than half of it and it isn't short. Answers
+    /// whether a growth was granted: where it wasn't, the lists are of no use.
     ///
-    /// # Errors
-    /// [`NoMemory`] where a growth was refused. The list is lost then.
-    #[inline(always)]
-    fn add(&mut self, place: u64, number: u32) -> Result<(), NoMemory>
-        ensures { OnOk result
-            (self.new ≡ fin.insert self.old place (list_at self.old place ++ number ∷ [])) }
-    {
-        if self.lists.add(place, number)? {
-            return Ok(());
-        }
-        self.add_list(place, number)
-    }
-
-    /// Makes the list under a place that has none.
-    #[inline(never)]
-    fn add_list(&mut self, place: u64, number: u32) -> Result<(), NoMemory>
-        ensures { OnOk result (self.new ≡ fin.insert self.old place (number ∷ [])) }
-    {
-        let mut list = NumberList::new(self.alloc);
-        list.add(number)?;
-        self.lists.insert(place, list)
-    }
-
-    /// Counts the death of a clause in one of its lists.
-    ///
-    /// # Errors
-    /// [`NoMemory`] where a growth was refused. The list is lost then.
-    fn one_died(&mut self, place: u64, clauses: &LentClauses<'_>) -> Result<(), NoMemory>
+    /// Takes time linear in the numbers of the list.
+    pub(crate) fn sweep(&mut self, place: u64, clauses: &LentClauses<'_>) -> bool
         ensures { (bound : ℕ) → AreOccurrences self.old (fin.get clauses.now) bound
-            → OnOk result (AreOccurrences self.new (fin.get clauses.now) bound) }
+            → result ≡ true → AreOccurrences self.new (fin.get clauses.now) bound }
     {
-        self.lists.one_died(place, clauses)?;
-        Ok(())
+        let last = last_of(&self.lasts, place);
+        if is_within(&self.links, last, FEW) {
+            return true;
+        }
+        let Ok(living) = living_before(self.alloc, &self.links, last, clauses) else {
+            return false;
+        };
+        if !is_within(&self.links, last, living.len().saturating_mul(2)) {
+            return self.relink(place, &living);
+        }
+        true
     }
+
+    /// Puts these numbers into a list, in place of what it has. Answers whether a growth was granted.
+    fn relink(&mut self, place: u64, numbers: &[u64]) -> bool
+        ensures { result ≡ true → (k : ℕ)
+            → list_at self.new k ≡ with_list self.old place numbers.now k }
+    {
+        let _ = self.lasts.remove(place);
+        for number in numbers {
+            let Ok(short) = u32::try_from(*number) else {
+                return false;
+            };
+            if !self.add(place, short) {
+                return false;
+            }
+        }
+        true
+    }
+}
+
+/// The last link under a place, and 0 where there is none.
+#[inline]
+fn last_of(lasts: &Bindings, place: u64) -> u64
+    ensures { result ≡ last_at lasts.now place }
+{
+    match lasts.get(place) {
+        Some(last) => last,
+        None => 0,
+    }
+}
+
+/// The numbers with a clause among those of this link and of all before it, the oldest first.
+///
+/// # Errors
+/// [`NoMemory`] where a growth was refused.
+fn living_before(
+    alloc: Global,
+    links: &[Link],
+    last: u64,
+    clauses: &LentClauses<'_>,
+) -> Result<Vec<u64>, NoMemory>
+    requires linked { AreLinked links.now }
+    requires there { last ≤ length links.now }
+    ensures { IfOk result
+        (λ v. v.items ≡ filter (λ n. fin.contains_key clauses.now n) (chain links.now last)) }
+{
+    let mut living = Vec::new(alloc);
+    let mut at = last as usize;
+    while at > 0 {
+        let link = links[at - 1];
+        let number = u64::from(link.number);
+        if clauses.contains_key(number) {
+            living.push(number)?;
+        }
+        at = link.before as usize;
+    }
+    living.reverse();
+    Ok(living)
+}
+
+/// The oldest number whose clause is this one among those of this link and of all before it.
+fn first_before(
+    links: &[Link],
+    last: u64,
+    clauses: &LentClauses<'_>,
+    wanted: &Clause,
+) -> Option<u64>
+    requires linked { AreLinked links.now }
+    requires there { last ≤ length links.now }
+    ensures { result
+        ≡ slice_get
+        (filter (λ n. is_clause wanted.now (fin.get clauses.now n)) (chain links.now last))
+        0 }
+{
+    let mut first = None;
+    let mut at = last as usize;
+    while at > 0 {
+        let link = links[at - 1];
+        let number = u64::from(link.number);
+        if let Some(clause) = clauses.get(number) {
+            if clause.same(wanted) {
+                first = Some(number);
+            }
+        }
+        at = link.before as usize;
+    }
+    first
+}
+
+/// Whether there are so many links at most, with this one and all before it.
+fn is_within(links: &[Link], last: u64, limit: usize) -> bool
+    requires linked { AreLinked links.now }
+    requires there { last ≤ length links.now }
+{
+    let mut at = last as usize;
+    for _ in 0..limit {
+        if at == 0 {
+            return true;
+        }
+        at = links[at - 1].before as usize;
+    }
+    at == 0
 }

@@ -3,8 +3,6 @@ ghost use Rattle.std.specs.Prelude.{◌≡◌, OnOk, OnErr, option_copied, None,
 ghost use Rattle.std.specs.FinMap as fin;
 ghost use Rattle.lj_book.specs.inner.Slots.{AreApart};
 
-mod listing;
-
 use crate::number_map::NumberMap;
 use crate::tree_map::TreeMap;
 use lj_clause::NoMemory;

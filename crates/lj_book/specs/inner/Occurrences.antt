@@ -34,14 +34,6 @@ put_if false numbers n = numbers
 abbrev pub with_number : Lists → ℕ → ℕ → Lists
 with_number m k n = fin.insert m k (list_at m k ++ n ∷ [])
 
--- The list under a place has lost numbers that are of no living clause, and has its order yet. The others are the same.
-pub record AreSwept (lives : ℕ → Bool) (old new : Lists) (k : ℕ) : Type 0 where
-  pub list : List ℕ
-  pub is : new ≡ fin.insert old k list
-  pub rising : IsStrictlySortedBy nat_cmp (list_at old k) → IsStrictlySortedBy nat_cmp list
-  pub living : (n : ℕ) → lives n ≡ true → is_among list n ≡ is_among (list_at old k) n
-  pub fewer : (n : ℕ) → is_among list n ≡ true → is_among (list_at old k) n ≡ true
-
 -- Each list rises, and has no number from the bound on. Of the numbers that have a clause, it has exactly those whose
 -- clause is listed there.
 pub record AreOccurrences (m : Lists) (clause : ℕ → Option LiteralSet) (bound : ℕ) : Type 0 where

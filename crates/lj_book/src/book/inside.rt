@@ -161,7 +161,7 @@ impl Book {
         let joint = step.number;
         let place = self.ledger.history().len();
         enter_addition(&mut self.ledger, &mut self.tables, seat, own, step)?;
-        self.refuted = refuted_at(self.refuted, place, step.lemma.clause());
+        self.refuted = refuted_at(self.refuted, place, &step.clause);
         self.added += 1;
         Ok(Added { place, joint })
     }

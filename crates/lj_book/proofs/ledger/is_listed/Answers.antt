@@ -4,9 +4,9 @@ use Rattle.lj_book.specs.inner.Occurrences.{list_at, places_of, put_if}
 use Rattle.lj_book.proofs.OccurrenceLaws.{clause_listed}
 use Rattle.lj_book.proofs.ledger.is_listed.Goals as goal
 
-pub returns-in-Ok-add_clause : goal.returns-in-Ok-add_clause
-returns-in-Ok-add_clause c = λ p are _.
+pub returns : goal.returns
+returns c = λ p are ok.
     let d = c.args.clause.now in
     let room : c.args.last + 1 ≤ c.args.number = omega arith in
     clause_listed c.args.lists.now c.add_clause.new.self p (c.args.last + 1) c.args.number d are room
-    (λ k. c.in-Ok-add_clause.ensures k ∙ ap (λ (s : ℕ). put_if (is_among (places_of d) k) (list_at c.args.lists.now k) s) c.in-Ok.ensures.1)
+    (λ k. c.add_clause.ensures ok k ∙ ap (λ (s : ℕ). put_if (is_among (places_of d) k) (list_at c.args.lists.now k) s) c.in-Ok.ensures.1)

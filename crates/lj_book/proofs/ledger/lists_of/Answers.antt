@@ -3,7 +3,7 @@ use Rattle.std.specs.FinMap as fin
 use Rattle.lj_book.specs.inner.Occurrences.{Lists, AreOccurrences}
 use Rattle.lj_book.proofs.OccurrenceLaws.{clauses_below, none_yet, next_listed, next_passed, all_listed}
 use Rattle.lj_book.proofs.ledger.lists_of.Goals as goal
-use Rattle.lj_book.proofs.ledger.lists_of.Goals.{in-Some+in_ok-add_clause, in_default}
+use Rattle.lj_book.proofs.ledger.lists_of.Goals.{in-Some+else-not-add_clause, in_default}
 
 pub loop-number-init : goal.loop-number-init
 loop-number-init c = none_yet c.args.clauses.now c.new-lists.result c.new-lists.ensures
@@ -13,10 +13,10 @@ loop-number-preserved c =
     let p = c.args.clauses.now in
     let n = c.loop-number.number in
     elim c.match-get.branch [
-      | in-Some+in_ok-add_clause w ↦
+      | in-Some+else-not-add_clause w ↦
           subst (λ (m : Lists). AreOccurrences m (clauses_below p (n + 1)) (n + 1)) (sym w.lists-is)
           (next_listed p c.loop-number.lists w.add_clause.new.self n w.in-Some.clause c.loop-number.invariant
-          (ap (fin.get p) (sym c.from.ensures) ∙ sym c.get.ensures ∙ w.in-Some.is) w.in_ok-add_clause.ensures)
+          (ap (fin.get p) (sym c.from.ensures) ∙ sym c.get.ensures ∙ w.in-Some.is) (w.add_clause.ensures w.if-not-add_clause.false))
       | in_default w ↦
           subst (λ (m : Lists). AreOccurrences m (clauses_below p (n + 1)) (n + 1)) (sym w.lists-is)
           (next_passed p c.loop-number.lists n c.loop-number.invariant

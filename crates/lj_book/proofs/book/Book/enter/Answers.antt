@@ -38,7 +38,7 @@ invariant_of-self-2 c =
     let is_lemma : c.args.step.lemma ≡ r.lemma = ap (λ (e : Entry). lemma_called e.call r.lemma) (c.requires.step (c.len.result + 1 + c.from.result)) in
     let is = committed_state s r (c.len.result + 1 + c.from.result) entry c.enter_addition.new.tables c.enter_addition.new.ledger.history.entries joint is_entry (c.in_ok-enter_addition.ensures.tables ∙ ap (λ (a : Addition). with_table (λ (t : Table). fin.insert t c.own-own.result a.number) s.tables c.seat-seat.result) lent ∙ (λ i. with_table (λ (t : Table). fin.insert t (c.own-own.ensures i) (c.len.result + 1 + c.from.result)) s.tables (c.seat-seat.ensures i))) pushed in
     let place : c.len-place.result ≡ length s.history = c.len-place.ensures.len ∙ ap (λ h. length h.entries) c.history.ensures in
-    let refuted = c.refuted_at-self-inside.ensures ∙ ap (λ (n : ℕ). refuted_after c.self.inside.refuted n c.clause.result.now) place ∙ ap (refuted_after c.self.inside.refuted (length s.history)) (c.clause.ensures.clause ∙ ap (λ l. l.clause) c.lemma.ensures.lemma) in
+    let refuted = c.refuted_at-self-inside.ensures ∙ ap (λ (n : ℕ). refuted_after c.self.inside.refuted n c.view.result) place ∙ ap (refuted_after c.self.inside.refuted (length s.history)) (c.view.ensures ∙ c.clause.ensures.clause ∙ ap (λ l. l.clause) c.lemma.ensures.lemma) in
     subst (λ (o : Option ℕ). IsKept (record { formula = s.formula; max_steps = s.max_steps; tables = c.enter_addition.new.tables; history = c.enter_addition.new.ledger.history.entries }) c.enter_addition.new.ledger.live (c.self.inside.added + 1) o) (sym refuted)
     (subst (λ (t : State). IsKept t c.enter_addition.new.ledger.live (c.self.inside.added + 1) (refuted_after c.self.inside.refuted (length s.history) r.lemma.clause)) (sym is)
     (IsKept-commit s r c.self.inside.ledger.live c.enter_addition.new.ledger.live c.self.inside.added c.self.inside.refuted c.self.invariant c.lemma.ensures.receipt can (c.in_ok-enter_addition.ensures.live ∙ ap (λ (a : Addition). fin.insert c.self.inside.ledger.live a.number a.lemma.clause) lent ∙ (λ i. fin.insert c.self.inside.ledger.live (joint i) (ap (λ l. l.clause) is_lemma i)))))

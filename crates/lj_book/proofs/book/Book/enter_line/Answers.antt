@@ -41,7 +41,7 @@ invariant_of-self-2 c =
     let legal = entered_legal s seat a step e.0 (IsSound-reached s c.self.invariant.reached) pivot e.1 in
     let pushed : c.enter_addition.new.ledger.history.entries ≡ s.history ++ line_entry seat a.number step ∷ [] = c.in_ok-enter_addition.ensures.entries in
     let is = line_state s seat a.number step.number step c.enter_addition.new.tables c.enter_addition.new.ledger.history.entries kept.0 c.in_ok-enter_addition.ensures.tables pushed in
-    let clause : c.clause.result.now ≡ step.lemma.clause = c.clause.ensures.clause ∙ ap (λ (a : Addition). a.lemma.clause) c.step.view_is in
+    let clause : c.step.inside.clause ≡ step.lemma.clause = c.step.invariant ∙ ap (λ (a : Addition). a.lemma.clause) c.step.view_is in
     let place : c.len-place.result ≡ length s.history = c.len-place.ensures.len ∙ ap (λ h. length h.entries) c.history.ensures in
     let refuted = c.refuted_at-self-inside.ensures ∙ (λ i. refuted_after c.self.inside.refuted (place i) (clause i)) in
     subst (λ (o : Option ℕ). IsKept (record { formula = s.formula; max_steps = s.max_steps; tables = c.enter_addition.new.tables; history = c.enter_addition.new.ledger.history.entries }) c.enter_addition.new.ledger.live (c.self.inside.added + 1) o) (sym refuted)

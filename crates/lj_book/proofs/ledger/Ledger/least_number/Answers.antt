@@ -8,13 +8,13 @@ use Rattle.lj_book.specs.inner.Places.{placed}
 use Rattle.lj_book.proofs.OccurrenceLaws.{first_is_least}
 use Rattle.lj_book.proofs.ledger.Ledger.least_number.Goals as goal
 
-pub returns-in-Some : goal.returns-in-Some
-returns-in-Some c =
-    let p = c.lent.result in
+pub returns-clause-least : goal.returns-clause-least
+returns-clause-least c =
+    let p = c.lent-2.result in
     let live = placed c.self.inside.history.lits c.self.inside.places in
-    let is = c.lent.ensures ∙ ap (λ r. r.live) (sym c.self.view_is) in
+    let is = c.lent-2.ensures ∙ ap (λ r. r.live) (sym c.self.view_is) in
     let are = subst (λ (o : Option Lists). AreListed o live (c.self.inside.last + 1)) c.in-Some.is c.self.invariant.indexed.listed in
-    c.first_same.ensures
-    ∙ ap (λ (q : ClauseMap). slice_get (filter (λ n. is_clause c.args.wanted.now (fin.get q n)) (list_at c.in-Some.lists c.shortest.result)) 0) is
-    ∙ first_is_least c.in-Some.lists live (c.self.inside.last + 1) c.shortest.result c.args.wanted.now are c.shortest.ensures
+    c.first_same-least.ensures
+    ∙ ap (λ (q : ClauseMap). slice_get (filter (λ n. is_clause c.args.wanted.now (fin.get q n)) (list_at c.in-Some.lists c.short_place-place.result)) 0) is
+    ∙ first_is_least c.in-Some.lists live (c.self.inside.last + 1) c.short_place-place.result c.args.wanted.now are c.short_place-place.ensures
     ∙ ap (λ r. least_number r.live c.args.wanted.now) c.self.view_is
