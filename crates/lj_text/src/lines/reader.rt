@@ -209,7 +209,7 @@ impl LineReader {
     }
 
     /// Takes a line back that is done, so that a line to come is written where it stood.
-    #[inline]
+    #[inline(always)]
     pub fn reuse(&mut self, line: Line)
         ensures { self.new ≡ self.old }
     {
