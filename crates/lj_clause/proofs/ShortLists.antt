@@ -2,15 +2,12 @@
 use Rattle.std.proofs.Common.{◌≡◌, ap, refl, sym, ◌∙◌}
 use Rattle.std.specs.Prelude.{ℤ, Bool, true, false, ◌||◌, [], ◌∷◌}
 use Rattle.std.specs.List.Sorted.{IsStrictlySortedBy}
-use Rattle.std.specs.Ordering.{eq_by_cmp, ordering_reverse}
-use Rattle.std.specs.declared.cmp.Ordering.TheVariants.{Less, Greater}
+use Rattle.std.specs.Ordering.{eq_by_cmp}
+use Rattle.std.specs.declared.cmp.Ordering.TheVariants.{Less}
 use Rattle.lj_clause.specs.Literal.{lit_cmp}
 use Rattle.lj_clause.specs.inner.Literal.{lit_cmp_total}
 use Rattle.lj_clause.specs.LiteralSet.{LiteralSet, no_literals, holds, with_literal, from_literals}
 use Rattle.lj_clause.proofs.LiteralSets.{same_set, holds-with_literal}
-
-pub greater : (a b : ℤ) → lit_cmp a b ≡ Greater → lit_cmp b a ≡ Less
-greater a b e = lit_cmp_total.antisymm b a ∙ ap ordering_reverse e
 
 pub rising_none : IsStrictlySortedBy lit_cmp []
 unfolding IsStrictlySortedBy

@@ -1,5 +1,5 @@
 -- Literals (DIMACS). A literal is a nonzero whole number: v is the variable v, -v its negation, which is `neg_ℤ`.
-use Rattle.std.specs.Prelude.{ℕ, ◌+◌, ◌*◌, ◌<◌, ◌≤◌, ℤ, pos, negsuc, suc}
+use Rattle.std.specs.Prelude.{ℕ, ◌+◌, ◌*◌, ◌<◌, ◌≤◌, ℤ, pos, negsuc, suc, neg_ℤ, Bool, if◌then◌else◌}
 use Rattle.std.specs.declared.cmp.Ordering.{Ordering}
 use Rattle.std.specs.Ordering.{nat_cmp}
 use Rattle.lj_clause.specs.declared.lit.TheConstants.{MAX_VARIABLE}
@@ -12,6 +12,10 @@ variable_of (negsuc n) = suc n
 -- a nonzero whole number within the limit of variables
 abbrev pub IsLiteral : ℤ → Type 0
 IsLiteral l = (0 < variable_of l) × (variable_of l ≤ MAX_VARIABLE)
+
+-- the literal of a variable, or its negation
+abbrev pub literal_on : ℕ → Bool → ℤ
+literal_on variable negative = if negative then neg_ℤ (pos variable) else pos variable
 
 -- the place of a literal in the order of literals
 abbrev pub place_of : ℤ → ℕ

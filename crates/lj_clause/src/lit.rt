@@ -1,6 +1,6 @@
 //! Literals.
 ghost use Rattle.std.specs.Prelude.{◌≡◌, ◌+◌, ◌-◌, ◌*◌, ◌%◌, ◌<◌, ◌≤◌, SomeIff, neg_ℤ};
-ghost use Rattle.lj_clause.specs.Literal.{IsLiteral, variable_of, place_of};
+ghost use Rattle.lj_clause.specs.Literal.{IsLiteral, literal_on, variable_of, place_of};
 
 use std::cmp::Ordering;
 use std::fmt;
@@ -51,6 +51,17 @@ impl Lit {
         Some(Lit {
             code: 2 * variable + sign,
         })
+    }
+
+    /// The literal of a variable, or its negation.
+    #[inline]
+    pub fn of(variable: u32, negative: bool) -> Lit
+        requires { (0 < variable) × (variable ≤ MAX_VARIABLE) }
+        ensures { result ≡ literal_on variable negative }
+    {
+        Lit {
+            code: 2 * variable + u32::from(negative),
+        }
     }
 
     /// The number of the literal.

@@ -9,7 +9,6 @@ ghost use Rattle.lj_clause.specs.inner.LiteralList.{literals_in};
 use crate::lit::Lit;
 use crate::memory::NoMemory;
 use std::alloc::Global;
-use std::cmp::Ordering;
 use std::sync::Arc;
 
 /// Literals of a clause. Up to three stand in the list itself, so that they take no memory of their own. More are
@@ -125,10 +124,12 @@ fn two(a: Lit, b: Lit) -> Option<(Lit, Lit)>
     ensures same { IfSome result
         (λ lits. from_literals (lits.0 ∷ lits.1 ∷ []) ≡ from_literals (a ∷ b ∷ [])) }
 {
-    match a.cmp(&b) {
-        Ordering::Less => Some((a, b)),
-        Ordering::Greater => Some((b, a)),
-        Ordering::Equal => None,
+    if a < b {
+        Some((a, b))
+    } else if b < a {
+        Some((b, a))
+    } else {
+        None
     }
 }
 
@@ -139,14 +140,14 @@ fn three(a: Lit, b: Lit, c: Lit) -> Option<[Lit; 3]>
     ensures same { IfSome result (λ lits. from_literals lits ≡ from_literals (a ∷ b ∷ c ∷ [])) }
 {
     let (first, last) = two(a, b)?;
-    match c.cmp(&first) {
-        Ordering::Less => Some([c, first, last]),
-        Ordering::Equal => None,
-        Ordering::Greater => match c.cmp(&last) {
-            Ordering::Less => Some([first, c, last]),
-            Ordering::Equal => None,
-            Ordering::Greater => Some([first, last, c]),
-        },
+    if c < first {
+        Some([c, first, last])
+    } else if last < c {
+        Some([first, last, c])
+    } else if first < c && c < last {
+        Some([first, c, last])
+    } else {
+        None
     }
 }
 

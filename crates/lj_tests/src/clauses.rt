@@ -27,6 +27,7 @@ fn literals_are_numbers_within_the_limit(rt: HostRuntime) {
             "at {number}"
         );
         assert_eq!(rt; lit.negated().get(), negated);
+        assert_eq!(rt; Lit::of(lit.variable(), number < 0), lit);
     }
     assert_eq!(rt; size_of::<Lit>(), 4);
 }

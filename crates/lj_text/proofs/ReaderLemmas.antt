@@ -10,7 +10,7 @@ use Rattle.lj_text.specs.Bytes.{line_number, lines_of}
 use Rattle.lj_text.specs.Lines.{Said, said_from, whole_said, all_said, whole_said_from, all_said_from, all_but_last}
 use Rattle.lj_text.specs.LinesRead.{LinesRead, HasNoLineEnd, text_of_lines, StandsWithin, StandsBehind, LineReaderStandsAt, line_answer, handed_out, line_number_of, last_number, is_line_no_memory}
 use Rattle.lj_text.specs.inner.LinesHeld.{IsAhead, reader_past, reader_with_fault}
-use Rattle.lj_text.specs.inner.Looking.{Looked, LookedBehind, said_of}
+use Rattle.lj_text.specs.inner.Looking.{Looked, LookedBehind, IsTaken, said_of}
 use Rattle.lj_text.proofs.StandLemmas.{both, joined_both, whole-joined, all-joined, whole-none, get-behind, said_from-append, cut-joined, cut-none}
 use Rattle.lj_text.proofs.PassLemmas.{none-open, after_is}
 use Rattle.lj_text.proofs.RunLemmas.{text-ends}
@@ -133,6 +133,18 @@ within-of r text given h s = let P : Bool → Type 0 = λ b. MatchBool b (Stands
 
 pub stands-of : (r : LinesRead) (text : List ℕ) (given : ℕ) → r.finished ≡ false → StandsWithin r text given → LineReaderStandsAt r text given
 stands-of r text given h s = let P : Bool → Type 0 = λ b. MatchBool b (StandsBehind r text given) (StandsWithin r text given) in subst P (sym h) s
+
+-- the line that was taken is the answer, and the reader stands behind it
+pub taken-answer : (r new : LinesRead) (text : List ℕ) (given : ℕ) (line : Option Line) → IsTaken r new line → StandsWithin r text given → Ok line ≡ line_answer (slice_get (whole_said r.max text) given)
+taken-answer r new text given line t s =
+    ap Ok (sym t.line_is) ∙ sym (ap line_answer (whole-at r text given s ∙ whole-found r.max (length s.lines) r.ahead t.found (t.looked (length s.lines) s.line_is)) ∙ answers t.found.at t.found.line)
+
+pub taken-stands : (r new : LinesRead) (text : List ℕ) (given : ℕ) (line : Option Line) → r.finished ≡ false → IsTaken r new line → StandsWithin r text given → LineReaderStandsAt new text (given + handed_out (Ok line))
+taken-stands r new text given line going t s =
+    rw (t.passed, sym t.line_is) (stands-of (reader_past r t.found) text _ going (stands-passed r text given t.found s (t.looked (length s.lines) s.line_is)))
+
+pub taken-at : (r new : LinesRead) (text : List ℕ) (given : ℕ) (line : Option Line) → IsTaken r new line → StandsWithin r text given → new.at ≡ line_number_of (slice_get (whole_said r.max text) given) (last_number text)
+taken-at r new text given line t s = ap (λ (v : LinesRead). v.at) t.passed ∙ place-whole r text given t.found s (t.looked (length s.lines) s.line_is)
 
 pub kept-at : (r : LinesRead) (fault : LineFault) → is_line_no_memory fault.kind ≡ false → (reader_with_fault r fault).at ≡ fault.line
 kept-at r fault h = ap (λ b. (cond b r (record r { at = fault.line; fault = Some fault })).at) h

@@ -1,15 +1,13 @@
 -- Numbers of few digits at the front of a line.
-use Rattle.std.proofs.Common.{◌≡◌, ℕ, zero, suc, ◌+◌, ◌-◌, ◌*◌, ◌^◌, ◌<◌, ◌≤◌, ◌≢◌, true, ◌&&◌, List, [], ◌∷◌, ◌++◌, length, get_or, take, drop, take-take, map, refl, sym, ap, ◌∙◌, subst, inl, inr, arith, w32, to_z, of_z, ◌-ℤ◌}
+use Rattle.std.proofs.Common.{◌≡◌, ℕ, zero, suc, ◌+◌, ◌-◌, ◌*◌, ◌^◌, ◌<◌, ◌≤◌, ◌≢◌, true, ◌&&◌, List, [], ◌∷◌, ◌++◌, length, get_or, take, drop, take-take, map, refl, sym, ap, ◌∙◌, subst, inl, inr, arith}
 use Rattle.std.proofs.lemmas.Bool.{and_parts}
-use Rattle.std.proofs.lemmas.Int.{to_z_pos, to_z-of_z, fits_signed_from_abs}
 use Rattle.std.proofs.lemmas.List.{take-append-drop, take_all, drop_all, get_or-take}
 use Rattle.std.proofs.lemmas.List.Folds.{list_all-append}
-use Rattle.std.proofs.Math.IntN.{+ℤ_idl}
 use Rattle.std.proofs.Math.Nat.{pow-succ', pow-le-pow_right}
 use Rattle.std.proofs.Math.Seq.{take-suc, drop-cons}
 use Rattle.std.specs.List.{list_all}
 use Rattle.std.specs.Char.{is_ascii_digit}
-use Rattle.std.specs.Prelude.{Option, Some, ℤ, pos, neg_ℤ, negsuc}
+use Rattle.std.specs.Prelude.{Option, Some, ℤ, pos, neg_ℤ}
 use Rattle.lj_text.specs.Bytes.{is_filled, tokens_of, decimal_value, negative, number_of}
 use Rattle.lj_text.specs.inner.HeldNumbers.{EndsToken, IsNumberAhead}
 use Rattle.lj_text.specs.inner.LineReading.{words_of}
@@ -161,12 +159,3 @@ short-cut [] value after one minus some n = absurd (omega arith)
 short-cut (b ∷ bytes) value after one minus some n =
     let P : List ℕ → Type 0 = λ r. IsShortNumber r value after in
     ap (λ x. words_of (x ∷ bytes)) minus ∙ short-negative bytes value after some (subst P (take_all _ bytes (omega arith)) n)
-
-pub integer-positive : (value : ℕ) → value < 10 ^ 9 → to_z w32 value ≡ pos value
-integer-positive value small = to_z_pos w32 value (omega arith)
-
-pub integer-negative : (value : ℕ) → 0 < value → value < 10 ^ 9 → to_z w32 (of_z w32 (pos 0 -ℤ to_z w32 value)) ≡ neg_ℤ (pos value)
-integer-negative zero some small = absurd (omega arith)
-integer-negative (suc k) some small =
-    ap (λ z. to_z w32 (of_z w32 (pos 0 -ℤ z))) (integer-positive (suc k) small) ∙ ap (λ z. to_z w32 (of_z w32 z)) (+ℤ_idl (negsuc k))
-    ∙ to_z-of_z w32 (negsuc k) (fits_signed_from_abs w32 (negsuc k) (omega arith))

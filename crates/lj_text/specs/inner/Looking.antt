@@ -6,7 +6,8 @@ use Rattle.lj_text.specs.declared.lines.look.Found.{Found}
 use Rattle.lj_text.specs.declared.line.Line.{Line}
 use Rattle.lj_text.specs.Bytes.{line_number, lines_of}
 use Rattle.lj_text.specs.Lines.{Said, said_from, whole_said_from, all_said_from, all_but_last}
-use Rattle.lj_text.specs.LinesRead.{HasNoLineEnd, IsSaidAt, IsSaidRight, text_of_lines, is_line_no_memory}
+use Rattle.lj_text.specs.LinesRead.{LinesRead, HasNoLineEnd, IsSaidAt, IsSaidRight, text_of_lines, is_line_no_memory}
+use Rattle.lj_text.specs.inner.LinesHeld.{reader_past}
 
 -- what was found
 abbrev pub said_of : ℕ → Option Line → List Said
@@ -52,3 +53,10 @@ pub record FailsToEnd (max k : ℕ) (ahead : List ℕ) (fault : LineFault) : Typ
   pub line_is : IsSaidAt (slice_get (all_said_from max k ahead) 0) fault.line
   pub right : is_line_no_memory fault.kind ≡ true
       → IsSaidRight (slice_get (all_said_from max k ahead) 0)
+
+-- A look finds this line, or that none says anything, and the reader goes on behind it.
+pub record IsTaken (old new : LinesRead) (line : Option Line) : Type 0 where
+  pub found : Found
+  pub line_is : found.line ≡ line
+  pub passed : new ≡ reader_past old found
+  pub looked : (k : ℕ) → old.line ≡ line_number k → Looked old.max k old.ahead found

@@ -4,6 +4,7 @@ ghost use Rattle.std.specs.Char.{is_ascii_digit};
 ghost use Rattle.lj_text.specs.Bytes.{number_of, tokens_of};
 ghost use Rattle.lj_text.specs.inner.LineReading.{words_of};
 ghost use Rattle.lj_text.specs.inner.ShortNumbers.{IsShortNumber};
+ghost use Rattle.lj_clause.specs.Literal.{literal_on};
 
 /// How many bytes a short number takes at most, with the space that ends it.
 const SHORT: usize = 9;
@@ -85,24 +86,17 @@ pub(crate) fn short_number(bytes: &[u8]) -> Option<(u32, &[u8])>
     Some((value, after))
 }
 
-/// The number of few digits at the front, with its sign, and what follows it.
+/// The number of few digits at the front without its sign, whether a `-` stands before it, and what follows it.
 #[inline(always)]
-pub(crate) fn short_integer(bytes: &[u8]) -> Option<(i32, &[u8])>
-    ensures number { IfSome result
-        (λ found. words_of bytes.now ≡ Some found.0 ∷ words_of found.1.now) }
-    ensures shorter { IfSome result (λ found. length found.1.now < length bytes.now) }
+pub(crate) fn short_integer(bytes: &[u8]) -> Option<(u32, bool, &[u8])>
+    ensures number { IfSome result (λ found. 0 < found.0
+        → words_of bytes.now ≡ Some (literal_on found.0 found.1) ∷ words_of found.2.now) }
+    ensures shorter { IfSome result (λ found. length found.2.now < length bytes.now) }
 {
-    match bytes {
-        [b'-', digits @ ..] => {
-            let (value, after) = short_digits(digits)?;
-            if value == 0 {
-                return None;
-            }
-            Some((-(value as i32), after))
-        }
-        _ => {
-            let (value, after) = short_digits(bytes)?;
-            Some((value as i32, after))
-        }
+    if let [b'-', digits @ ..] = bytes {
+        let (value, after) = short_digits(digits)?;
+        return Some((value, true, after));
     }
+    let (value, after) = short_digits(bytes)?;
+    Some((value, false, after))
 }

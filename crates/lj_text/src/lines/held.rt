@@ -109,28 +109,41 @@ impl Held {
         last
     }
 
-    /// Lets go of all but the last bytes, which begin a line.
+    /// The first line; no line ends among the first `searched` bytes.
     #[inline(always)]
-    pub fn keep_last(&mut self, count: u128)
+    pub fn first_line(&self, searched: usize) -> Option<&[u8]>
+        requires within { searched ≤ length self.now }
+        requires none_before { HasNoLineEnd (take searched self.now) }
+        ensures none { IfNone result (HasNoLineEnd self.now) }
+        ensures some { IfSome result
+            (λ line. (after : List ℕ) × (self.now ≡ line.now ++ byte "\n" ∷ after)) }
+        ensures line { IfSome result (λ line. HasNoLineEnd line.now) }
+    {
+        let (line, _) = self.ahead().first_line(searched)?;
+        Some(line)
+    }
+
+    /// Lets go of the first bytes, which end a line.
+    #[inline(always)]
+    pub fn pass_line(&mut self, count: usize)
         requires within { count ≤ length self.old }
-        requires begins { 0 < count → BeginsLineAt self.old (length self.old - count) }
-        ensures { self.new ≡ drop (length self.old - count) self.old }
+        requires ends { BeginsLineAt self.old count }
+        ensures { self.new ≡ drop count self.old }
     {
         let front = match self.runs.front() {
             Some(run) => run.bytes().len(),
             None => self.rest.len(),
         };
-        let place = self.count - count;
-        if place < front as u128 {
-            self.start = place as usize;
-            return;
+        if count < front - self.start {
+            self.start += count;
+        } else {
+            self.keep_last(self.count - self.start as u128 - count as u128);
         }
-        self.let_go_before(count);
     }
 
-    /// The same, where runs may be let go of.
+    /// Lets go of all but the last bytes, which begin a line.
     #[cold]
-    fn let_go_before(&mut self, count: u128)
+    pub fn keep_last(&mut self, count: u128)
         requires within { count ≤ length self.old }
         requires begins { 0 < count → BeginsLineAt self.old (length self.old - count) }
         ensures { self.new ≡ drop (length self.old - count) self.old }

@@ -18,14 +18,11 @@ fn short_literals<'a>(literals: &mut Vec<Lit>, max: u32, bytes: &'a [u8]) -> &'a
     ensures within { length result.now ≤ length bytes.now }
 {
     let mut rest = bytes;
-    while let Some((number, after)) = short_integer(rest) {
-        if number.unsigned_abs() > max {
+    while let Some((variable, negative, after)) = short_integer(rest) {
+        if variable == 0 || variable > max {
             return rest;
         }
-        let Some(literal) = Lit::new(number) else {
-            return rest;
-        };
-        if literals.push(literal).is_err() {
+        if literals.push(Lit::of(variable, negative)).is_err() {
             return rest;
         }
         rest = after;

@@ -52,41 +52,8 @@ pub(super) fn parse_at(
 }
 
 /// Looks for the first whole line that says something. There is no line feed among the first `searched` bytes.
-#[inline(always)]
-pub(super) fn look(
-    room: &mut Room,
-    max: u32,
-    first: u64,
-    ahead: &Held,
-    searched: usize,
-) -> Result<Found, LineFault>
-    requires max { max ≤ MAX_VARIABLE }
-    requires within { searched ≤ length ahead.now }
-    requires none_before { HasNoLineEnd (take searched ahead.now) }
-    ensures left { IfOk result (λ found. found.left ≤ length ahead.now) }
-    ensures open { IfOk result (λ found. found.line ≡ None
-        → HasNoLineEnd (drop (length ahead.now - found.left) ahead.now)) }
-    ensures searched { IfOk result (λ found. found.line ≡ None → found.searched ≡ found.left) }
-    ensures found { (k : ℕ) → first ≡ line_number k → MatchResult result
-        (λ found. Looked max k ahead.now found) (λ fault. Fails max k ahead.now fault) }
-{
-    if let Some((bytes, after)) = ahead.ahead().first_line(searched) {
-        if let Some(line) = parse_at(room, max, true, bytes, first)? {
-            return Ok(Found {
-                line: Some(line),
-                at: first,
-                number: first.saturating_add(1),
-                left: after.count(),
-                searched: 0,
-            });
-        }
-    }
-    look_on(room, max, first, ahead, searched)
-}
-
-/// The same, where the first line may say nothing.
 #[cold]
-fn look_on(
+pub(super) fn look(
     room: &mut Room,
     max: u32,
     first: u64,

@@ -1,15 +1,15 @@
 //! The reader of lines.
-ghost use Rattle.std.specs.Prelude.{◌≡◌, ◌+◌, ◌≤◌, ◌++◌, ◌⊎◌, ℕ, Bool, true, false, List, [], length, Option, Some, None, Ok, Err, IfSome, IfErr, IsSome, OnOk, OnErr, MatchBool, MatchResult, slice_get};
+ghost use Rattle.std.specs.Prelude.{◌≡◌, ◌+◌, ◌≤◌, ◌++◌, ◌⊎◌, ℕ, Bool, true, false, List, [], length, Option, Some, None, Ok, Err, IfNone, IfSome, IfErr, IsSome, OnOk, OnErr, MatchBool, MatchResult, slice_get};
 ghost use Rattle.lj_text.specs.Bytes.{line_number};
 ghost use Rattle.lj_text.specs.Lines.{whole_said, all_said};
 ghost use Rattle.lj_text.specs.LinesRead.{LineReaderStandsAt, IsReadingAt, IsSaidAt, IsSaidRight, wants_memory, line_answer, handed_out, fault_of, line_number_of, last_number};
 ghost use Rattle.lj_text.specs.inner.LinesHeld.{IsAhead, reader_past, reader_with_fault};
-ghost use Rattle.lj_text.specs.inner.Looking.{Looked, LookedBehind, Fails, FailsToEnd};
+ghost use Rattle.lj_text.specs.inner.Looking.{Looked, LookedBehind, Fails, FailsToEnd, IsTaken};
 ghost use Rattle.lj_clause.specs.declared.lit.TheConstants.{MAX_VARIABLE};
 
 use super::fault::{LineFault, LineFaultKind};
 use super::held::Held;
-use super::look::{Found, look, look_to_end};
+use super::look::{Found, look, look_to_end, parse_at};
 use super::room::Room;
 use crate::line::Line;
 use std::alloc::Global;
@@ -141,6 +141,9 @@ impl LineReader {
             self.at = self.line;
             return Ok(None);
         }
+        if let Some(line) = self.take_first() {
+            return Ok(Some(line));
+        }
         match self.look_ahead() {
             Ok(found) => Ok(self.pass(found)),
             Err(fault) => {
@@ -206,7 +209,7 @@ impl LineReader {
     }
 
     /// Takes a line back that is done, so that a line to come is written where it stood.
-    #[inline]
+    #[inline(always)]
     pub fn reuse(&mut self, line: Line)
         ensures { self.new ≡ self.old }
     {
@@ -233,8 +236,26 @@ impl LineReader {
         self.held.room()
     }
 
-    /// The next whole line that says something.
+    /// Takes the first line, where it is whole, says something and is right: the usual one, for which nothing else is
+    /// made. Where memory was refused for it, whoever looks on tries it again.
     #[inline(always)]
+    fn take_first(&mut self) -> Option<Line>
+        ensures some { IfSome result (λ line. IsTaken self.old self.new (Some line)) }
+        ensures none { IfNone result (self.new ≡ self.old) }
+    {
+        let bytes = self.held.first_line(self.searched)?;
+        let count = bytes.len() + 1;
+        let Ok(Some(line)) = parse_at(&mut self.room, self.max, true, bytes, self.line) else {
+            return None;
+        };
+        self.held.pass_line(count);
+        self.searched = 0;
+        self.at = self.line;
+        self.line = self.line.saturating_add(1);
+        Some(line)
+    }
+
+    /// The next whole line that says something.
     fn look_ahead(&mut self) -> Result<Found, LineFault>
         ensures found { (k : ℕ) → self.old.line ≡ line_number k
             → MatchResult result (λ found. Looked self.old.max k self.old.ahead found)
@@ -270,7 +291,6 @@ impl LineReader {
     }
 
     /// Goes on behind what was found.
-    #[inline(always)]
     fn pass(&mut self, found: Found) -> Option<Line>
         requires { IsAhead self.old.ahead found }
         ensures line { result ≡ found.line }

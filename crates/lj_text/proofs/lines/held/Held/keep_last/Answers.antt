@@ -1,6 +1,6 @@
 use Rattle.std.proofs.Common.{◌<◌, arith}
 use Rattle.lj_text.proofs.RunLemmas.{kept, kept-view}
-use Rattle.lj_text.proofs.lines.held.Held.let_go_before.Goals as goal
+use Rattle.lj_text.proofs.lines.held.Held.keep_last.Goals as goal
 
 pub overflow_cast-self : goal.overflow_cast-self
 overflow_cast-self c =

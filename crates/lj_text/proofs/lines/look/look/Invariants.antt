@@ -1,7 +1,7 @@
 use Rattle.std.proofs.Common.{◌≤◌, length, take}
 use Rattle.lj_text.specs.LinesRead.{HasNoLineEnd}
 use Rattle.lj_text.proofs.PassLemmas.{Passed}
-use Rattle.lj_text.proofs.lines.look.look_on.Given as goal
+use Rattle.lj_text.proofs.lines.look.look.Given as goal
 
 abbrev pub invariant-loop-bytes : goal.invariant-loop-bytes
 invariant-loop-bytes l = record {
