@@ -51,10 +51,7 @@ impl<L: Live> HintList for ShortHints<'_, L> {
 
     #[inline]
     fn clause(&self, index: usize) -> Option<ClauseView<'_>> {
-        match self.numbers.get(index) {
-            Some(number) => self.live.clause(u64::from(*number)),
-            None => None,
-        }
+        self.live.clause(u64::from(self.numbers[index]))
     }
 }
 
