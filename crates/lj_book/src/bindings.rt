@@ -137,8 +137,7 @@ impl Bindings {
 }
 
 /// The joint number that the tree has for the own number.
-#[cold]
-#[inline(never)]
+#[inline(always)]
 fn long_joint(long: &TreeMap<u64>, own: u64) -> Option<u64>
     ensures { result ≡ fin.get long.now own }
 {

@@ -28,7 +28,7 @@ use crate::taking::case_of;
 use crate::verified::Verified;
 use lj_clause::{ClauseView, Formula, Lit, NoMemory};
 use lj_hint::{Case, Receipt};
-use lj_text::{Addition, Numbers, Step};
+use lj_text::{Addition, Group, Numbers, Step};
 use std::alloc::Global;
 use std::marker::Model;
 
@@ -48,6 +48,8 @@ pub struct Book {
     refuted: Option<u64>,
     /// Room for the joint hints of a line. What it holds between calls means nothing.
     joints: Numbers,
+    /// Room for the joint groups of a line, likewise.
+    joint_groups: Vec<Group>,
 }
 
 impl Model for Book {
@@ -99,6 +101,7 @@ impl Book {
             added: 0,
             refuted: None,
             joints: Numbers::from_short(Vec::new(alloc)),
+            joint_groups: Vec::new(alloc),
         })
     }
 

@@ -12,7 +12,10 @@ use crate::taking::repeated_group;
 use lj_text::{Addition, Group, Numbers};
 use std::alloc::Global;
 
-/// The hints of a seat's addition in joint numbers, in a list that was used before, and its groups. Each own number is
+/// For how many groups a list that is used again keeps its room.
+const FEW_GROUPS: usize = 4;
+
+/// The hints of a seat's addition in joint numbers, and its groups, in lists that were used before. Each own number is
 /// looked up once.
 ///
 /// # Errors
@@ -24,28 +27,42 @@ pub(crate) fn joint_line(
     seat: u32,
     addition: &Addition,
     hints: &mut Numbers,
-) -> Result<Vec<Group>, Refusal>
-    ensures { IsReplyBy (λ groups. (hints.new, groups.items)) result
+    joints: &mut Vec<Group>,
+) -> Result<(), Refusal>
+    ensures { IsReplyBy (λ _. (hints.new, joints.new.items)) result
         (joint_parts (joint_of tables.now seat) addition.now) }
 {
     if let Err(refusal) = put_joints(tables, seat, &addition.hints, hints) {
         return Err(refusal);
     }
+    clear(joints);
     let groups = addition.groups.as_slice();
     if groups.is_empty() {
-        return Ok(Vec::new(alloc));
+        return Ok(());
     }
-    let joints = match joint_groups_of(alloc, tables, seat, groups) {
-        Ok(joints) => joints,
-        Err(refusal) => return Err(refusal),
-    };
-    if are_rising(&joints) {
-        return Ok(joints);
+    if let Err(refusal) = put_joint_groups(alloc, tables, seat, groups, joints) {
+        return Err(refusal);
+    }
+    if are_rising(joints) {
+        return Ok(());
     }
     if let Some(own) = repeated_group(alloc, tables, seat, groups)? {
         return Err(Refusal::GroupRepeated(own));
     }
-    Ok(joints)
+    Ok(())
+}
+
+/// Lets go of the groups, and of their room where it is for more than a few.
+#[inline]
+fn clear(groups: &mut Vec<Group>)
+    ensures { groups.new.items ≡ [] }
+{
+    if !groups.is_empty() {
+        groups.clear();
+        if groups.capacity() > FEW_GROUPS {
+            groups.shrink_to_fit();
+        }
+    }
 }
 
 /// Whether the candidates of these groups rise, so that none stands twice.
@@ -124,20 +141,22 @@ fn put_each(table: &Bindings, numbers: &Numbers, joints: &mut Numbers) -> Result
     Ok(())
 }
 
-/// The groups in joint numbers.
+/// Puts the groups in joint numbers into a list.
 ///
 /// # Errors
 /// As [`put_joints`], each candidate before its hints.
-fn joint_groups_of(
+fn put_joint_groups(
     alloc: Global,
     tables: &SeatTables,
     seat: u32,
     groups: &[Group],
-) -> Result<Vec<Group>, Refusal>
-    ensures { IsReplyBy (λ v. v.items) result
+    joints: &mut Vec<Group>,
+) -> Result<(), Refusal>
+    requires { joints.old.items ≡ [] }
+    ensures { IsReplyBy (λ _. joints.new.items) result
         (joint_groups_in (joint_of tables.now seat) groups.now) }
 {
-    let mut joints = Vec::with_capacity(alloc, groups.len())?;
+    joints.reserve_exact(groups.len())?;
     for group in groups {
         let Some(candidate) = tables.joint(seat, group.candidate) else {
             return Err(Refusal::UnknownNumber(group.candidate));
@@ -148,5 +167,5 @@ fn joint_groups_of(
             Err(refusal) => return Err(refusal),
         }
     }
-    Ok(joints)
+    Ok(())
 }

@@ -1,8 +1,8 @@
 -- The test of candidates, one after the other.
 use Rattle.std.proofs.Common.{◌≡◌, ap, refl, sym, ◌∙◌, ℕ, zero, suc, ◌+◌, ◌<◌, ◌≤◌, Bool, true, false, cond, arith, add-one, append_assoc, get_or, drop, drop-cons, length, subst}
-use Rattle.std.proofs.lemmas.List.{drop_all, append-nil}
-use Rattle.std.specs.Prelude.{ℤ, neg_ℤ, List, [], ◌∷◌, ◌++◌, map, filter, Option, Some, None, option_map, option_copied, is_some, slice_get, ◌==◌, if◌then◌else◌, Result, Ok, Err}
-use Rattle.std.specs.Borrow.{Bor}
+use Rattle.std.proofs.lemmas.List.{drop_all, append-nil, get_or-map, length-map}
+use Rattle.std.specs.Prelude.{ℤ, neg_ℤ, List, [], ◌∷◌, ◌++◌, map, filter, Option, Some, None, option_map, is_some, slice_get, Vec, ◌==◌, if◌then◌else◌, Result, Ok, Err}
+use Rattle.std.specs.declared.alloc.Global.{Global}
 use Rattle.std.specs.List.{AllByRecursion}
 use Rattle.std.specs.FinMap as fin
 use Rattle.lj_clause.specs.LiteralSet.{LiteralSet, holds}
@@ -11,31 +11,49 @@ use Rattle.lj_clause.specs.Walk.{Walk, Closed, Open, Stuck, Hint}
 use Rattle.lj_clause.specs.Rat.{HintGroup, NamedGroup, RatAnswer, candidates, Covered, MissingGroup, GroupStuck, GroupOpen, group_of, by_candidate, candidate_walk, rat_over}
 use Rattle.lj_clause.proofs.RatLaws.{candidates-get}
 use Rattle.lj_hint.specs.declared.rat_refusal.RatRefusal.{RatRefusal}
-use Rattle.lj_hint.specs.declared.rat.LentGroup.{LentGroup}
 use Rattle.lj_hint.specs.declared.rat_refusal.RatRefusal.TheVariants as refusals
 use Rattle.lj_hint.specs.declared.rat_refusal.RatRefusal.TheVariants.{EmptyOpen}
-use Rattle.lj_hint.specs.RatTest.{rat_told, IsRatRefusal}
-use Rattle.lj_hint.specs.inner.Lent.{lent_groups, group_at, candidate_told, IsCandidateRefusal}
+use Rattle.lj_hint.specs.declared.pair.Pair.{Pair}
+use Rattle.lj_hint.specs.Hints.{named_hints}
+use Rattle.lj_hint.specs.Case.{groups_of}
+use Rattle.lj_hint.specs.RatTest.{named_groups, rat_told, IsRatRefusal}
+use Rattle.lj_hint.specs.inner.Groups.{no_group, group_in, group_at, candidate_told, IsCandidateRefusal}
 
 -- ---- groups by their candidates
 
-next_group : {H : Type 0} (gs : List (LentGroup H)) (k : ℕ) (g : LentGroup H) → k < length gs → g ≡ get_or gs k g → drop k gs ≡ g ∷ drop (k + 1) gs
-next_group {H} gs k g lt is = drop-cons gs k g lt ∙ ap (λ (h : LentGroup H). h ∷ drop (suc k) gs) (sym is) ∙ ap (λ (n : ℕ). g ∷ drop n gs) (sym (add-one k))
+-- the groups from an index on begin with the one there
+pub next_group : (gs : List NamedGroup) (k : ℕ) → k < length gs → drop k gs ≡ group_in gs k ∷ drop (k + 1) gs
+next_group gs k lt = drop-cons gs k no_group lt ∙ ap (λ (n : ℕ). group_in gs k ∷ drop n gs) (sym (add-one k))
 
-there : {H : Type 0} (gs : List (LentGroup H)) (k : ℕ) (g : LentGroup H) → k < length gs → g ≡ get_or gs k g → slice_get gs k ≡ Some g
-there [] k g lt is = absurd (omega arith)
-there (h ∷ gs) zero g lt is = ap Some (sym is)
-there (h ∷ gs) (suc k) g lt is = there gs k g (omega arith) is
+there : (gs : List NamedGroup) (k : ℕ) → k < length gs → slice_get gs k ≡ Some (group_in gs k)
+there [] k lt = absurd (omega arith)
+there (h ∷ gs) zero lt = refl
+there (h ∷ gs) (suc k) lt = there gs k (omega arith)
 
 -- the place of a group's candidate, where those after it are known
-pub group_placed : {H : Type 0} (f : H → List Hint) (gs : List (LentGroup H)) (k : ℕ) (g : LentGroup H) (n : ℕ) (later : Option ℕ) (b : Bool) → k < length gs → g ≡ get_or gs k g → b ≡ (g.candidate == n) → group_at f gs later ≡ group_of n (lent_groups f (drop (k + 1) gs)) → group_at f gs (cond b (Some k) later) ≡ group_of n (lent_groups f (drop k gs))
-group_placed {H} f gs k g n later b lt is tied before =
+pub group_placed : (gs : List NamedGroup) (k n : ℕ) (later : Option ℕ) (b : Bool) → k < length gs → b ≡ ((group_in gs k).candidate == n) → group_at gs later ≡ group_of n (drop (k + 1) gs) → group_at gs (cond b (Some k) later) ≡ group_of n (drop k gs)
+group_placed gs k n later b lt tied before =
     placed b tied
-    ∙ sym (ap (λ hs. group_of n (lent_groups f hs)) (next_group gs k g lt is))
+    ∙ sym (ap (group_of n) (next_group gs k lt))
   where
-    placed : (b : Bool) → b ≡ (g.candidate == n) → group_at f gs (cond b (Some k) later) ≡ group_of n (lent_groups f (g ∷ drop (k + 1) gs))
-    placed true e = ap (option_map (λ (h : LentGroup H). f h.hints)) (there gs k g lt is) ∙ ap (λ c. if c then Some (f g.hints) else group_of n (lent_groups f (drop (k + 1) gs))) e
-    placed false e = before ∙ ap (λ c. if c then Some (f g.hints) else group_of n (lent_groups f (drop (k + 1) gs))) e
+    g : NamedGroup
+    g = group_in gs k
+
+    placed : (b : Bool) → b ≡ (g.candidate == n) → group_at gs (cond b (Some k) later) ≡ group_of n (g ∷ drop (k + 1) gs)
+    placed true e = ap (option_map (λ (h : NamedGroup). h.hints)) (there gs k lt) ∙ ap (λ c. if c then Some g.hints else group_of n (drop (k + 1) gs)) e
+    placed false e = before ∙ ap (λ c. if c then Some g.hints else group_of n (drop (k + 1) gs)) e
+
+-- a case has as many groups with named hints as groups
+pub pairs_counted : (gs : List (Pair × Vec Pair Global)) → length (named_groups (groups_of gs)) ≡ length gs
+pairs_counted gs = length-map (groups_of gs) (λ (h : Pair × List Pair). record { candidate = h.0.joint; hints = named_hints h.1 }) ∙ length-map gs (λ (h : Pair × Vec Pair Global). (h.0, h.1.items))
+
+-- the group of a case at an index
+pub pair_group : (gs : List (Pair × Vec Pair Global)) (k : ℕ) (g : Pair × Vec Pair Global) → k < length gs → group_in (named_groups (groups_of gs)) k ≡ record { candidate = (get_or gs k g).0.joint; hints = named_hints (get_or gs k g).1.items }
+pair_group gs k g lt =
+    let listed : Pair × Vec Pair Global → Pair × List Pair = λ h. (h.0, h.1.items) in
+    let named : Pair × List Pair → NamedGroup = λ h. record { candidate = h.0.joint; hints = named_hints h.1 } in
+    get_or-map named (groups_of gs) k (listed g) no_group (omega (arith, lt, length-map gs listed))
+    ∙ ap named (get_or-map listed gs k g (listed g) lt)
 
 -- ---- the candidates, each in turn
 
@@ -136,6 +154,6 @@ refusal_told (refusals.GroupOpen n) one whole f h = f (refusals.GroupOpen n) h
 refusal_told (refusals.NoMemory e) one whole f h = tt
 
 -- whether there is a group, and its hints
-pub has_hints : {H : Type 0} (f : H → List Hint) (o : Option (Bor H)) → is_some (option_map f (option_copied o)) ≡ is_some o
+pub has_hints : {H : Type 0} (f : H → List Hint) (o : Option H) → is_some (option_map f o) ≡ is_some o
 has_hints f None = refl
 has_hints f (Some h) = refl

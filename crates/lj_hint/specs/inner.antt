@@ -4,5 +4,5 @@ pub mod Rest
 pub mod Stamps
 pub mod Trail
 pub mod Ending
-pub mod Lent
+pub mod Groups
 pub mod Codes

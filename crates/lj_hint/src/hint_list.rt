@@ -1,5 +1,5 @@
 //! Lists of hints, wherever their clauses are kept.
-ghost use Rattle.std.specs.Prelude.{◌≡◌, List, length};
+ghost use Rattle.std.specs.Prelude.{◌≡◌, ◌<◌, List, length};
 ghost use Rattle.lj_clause.specs.Walk.{Hint};
 ghost use Rattle.lj_hint.specs.Hints.{named_hints};
 ghost use Rattle.lj_hint.specs.inner.Hints.{hint_number, clause_at};
@@ -21,6 +21,7 @@ pub(crate) trait HintList {
 
     /// The clause that the hint at an index names.
     fn clause(&self, index: usize) -> Option<ClauseView<'_>>
+        requires { index < length (hints self.now) }
         ensures { result ≡ clause_at (hints self.now) index };
 }
 
@@ -48,9 +49,6 @@ impl HintList for PairHints<'_> {
 
     #[inline]
     fn clause(&self, index: usize) -> Option<ClauseView<'_>> {
-        match self.pairs.get(index) {
-            Some(pair) => Some(pair.clause.view()),
-            None => None,
-        }
+        Some(self.pairs[index].clause.view())
     }
 }

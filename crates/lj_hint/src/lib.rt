@@ -2,6 +2,7 @@
 #![tactic(auto)]
 
 mod case;
+mod group_list;
 mod hint_list;
 mod laws;
 mod live;

@@ -4,10 +4,12 @@ ghost use Rattle.std.specs.FinMap as fin;
 ghost use Rattle.lj_clause.specs.LiteralSet.{holds};
 ghost use Rattle.lj_clause.specs.ClauseMap.{ClauseMap};
 ghost use Rattle.lj_clause.specs.Walk.{Hint, hints_in};
+ghost use Rattle.lj_clause.specs.Rat.{groups_in};
 
+use crate::group_list::GroupList;
 use crate::hint_list::HintList;
 use lj_clause::{ClauseView, Lit, NoMemory};
-use lj_text::Numbers;
+use lj_text::{Group, Numbers};
 
 /// The clauses that live, under their joint numbers.
 pub trait Live {
@@ -51,10 +53,7 @@ impl<L: Live> HintList for ShortHints<'_, L> {
 
     #[inline]
     fn clause(&self, index: usize) -> Option<ClauseView<'_>> {
-        match self.numbers.get(index) {
-            Some(number) => self.live.clause(u64::from(*number)),
-            None => None,
-        }
+        self.live.clause(u64::from(self.numbers[index]))
     }
 }
 
@@ -83,6 +82,39 @@ impl<L: Live> HintList for LiveHints<'_, L> {
         match self.numbers.get(index) {
             Some(number) => self.live.clause(number),
             None => None,
+        }
+    }
+}
+
+/// Groups that name live clauses by their numbers.
+#[derive(Drop)]
+pub(crate) struct LiveGroups<'a, L> {
+    pub live: &'a L,
+    pub groups: &'a [Group],
+}
+
+impl<'a, L: Live> GroupList for LiveGroups<'a, L> {
+    type Hints = LiveHints<'a, L>;
+
+    ghost groups = { λ g. groups_in (L.live g.live.now) g.groups.now };
+
+    #[inline]
+    fn count(&self) -> usize {
+        self.groups.len()
+    }
+
+    #[inline]
+    fn candidate(&self, index: usize) -> u64 {
+        let group = &self.groups[index];
+        group.candidate
+    }
+
+    #[inline]
+    fn hints(&self, index: usize) -> LiveHints<'a, L> {
+        let group = &self.groups[index];
+        LiveHints {
+            live: self.live,
+            numbers: &group.hints,
         }
     }
 }

@@ -4,13 +4,12 @@ ghost use Rattle.lj_clause.specs.LiteralSet.{from_literals, negations};
 ghost use Rattle.lj_clause.specs.Walk.{hints_in, walk, is_contradictory, Open};
 ghost use Rattle.lj_hint.specs.inner.Ending.{ending_of};
 ghost use Rattle.lj_clause.specs.Rat.{groups_in};
-ghost use Rattle.lj_hint.specs.inner.Lent.{lent_groups};
 ghost use Rattle.lj_hint.specs.RatTest.{rat_reply, IsRatReply};
 ghost use Rattle.lj_hint.specs.LineTest.{line_reply, IsLineReply};
 
-use crate::live::{Live, LiveHints, ShortHints};
+use crate::live::{Live, LiveGroups, LiveHints, ShortHints};
 use crate::marks::Marks;
-use crate::rat::{LentGroup, cover};
+use crate::rat::cover;
 use crate::rat_refusal::RatRefusal;
 use crate::true_lits::TrueLits;
 use crate::walk::{Ending, walk_negation};
@@ -113,31 +112,6 @@ fn test_open<L: Live>(
     let Some(pivot) = pivot else {
         return Err(RatRefusal::EmptyOpen);
     };
-    let groups = lent_numbers(alloc, live, groups)?;
+    let groups = LiveGroups { live, groups };
     cover(alloc, live, held, pivot, &groups)
-}
-
-/// The groups of joint numbers, lent.
-///
-/// # Errors
-/// [`NoMemory`] where a growth was refused.
-fn lent_numbers<'a, L: Live>(
-    alloc: Global,
-    live: &'a L,
-    groups: &'a [Group],
-) -> Result<Vec<LentGroup<LiveHints<'a, L>>>, NoMemory>
-    ensures { IfOk result (λ lent. lent_groups (λ h. hints_in (L.live h.live.now) h.numbers.now)
-        lent.items ≡ groups_in (L.live live.now) groups.now) }
-{
-    let mut lent = Vec::new(alloc);
-    for group in groups {
-        lent.push(LentGroup {
-            candidate: group.candidate,
-            hints: LiveHints {
-                live,
-                numbers: &group.hints,
-            },
-        })?;
-    }
-    Ok(lent)
 }

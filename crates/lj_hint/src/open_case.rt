@@ -4,22 +4,20 @@ ghost use Rattle.lj_clause.specs.LiteralSet.{LiteralSet, from_literals};
 ghost use Rattle.lj_clause.specs.Walk.{Open, is_contradictory};
 ghost use Rattle.lj_hint.specs.Hints.{named_hints};
 ghost use Rattle.lj_hint.specs.Case.{walk_of, groups_of};
-ghost use Rattle.lj_hint.specs.inner.Lent.{lent_groups};
 ghost use Rattle.lj_hint.specs.RatTest.{named_groups, rat_reply, IsRatReply};
 ghost use Rattle.lj_hint.specs.declared.rat_refusal.RatRefusal.TheVariants.{EmptyOpen};
 
 use crate::case::Case;
+use crate::group_list::PairGroups;
 use crate::hint_list::PairHints;
 use crate::live::Live;
 use crate::marks::Marks;
-use crate::pair::Pair;
-use crate::rat::{LentGroup, cover};
+use crate::rat::cover;
 use crate::rat_refusal::RatRefusal;
 use crate::true_lits::TrueLits;
 use crate::walk::{Ending, walk_negation};
 use lj_clause::NoMemory;
 use lj_text::Group;
-use std::alloc::Global;
 
 /// The test of a case whose walk stays open, by resolution asymmetric tautology (Cruz-Filipe et al., CADE 2017): the
 /// candidates are the live clauses that hold the negation of the lemma's pivot, their hints those of the case. The
@@ -43,7 +41,9 @@ pub fn rat_test<L: Live>(live: &L, case: &Case, marks: &mut Marks) -> Result<Vec
     };
     let alloc = case.allocator();
     walk_again(&mut marks.lits, case)?;
-    let groups = lent_pairs(alloc, case.groups())?;
+    let groups = PairGroups {
+        groups: case.groups(),
+    };
     cover(alloc, live, &mut marks.lits, pivot, &groups)
 }
 
@@ -63,25 +63,4 @@ fn walk_again(held: &mut TrueLits, case: &Case) -> Result<(), NoMemory>
         Ending::StaysOpen => Ok(()),
         _ => unreachable!(),
     }
-}
-
-/// The groups of a case, lent.
-///
-/// # Errors
-/// [`NoMemory`] where a growth was refused.
-fn lent_pairs<'a>(
-    alloc: Global,
-    groups: &'a [(Pair, Vec<Pair>)],
-) -> Result<Vec<LentGroup<PairHints<'a>>>, NoMemory>
-    ensures { IfOk result (λ lent. lent_groups (λ h. named_hints h.pairs.now) lent.items
-        ≡ named_groups (groups_of groups.now)) }
-{
-    let mut lent = Vec::new(alloc);
-    for (candidate, hints) in groups {
-        lent.push(LentGroup {
-            candidate: candidate.joint,
-            hints: PairHints { pairs: hints },
-        })?;
-    }
-    Ok(lent)
 }

@@ -9,8 +9,9 @@ ghost use Rattle.lj_hint.specs.inner.Hints.{hint_numbers};
 ghost use Rattle.lj_hint.specs.inner.Trail.{Extends};
 ghost use Rattle.lj_hint.specs.inner.Ending.{ending_of};
 ghost use Rattle.lj_hint.specs.RatTest.{rat_told, IsRatReply};
-ghost use Rattle.lj_hint.specs.inner.Lent.{lent_groups, group_at, lent_hints, candidate_told, IsCandidateReply};
+ghost use Rattle.lj_hint.specs.inner.Groups.{group_at, lent_hints, candidate_told, IsCandidateReply};
 
+use crate::group_list::GroupList;
 use crate::hint_list::HintList;
 use crate::live::Live;
 use crate::rat_refusal::RatRefusal;
@@ -24,43 +25,46 @@ use std::collections::BTreeMap;
 /// Among so many groups that of a candidate is looked for one by one, and no map is made.
 const FEW: usize = 8;
 
-/// A candidate's hints, with the clauses that they name.
-#[derive(Drop)]
-pub(crate) struct LentGroup<H> {
-    pub candidate: u64,
-    pub hints: H,
-}
-
 /// The test of all candidates of a pivot among the live clauses, for a walk that ended open with what is held: the
 /// groups with the hints that were read, by rising candidate.
 ///
 /// # Errors
 /// The first candidate that isn't covered, and [`RatRefusal::NoMemory`] where a growth was refused.
-pub(crate) fn cover<L: Live, H: HintList>(
+pub(crate) fn cover<L: Live, G: GroupList>(
     alloc: Global,
     live: &L,
     held: &mut TrueLits,
     pivot: Lit,
-    groups: &[LentGroup<H>],
+    groups: &G,
 ) -> Result<Vec<Group>, RatRefusal>
     requires { is_contradictory (from_literals held.old) ≡ false }
     ensures { IsRatReply result (rat_told (rat_over (from_literals held.old) pivot
-        (lent_groups H.hints groups.now) (candidates (L.live live.now) pivot))) }
+        (G.groups groups.now) (candidates (L.live live.now) pivot))) }
 {
     let places = places_among(alloc, groups)?;
     let numbers = live.candidates(pivot.negated())?;
-    let mut covered = Vec::new(alloc);
+    let mut covered = room_for(alloc, numbers.len())?;
     for &number in &numbers {
         let Some(clause) = live.clause(number) else {
             continue;
         };
         let hints = hints_for(groups, &places, number);
-        match test_candidate(alloc, held, pivot, number, &clause, hints) {
+        match test_candidate(alloc, held, pivot, number, &clause, &hints) {
             Ok(group) => add(&mut covered, group)?,
             Err(refusal) => return Err(refusal),
         }
     }
     Ok(covered)
+}
+
+/// No groups, with room for so many.
+///
+/// # Errors
+/// [`NoMemory`] where a growth was refused.
+fn room_for(alloc: Global, count: usize) -> Result<Vec<Group>, NoMemory>
+    ensures { IfOk result (λ groups. groups.items ≡ []) }
+{
+    Ok(Vec::with_capacity(alloc, count)?)
 }
 
 /// Puts a group at the end.
@@ -84,12 +88,12 @@ fn test_candidate<H: HintList>(
     pivot: Lit,
     number: u64,
     clause: &ClauseView<'_>,
-    hints: Option<&H>,
+    hints: &Option<H>,
 ) -> Result<Group, RatRefusal>
     requires { is_contradictory (from_literals held.old) ≡ false }
     ensures reply { IsCandidateReply result
-        (candidate_told number (is_some hints.entry) (candidate_walk (from_literals held.old) pivot
-        clause.now (option_map H.hints (option_copied hints.entry)))) }
+        (candidate_told number (is_some hints.now) (candidate_walk (from_literals held.old) pivot
+        clause.now (option_map H.hints hints.now))) }
     ensures back { OnOk result (held.new ≡ held.old) }
 {
     let len = held.len();
@@ -121,11 +125,11 @@ fn walk_candidate<H: HintList>(
     held: &mut TrueLits,
     pivot: Lit,
     clause: &ClauseView<'_>,
-    hints: Option<&H>,
+    hints: &Option<H>,
 ) -> Result<Ending, NoMemory>
     ensures ending { IfOk result
         (λ ending. ending ≡ ending_of (candidate_walk (from_literals held.old) pivot clause.now
-        (option_map H.hints (option_copied hints.entry)))) }
+        (option_map H.hints hints.now))) }
     ensures extends { Extends held.old held.new }
 {
     held.insert_negations_but(clause.lits(), pivot.negated())?;
@@ -145,12 +149,12 @@ fn walk_candidate<H: HintList>(
 /// [`NoMemory`] where a growth was refused.
 fn first_numbers<H: HintList>(
     alloc: Global,
-    hints: Option<&H>,
+    hints: &Option<H>,
     count: usize,
 ) -> Result<Numbers, NoMemory>
-    requires { count ≤ length (lent_hints (option_map H.hints (option_copied hints))) }
+    requires { count ≤ length (lent_hints (option_map H.hints hints.now)) }
     ensures { IfOk result (λ numbers. numbers
-        ≡ hint_numbers (take count (lent_hints (option_map H.hints (option_copied hints.entry))))) }
+        ≡ hint_numbers (take count (lent_hints (option_map H.hints hints.now)))) }
 {
     match hints {
         Some(hints) => numbers_of(alloc, hints, count),
@@ -178,15 +182,15 @@ fn numbers_of<H: HintList>(alloc: Global, hints: &H, count: usize) -> Result<Num
 ///
 /// # Errors
 /// [`NoMemory`] where a growth was refused.
-fn places_among<H: HintList>(
+fn places_among<G: GroupList>(
     alloc: Global,
-    groups: &[LentGroup<H>],
+    groups: &G,
 ) -> Result<Option<BTreeMap<u64, usize>>, NoMemory>
     ensures { IfOk result (λ found. IfSome found
-        (λ places. (n : ℕ) → group_at H.hints groups.now (get nat_cmp places n)
-        ≡ group_of n (lent_groups H.hints groups.now))) }
+        (λ places. (n : ℕ) → group_at (G.groups groups.now) (get nat_cmp places n)
+        ≡ group_of n (G.groups groups.now))) }
 {
-    if groups.len() <= FEW {
+    if groups.count() <= FEW {
         return Ok(None);
     }
     Ok(Some(places_of(alloc, groups)?))
@@ -196,33 +200,30 @@ fn places_among<H: HintList>(
 ///
 /// # Errors
 /// [`NoMemory`] where a growth was refused.
-fn places_of<H: HintList>(
-    alloc: Global,
-    groups: &[LentGroup<H>],
-) -> Result<BTreeMap<u64, usize>, NoMemory>
-    ensures { IfOk result (λ places. (n : ℕ) → group_at H.hints groups.now (get nat_cmp places n)
-        ≡ group_of n (lent_groups H.hints groups.now)) }
+fn places_of<G: GroupList>(alloc: Global, groups: &G) -> Result<BTreeMap<u64, usize>, NoMemory>
+    ensures { IfOk result (λ places. (n : ℕ) → group_at (G.groups groups.now) (get nat_cmp places n)
+        ≡ group_of n (G.groups groups.now)) }
 {
     let mut places = BTreeMap::new(alloc);
-    let mut at = groups.len();
+    let mut at = groups.count();
     while at > 0 {
         at -= 1;
-        places.insert(groups[at].candidate, at)?;
+        places.insert(groups.candidate(at), at)?;
     }
     Ok(places)
 }
 
 /// The hints of a candidate's group, if it has one.
-fn hints_for<'a, H: HintList>(
-    groups: &'a [LentGroup<H>],
+fn hints_for<G: GroupList>(
+    groups: &G,
     places: &Option<BTreeMap<u64, usize>>,
     number: u64,
-) -> Option<&'a H>
+) -> Option<G::Hints>
     requires { IfSome places.now
-        (λ places. (n : ℕ) → group_at H.hints groups.now (get nat_cmp places n)
-        ≡ group_of n (lent_groups H.hints groups.now)) }
-    ensures { option_map H.hints (option_copied result)
-        ≡ group_of number (lent_groups H.hints groups.now) }
+        (λ places. (n : ℕ) → group_at (G.groups groups.now) (get nat_cmp places n)
+        ≡ group_of n (G.groups groups.now)) }
+    ensures { option_map G.Hints.hints result
+        ≡ group_of number (G.groups groups.now) }
 {
     match places {
         Some(places) => hints_at(groups, places, number),
@@ -231,32 +232,29 @@ fn hints_for<'a, H: HintList>(
 }
 
 /// The hints of the first group of a candidate, if it has one.
-fn first_hints<H: HintList>(groups: &[LentGroup<H>], number: u64) -> Option<&H>
-    ensures { option_map H.hints (option_copied result)
-        ≡ group_of number (lent_groups H.hints groups.now) }
+fn first_hints<G: GroupList>(groups: &G, number: u64) -> Option<G::Hints>
+    ensures { option_map G.Hints.hints result
+        ≡ group_of number (G.groups groups.now) }
 {
-    for group in groups {
-        if group.candidate == number {
-            return Some(&group.hints);
+    for index in 0..groups.count() {
+        if groups.candidate(index) == number {
+            return Some(groups.hints(index));
         }
     }
     None
 }
 
 /// The hints of the group that stands where these places tell, if there is one.
-fn hints_at<'a, H: HintList>(
-    groups: &'a [LentGroup<H>],
+fn hints_at<G: GroupList>(
+    groups: &G,
     places: &BTreeMap<u64, usize>,
     number: u64,
-) -> Option<&'a H>
-    ensures { option_map H.hints (option_copied result)
-        ≡ group_at H.hints groups.now (get nat_cmp places.now number) }
+) -> Option<G::Hints>
+    ensures { option_map G.Hints.hints result
+        ≡ group_at (G.groups groups.now) (get nat_cmp places.now number) }
 {
     match places.get(&number) {
-        Some(at) => match groups.get(*at) {
-            Some(group) => Some(&group.hints),
-            None => None,
-        },
-        None => None,
+        Some(at) if *at < groups.count() => Some(groups.hints(*at)),
+        _ => None,
     }
 }

@@ -96,9 +96,28 @@ impl TrueLits {
             return Ok(());
         }
         let _ = lit.variable();
-        let met = self.trail.holds(lit.negated());
+        if self.trail.holds(lit.negated()) {
+            return self.insert_opposed(lit);
+        }
         self.trail.push(lit)?;
-        self.contradictory |= met;
+        Ok(())
+    }
+
+    /// Puts a literal into the set that isn't there, but whose negation is, as [`TrueLits::insert`] does.
+    ///
+    /// # Errors
+    /// [`NoMemory`] where a growth was refused.
+    #[cold]
+    #[inline(never)]
+    fn insert_opposed(&mut self, lit: Lit) -> Result<(), NoMemory>
+        requires absent { holds (from_literals self.old) lit ≡ false }
+        requires opposed { holds (from_literals self.old) (neg_ℤ lit) ≡ true }
+        ensures ok { OnOk result (self.new ≡ with_mark self.old lit) }
+        ensures err { OnErr result (self.new ≡ self.old) }
+    {
+        let _ = lit.variable();
+        self.trail.push(lit)?;
+        self.contradictory = true;
         Ok(())
     }
 

@@ -12,6 +12,9 @@ use std::mem::replace;
 /// The greatest number that takes four bytes.
 const MAX_SHORT: u64 = u32::MAX as u64;
 
+/// For how many groups a list keeps its room when it is cleared: for as many as it takes room for with its first.
+const FEW_GROUPS: usize = 4;
+
 /// A list of clause numbers. Two are equal where their contents are.
 ///
 /// Each number takes four bytes where all of them are below 2^32, and eight otherwise. Up to six of four bytes may stand
@@ -470,14 +473,16 @@ impl Groups {
         self.groups.push(group)
     }
 
-    /// Lets go of the groups, and of their room.
+    /// Lets go of the groups, and of their room where it is for more than a few.
     #[inline(always)]
     pub(crate) fn clear(&mut self)
         ensures { self.new ≡ [] }
     {
         if !self.groups.is_empty() {
             self.groups.clear();
-            self.groups.shrink_to_fit();
+            if self.groups.capacity() > FEW_GROUPS {
+                self.groups.shrink_to_fit();
+            }
         }
     }
 

@@ -125,12 +125,13 @@ impl Book {
         if let Some(refusal) = self.free_refusal(seat, addition.number) {
             return Err(refusal);
         }
-        let groups = match joint_line(alloc, &self.tables, seat, addition, hints) {
-            Ok(groups) => groups,
-            Err(refusal) => return Err(refusal),
-        };
+        let joints = &mut self.joint_groups;
+        if let Err(refusal) = joint_line(alloc, &self.tables, seat, addition, hints, joints) {
+            return Err(refusal);
+        }
         let lemma = &addition.lemma;
-        let groups = match tested_line(alloc, &mut self.ledger, lemma, hints, &groups, marks) {
+        let joints = &self.joint_groups;
+        let groups = match tested_line(alloc, &mut self.ledger, lemma, hints, joints, marks) {
             Ok(groups) => groups,
             Err(refusal) => return Err(refusal),
         };

@@ -1,5 +1,5 @@
 use Rattle.std.proofs.Common.{ap, sym, ◌∙◌}
-use Rattle.std.specs.Prelude.{[], option_map, option_copied}
+use Rattle.std.specs.Prelude.{[], option_map}
 use Rattle.lj_clause.specs.LiteralSet.{LiteralSet, from_literals}
 use Rattle.lj_clause.specs.Walk.{walk_over}
 use Rattle.lj_clause.specs.Rat.{candidate_walk}
@@ -15,7 +15,7 @@ returns-then-is_contradictory-clause-ending g c =
     let new = from_literals c.insert_negations_but.new.self in
     let is = with_others a new d q _ _ c.negated.ensures c.lits.ensures c.in_ok-insert_negations_but.ensures.ok in
     sym
-    (ap (λ o. ending_of (candidate_walk a q d (option_map g.H.HintList.hints (option_copied o)))) c.in-None.is
+    (ap (λ o. ending_of (candidate_walk a q d (option_map g.H.HintList.hints o))) c.in-None.is
     ∙ ap (λ (s : LiteralSet). ending_of (walk_over s [])) (sym is)
     ∙ ap ending_of (closed_at_once new [] (sym c.if-is_contradictory.ensures)))
 
@@ -27,6 +27,6 @@ returns-else-is_contradictory-clause-ending g c =
     let new = from_literals c.insert_negations_but.new.self in
     let is = with_others a new d q _ _ c.negated.ensures c.lits.ensures c.in_ok-insert_negations_but.ensures.ok in
     sym
-    (ap (λ o. ending_of (candidate_walk a q d (option_map g.H.HintList.hints (option_copied o)))) c.in-None.is
+    (ap (λ o. ending_of (candidate_walk a q d (option_map g.H.HintList.hints o))) c.in-None.is
     ∙ ap (λ (s : LiteralSet). ending_of (walk_over s [])) (sym is)
     ∙ ap ending_of (open_at_end new (sym c.if-is_contradictory.ensures)))

@@ -1,14 +1,12 @@
-use Rattle.std.proofs.Common.{ℕ, ◌<◌, ap, sym, ◌∙◌, subst}
-use Rattle.std.specs.Prelude.{◌||◌}
+use Rattle.std.proofs.Common.{◌≡◌, ℕ, ◌<◌, ap, sym, ◌∙◌, subst}
+use Rattle.std.specs.Prelude.{neg_ℤ, false}
 use Rattle.lj_clause.specs.LiteralSet.{holds, from_literals}
-use Rattle.lj_clause.specs.Walk.{is_contradictory}
-use Rattle.lj_hint.proofs.Contradictions.{is_contradictory-with_literal}
-use Rattle.lj_hint.proofs.TrailLaws.{from_literals-push}
+use Rattle.lj_hint.proofs.TrailLaws.{pushed_unopposed}
 use Rattle.lj_hint.proofs.true_lits.TrueLits.insert.Goals as goal
 
 pub invariant_of-self-2 : goal.invariant_of-self-2
 invariant_of-self-2 c =
     let old = from_literals c.self.inside.trail in
-    (λ i. c.self.invariant i || (c.holds-met.ensures ∙ ap (holds old) c.negated.ensures) i)
-    ∙ sym (is_contradictory-with_literal old c.args.lit (subst (λ (n : ℕ). 0 < n) c.variable.ensures.variable c.variable.ensures.in_range.0))
-    ∙ sym (ap is_contradictory (ap from_literals c.in_ok-push.ensures.ok ∙ from_literals-push c.self.inside.trail c.args.lit))
+    let unopposed : holds old (neg_ℤ c.args.lit) ≡ false = ap (holds old) (sym c.negated.ensures) ∙ sym c.holds-2.ensures ∙ c.if-holds-2.false in
+    c.self.invariant
+    ∙ sym (pushed_unopposed c.self.inside.trail c.push.new.self c.args.lit c.in_ok-push.ensures.ok (subst (λ (n : ℕ). 0 < n) c.variable.ensures.variable c.variable.ensures.in_range.0) unopposed)

@@ -1,22 +1,23 @@
--- Groups whose hints are lent, and the test of one candidate.
-use Rattle.std.specs.Prelude.{◌≡◌, ℕ, Bool, List, [], map, Option, option_map, option_and_then, unwrap_or, slice_get, if◌then◌else◌, Result, Ok, Err, MatchResult}
+-- Groups by their index, and the test of one candidate.
+use Rattle.std.specs.Prelude.{◌≡◌, ℕ, Bool, List, [], Option, option_map, option_and_then, unwrap_or, slice_get, slice_index_or, if◌then◌else◌, Result, Ok, Err, MatchResult}
 use Rattle.lj_clause.specs.Walk as walks
 use Rattle.lj_clause.specs.Walk.{Hint}
 use Rattle.lj_clause.specs.Rat.{HintGroup, NamedGroup}
 use Rattle.lj_hint.specs.declared.rat_refusal.RatRefusal.{RatRefusal}
 use Rattle.lj_hint.specs.declared.rat_refusal.RatRefusal.TheVariants.{EmptyOpen, MissingGroup, GroupStuck, GroupOpen, NoMemory}
-use Rattle.lj_hint.specs.declared.rat.LentGroup.{LentGroup}
 
--- the groups with the hints that theirs stand for
-abbrev pub lent_groups : {H : Type 0} → (H → List Hint) → List (LentGroup H) → List NamedGroup
-lent_groups hints groups = map (λ g. record { candidate = g.candidate; hints = hints g.hints })
-    groups
+-- no group
+abbrev pub no_group : NamedGroup
+no_group = record { candidate = 0; hints = [] }
+
+-- the group at an index
+abbrev pub group_in : List NamedGroup → ℕ → NamedGroup
+group_in groups index = slice_index_or groups index no_group
 
 -- the hints of the group at a place, if there is one
-abbrev pub group_at : {H : Type 0} → (H → List Hint) → List (LentGroup H) → Option ℕ
-    → Option (List Hint)
-group_at hints groups place = option_map (λ g. hints g.hints)
-    (option_and_then (λ at. slice_get groups at) place)
+abbrev pub group_at : List NamedGroup → Option ℕ → Option (List Hint)
+group_at groups place = option_map (λ g. g.hints) (option_and_then (λ at. slice_get groups at)
+    place)
 
 -- the hints, none where there is no group
 abbrev pub lent_hints : Option (List Hint) → List Hint

@@ -2,7 +2,7 @@ use Rattle.std.proofs.Common.{◌≡◌, drop}
 use Rattle.lj_book.specs.Tables.{joint_of}
 use Rattle.lj_book.specs.inner.JointLines.{joint_groups_in}
 use Rattle.lj_book.specs.inner.Fronts.{with_front}
-use Rattle.lj_book.proofs.joint_line.joint_groups_of.Given as goal
+use Rattle.lj_book.proofs.joint_line.put_joint_groups.Given as goal
 
 abbrev pub invariant-loop-group : goal.invariant-loop-group
 invariant-loop-group l = with_front l.joints.items (joint_groups_in (joint_of l.tables l.seat) (drop l.group-index l.groups)) ≡ joint_groups_in (joint_of l.tables l.seat) l.groups

@@ -1,0 +1,59 @@
+//! Lists of groups, wherever their hints are kept.
+ghost use Rattle.std.specs.Prelude.{◌≡◌, ◌<◌, List, length};
+ghost use Rattle.lj_clause.specs.Rat.{NamedGroup};
+ghost use Rattle.lj_hint.specs.Case.{groups_of};
+ghost use Rattle.lj_hint.specs.RatTest.{named_groups};
+ghost use Rattle.lj_hint.specs.inner.Groups.{group_in};
+
+use crate::hint_list::{HintList, PairHints};
+use crate::pair::Pair;
+
+/// A list of groups, each of which has a candidate and hints.
+pub(crate) trait GroupList {
+    type Hints: HintList + Drop;
+
+    ghost groups: { Self → List NamedGroup };
+
+    /// The number of groups.
+    fn count(&self) -> usize
+        ensures { result ≡ length (groups self.now) };
+
+    /// The candidate of the group at an index.
+    fn candidate(&self, index: usize) -> u64
+        requires { index < length (groups self.now) }
+        ensures { result ≡ (group_in (groups self.now) index).candidate };
+
+    /// The hints of the group at an index.
+    fn hints(&self, index: usize) -> Self::Hints
+        requires { index < length (groups self.now) }
+        ensures { Self.Hints.hints result ≡ (group_in (groups self.now) index).hints };
+}
+
+/// The groups of a case, which has their clauses.
+#[derive(Drop)]
+pub(crate) struct PairGroups<'a> {
+    pub groups: &'a [(Pair, Vec<Pair>)],
+}
+
+impl<'a> GroupList for PairGroups<'a> {
+    type Hints = PairHints<'a>;
+
+    ghost groups = { λ g. named_groups (groups_of g.groups.now) };
+
+    #[inline]
+    fn count(&self) -> usize {
+        self.groups.len()
+    }
+
+    #[inline]
+    fn candidate(&self, index: usize) -> u64 {
+        self.groups[index].0.joint
+    }
+
+    #[inline]
+    fn hints(&self, index: usize) -> PairHints<'a> {
+        PairHints {
+            pairs: &self.groups[index].1,
+        }
+    }
+}
