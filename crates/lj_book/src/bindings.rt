@@ -69,7 +69,7 @@ impl Bindings {
     ///
     /// # Errors
     /// [`NoMemory`] where a growth was refused.
-    #[inline]
+    #[inline(always)]
     pub(crate) fn insert(&mut self, own: u64, joint: u64) -> Result<(), NoMemory>
         requires { fin.get self.old own ≡ None }
         ensures ok { OnOk result (self.new ≡ fin.insert self.old own joint) }

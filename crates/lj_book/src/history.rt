@@ -110,6 +110,7 @@ impl History {
     ///
     /// # Errors
     /// [`NoMemory`] where a growth was refused.
+    #[inline(always)]
     fn reserve(&mut self, numbers: usize, lits: usize) -> Result<(), NoMemory>
         ensures same { self.new.entries ≡ self.old.entries }
         ensures kept { self.new.lits ≡ self.old.lits }

@@ -84,6 +84,7 @@ fn are_rising(groups: &[Group]) -> bool
 /// # Errors
 /// [`Refusal::UnknownNumber`] of the first that the seat doesn't hold, and [`Refusal::NoMemory`] where a growth was
 /// refused.
+#[inline(always)]
 fn put_joints(
     tables: &SeatTables,
     seat: u32,
@@ -110,6 +111,7 @@ fn put_joints(
 ///
 /// # Errors
 /// As [`put_joints`].
+#[inline(always)]
 fn put_short(table: &Bindings, owns: &[u32], joints: &mut Numbers) -> Result<(), Refusal>
     requires { joints.old ≡ [] }
     ensures { IsReplyBy (λ _. joints.new) result (joints_in (fin.get table.now) owns.now) }

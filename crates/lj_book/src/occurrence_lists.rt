@@ -20,7 +20,7 @@ const EMPTY_PLACE: u64 = 1;
 const FEW: usize = 16;
 
 /// How many links there are at most, so that each can be named by four bytes.
-const MOST_LINKS: usize = u32::MAX as usize;
+const MOST_LINKS: usize = u32::MAX as usize - 2;
 
 /// Every list has fewer numbers than two to the power of this.
 const LIMITS: u32 = 32;

@@ -97,6 +97,7 @@ impl SeatTables {
     ///
     /// # Errors
     /// [`NoMemory`] where a growth was refused.
+    #[inline(always)]
     pub(crate) fn bind(&mut self, seat: u32, own: u64, joint: u64) -> Result<(), NoMemory>
         requires here { is_here self.old seat ≡ true }
         requires unbound { is_bound self.old seat own ≡ false }
@@ -262,7 +263,7 @@ fn counts_up_to(alloc: Global, last: u64, count: u64) -> Result<Counts, NoMemory
 }
 
 /// Binds the own number in the table, and sets the count of the joint number: both, or neither.
-#[inline]
+#[inline(always)]
 fn bind_in(
     table: &mut Bindings,
     holders: &mut Counts,

@@ -59,7 +59,7 @@ pub(crate) fn walk_negation<H: HintList>(
 ///
 /// # Errors
 /// [`NoMemory`] where a growth was refused.
-#[inline(never)]
+#[inline(always)]
 pub(crate) fn walk<H: HintList>(held: &mut TrueLits, hints: &H) -> Result<Ending, NoMemory>
     ensures ending { IfOk result
         (λ ending. ending ≡ ending_of (walk_over (from_literals held.old) (H.hints hints.now))) }

@@ -57,6 +57,7 @@ impl Starts {
     ///
     /// # Errors
     /// [`NoMemory`] where a growth was refused.
+    #[inline(always)]
     pub(super) fn reserve(&mut self) -> Result<(), NoMemory>
         ensures same { self.new.items ≡ self.old.items }
         ensures room { OnOk result (0 < self.new.room) }

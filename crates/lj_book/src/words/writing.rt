@@ -38,7 +38,7 @@ fn put_long(words: &mut Vec<u32>, number: u64)
 }
 
 /// Puts numbers of four bytes each behind the words, which have room for them.
-#[inline]
+#[inline(always)]
 fn put_short(words: &mut Vec<u32>, numbers: &[u32])
     requires { vec_len words.old + 3 * length numbers.now ≤ vec_capacity words.old }
     ensures words { words.new.items ≡ words.old.items ++ flat_map number_words numbers.now }
@@ -57,7 +57,7 @@ fn put_short(words: &mut Vec<u32>, numbers: &[u32])
 }
 
 /// The same, one by one.
-#[inline]
+#[inline(always)]
 fn put_each(words: &mut Vec<u32>, numbers: &[u32])
     requires { vec_len words.old + 3 * length numbers.now ≤ vec_capacity words.old }
     ensures words { words.new.items ≡ words.old.items ++ flat_map number_words numbers.now }
@@ -82,7 +82,7 @@ pub(crate) fn put_list(words: &mut Vec<u32>, numbers: &Numbers)
 }
 
 /// Puts numbers behind the words, which have room for them.
-#[inline]
+#[inline(always)]
 pub(crate) fn put_all(words: &mut Vec<u32>, numbers: &Numbers)
     requires { vec_len words.old + 3 * length numbers.now ≤ vec_capacity words.old }
     ensures words { words.new.items ≡ words.old.items ++ flat_map number_words numbers.now }
