@@ -129,7 +129,7 @@ impl Ledger {
     }
 
     /// Makes the lists as [`Ledger::make_lists`] does, and sweeps the one in which the candidates of the lemma's pivot were looked
-    /// up. So a number whose clause died is looked at a few times, however often the literal is asked for.
+    /// up. So who asks passes by no more dead numbers than sixteen or as many as live, beside those that died since then.
     pub(crate) fn tend_lists(&mut self, lemma: &Lemma)
         ensures { self.new ≡ self.old }
     {
