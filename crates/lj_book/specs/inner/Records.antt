@@ -31,11 +31,11 @@ addition_sizes a = record { lits = length (lemma_lits a.lemma); hints = length a
 
 -- whether they are so few that one code says them
 abbrev pub are_few : Sizes → Bool
-are_few s = nat_lt s.lits 256 && (nat_lt s.hints 256 && nat_lt s.groups 16)
+are_few s = nat_lt s.lits 256 && (nat_lt s.hints 256 && nat_lt s.groups 15)
 
 -- the code of sizes that stand as numbers of their own
 abbrev pub wide_code : ℕ
-wide_code = 1048576
+wide_code = 983040
 
 abbrev pub size_code : Sizes → ℕ
 size_code s = if are_few s then s.lits + 256 * (s.hints + 256 * s.groups) else wide_code
@@ -45,7 +45,7 @@ size_words s = if are_few s then []
     else number_words s.lits ++ (number_words s.hints ++ number_words s.groups)
 
 abbrev pub coded_sizes : ℕ → Sizes
-coded_sizes code = record { lits = code % 256; hints = code / 256 % 256; groups = code / 65536 }
+coded_sizes code = record { lits = code % 256; hints = code / 256 % 256; groups = code / 65536 % 16 }
 
 abbrev pub with_groups : ℕ → ℕ → ℕ × List ℕ → Sizes × List ℕ
 with_groups lits hints read = (record { lits = lits; hints = hints; groups = read.0 }, read.1)
@@ -54,9 +54,23 @@ abbrev pub wide_sizes_in : List ℕ → Sizes × List ℕ
 wide_sizes_in ws = with_groups (number_in ws).0 (number_in (number_in ws).1).0
     (number_in (number_in (number_in ws).1).1)
 
+-- what is added to the code of an addition where the own number is the joint number, which then stands once
+abbrev pub once_code : ℕ
+once_code = 1048576
+
+abbrev pub own_code : ℕ → ℕ → ℕ
+own_code own joint = if own == joint then once_code else 0
+
+abbrev pub own_words : ℕ → ℕ → List ℕ
+own_words own joint = if own == joint then [] else number_words own
+
 -- the sizes of this code, and the words behind them
 abbrev pub sizes_in : ℕ → List ℕ → Sizes × List ℕ
-sizes_in code ws = if nat_lt code wide_code then (coded_sizes code, ws) else wide_sizes_in ws
+sizes_in code ws = if nat_lt (code % once_code) wide_code then (coded_sizes code, ws) else wide_sizes_in ws
+
+-- the own number by this code, and the words that the joint number begins
+abbrev pub own_in : ℕ → List ℕ → ℕ × List ℕ
+own_in code ws = if nat_lt code once_code then number_in ws else ((number_in ws).0, ws)
 
 -- the number of a seat's entry: its lowest three bits say what was called, those up to the twenty-fourth are the code of
 -- an addition's sizes
@@ -75,19 +89,27 @@ import_kind = 3
 abbrev pub leave_kind : ℕ
 leave_kind = 4
 
+-- a drop whose own numbers are the joint numbers that died, and stand once
+abbrev pub drop_once_kind : ℕ
+drop_once_kind = 5
+
 abbrev pub head_words : ℕ → ℕ → List ℕ
 head_words seat kind = number_words (16777216 * seat + kind)
 
 -- the words of a seat's addition, whose literals begin at this place
 abbrev pub add_words : ℕ → ℕ → Addition → ℕ → List ℕ
 add_words seat own a at =
-    head_words seat (8 * size_code (addition_sizes a)) ++ (size_words (addition_sizes a) ++ (number_words own
+    head_words seat (8 * (size_code (addition_sizes a) + own_code own a.number))
+    ++ (size_words (addition_sizes a) ++ (own_words own a.number
     ++ (number_words a.number ++ (number_words at
     ++ (flat_map number_words a.hints ++ flat_map hint_group_words a.groups)))))
 
 -- the words of own numbers that were given up, and of the joint numbers that died
 abbrev pub drop_words : ℕ → List ℕ → List ℕ → List ℕ
 drop_words seat given died = head_words seat drop_kind ++ (list_words given ++ list_words died)
+
+abbrev pub drop_once_words : ℕ → List ℕ → List ℕ
+drop_once_words seat given = head_words seat drop_once_kind ++ list_words given
 
 abbrev pub adopt_words : ℕ → ℕ → ℕ → List ℕ
 adopt_words seat own joint = head_words seat adopt_kind ++ (number_words own ++ number_words joint)
@@ -118,28 +140,29 @@ addition_in lits s ws = record {
       (many_in number_in s.hints (number_in (number_in ws).1).1).1).0;
 }
 
--- the addition behind its sizes, its own number, and its literals
-abbrev pub sized_addition : List ℤ → Sizes × List ℕ → Addition
-sized_addition lits read = addition_in lits read.0 (number_in read.1).1
+-- the addition of this code behind its sizes, its own number, and its literals
+abbrev pub sized_addition : List ℤ → ℕ → Sizes × List ℕ → Addition
+sized_addition lits code read = addition_in lits read.0 (own_in code read.1).1
 
-abbrev pub sized_call : List ℤ → Sizes × List ℕ → Call
-sized_call lits read = calls.Add (number_in read.1).0 (sized_addition lits read).lemma
+abbrev pub sized_call : List ℤ → ℕ → Sizes × List ℕ → Call
+sized_call lits code read = calls.Add (own_in code read.1).0 (sized_addition lits code read).lemma
 
-abbrev pub sized_lits : List ℤ → Sizes × List ℕ → List ℤ
-sized_lits lits read = lits_at lits read.0.lits (number_in (number_in read.1).1).1
+abbrev pub sized_lits : List ℤ → ℕ → Sizes × List ℕ → List ℤ
+sized_lits lits code read = lits_at lits read.0.lits (number_in (own_in code read.1).1).1
 
 -- the call and the step of a kind, with the code of an addition's sizes, behind their first number
 abbrev pub call_in : List ℤ → ℕ → ℕ → List ℕ → Call
 call_in lits kind code ws =
-    if kind == addition_kind then sized_call lits (sizes_in code ws)
+    if kind == addition_kind then sized_call lits code (sizes_in code ws)
     else if kind == drop_kind then calls.Drop (list_in ws).0
+    else if kind == drop_once_kind then calls.Drop (list_in ws).0
     else if kind == adopt_kind then calls.Adopt (number_in ws).0 (number_in (number_in ws).1).0
     else if kind == import_kind then calls.Import (number_in ws).0 (from_literals (lits_in lits (number_in ws).1))
     else calls.Leave
 
 abbrev pub step_in : List ℤ → ℕ → ℕ → List ℕ → Option Step
 step_in lits kind code ws =
-    if kind == addition_kind then Some (steps.Add (sized_addition lits (sizes_in code ws)))
+    if kind == addition_kind then Some (steps.Add (sized_addition lits code (sizes_in code ws)))
     else if kind == drop_kind then if_some (list_in (list_in ws).1).0
     else if kind == adopt_kind then None
     else if kind == import_kind then None
@@ -175,7 +198,7 @@ binding_call own joint (Some clause) = calls.Import own clause
 -- the literals that the words of a kind name
 abbrev pub named_in : List ℤ → ℕ → ℕ → List ℕ → List ℤ
 named_in lits kind code ws =
-    if kind == addition_kind then sized_lits lits (sizes_in code ws)
+    if kind == addition_kind then sized_lits lits code (sizes_in code ws)
     else if kind == import_kind then lits_in lits (number_in ws).1
     else []
 

@@ -12,7 +12,7 @@ ghost use Rattle.lj_book.specs.inner.Words.{number_in, list_in, many_in, hint_gr
 ghost use Rattle.lj_book.specs.inner.Records.{lemma_lits, addition_in, kind_in, code_in, call_in, step_in, named_in, call_lits, lits_at, entries_in, AreWritten};
 ghost use Rattle.lj_book.specs.inner.StepLines.{kept_as_written, entry_text, entry_greatest, ends_proof};
 
-use super::reading::{added_literals, head_sizes, placed, words_from};
+use super::reading::{added_literals, head_own, head_sizes, placed, words_from};
 use super::sizes::Sizes;
 use super::starts::Starts;
 use super::{ADDITION, ADOPT, DROP, IMPORT, KINDS};
@@ -185,7 +185,7 @@ fn write_step<W: Sink>(
     match head % KINDS {
         ADDITION => {
             let (sizes, rest) = head_sizes(head, words);
-            let (_, rest) = number(rest);
+            let (_, rest) = head_own(head, rest);
             greatest.max(write_addition(writer, sink, lits, sizes, rest))
         }
         DROP => {

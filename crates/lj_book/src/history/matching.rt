@@ -5,9 +5,9 @@ ghost use Rattle.lj_text.specs.Needed.{if_some};
 ghost use Rattle.lj_book.specs.inner.Words.{number_in, list_in, many_in, hint_group_in};
 ghost use Rattle.lj_book.specs.inner.Records.{lemma_lits, lits_at, lits_in, call_lits, addition_in, sizes_in, sized_addition, sized_lits, sized_call, kind_in, code_in, call_in, step_in, entry_in, read_in, named_in};
 
-use super::reading::{head_sizes, named, placed};
+use super::reading::{head_own, head_sizes, named, placed};
 use super::sizes::Sizes;
-use super::{ADDITION, ADOPT, DROP, IMPORT, KINDS, SEATS};
+use super::{ADDITION, ADOPT, DROP, DROP_ONCE, IMPORT, KINDS, SEATS};
 use crate::entry::{Call, Entry};
 use crate::same::same_lemma;
 use crate::words::{are_groups, are_numbers, list_matches, number, numbers_match};
@@ -67,13 +67,14 @@ fn is_added(lits: &[Lit], sizes: Sizes, words: &[u32], addition: &Addition) -> b
 
 /// Whether the words behind the head of an addition are those of this call and this step.
 fn is_addition(lits: &[Lit], head: u64, words: &[u32], call: &Call, step: &Option<Step>) -> bool
-    requires { sized_lits lits.now (sizes_in (code_in head) words.now)
-        ≡ lemma_lits (sized_addition lits.now (sizes_in (code_in head) words.now)).lemma }
+    requires { sized_lits lits.now (code_in head) (sizes_in (code_in head) words.now)
+        ≡ lemma_lits
+        (sized_addition lits.now (code_in head) (sizes_in (code_in head) words.now)).lemma }
     ensures { IsTrue result ↔ ((call_in lits.now 0 (code_in head) words.now ≡ call.now)
         × (step_in lits.now 0 (code_in head) words.now ≡ step.now)) }
 {
     let (sizes, rest) = head_sizes(head, words);
-    let (found, rest) = number(rest);
+    let (found, rest) = head_own(head, rest);
     match (call, step) {
         (Call::Add { own, lemma }, Some(Step::Add(addition))) => {
             found == *own
@@ -109,6 +110,20 @@ fn is_drop(lits: &[Lit], words: &[u32], call: &Call, step: &Option<Step>) -> boo
         Some(rest) => is_deletion(rest, step),
         None => false,
     }
+}
+
+/// Whether the words behind the first number of a drop whose numbers stand once are those of this call and this step.
+fn is_drop_once(lits: &[Lit], words: &[u32], call: &Call, step: &Option<Step>) -> bool
+    ensures { IsTrue result ↔ ((call_in lits.now 5 0 words.now ≡ call.now)
+        × (step_in lits.now 5 0 words.now ≡ step.now)) }
+{
+    let Call::Drop { numbers } = call else {
+        return false;
+    };
+    if list_matches(words, numbers).is_none() {
+        return false;
+    }
+    is_deletion(words, step)
 }
 
 /// Whether the words behind the first number of an adoption are those of this call and this step.
@@ -156,6 +171,7 @@ fn is_behind(lits: &[Lit], head: u64, words: &[u32], call: &Call, step: &Option<
     match head % KINDS {
         ADDITION => is_addition(lits, head, words, call, step),
         DROP => is_drop(lits, words, call, step),
+        DROP_ONCE => is_drop_once(lits, words, call, step),
         ADOPT => is_adoption(lits, words, call, step),
         IMPORT => is_import(lits, words, call, step),
         _ => matches!(call, Call::Leave) && is_deletion(words, step),

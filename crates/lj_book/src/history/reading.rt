@@ -2,11 +2,11 @@
 ghost use Rattle.std.specs.Prelude.{◌≡◌, ◌≢◌, ◌<◌, IfOk, OnErr, None, drop, option_copied, option_map, slice_get};
 ghost use Rattle.lj_text.specs.Needed.{if_some};
 ghost use Rattle.lj_book.specs.inner.Words.{number_in, list_in};
-ghost use Rattle.lj_book.specs.inner.Records.{some_lits, lits_at, lits_in, addition_in, sized_call, sized_lits, sizes_in, seat_in, kind_in, code_in, call_in, step_in, entry_in};
+ghost use Rattle.lj_book.specs.inner.Records.{some_lits, lits_at, lits_in, addition_in, sized_call, sized_lits, sizes_in, own_in, seat_in, kind_in, code_in, call_in, step_in, entry_in};
 
-use super::sizes::{Sizes, read_sizes};
+use super::sizes::{Sizes, read_own, read_sizes};
 use super::starts::Starts;
-use super::{ADDITION, ADOPT, DROP, IMPORT, KINDS, SEATS};
+use super::{ADDITION, ADOPT, DROP, DROP_ONCE, IMPORT, KINDS, SEATS};
 use crate::entry::{Call, Entry};
 use crate::words::{behind_list, groups, list, number, numbers};
 use lj_clause::{Clause, Lemma, Lit, NoMemory};
@@ -35,6 +35,14 @@ pub(super) fn head_sizes(head: u64, words: &[u32]) -> (Sizes, &[u32])
     ensures rest { result.1.now ≡ (sizes_in (code_in head) words.now).1 }
 {
     read_sizes(head % SEATS / KINDS, words)
+}
+
+/// The own number of the addition whose entry begins with this number, behind its sizes, and what begins with its number.
+pub(super) fn head_own(head: u64, words: &[u32]) -> (u64, &[u32])
+    ensures own { result.0 ≡ (own_in (code_in head) words.now).0 }
+    ensures rest { result.1.now ≡ (own_in (code_in head) words.now).1 }
+{
+    read_own(head % SEATS / KINDS, words)
 }
 
 /// So many literals from the place on that words name, and what stands behind it.
@@ -119,7 +127,7 @@ pub(super) fn step(
     match head % KINDS {
         ADDITION => {
             let (sizes, rest) = head_sizes(head, words);
-            let (_, rest) = number(rest);
+            let (_, rest) = head_own(head, rest);
             Ok(Some(Step::Add(addition(alloc, lits, sizes, rest)?)))
         }
         DROP => deletion(alloc, behind_list(words)),
@@ -130,10 +138,11 @@ pub(super) fn step(
 
 /// The literals of the addition whose entry begins with this number, behind it.
 pub(super) fn added_literals<'a>(lits: &'a [Lit], head: u64, words: &[u32]) -> &'a [Lit]
-    ensures { result.now ≡ sized_lits lits.now (sizes_in (code_in head) words.now) }
+    ensures { result.now
+        ≡ sized_lits lits.now (code_in head) (sizes_in (code_in head) words.now) }
 {
     let (sizes, rest) = head_sizes(head, words);
-    let (_, rest) = number(rest);
+    let (_, rest) = head_own(head, rest);
     let (_, rest) = number(rest);
     let (literals, _) = placed(lits, sizes.lits, rest);
     literals
@@ -145,11 +154,12 @@ pub(super) fn added_literals<'a>(lits: &'a [Lit], head: u64, words: &[u32]) -> &
 /// [`NoMemory`] where a growth was refused.
 fn addition_call(alloc: Global, lits: &[Lit], head: u64, words: &[u32]) -> Result<Call, NoMemory>
     ensures { IfOk result
-        (λ call. call ≡ sized_call lits.now (sizes_in (code_in head) words.now)) }
+        (λ call. call
+        ≡ sized_call lits.now (code_in head) (sizes_in (code_in head) words.now)) }
 {
     let literals = added_literals(lits, head, words);
     let (_, rest) = head_sizes(head, words);
-    let (own, _) = number(rest);
+    let (own, _) = head_own(head, rest);
     Ok(Call::Add {
         own,
         lemma: Lemma::from_lits(alloc, literals)?,
@@ -167,7 +177,7 @@ fn call(alloc: Global, lits: &[Lit], head: u64, words: &[u32]) -> Result<Call, N
     let (own, rest) = number(words);
     Ok(match head % KINDS {
         ADDITION => addition_call(alloc, lits, head, words)?,
-        DROP => {
+        DROP | DROP_ONCE => {
             let (numbers, _) = list(alloc, words)?;
             Call::Drop { numbers }
         }

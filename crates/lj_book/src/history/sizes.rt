@@ -1,13 +1,16 @@
-//! How many literals, hints and groups an addition has, as words.
+//! How many literals, hints and groups an addition has, and its own number, as words.
 ghost use Rattle.std.specs.Prelude.{◌≡◌, ◌+◌, ◌*◌, ◌≤◌, ◌<◌, ◌++◌, vec_len, vec_capacity};
 ghost use Rattle.lj_book.specs.inner.Words.{number_words};
-ghost use Rattle.lj_book.specs.inner.Records.{addition_sizes, are_few, size_code, size_words, sizes_in, wide_sizes_in};
+ghost use Rattle.lj_book.specs.inner.Records.{addition_sizes, are_few, size_code, size_words, sizes_in, wide_sizes_in, own_code, own_words, own_in};
 
 use crate::lent_addition::LentAddition;
 use crate::words::{number, put_number};
 
 /// The code of sizes that stand as numbers of their own.
-const WIDE: u64 = 1_048_576;
+const WIDE: u64 = 983_040;
+
+/// What is added to that code where the own number is the joint number, which then stands once.
+const ONCE: u64 = 1_048_576;
 
 /// How many literals, hints and groups an addition has.
 #[derive(Clone, Copy)]
@@ -34,14 +37,14 @@ pub(super) fn sizes_of(step: &LentAddition<'_>) -> Sizes
 fn are_few(sizes: Sizes) -> bool
     ensures { result ≡ are_few sizes }
 {
-    sizes.lits < 256 && sizes.hints < 256 && sizes.groups < 16
+    sizes.lits < 256 && sizes.hints < 256 && sizes.groups < 15
 }
 
 /// The code that says them, or that they stand as numbers of their own.
 #[inline]
 pub(super) fn size_code(sizes: Sizes) -> u64
     ensures code { result ≡ size_code sizes }
-    ensures few { result ≤ 1048576 }
+    ensures few { result ≤ 983040 }
 {
     if are_few(sizes) {
         sizes.lits + 256 * (sizes.hints + 256 * sizes.groups)
@@ -82,11 +85,11 @@ pub(super) fn read_sizes(code: u64, words: &[u32]) -> (Sizes, &[u32])
     ensures sizes { result.0 ≡ (sizes_in code words.now).0 }
     ensures rest { result.1.now ≡ (sizes_in code words.now).1 }
 {
-    if code < WIDE {
+    if code % ONCE < WIDE {
         let few = Sizes {
             lits: code % 256,
             hints: code / 256 % 256,
-            groups: code / 65_536,
+            groups: code / 65_536 % 16,
         };
         (few, words)
     } else {
@@ -108,4 +111,39 @@ fn wide_sizes(words: &[u32]) -> (Sizes, &[u32])
         groups,
     };
     (wide, rest)
+}
+
+/// What is added to the code of an addition's sizes for its own number.
+#[inline]
+pub(super) fn own_code(own: u64, joint: u64) -> u64
+    ensures code { result ≡ own_code own joint }
+    ensures few { result ≤ 1048576 }
+{
+    if own == joint { ONCE } else { 0 }
+}
+
+/// Puts the own number behind the words, which have room for it, where it isn't the joint number.
+#[inline]
+pub(super) fn put_own(words: &mut Vec<u32>, own: u64, joint: u64)
+    requires { vec_len words.old + 3 ≤ vec_capacity words.old }
+    ensures words { words.new.items ≡ words.old.items ++ own_words own joint }
+    ensures len { vec_len words.new ≤ vec_len words.old + 3 }
+    ensures capacity { vec_capacity words.old ≤ vec_capacity words.new }
+{
+    if own != joint {
+        put_number(words, own);
+    }
+}
+
+/// The own number by this code, and what begins with the joint number.
+pub(super) fn read_own(code: u64, words: &[u32]) -> (u64, &[u32])
+    ensures own { result.0 ≡ (own_in code words.now).0 }
+    ensures rest { result.1.now ≡ (own_in code words.now).1 }
+{
+    let (own, rest) = number(words);
+    if code < ONCE {
+        (own, rest)
+    } else {
+        (own, words)
+    }
 }

@@ -1,10 +1,10 @@
 //! Entries that are written as words and literals.
 ghost use Rattle.std.specs.Prelude.{◌≡◌, ◌+◌, ◌*◌, ◌<◌, ◌≤◌, ◌++◌, length, vec_len, vec_capacity};
 ghost use Rattle.lj_clause.specs.LiteralSet.{literals};
-ghost use Rattle.lj_book.specs.inner.Records.{lemma_lits, head_words, add_words, drop_words, adopt_words, import_words, leave_words, addition_numbers};
+ghost use Rattle.lj_book.specs.inner.Records.{lemma_lits, head_words, add_words, drop_words, drop_once_words, adopt_words, import_words, leave_words, addition_numbers};
 
-use super::sizes::{put_sizes, size_code, sizes_of};
-use super::{ADDITION, ADOPT, DROP, IMPORT, KINDS, LEAVE, SEATS};
+use super::sizes::{own_code, put_own, put_sizes, size_code, sizes_of};
+use super::{ADDITION, ADOPT, DROP, DROP_ONCE, IMPORT, KINDS, LEAVE, SEATS};
 use crate::lent_addition::LentAddition;
 use crate::words::{put_all, put_groups, put_list, put_number, put_numbers};
 use lj_clause::{Clause, Lit};
@@ -71,9 +71,10 @@ pub(super) fn put_addition(
     let at = lits.len();
     put_lemma(lits, step);
     let sizes = sizes_of(step);
-    put_head(words, seat, KINDS * size_code(sizes) + ADDITION);
+    let code = size_code(sizes) + own_code(own, step.number);
+    put_head(words, seat, KINDS * code + ADDITION);
     put_sizes(words, sizes);
-    put_number(words, own);
+    put_own(words, own, step.number);
     put_number(words, step.number);
     put_number(words, at as u64);
     put_all(words, step.hints);
@@ -89,6 +90,15 @@ pub(super) fn put_drop(words: &mut Vec<u32>, seat: u32, given: &Numbers, died: &
     put_head(words, seat, DROP);
     put_list(words, given);
     put_numbers(words, died);
+}
+
+/// Puts the words of a seat's drop of numbers that are those that died behind the others, which have room for them.
+pub(super) fn put_drop_once(words: &mut Vec<u32>, seat: u32, numbers: &Numbers)
+    requires { vec_len words.old + 3 * (2 + length numbers.now) ≤ vec_capacity words.old }
+    ensures { words.new.items ≡ words.old.items ++ drop_once_words seat numbers.now }
+{
+    put_head(words, seat, DROP_ONCE);
+    put_list(words, numbers);
 }
 
 /// Puts the words of a seat's adoption behind the others, which have room for them.

@@ -9,6 +9,6 @@ pub returns : goal.returns
 returns c =
     let ls : List ℤ = c.args.lits.now in
     let ws : List ℕ = c.args.words.now in
-    let kept : List ℤ = sized_lits ls (sizes_in (code_in c.args.head) ws) in
+    let kept : List ℤ = sized_lits ls (code_in c.args.head) (sizes_in (code_in c.args.head) ws) in
     let kind : kind_in c.args.head ≡ 0 = c.if-head-ne-ADDITION.false in
     c.is_empty.ensures ∙ ap (λ ys. length ys == 0) c.added_literals.ensures ∙ kept_none kept ∙ ap (λ k. ends_proof (step_in ls k (code_in c.args.head) ws)) (sym kind)
