@@ -1,5 +1,5 @@
 //! The bindings of a seat.
-ghost use Rattle.std.specs.Prelude.{◌≡◌, OnOk, OnErr, IfOk, None};
+ghost use Rattle.std.specs.Prelude.{◌≡◌, ◌≤◌, [], length, map, true, vec_capacity, OnOk, OnErr, IfOk, None, Some};
 ghost use Rattle.std.specs.FinMap as fin;
 ghost use Rattle.lj_book.specs.inner.Slots.{AreApart};
 
@@ -63,6 +63,17 @@ impl Bindings {
             Some(joint) => Some(joint),
             None => long_joint(&self.long, own),
         }
+    }
+
+    /// Puts the joint numbers of these own numbers into a list that has none, up to the first without a slot, and answers
+    /// whether each has one.
+    #[inline(always)]
+    pub(crate) fn look_up(&self, owns: &[u32], joints: &mut Vec<u32>) -> bool
+        requires none { joints.old.items ≡ [] }
+        requires room { length owns.now ≤ vec_capacity joints.old }
+        ensures { result ≡ true → map (fin.get self.now) owns.now ≡ map Some joints.new.items }
+    {
+        self.short.look_up(owns, joints)
     }
 
     /// Binds an own number that isn't bound.

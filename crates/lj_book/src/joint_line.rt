@@ -94,25 +94,47 @@ fn put_joints(
     ensures { IsReplyBy (λ _. joints.new) result
         (joints_in (joint_of tables.now seat) numbers.now) }
 {
-    joints.clear();
     match tables.table(seat) {
         Some(table) => match numbers.as_short() {
             Some(owns) => put_short(table, owns, joints),
             None => put_each(table, numbers, joints),
         },
-        None => match numbers.get(0) {
-            Some(own) => Err(Refusal::UnknownNumber(own)),
-            None => Ok(()),
-        },
+        None => {
+            joints.clear();
+            match numbers.get(0) {
+                Some(own) => Err(Refusal::UnknownNumber(own)),
+                None => Ok(()),
+            }
+        }
     }
 }
 
-/// Puts the joint numbers of these own numbers behind the others, by the table of their seat.
+/// Puts the joint numbers of these own numbers into a list, in place of what it has, by the table of their seat: without a
+/// test of the list's room for each, where all have slots.
 ///
 /// # Errors
 /// As [`put_joints`].
 #[inline(always)]
 fn put_short(table: &Bindings, owns: &[u32], joints: &mut Numbers) -> Result<(), Refusal>
+    ensures { IsReplyBy (λ _. joints.new) result (joints_in (fin.get table.now) owns.now) }
+{
+    if let Some(mut room) = joints.take_room(owns.len()) {
+        let found = table.look_up(owns, &mut room);
+        *joints = Numbers::from_short(room);
+        if found {
+            return Ok(());
+        }
+        joints.clear();
+    }
+    put_in_turn(table, owns, joints)
+}
+
+/// The same, one after the other.
+///
+/// # Errors
+/// As [`put_joints`].
+#[inline(never)]
+fn put_in_turn(table: &Bindings, owns: &[u32], joints: &mut Numbers) -> Result<(), Refusal>
     requires { joints.old ≡ [] }
     ensures { IsReplyBy (λ _. joints.new) result (joints_in (fin.get table.now) owns.now) }
 {
@@ -130,10 +152,11 @@ fn put_short(table: &Bindings, owns: &[u32], joints: &mut Numbers) -> Result<(),
 ///
 /// # Errors
 /// As [`put_joints`].
+#[inline(never)]
 fn put_each(table: &Bindings, numbers: &Numbers, joints: &mut Numbers) -> Result<(), Refusal>
-    requires { joints.old ≡ [] }
     ensures { IsReplyBy (λ _. joints.new) result (joints_in (fin.get table.now) numbers.now) }
 {
+    joints.clear();
     for own in numbers.iter() {
         let Some(joint) = table.get(own) else {
             return Err(Refusal::UnknownNumber(own));

@@ -1,5 +1,5 @@
 //! Maps from numbers that lie close together to numbers of four bytes.
-ghost use Rattle.std.specs.Prelude.{◌≡◌, ◌<◌, ◌≤◌, OnOk, OnErr, IfOk, IfSome, length, None, Some, true};
+ghost use Rattle.std.specs.Prelude.{◌≡◌, ◌<◌, ◌≤◌, [], map, vec_capacity, OnOk, OnErr, IfOk, IfSome, length, None, Some, true};
 ghost use Rattle.std.specs.FinMap as fin;
 ghost use Rattle.lj_book.specs.inner.Slots.{slot_map, slot_numbers};
 
@@ -100,10 +100,25 @@ impl ShortMap {
         ensures value { result ≡ fin.get self.now key }
         ensures few { IfSome result (λ value. value < 4294967295) }
     {
-        match self.slots.get(key as usize) {
-            Some(slot) => slot.number(),
-            None => None,
+        number_at(&self.slots, key)
+    }
+
+    /// Puts the values at these keys into a list that has none, up to the first that isn't there, and answers whether each
+    /// is.
+    #[inline(always)]
+    pub(crate) fn look_up(&self, keys: &[u32], values: &mut Vec<u32>) -> bool
+        requires none { values.old.items ≡ [] }
+        requires room { length keys.now ≤ vec_capacity values.old }
+        ensures { result ≡ true → map (fin.get self.now) keys.now ≡ map Some values.new.items }
+    {
+        let slots = self.slots.as_slice();
+        for key in keys {
+            match number_at(slots, u64::from(*key)) {
+                Some(value) => values.push_reserved(value as u32),
+                None => break,
+            }
         }
+        values.len() == keys.len()
     }
 
     /// The keys, rising. Takes time linear in the slots.
@@ -163,6 +178,18 @@ impl ShortMap {
         if at < self.slots.len() {
             self.slots[at] = Slot::empty();
         }
+    }
+}
+
+/// The number in the slot at the key.
+#[inline(always)]
+fn number_at(slots: &[Slot], key: u64) -> Option<u64>
+    ensures value { result ≡ fin.get (slot_map slots.now) key }
+    ensures few { IfSome result (λ value. value < 4294967295) }
+{
+    match slots.get(key as usize) {
+        Some(slot) => slot.number(),
+        None => None,
     }
 }
 

@@ -1,5 +1,5 @@
 //! Lists of clause numbers, and hint groups.
-ghost use Rattle.std.specs.Prelude.{◌≡◌, ◌==◌, ◌≤◌, ◌∷◌, ◌++◌, [], length, take, slice_get, IfOk, IfSome, OnOk, OnErr};
+ghost use Rattle.std.specs.Prelude.{◌≡◌, ◌==◌, ◌≤◌, ◌∷◌, ◌++◌, [], length, take, slice_get, vec_capacity, IfOk, IfSome, OnOk, OnErr};
 ghost use Rattle.lj_text.specs.inner.Numbers.{numbers_in, numbers_left};
 ghost use Rattle.lj_text.specs.inner.LineReading.{IsReadOn};
 
@@ -148,6 +148,27 @@ impl Numbers {
             Form::Long(numbers) => {
                 self.form = Form::Short(Vec::new(*numbers.allocator()));
             }
+        }
+    }
+
+    /// Lets go of the numbers, and hands out the list that they stood in, with room for so many of four bytes each. None
+    /// tells that they stood in no such list, or that a growth was refused. [`Numbers::from_short`] takes the list back.
+    #[inline(always)]
+    pub fn take_room(&mut self, count: usize) -> Option<Vec<u32>>
+        ensures none { self.new ≡ [] }
+        ensures room { IfSome result
+            (λ list. (list.items ≡ []) × (count ≤ vec_capacity list)) }
+    {
+        self.clear();
+        match &mut self.form {
+            Form::Short(numbers) => {
+                if numbers.reserve(count).is_err() {
+                    return None;
+                }
+                let empty = Vec::new(*numbers.allocator());
+                Some(replace(numbers, empty))
+            }
+            _ => None,
         }
     }
 

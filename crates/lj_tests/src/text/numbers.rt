@@ -37,6 +37,25 @@ fn both_widths(rt: HostRuntime) -> Result<(), Fail> {
     Ok(())
 }
 
+#[test]
+fn room_again(rt: HostRuntime) -> Result<(), Fail> {
+    let alloc = rt.alloc();
+    let mut numbers = Numbers::from_slice(alloc, &[1, 7, LONG])?;
+    for wanted in [[1, 7, LONG - 1], [7, 1, 1]] {
+        let mut room = numbers.take_room(9).unwrap_or(Vec::new(alloc));
+        assert!(rt; numbers.is_empty() && room.is_empty() && room.capacity() >= 9);
+        for number in wanted {
+            room.push(number as u32)?;
+        }
+        numbers = Numbers::from_short(room);
+        assert_are(&rt, &numbers, &wanted);
+    }
+    let mut few = Numbers::with_capacity(alloc, 2)?;
+    few.push(7)?;
+    assert!(rt; few.take_room(2).is_none() && few.is_empty());
+    Ok(())
+}
+
 /// A line of 40,000 hints, which is longer than 64 KiB, and the lines behind it.
 fn long_text(alloc: Global) -> Result<String, Fail> {
     let mut text = String::from_str(alloc, "5 2 0")?;

@@ -1,18 +1,10 @@
-use Rattle.std.proofs.Common.{ap, sym, ◌∙◌}
+use Rattle.std.proofs.Common.{ap, ◌∙◌}
 use Rattle.std.specs.FinMap as fin
 use Rattle.lj_book.specs.inner.Slots.{slot_map}
-use Rattle.lj_book.proofs.Slots.{get_slot, slot_within, slot_past}
 use Rattle.lj_book.proofs.short_map.ShortMap.get.Goals as goal
 
-pub returns-in-Some-clause-value : goal.returns-in-Some-clause-value
-returns-in-Some-clause-value c =
-    let xs = c.deref.result.now in
-    c.number.ensures.number ∙ c.in-Some.ensures.lookup.1
-    ∙ sym (get_slot xs c.args.key ∙ slot_within xs c.args.key _ c.in-Some.ensures.lookup.3.0)
-    ∙ ap (λ ys. fin.get (slot_map ys) c.args.key) c.deref.ensures.value ∙ ap (λ m. fin.get m c.args.key) c.self.view_is
-
-pub returns-in-None-clause-value : goal.returns-in-None-clause-value
-returns-in-None-clause-value c =
-    let xs = c.deref.result.now in
-    sym (get_slot xs c.args.key ∙ slot_past xs c.args.key c.in-None.ensures.lookup.3)
-    ∙ ap (λ ys. fin.get (slot_map ys) c.args.key) c.deref.ensures.value ∙ ap (λ m. fin.get m c.args.key) c.self.view_is
+pub returns-clause-value : goal.returns-clause-value
+returns-clause-value c =
+    c.number_at.ensures.value
+    ∙ ap (λ ys. fin.get (slot_map ys) c.args.key) c.deref.ensures.value
+    ∙ ap (λ m. fin.get m c.args.key) c.self.view_is

@@ -1,0 +1,19 @@
+use Rattle.std.proofs.Common.{◌≡◌, ap, sym, ◌∙◌, ℕ, List, [], ◌∷◌, ◌++◌, length, drop, append-nil, arith}
+use Rattle.std.proofs.lemmas.Bool.Decides.{nat_tests}
+use Rattle.std.specs.Prelude.{map, Option, Some}
+use Rattle.std.specs.FinMap as fin
+use Rattle.lj_book.specs.inner.Slots.{slot_map}
+use Rattle.lj_book.proofs.short_map.ShortMap.look_up.Goals as goal
+
+all : (get : ℕ → Option ℕ) (keys values left : List ℕ) → map get keys ≡ map Some values ++ map get left → length left ≡ 0 → map get keys ≡ map Some values
+all get keys values [] so_far none = so_far ∙ append-nil (map Some values)
+all get keys values (key ∷ left) so_far none = absurd (omega arith)
+
+pub returns : goal.returns
+returns c found =
+    let slots = c.as_slice-slots.result.now in
+    let left : List ℕ = drop c.loop-key.key-index c.args.keys.now in
+    let whole : c.len.result ≡ length c.args.keys.now = grind (arith, nat_tests, found) in
+    let none : length left ≡ 0 = omega (arith, whole, c.len.ensures, c.loop-key.invariant.len) in
+    ap (λ m. map (fin.get m) c.args.keys.now) (sym (ap slot_map c.as_slice-slots.ensures.value ∙ c.self.view_is))
+    ∙ all (fin.get (slot_map slots)) c.args.keys.now c.loop-key.values.items left c.loop-key.invariant.values none

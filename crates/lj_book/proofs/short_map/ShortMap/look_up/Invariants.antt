@@ -1,0 +1,13 @@
+use Rattle.std.proofs.Common.{◌≡◌, ◌+◌, ◌++◌, length, vec_len, vec_capacity, drop}
+use Rattle.std.specs.Prelude.{map, Some}
+use Rattle.std.specs.FinMap as fin
+use Rattle.lj_book.specs.inner.Slots.{slot_map}
+use Rattle.lj_book.proofs.short_map.ShortMap.look_up.Given as goal
+
+-- the values so far, and those of the keys to come, are those of all keys
+abbrev pub invariant-loop-key : goal.invariant-loop-key
+invariant-loop-key l = record {
+  values : map (fin.get (slot_map l.slots)) l.keys ≡ map Some l.values.items ++ map (fin.get (slot_map l.slots)) (drop l.key-index l.keys);
+  len : vec_len l.values + length (drop l.key-index l.keys) ≡ length l.keys;
+  capacity : vec_capacity l.fn.values ≡ vec_capacity l.values;
+}
