@@ -1,18 +1,21 @@
 use Rattle.std.proofs.Common.{ap, sym, ◌∙◌}
+use Rattle.std.specs.Prelude.{map}
 use Rattle.std.specs.FinMap as fin
 use Rattle.lj_book.specs.inner.Slots.{slot_map}
-use Rattle.lj_book.proofs.Slots.{get_slot, slot_within, slot_past}
+use Rattle.lj_book.proofs.HeldSlots.{held_at, none_held}
 use Rattle.lj_book.proofs.short_map.ShortMap.get.Goals as goal
 
 pub returns-in-Some-clause-value : goal.returns-in-Some-clause-value
-returns-in-Some-clause-value c =
+returns-in-Some-clause-value g c =
     let xs = c.deref.result.now in
-    c.number.ensures.number ∙ c.in-Some.ensures.lookup.1
-    ∙ sym (get_slot xs c.args.key ∙ slot_within xs c.args.key _ c.in-Some.ensures.lookup.3.0)
-    ∙ ap (λ ys. fin.get (slot_map ys) c.args.key) c.deref.ensures.value ∙ ap (λ m. fin.get m c.args.key) c.self.view_is
+    let value = g.S.Slot.value in
+    c.number.ensures.number ∙ ap value c.in-Some.ensures.lookup.1
+    ∙ sym (held_at value xs c.args.key _ c.in-Some.ensures.lookup.3.0)
+    ∙ ap (λ ys. fin.get (slot_map (map value ys)) c.args.key) c.deref.ensures.value ∙ ap (λ m. fin.get m c.args.key) c.self.view_is
 
 pub returns-in-None-clause-value : goal.returns-in-None-clause-value
-returns-in-None-clause-value c =
+returns-in-None-clause-value g c =
     let xs = c.deref.result.now in
-    sym (get_slot xs c.args.key ∙ slot_past xs c.args.key c.in-None.ensures.lookup.3)
-    ∙ ap (λ ys. fin.get (slot_map ys) c.args.key) c.deref.ensures.value ∙ ap (λ m. fin.get m c.args.key) c.self.view_is
+    let value = g.S.Slot.value in
+    sym (none_held value xs c.args.key c.in-None.ensures.lookup.3)
+    ∙ ap (λ ys. fin.get (slot_map (map value ys)) c.args.key) c.deref.ensures.value ∙ ap (λ m. fin.get m c.args.key) c.self.view_is
