@@ -26,17 +26,17 @@ use Rattle.lj_book.specs.declared.entry.Added.{Added}
 use Rattle.lj_hint.specs.Case.{CaseValue}
 use Rattle.lj_book.specs.declared.refusal.Refusal.{Refusal}
 use Rattle.lj_book.specs.declared.refusal.Refusal.TheVariants as refusals
-use Rattle.lj_book.specs.Tables.{Table, Tables, is_here, is_bound, is_among, joint_of, with_table}
+use Rattle.lj_book.specs.Tables.{Table, Tables, is_here, is_bound, is_held, is_among, joint_of, with_table}
 use Rattle.lj_book.specs.State.{State, steps_of, addition_count, next, live, verdict}
 use Rattle.lj_book.specs.History.{after_entry, IsLegal}
 use Rattle.lj_book.specs.Calls.{IsRefusal, unless_refused, pair_in, if_held, with_pair, pairs_of, with_group_pair, group_pairs_of, repeated_after, is_seen, with_seen, case_with, free_refusal, if_free, take_reply, commit_told}
 use Rattle.lj_book.specs.Inside.{walk_refusal, open_refusal, rat_refusal, or_full, test_refusal, inside_after, inside_reply, inside_step, inside_entry}
-use Rattle.lj_book.specs.inner.JointLines.{LineParts, if_bound, with_joint, joints_in, with_joint_group, joint_groups_in, parts_with, joint_parts, addition_of_parts, tested_line, line_by, inside_line, line_entry}
+use Rattle.lj_book.specs.inner.JointLines.{LineParts, if_bound, with_joint, joints_in, with_joint_group, joint_groups_in, parts_with, joint_parts, addition_of_parts, tested_line, tested_parts, line_by, inside_line, line_entry}
 use Rattle.lj_book.specs.inner.Kept.{IsKept, refuted_after}
 use Rattle.lj_book.proofs.HistoryLaws.{IsSound, IsSound-reached, IsReached-after, live-addition, live-held, steps_of-push, additions-append}
 use Rattle.lj_book.proofs.BookLaws.{same_state, verdict-same, verdict-first, verdict-stays}
 use Rattle.lj_book.proofs.BindingLaws.{CanBind, can_bind}
-use Rattle.lj_book.proofs.CommitLaws.{not_there}
+use Rattle.lj_book.proofs.CommitLaws.{not_there, not_held_at_next}
 use Rattle.lj_book.proofs.SoloStates.{some_clause}
 use Rattle.lj_book.proofs.SoloTables.{bound_is_held}
 
@@ -242,16 +242,16 @@ refusal_passes refusals.NoSuchClause one whole f h = f refusals.NoSuchClause h
 refusal_passes refusals.Full one whole f h = f refusals.Full h
 
 -- A line whose seat and numbers aren't refused.
-pub record IsTaken (s : State) (seat : ℕ) (a : Addition) (parts : LineParts) : Type 0 where
-  pub free : free_refusal s seat a.number ≡ None
-  pub are : joint_parts (joint_of s.tables seat) a ≡ Ok parts
+record IsTaken (s : State) (seat : ℕ) (a : Addition) (parts : LineParts) : Type 0 where
+  free : free_refusal s seat a.number ≡ None
+  are : joint_parts (joint_of s.tables seat) a ≡ Ok parts
 
 line_taken : (s : State) (seat : ℕ) (a : Addition) (parts : LineParts) → IsTaken s seat a parts → inside_line s seat a ≡ line_by s a.lemma (Ok parts)
 line_taken s seat a parts t =
     ap (λ o. if_free o (line_by s a.lemma (joint_parts (joint_of s.tables seat) a))) t.free
     ∙ ap (line_by s a.lemma) t.are
 
-pub line_refused : (s : State) (seat : ℕ) (a : Addition) (parts : LineParts) (x : Refusal) → IsTaken s seat a parts → tested_line (live s) (addition_of_parts (next s) a.lemma parts) ≡ Err x → inside_line s seat a ≡ Err x
+line_refused : (s : State) (seat : ℕ) (a : Addition) (parts : LineParts) (x : Refusal) → IsTaken s seat a parts → tested_line (live s) (addition_of_parts (next s) a.lemma parts) ≡ Err x → inside_line s seat a ≡ Err x
 line_refused s seat a parts x t h =
     line_taken s seat a parts t
     ∙ go (walk_refusal (live s) (addition_of_parts (next s) a.lemma parts) (first_walk (live s) (addition_of_parts (next s) a.lemma parts))) h
@@ -273,17 +273,38 @@ line_room s seat a parts step b t h room =
     go None c h room = ap (λ k. unless_refused (if k then None else Some refusals.Full) (recorded_form (live s) (addition_of_parts (next s) a.lemma parts))) room ∙ full c (recorded_form (live s) (addition_of_parts (next s) a.lemma parts)) h
     go (Some y) c h room = cc
 
-pub line_full : (s : State) (seat : ℕ) (a : Addition) (parts : LineParts) (step : Addition) → IsTaken s seat a parts → tested_line (live s) (addition_of_parts (next s) a.lemma parts) ≡ Ok step → s.max_steps ≤ addition_count s.history → inside_line s seat a ≡ Err refusals.Full
+line_full : (s : State) (seat : ℕ) (a : Addition) (parts : LineParts) (step : Addition) → IsTaken s seat a parts → tested_line (live s) (addition_of_parts (next s) a.lemma parts) ≡ Ok step → s.max_steps ≤ addition_count s.history → inside_line s seat a ≡ Err refusals.Full
 line_full s seat a parts step t h le = line_room s seat a parts step false t h (above (addition_count s.history) s.max_steps le)
   where
     above : (n m : ℕ) → m ≤ n → nat_lt n m ≡ false
     above n m e = grind (arith, nat_tests)
 
-pub line_passed : (s : State) (seat : ℕ) (a : Addition) (parts : LineParts) (step : Addition) → IsTaken s seat a parts → tested_line (live s) (addition_of_parts (next s) a.lemma parts) ≡ Ok step → addition_count s.history < s.max_steps → inside_line s seat a ≡ Ok step
+line_passed : (s : State) (seat : ℕ) (a : Addition) (parts : LineParts) (step : Addition) → IsTaken s seat a parts → tested_line (live s) (addition_of_parts (next s) a.lemma parts) ≡ Ok step → addition_count s.history < s.max_steps → inside_line s seat a ≡ Ok step
 line_passed s seat a parts step t h lt = line_room s seat a parts step true t h (below (addition_count s.history) s.max_steps lt)
   where
     below : (n m : ℕ) → n < m → nat_lt n m ≡ true
     below n m e = grind (arith, nat_tests)
+
+-- the test of the parts that an addition has, over these clauses
+abbrev pub parts_tested : ClauseMap → State → ℕ → Addition → Result Addition Refusal
+parts_tested p s seat a = tested_parts p (next s) a.lemma (joint_parts (joint_of s.tables seat) a)
+
+-- what it tells of an addition that isn't refused before it
+told_by_parts : {X : Type 0} (p : ClauseMap) (s : State) (seat : ℕ) (a : Addition) (answer : Result Addition Refusal) → p ≡ live s → free_refusal s seat a.number ≡ None → parts_tested p s seat a ≡ answer → ((x : Refusal) → inside_line s seat a ≡ Err x → answer ≡ Err x → X) → ((parts : LineParts) → IsTaken s seat a parts → tested_line (live s) (addition_of_parts (next s) a.lemma parts) ≡ answer → X) → X
+told_by_parts {X} p s seat a answer lives free h refused taken = go (joint_parts (joint_of s.tables seat) a) refl (ap (λ (q : ClauseMap). parts_tested q s seat a) (sym lives) ∙ h)
+  where
+    go : (r : Result LineParts Refusal) → joint_parts (joint_of s.tables seat) a ≡ r → tested_parts (live s) (next s) a.lemma r ≡ answer → X
+    go (Err x) are tested = refused x (ap (λ o. if_free o (line_by s a.lemma (joint_parts (joint_of s.tables seat) a))) free ∙ ap (line_by s a.lemma) are) (sym tested)
+    go (Ok parts) are tested = taken parts (record { free = free; are = are }) tested
+
+pub parts_refused : (p : ClauseMap) (s : State) (seat : ℕ) (a : Addition) (x : Refusal) → p ≡ live s → free_refusal s seat a.number ≡ None → parts_tested p s seat a ≡ Err x → inside_line s seat a ≡ Err x
+parts_refused p s seat a x lives free h = told_by_parts p s seat a (Err x) lives free h (λ y is same. is ∙ sym same) (λ parts taken tested. line_refused s seat a parts x taken tested)
+
+pub parts_full : (p : ClauseMap) (s : State) (seat : ℕ) (a step : Addition) → p ≡ live s → free_refusal s seat a.number ≡ None → parts_tested p s seat a ≡ Ok step → s.max_steps ≤ addition_count s.history → inside_line s seat a ≡ Err refusals.Full
+parts_full p s seat a step lives free h le = told_by_parts p s seat a (Ok step) lives free h (λ y is same. absurd (let no : ⊥ = cc in no)) (λ parts taken tested. line_full s seat a parts step taken tested le)
+
+pub parts_passed : (p : ClauseMap) (s : State) (seat : ℕ) (a step : Addition) → p ≡ live s → free_refusal s seat a.number ≡ None → parts_tested p s seat a ≡ Ok step → addition_count s.history < s.max_steps → inside_line s seat a ≡ Ok step
+parts_passed p s seat a step lives free h lt = told_by_parts p s seat a (Ok step) lives free h (λ y is same. absurd (let no : ⊥ = cc in no)) (λ parts taken tested. line_passed s seat a parts step taken tested lt)
 
 -- what is refused before anything else isn't entered
 pub not_refused : {A B : Type 0} (o : Option Refusal) (x : A) (y : B) → IfSome o (λ e. ◌≡◌ {A = Result A Refusal} (Ok x) (Err e)) → IfSome o (λ e. ◌≡◌ {A = Result B Refusal} (Ok y) (Err e))
@@ -458,3 +479,31 @@ line_state s seat own joint step tables history is bound pushed =
     same_state s.formula s.max_steps tables _ history _
     (bound ∙ ap (λ (j : ℕ). with_table (λ (t : Table). fin.insert t own j) s.tables seat) is)
     pushed
+
+-- ---- a line that passed
+
+-- its own number can be bound to the next, which nothing holds
+pub line_can : (s : State) (seat : ℕ) (a step : Addition) → IsSound s → inside_line s seat a ≡ Ok step → CanBind s seat a.number × (is_held s.tables step.number ≡ false)
+line_can s seat a step sound passed =
+    let e = entered s seat a step passed in
+    (e.1.can, ap (is_held s.tables) (step_kept s seat a step e.0 e.1).0 ∙ not_held_at_next s sound)
+
+-- what a book keeps once it is entered, and its state then
+pub line_made : (s : State) (seat : ℕ) (a step : Addition) (clauses more : ClauseMap) (added : ℕ) (refuted first : Option ℕ) (tables : Tables) (history : List Entry) → IsKept s clauses added refuted → IsPivot a.lemma → inside_line s seat a ≡ Ok step → tables ≡ with_table (λ t. fin.insert t a.number step.number) s.tables seat → history ≡ s.history ++ line_entry seat a.number step ∷ [] → more ≡ fin.insert clauses step.number step.lemma.clause → first ≡ refuted_after refuted (length s.history) step.lemma.clause → IsKept (record { formula = s.formula; max_steps = s.max_steps; tables = tables; history = history }) more (added + 1) first × (◌≡◌ {A = State} (record { formula = s.formula; max_steps = s.max_steps; tables = tables; history = history }) (after_entry s (line_entry seat a.number step)))
+line_made s seat a step clauses more added refuted first tables history k pivot passed bound pushed lives empty =
+    let e = entered s seat a step passed in
+    let kept = step_kept s seat a step e.0 e.1 in
+    let legal = entered_legal s seat a step e.0 (IsSound-reached s k.reached) pivot e.1 in
+    let is = line_state s seat a.number step.number step tables history kept.0 bound pushed in (
+      subst (λ (o : Option ℕ). IsKept (record { formula = s.formula; max_steps = s.max_steps; tables = tables; history = history }) more (added + 1) o) (sym empty)
+          (subst (λ (t : State). IsKept t more (added + 1) (refuted_after refuted (length s.history) step.lemma.clause)) (sym is)
+          (IsKept-line s seat a.number step clauses more added refuted k legal (lives ∙ ap (λ (j : ℕ). fin.insert clauses j step.lemma.clause) kept.0))),
+      is,
+    )
+
+-- the reply to it, and its entry
+pub line_replied : (s : State) (seat : ℕ) (a step : Addition) → IsSound s → inside_line s seat a ≡ Ok step → inside_reply s seat a ≡ Ok (commit_told s)
+line_replied s seat a step sound passed = let e = entered s seat a step passed in entered_reply s seat a step e.0 sound e.1
+
+pub line_entered : (s : State) (seat : ℕ) (a step : Addition) → IsSound s → inside_line s seat a ≡ Ok step → inside_entry s seat a ≡ line_entry seat a.number step
+line_entered s seat a step sound passed = let e = entered s seat a step passed in entered_entry s seat a step e.0 sound e.1

@@ -22,6 +22,7 @@ mod HolderBounds
 mod PlaceLaws
 pub mod PlayLaws
 mod Slots
+mod HeldSlots
 mod Bounds
 mod OccurrenceLaws
 mod Chains

@@ -4,7 +4,8 @@ ghost use Rattle.std.specs.FinMap as fin;
 ghost use Rattle.lj_book.specs.inner.Slots.{AreApart};
 
 use crate::dying::rising;
-use crate::short_map::{SHORT_END, ShortMap};
+use crate::short_map::ShortMap;
+use crate::slot::{SHORT_END, ShortSlot};
 use crate::tree_map::TreeMap;
 use lj_clause::NoMemory;
 use std::alloc::Global;
@@ -20,7 +21,7 @@ const FIRST_SLOTS: u64 = 1024;
 /// A call takes constant time for an own number that has a slot, amortized, and O(log n) time for others.
 #[derive(Drop)]
 pub(crate) struct Bindings {
-    short: ShortMap,
+    short: ShortMap<ShortSlot>,
     long: TreeMap<u64>,
     /// Own numbers up to twice this have slots: one more for each time that a number was bound.
     reach: u64,

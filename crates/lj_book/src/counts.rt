@@ -3,19 +3,20 @@ ghost use Rattle.std.specs.Prelude.{◌≡◌, ◌≤◌, OnOk, OnErr};
 ghost use Rattle.std.specs.FinMap as fin;
 ghost use Rattle.lj_book.specs.inner.Holders.{count_at};
 
-use crate::short_map::{SHORT_END, ShortMap};
+use crate::short_map::ShortMap;
+use crate::slot::{BYTE_END, ByteSlot};
 use crate::tree_map::TreeMap;
 use lj_clause::NoMemory;
 use std::alloc::Global;
 use std::marker::Model;
 
-/// Counts by number, of numbers that lie close together, seen as a finite map. A count below 4,294,967,295 takes four
-/// bytes, and greater ones stand in a tree.
+/// Counts by number, of numbers that lie close together, seen as a finite map. A count below 255 takes one
+/// byte, and greater ones stand in a tree.
 ///
 /// A call takes constant time for small counts, amortized, and O(log n) time for others.
 #[derive(Drop)]
 pub(crate) struct Counts {
-    short: ShortMap,
+    short: ShortMap<ByteSlot>,
     long: TreeMap<u64>,
 }
 
@@ -67,7 +68,7 @@ impl Counts {
         ensures err { OnErr result (self.new ≡ self.old) }
         ensures no_less { OnErr result (count_at self.old number ≤ count) }
     {
-        if count < SHORT_END && self.long.is_empty() {
+        if count < BYTE_END && self.long.is_empty() {
             return self.short.insert(number, count);
         }
         self.insert_by_both(number, count)
@@ -84,7 +85,7 @@ impl Counts {
         if self.long.contains_key(number) {
             return self.long.insert(number, count);
         }
-        if count < SHORT_END {
+        if count < BYTE_END {
             return self.short.insert(number, count);
         }
         self.insert_long(number, count)
@@ -93,7 +94,7 @@ impl Counts {
     /// The same of a count that has no room in a slot, at a number whose count isn't in the tree.
     #[cold]
     fn insert_long(&mut self, number: u64, count: u64) -> Result<(), NoMemory>
-        requires { 4294967295 ≤ count }
+        requires { 255 ≤ count }
         ensures ok { OnOk result (self.new ≡ fin.insert self.old number count) }
         ensures err { OnErr result (self.new ≡ self.old) }
         ensures no_less { OnErr result (count_at self.old number ≤ count) }

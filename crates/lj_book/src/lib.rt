@@ -26,6 +26,7 @@ mod refusal;
 mod same;
 mod seat_tables;
 mod short_map;
+mod slot;
 mod solo_laws;
 mod steps;
 mod taking;

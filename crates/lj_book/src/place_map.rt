@@ -5,7 +5,7 @@ ghost use Rattle.lj_book.specs.declared.place.Place.{Place};
 ghost use Rattle.lj_book.specs.inner.Slots.{slot_map, AreBefore};
 
 use crate::place::Place;
-use crate::short_map::SHORT_END;
+use crate::slot::SHORT_END;
 use crate::tree_map::TreeMap;
 use lj_clause::NoMemory;
 use std::alloc::Global;

@@ -78,6 +78,12 @@ addition_of_parts number lemma parts = record
 abbrev pub tested_line : ClauseMap → Addition → Result Addition Refusal
 tested_line p a = unless_refused (walk_refusal p a (first_walk p a)) (recorded_form p a)
 
+-- the same of an addition under a joint number whose parts are these, or their first refusal
+abbrev pub tested_parts : ClauseMap → ℕ → LemmaValue → Result LineParts Refusal
+    → Result Addition Refusal
+tested_parts p number lemma (Err e) = Err e
+tested_parts p number lemma (Ok parts) = tested_line p (addition_of_parts number lemma parts)
+
 -- a refusal of the test of a line
 abbrev pub refusal_of : LineRefusal → Refusal
 refusal_of (Stuck place) = HintNotUnit place

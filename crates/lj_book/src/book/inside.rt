@@ -1,23 +1,26 @@
 //! Additions that are tested and entered in one call.
-ghost use Rattle.std.specs.Prelude.{◌≡◌, ◌==◌, OnOk, OnErr, IfOk, IfSome, Ok, Err, true, false};
+ghost use Rattle.std.specs.Prelude.{◌≡◌, ◌==◌, ℕ, OnOk, OnErr, IfOk, IfSome, Ok, Err, true, false};
 ghost use Rattle.lj_clause.specs.Literal.{variable_of};
 ghost use Rattle.lj_clause.specs.LiteralSet.{holds};
 ghost use Rattle.lj_book.specs.History.{after_entry, IsReached};
 ghost use Rattle.lj_book.specs.State.{next};
+ghost use Rattle.lj_book.specs.Tables.{joint_of};
 ghost use Rattle.lj_book.specs.Calls.{IsReply, IsReplyBy, free_refusal, commit_told};
 ghost use Rattle.lj_book.specs.Inside.{inside_reply, inside_entry};
-ghost use Rattle.lj_book.specs.inner.JointLines.{addition_of_parts, inside_line, line_entry};
+ghost use Rattle.lj_book.specs.inner.JointLines.{addition_of_parts, joint_parts, tested_parts, inside_line, line_entry};
 
 use crate::book::Book;
 use crate::committing::{enter_addition, refuted_at};
 use crate::entry::Added;
 use crate::joint_line::joint_line;
+use crate::ledger::Ledger;
 use crate::lent_addition::LentAddition;
 use crate::line_tests::tested_line;
 use crate::refusal::Refusal;
+use crate::seat_tables::SeatTables;
 use lj_clause::{Lemma, NoMemory};
 use lj_hint::Marks;
-use lj_text::{Addition, Groups, Numbers};
+use lj_text::{Addition, Group, Groups, Numbers};
 use std::mem::replace;
 
 impl Book {
@@ -47,39 +50,35 @@ impl Book {
             (self.new ≡ after_entry self.old (inside_entry self.old seat addition.now)) }
         ensures err { OnErr result (self.new ≡ self.old) }
     {
-        let mut hints = self.lend_joints();
-        let added = self.add_line(seat, addition, &mut hints, marks);
-        self.joints = hints;
-        added
-    }
-
-    /// The same, with a list for the hints in joint numbers.
-    ///
-    /// # Errors
-    /// As [`Book::add_inside`].
-    fn add_line(
-        &mut self,
-        seat: u32,
-        addition: &Addition,
-        hints: &mut Numbers,
-        marks: &mut Marks,
-    ) -> Result<Added, Refusal>
-        ensures reply { IsReply result (inside_reply self.old seat addition.now) }
-        ensures refused { IfSome (free_refusal self.old seat addition.now.number)
-            (λ e. result ≡ Err e) }
-        ensures ok { OnOk result
-            (self.new ≡ after_entry self.old (inside_entry self.old seat addition.now)) }
-        ensures err { OnErr result (self.new ≡ self.old) }
-    {
-        let groups = match self.inside_line(seat, addition, hints, marks) {
+        let joint = self.next();
+        let own = addition.number;
+        if let Some(refusal) = self.free_refusal(seat, own) {
+            return Err(refusal);
+        }
+        let ledger = &mut self.ledger;
+        let (hints, joints) = (&mut self.joints, &mut self.joint_groups);
+        let groups = match recorded_line(
+            ledger,
+            &self.tables,
+            seat,
+            addition,
+            hints,
+            joints,
+            marks,
+        ) {
             Ok(groups) => groups,
             Err(refusal) => return Err(refusal),
         };
-        let step = LentAddition::new(self.next(), &addition.lemma, hints, groups.as_slice());
-        match self.enter_line(seat, addition, &step) {
-            Ok(added) => Ok(added),
-            Err(refused) => Err(Refusal::NoMemory(refused)),
+        if self.added >= self.max_steps {
+            return Err(Refusal::Full);
         }
+        let _ = has_pivot(&addition.lemma);
+        let step = LentAddition::new(joint, &addition.lemma, &self.joints, groups.as_slice());
+        let place = self.ledger.history().len();
+        enter_addition(&mut self.ledger, &mut self.tables, seat, own, &step)?;
+        self.refuted = refuted_at(self.refuted, place, &step.clause);
+        self.added += 1;
+        Ok(Added { place, joint })
     }
 
     /// The room for joint hints, which has to come back.
@@ -119,19 +118,22 @@ impl Book {
             (λ e. result ≡ Err e) }
         ensures same { self.new ≡ self.old }
     {
-        let alloc = self.ledger.allocator();
         let added = self.added;
         let max_steps = self.max_steps;
         if let Some(refusal) = self.free_refusal(seat, addition.number) {
             return Err(refusal);
         }
+        let ledger = &mut self.ledger;
         let joints = &mut self.joint_groups;
-        if let Err(refusal) = joint_line(alloc, &self.tables, seat, addition, hints, joints) {
-            return Err(refusal);
-        }
-        let lemma = &addition.lemma;
-        let joints = &self.joint_groups;
-        let groups = match tested_line(alloc, &mut self.ledger, lemma, hints, joints, marks) {
+        let groups = match recorded_line(
+            ledger,
+            &self.tables,
+            seat,
+            addition,
+            hints,
+            joints,
+            marks,
+        ) {
             Ok(groups) => groups,
             Err(refusal) => return Err(refusal),
         };
@@ -166,6 +168,34 @@ impl Book {
         self.added += 1;
         Ok(Added { place, joint })
     }
+}
+
+/// The groups of a seat's addition in recorded form, and its hints, in lists that were used before. The clauses stay as they
+/// are.
+///
+/// # Errors
+/// As [`Book::add_inside`], but for what is refused before the line is read, and [`Refusal::Full`].
+#[inline]
+fn recorded_line(
+    ledger: &mut Ledger,
+    tables: &SeatTables,
+    seat: u32,
+    addition: &Addition,
+    hints: &mut Numbers,
+    joints: &mut Vec<Group>,
+    marks: &mut Marks,
+) -> Result<Groups, Refusal>
+    ensures reply { (number : ℕ) → IsReplyBy
+        (λ groups. addition_of_parts number addition.now.lemma (hints.new, groups)) result
+        (tested_parts ledger.old.live number addition.now.lemma
+        (joint_parts (joint_of tables.now seat) addition.now)) }
+    ensures same { ledger.new ≡ ledger.old }
+{
+    let alloc = ledger.allocator();
+    if let Err(refusal) = joint_line(alloc, tables, seat, addition, hints, joints) {
+        return Err(refusal);
+    }
+    tested_line(alloc, ledger, &addition.lemma, hints, joints, marks)
 }
 
 /// Whether the lemma has a pivot, which then is a literal of its clause.

@@ -1,24 +1,30 @@
-use Rattle.std.proofs.Common.{ap, sym, ◌∙◌, ◌++◌, ◌+◌, true}
-use Rattle.std.specs.Prelude.{[], ◌∷◌, drop, slice_index_or}
+use Rattle.std.proofs.Common.{◌≡◌, ap, sym, ◌∙◌, ◌++◌, ◌+◌, true}
+use Rattle.std.specs.Prelude.{[], ◌∷◌, drop, map, slice_index_or}
 use Rattle.std.proofs.lemmas.List.{append_assoc}
+use Rattle.std.proofs.Math.ListN.{get_or-map}
 use Rattle.lj_book.specs.inner.Slots.{slot_numbers}
 use Rattle.lj_book.proofs.Slots.{keys-taken, keys-passed}
+use Rattle.lj_book.proofs.HeldSlots.{within}
 use Rattle.lj_book.proofs.short_map.keys_of.Goals as goal
 use Rattle.lj_book.proofs.short_map.keys_of.Goals.{then-is_some+in_ok-push, else-is_some}
 
 pub loop-at-preserved : goal.loop-at-preserved
-loop-at-preserved c =
-    let xs = c.args.slots.now in
+loop-at-preserved g c =
+    let value = g.S.Slot.value in
+    let xs = map value c.args.slots.now in
     let k = c.loop-at.at in
+    let there = within value c.args.slots.now k c.loop-at-test.true in
+    let held : c.number.result ≡ slice_index_or xs k c.number.result =
+    c.number.ensures.number ∙ ap value c.index-slots-at.is ∙ sym (get_or-map value c.args.slots.now k _) ∙ ap (λ x. slice_index_or xs k x) (sym c.number.ensures.number) in
     let later = slot_numbers (λ _. true) (k + 1) (drop (k + 1) xs) in
     elim c.if-is_some.branch [
       | then-is_some+in_ok-push w ↦
           ap (λ ks. ks ++ later) (ap (λ v. v.items) w.keys-is ∙ w.in_ok-push.ensures.items)
           ∙ append_assoc c.loop-at.keys.items (k ∷ []) later
-          ∙ ap (λ ks. c.loop-at.keys.items ++ ks) (sym (keys-taken xs k c.number.result c.loop-at-test.true (c.number.ensures.number ∙ c.index-slots-at.is ∙ ap (λ x. slice_index_or xs k x) (sym c.number.ensures.number)) (sym c.is_some.ensures ∙ w.if-is_some.true)))
+          ∙ ap (λ ks. c.loop-at.keys.items ++ ks) (sym (keys-taken xs k c.number.result there held (sym c.is_some.ensures ∙ w.if-is_some.true)))
           ∙ c.loop-at.invariant
       | else-is_some w ↦
           ap (λ ks. ks ++ later) (ap (λ v. v.items) w.keys-is)
-          ∙ ap (λ ks. c.loop-at.keys.items ++ ks) (keys-passed xs k c.number.result c.loop-at-test.true (c.number.ensures.number ∙ c.index-slots-at.is ∙ ap (λ x. slice_index_or xs k x) (sym c.number.ensures.number)) (sym c.is_some.ensures ∙ w.if-is_some.false))
+          ∙ ap (λ ks. c.loop-at.keys.items ++ ks) (keys-passed xs k c.number.result there held (sym c.is_some.ensures ∙ w.if-is_some.false))
           ∙ c.loop-at.invariant
     ]

@@ -25,30 +25,30 @@ returns-then-contains_key-clause-ok c =
     ∙ insert_far short long c.args.number c.args.count absent
     ∙ ap (λ m. fin.insert m c.args.number c.args.count) c.self.view_is)
 
-pub invariant_of-self-then-count-lt-SHORT_END : goal.invariant_of-self-then-count-lt-SHORT_END
-invariant_of-self-then-count-lt-SHORT_END c =
+pub invariant_of-self-then-count-lt-BYTE_END : goal.invariant_of-self-then-count-lt-BYTE_END
+invariant_of-self-then-count-lt-BYTE_END c =
     let short = c.self.inside.short in
     let long = c.self.inside.long in
-    let set = c.insert-then-count-lt-SHORT_END in
+    let set = c.insert-then-count-lt-BYTE_END in
     let absent = none_is (fin.get long c.args.number) (sym c.contains_key.ensures ∙ c.if-contains_key.false) in
     either_way set.result _ _ _ set.ensures.ok set.ensures.err
     (λ e. subst (λ m. AreApart m long) (sym e) (apart-insert_near short long c.args.number c.args.count c.self.invariant absent))
     (λ e. subst (λ m. AreApart m long) (sym e) c.self.invariant)
 
-pub returns-then-count-lt-SHORT_END-clause-ok : goal.returns-then-count-lt-SHORT_END-clause-ok
-returns-then-count-lt-SHORT_END-clause-ok c =
+pub returns-then-count-lt-BYTE_END-clause-ok : goal.returns-then-count-lt-BYTE_END-clause-ok
+returns-then-count-lt-BYTE_END-clause-ok c =
     let short = c.self.inside.short in
     let long = c.self.inside.long in
-    let set = c.insert-then-count-lt-SHORT_END in
+    let set = c.insert-then-count-lt-BYTE_END in
     ok_then set.result _ _ set.ensures.ok (λ e. ap (λ m. joined_map m long) e
     ∙ insert_near short long c.args.number c.args.count
     ∙ ap (λ m. fin.insert m c.args.number c.args.count) c.self.view_is)
 
-pub returns-then-count-lt-SHORT_END-clause-no_less : goal.returns-then-count-lt-SHORT_END-clause-no_less
-returns-then-count-lt-SHORT_END-clause-no_less c =
+pub returns-then-count-lt-BYTE_END-clause-no_less : goal.returns-then-count-lt-BYTE_END-clause-no_less
+returns-then-count-lt-BYTE_END-clause-no_less c =
     let short = c.self.inside.short in
     let long = c.self.inside.long in
-    let set = c.insert-then-count-lt-SHORT_END in
+    let set = c.insert-then-count-lt-BYTE_END in
     let absent = none_is (fin.get long c.args.number) (sym c.contains_key.ensures ∙ c.if-contains_key.false) in
     on_err_map set.result (λ none.
     subst (λ (o : Option ℕ). count_or_none o ≤ c.args.count)

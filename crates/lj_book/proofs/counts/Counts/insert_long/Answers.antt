@@ -7,7 +7,7 @@ use Rattle.lj_book.specs.inner.Slots.{joined_map, AreApart}
 use Rattle.lj_book.proofs.Slots.{on_err, get_joined, move_far, apart-move_far}
 use Rattle.lj_book.proofs.counts.Counts.insert_long.Goals as goal
 
-few_or_none : (o p : Option ℕ) (n : ℕ) → p ≡ None → IfSome o (λ v. v < 4294967295) → 4294967295 ≤ n → count_or_none (option_or o p) ≤ n
+few_or_none : (o p : Option ℕ) (n : ℕ) → p ≡ None → IfSome o (λ v. v < 255) → 255 ≤ n → count_or_none (option_or o p) ≤ n
 few_or_none (Some v) p n e few le = omega (arith, few, le)
 few_or_none None p n e few le = subst (λ (x : Option ℕ). count_or_none x ≤ n) (sym e) (omega arith)
 

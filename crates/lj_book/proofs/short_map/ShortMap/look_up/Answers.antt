@@ -10,10 +10,11 @@ all get keys values [] so_far none = so_far ∙ append-nil (map Some values)
 all get keys values (key ∷ left) so_far none = absurd (omega arith)
 
 pub returns : goal.returns
-returns c found =
+returns g c found =
+    let value = g.S.Slot.value in
     let slots = c.as_slice-slots.result.now in
     let left : List ℕ = drop c.loop-key.key-index c.args.keys.now in
     let whole : c.len.result ≡ length c.args.keys.now = grind (arith, nat_tests, found) in
     let none : length left ≡ 0 = omega (arith, whole, c.len.ensures, c.loop-key.invariant.len) in
-    ap (λ m. map (fin.get m) c.args.keys.now) (sym (ap slot_map c.as_slice-slots.ensures.value ∙ c.self.view_is))
-    ∙ all (fin.get (slot_map slots)) c.args.keys.now c.loop-key.values.items left c.loop-key.invariant.values none
+    ap (λ m. map (fin.get m) c.args.keys.now) (sym (ap (λ ys. slot_map (map value ys)) c.as_slice-slots.ensures.value ∙ c.self.view_is))
+    ∙ all (fin.get (slot_map (map value slots))) c.args.keys.now c.loop-key.values.items left c.loop-key.invariant.values none

@@ -6,8 +6,8 @@ use Rattle.lj_book.proofs.short_map.ShortMap.look_up.Given as goal
 
 -- the values so far, and those of the keys to come, are those of all keys
 abbrev pub invariant-loop-key : goal.invariant-loop-key
-invariant-loop-key l = record {
-  values : map (fin.get (slot_map l.slots)) l.keys ≡ map Some l.values.items ++ map (fin.get (slot_map l.slots)) (drop l.key-index l.keys);
+invariant-loop-key g l = record {
+  values : map (fin.get (slot_map (map g.S.Slot.value l.slots))) l.keys ≡ map Some l.values.items ++ map (fin.get (slot_map (map g.S.Slot.value l.slots))) (drop l.key-index l.keys);
   len : vec_len l.values + length (drop l.key-index l.keys) ≡ length l.keys;
   capacity : vec_capacity l.fn.values ≡ vec_capacity l.values;
 }
