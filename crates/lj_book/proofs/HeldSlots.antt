@@ -1,5 +1,5 @@
 -- Maps in slots of any form, by what each slot holds.
-use Rattle.std.proofs.Common.{◌≡◌, ap, sym, ◌∙◌, subst, ℕ, ◌<◌, ◌≤◌, arith}
+use Rattle.std.proofs.Common.{◌≡◌, ap, sym, ◌∙◌, subst, ℕ, ◌<◌, ◌≤◌}
 use Rattle.std.specs.Prelude.{List, [], ◌∷◌, ◌++◌, map, length, Option, Some, None, slice_index_or, slice_set}
 use Rattle.std.proofs.lemmas.List.{length-map, map-set, map-append}
 use Rattle.std.proofs.Math.ListN.{get_or-map}
