@@ -469,3 +469,18 @@ near_none {V} near far k apart there = by (fin.get near k) refl
     by : (o : Option V) → fin.get near k ≡ o → o ≡ None
     by None e = refl
     by (Some v) e = absurd (not_some (fin.get far k) (apart k (ap is_some e)) there)
+
+-- a number that isn't in two maps in one is in neither
+first_none : {V : Type 0} (x y : Option V) → option_or x y ≡ None → x ≡ None
+first_none None y e = refl
+first_none (Some v) y e = grind arith
+
+last_none : {V : Type 0} (x y : Option V) → option_or x y ≡ None → y ≡ None
+last_none None y e = e
+last_none (Some v) y e = grind arith
+
+pub neither_near : {V : Type 0} (near far m : Numbered V) (k : ℕ) → joined_map near far ≡ m → fin.get m k ≡ None → fin.get near k ≡ None
+neither_near near far m k is e = first_none (fin.get near k) (fin.get far k) (sym (get_joined near far k) ∙ ap (λ n. fin.get n k) is ∙ e)
+
+pub neither_far : {V : Type 0} (near far m : Numbered V) (k : ℕ) → joined_map near far ≡ m → fin.get m k ≡ None → fin.get far k ≡ None
+neither_far near far m k is e = last_none (fin.get near k) (fin.get far k) (sym (get_joined near far k) ∙ ap (λ n. fin.get n k) is ∙ e)

@@ -12,5 +12,6 @@ pub mod Kept
 pub mod Fronts
 pub mod Solo
 pub mod Slots
+pub mod Opened
 pub mod Occurrences
 pub mod Chains

@@ -1,9 +1,10 @@
 //! The bindings of a seat.
 ghost use Rattle.std.specs.Prelude.{◌≡◌, ◌≤◌, [], length, map, true, vec_capacity, OnOk, OnErr, IfOk, None, Some};
 ghost use Rattle.std.specs.FinMap as fin;
-ghost use Rattle.lj_book.specs.inner.Slots.{AreApart};
+ghost use Rattle.lj_book.specs.inner.Slots.{AreApart, joined_map};
 
 use crate::dying::rising;
+use crate::opened::Opened;
 use crate::short_map::ShortMap;
 use crate::slot::{SHORT_END, ShortSlot};
 use crate::tree_map::TreeMap;
@@ -48,10 +49,17 @@ impl Bindings {
     pub(crate) fn new(alloc: Global) -> Self
         ensures { result ≡ fin.empty }
     {
+        Bindings::reaching(alloc, 0)
+    }
+
+    /// No bindings, as if so many numbers had been bound before.
+    pub(crate) fn reaching(alloc: Global, bound: u64) -> Self
+        ensures { result ≡ fin.empty }
+    {
         Bindings {
             short: ShortMap::new(alloc),
             long: TreeMap::new(alloc),
-            reach: FIRST_SLOTS,
+            reach: FIRST_SLOTS.saturating_add(bound),
         }
     }
 
@@ -66,15 +74,16 @@ impl Bindings {
         }
     }
 
-    /// Puts the joint numbers of these own numbers into a list that has none, up to the first without a slot, and answers
-    /// whether each has one.
+    /// Puts the joint numbers of these own numbers, or else themselves where they are held from the opening on, into a list that
+    /// has none, up to the first that is neither held nor in a slot, and answers whether there is none.
     #[inline(always)]
-    pub(crate) fn look_up(&self, owns: &[u32], joints: &mut Vec<u32>) -> bool
+    pub(crate) fn look_up(&self, opened: &Opened, owns: &[u32], joints: &mut Vec<u32>) -> bool
         requires none { joints.old.items ≡ [] }
         requires room { length owns.now ≤ vec_capacity joints.old }
-        ensures { result ≡ true → map (fin.get self.now) owns.now ≡ map Some joints.new.items }
+        ensures { result ≡ true → map (fin.get (joined_map opened.now self.now)) owns.now
+            ≡ map Some joints.new.items }
     {
-        self.short.look_up(owns, joints)
+        self.short.look_up(opened, owns, joints)
     }
 
     /// Binds an own number that isn't bound.

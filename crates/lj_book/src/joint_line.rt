@@ -5,8 +5,8 @@ ghost use Rattle.lj_book.specs.Tables.{joint_of};
 ghost use Rattle.lj_book.specs.Calls.{IsReplyBy};
 ghost use Rattle.lj_book.specs.inner.JointLines.{joints_in, joint_groups_in, joint_parts, rising_from};
 
-use crate::bindings::Bindings;
 use crate::refusal::Refusal;
+use crate::seat_table::SeatTable;
 use crate::seat_tables::SeatTables;
 use crate::taking::repeated_group;
 use lj_text::{Addition, Group, Numbers};
@@ -115,7 +115,7 @@ fn put_joints(
 /// # Errors
 /// As [`put_joints`].
 #[inline(always)]
-fn put_short(table: &Bindings, owns: &[u32], joints: &mut Numbers) -> Result<(), Refusal>
+fn put_short(table: &SeatTable, owns: &[u32], joints: &mut Numbers) -> Result<(), Refusal>
     ensures { IsReplyBy (λ _. joints.new) result (joints_in (fin.get table.now) owns.now) }
 {
     if let Some(mut room) = joints.take_room(owns.len()) {
@@ -134,7 +134,7 @@ fn put_short(table: &Bindings, owns: &[u32], joints: &mut Numbers) -> Result<(),
 /// # Errors
 /// As [`put_joints`].
 #[inline(never)]
-fn put_in_turn(table: &Bindings, owns: &[u32], joints: &mut Numbers) -> Result<(), Refusal>
+fn put_in_turn(table: &SeatTable, owns: &[u32], joints: &mut Numbers) -> Result<(), Refusal>
     requires { joints.old ≡ [] }
     ensures { IsReplyBy (λ _. joints.new) result (joints_in (fin.get table.now) owns.now) }
 {
@@ -153,7 +153,7 @@ fn put_in_turn(table: &Bindings, owns: &[u32], joints: &mut Numbers) -> Result<(
 /// # Errors
 /// As [`put_joints`].
 #[inline(never)]
-fn put_each(table: &Bindings, numbers: &Numbers, joints: &mut Numbers) -> Result<(), Refusal>
+fn put_each(table: &SeatTable, numbers: &Numbers, joints: &mut Numbers) -> Result<(), Refusal>
     ensures { IsReplyBy (λ _. joints.new) result (joints_in (fin.get table.now) numbers.now) }
 {
     joints.clear();

@@ -5,8 +5,8 @@ ghost use Rattle.lj_book.specs.Tables.{up_to, table_of, is_here, joint_of, is_bo
 ghost use Rattle.lj_book.specs.inner.Tables.{own_numbers};
 ghost use Rattle.lj_book.specs.inner.Holders.{count_in, count_at, holders_of, one_if_at, all_up_to};
 
-use crate::bindings::Bindings;
 use crate::counts::Counts;
+use crate::seat_table::SeatTable;
 use lj_clause::NoMemory;
 use lj_text::Numbers;
 use std::alloc::Global;
@@ -15,7 +15,7 @@ use std::marker::Model;
 /// The table of each seat, from own numbers to joint numbers, and none for a seat that has left.
 #[derive(Drop)]
 pub(crate) struct SeatTables {
-    seats: Vec<Option<Bindings>>,
+    seats: Vec<Option<SeatTable>>,
     /// How many own numbers of all seats are bound to each joint number, so that none has to be looked for.
     holders: Counts,
 }
@@ -65,7 +65,7 @@ impl SeatTables {
     }
 
     /// The table of a seat that hasn't left.
-    pub(crate) fn table(&self, seat: u32) -> Option<&Bindings>
+    pub(crate) fn table(&self, seat: u32) -> Option<&SeatTable>
         ensures { option_copied result ≡ table_of self.now seat }
     {
         table_in(&self.seats, seat)
@@ -226,28 +226,16 @@ impl SeatTables {
 }
 
 /// One table for each seat, with the numbers up to that of the clauses bound to themselves.
-fn same_tables(alloc: Global, seats: u32, clauses: u64) -> Result<Vec<Option<Bindings>>, NoMemory>
+fn same_tables(alloc: Global, seats: u32, clauses: u64) -> Result<Vec<Option<SeatTable>>, NoMemory>
     requires { clauses < 2 ^ 63 }
     ensures { IfOk result (λ tables. tables.items ≡ replicate seats (Some (up_to clauses))) }
 {
     let mut tables = Vec::new(alloc);
     for _seat in 0..seats {
-        let table = numbers_up_to(alloc, clauses)?;
+        let table = SeatTable::up_to(alloc, clauses)?;
         tables.push(Some(table))?;
     }
     Ok(tables)
-}
-
-/// The table that binds each number from 1 to this one to itself.
-fn numbers_up_to(alloc: Global, last: u64) -> Result<Bindings, NoMemory>
-    requires { last < 2 ^ 63 }
-    ensures { IfOk result (λ table. table ≡ up_to last) }
-{
-    let mut table = Bindings::new(alloc);
-    for number in 0..last {
-        table.insert(number + 1, number + 1)?;
-    }
-    Ok(table)
 }
 
 /// The same count at each number from 1 to this one.
@@ -265,7 +253,7 @@ fn counts_up_to(alloc: Global, last: u64, count: u64) -> Result<Counts, NoMemory
 /// Binds the own number in the table, and sets the count of the joint number: both, or neither.
 #[inline(always)]
 fn bind_in(
-    table: &mut Bindings,
+    table: &mut SeatTable,
     holders: &mut Counts,
     own: u64,
     joint: u64,
@@ -286,7 +274,7 @@ fn bind_in(
 
 /// Takes the own number out of the table, and one from the count of its joint number. Answers whether it was there.
 #[inline(always)]
-fn unbind_in(table: &mut Bindings, holders: &mut Counts, own: u64) -> bool
+fn unbind_in(table: &mut SeatTable, holders: &mut Counts, own: u64) -> bool
     requires { (joint : ℕ) → fin.get table.old own ≡ Some joint → 0 < count_at holders.old joint }
     ensures bound { result ≡ fin.contains_key table.old own }
     ensures table { table.new ≡ fin.remove table.old own }
@@ -303,7 +291,7 @@ fn unbind_in(table: &mut Bindings, holders: &mut Counts, own: u64) -> bool
 
 /// Takes the own numbers out of the table, and for each that was there one from the count of its joint number. Answers how
 /// many were there.
-fn unbind_all_in(table: &mut Bindings, holders: &mut Counts, owns: &[u32]) -> u64
+fn unbind_all_in(table: &mut SeatTable, holders: &mut Counts, owns: &[u32]) -> u64
     requires { (joint : ℕ) → count_in (Some table.old) joint ≤ count_at holders.old joint }
     ensures count { result ≡ keys_lost owns.now (Some table.old) }
     ensures table { table.new ≡ without_keys owns.now table.old }
@@ -323,7 +311,7 @@ fn unbind_all_in(table: &mut Bindings, holders: &mut Counts, owns: &[u32]) -> u6
 ///
 /// # Errors
 /// [`NoMemory`] where a growth was refused.
-fn short_joints(alloc: Global, table: &Bindings, owns: &[u32]) -> Result<Vec<u64>, NoMemory>
+fn short_joints(alloc: Global, table: &SeatTable, owns: &[u32]) -> Result<Vec<u64>, NoMemory>
     ensures { IfOk result (λ joints. joints.items ≡ filter_map (fin.get table.now) owns.now) }
 {
     let mut joints = Vec::with_capacity(alloc, owns.len())?;
@@ -340,7 +328,7 @@ fn short_joints(alloc: Global, table: &Bindings, owns: &[u32]) -> Result<Vec<u64
 /// # Errors
 /// [`NoMemory`] where a growth was refused.
 #[cold]
-fn each_joint(alloc: Global, table: &Bindings, numbers: &Numbers) -> Result<Vec<u64>, NoMemory>
+fn each_joint(alloc: Global, table: &SeatTable, numbers: &Numbers) -> Result<Vec<u64>, NoMemory>
     ensures { IfOk result (λ joints. joints.items ≡ filter_map (fin.get table.now) numbers.now) }
 {
     let mut joints = Vec::new(alloc);
@@ -353,7 +341,7 @@ fn each_joint(alloc: Global, table: &Bindings, numbers: &Numbers) -> Result<Vec<
 }
 
 /// The table of a seat.
-fn table_in(seats: &[Option<Bindings>], seat: u32) -> Option<&Bindings>
+fn table_in(seats: &[Option<SeatTable>], seat: u32) -> Option<&SeatTable>
     ensures { option_copied result ≡ table_of seats.now seat }
 {
     match seats.get(seat as usize) {

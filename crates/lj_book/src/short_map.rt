@@ -1,8 +1,10 @@
 //! Maps from numbers that lie close together to small numbers.
 ghost use Rattle.std.specs.Prelude.{◌≡◌, ◌<◌, ◌≤◌, [], vec_capacity, OnOk, OnErr, IfOk, IfSome, length, map, None, Some, true};
 ghost use Rattle.std.specs.FinMap as fin;
-ghost use Rattle.lj_book.specs.inner.Slots.{slot_map, slot_numbers};
+ghost use Rattle.lj_book.specs.inner.Slots.{slot_map, slot_numbers, joined_map};
+ghost use Rattle.lj_book.specs.inner.Opened.{opened_slots};
 
+use crate::opened::{Opened, is_kept};
 use crate::slot::Slot;
 use lj_clause::NoMemory;
 use std::alloc::Global;
@@ -49,18 +51,20 @@ impl<S: Slot> ShortMap<S> {
         number_at(&self.slots, key)
     }
 
-    /// Puts the values at these keys into a list that has none, up to the first that isn't there, and answers whether each
-    /// is.
+    /// Puts the values at these keys, or the keys that are held from the opening on, into a list that has none, up to the first
+    /// that is neither, and answers whether there is none.
     #[inline(always)]
-    pub(crate) fn look_up(&self, keys: &[u32], values: &mut Vec<u32>) -> bool
+    pub(crate) fn look_up(&self, opened: &Opened, keys: &[u32], values: &mut Vec<u32>) -> bool
         requires none { values.old.items ≡ [] }
         requires room { length keys.now ≤ vec_capacity values.old }
-        ensures { result ≡ true → map (fin.get self.now) keys.now ≡ map Some values.new.items }
+        ensures { result ≡ true → map (fin.get (joined_map opened.now self.now)) keys.now
+            ≡ map Some values.new.items }
     {
+        let parts = opened.parts();
         let slots = self.slots.as_slice();
         for key in keys {
-            match number_at(slots, u64::from(*key)) {
-                Some(value) => values.push_reserved(value as u32),
+            match near(parts.0, parts.1, slots, *key) {
+                Some(value) => values.push_reserved(value),
                 None => break,
             }
         }
@@ -136,6 +140,23 @@ fn number_at<S: Slot>(slots: &[S], key: u64) -> Option<u64>
 {
     match slots.get(key as usize) {
         Some(slot) => slot.number(),
+        None => None,
+    }
+}
+
+/// The key where it is held from the opening on, and else the number in its slot.
+#[inline(always)]
+fn near<S: Slot>(kept: &[bool], end: usize, slots: &[S], key: u32) -> Option<u32>
+    ensures { IfSome result (λ value. fin.get
+        (joined_map (slot_map (opened_slots 0 kept.now end)) (slot_map (map S.value slots.now)))
+        key ≡ Some value) }
+{
+    let number = u64::from(key);
+    if is_kept(kept, end, number) {
+        return Some(key);
+    }
+    match number_at(slots, number) {
+        Some(value) => Some(value as u32),
         None => None,
     }
 }

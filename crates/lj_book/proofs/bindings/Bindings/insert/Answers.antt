@@ -1,31 +1,14 @@
-use Rattle.std.proofs.Common.{◌≡◌, ap, sym, ◌∙◌, subst, refl, ℕ, arith, Option, None, Some}
-use Rattle.std.specs.Ordering.{nat_cmp}
+use Rattle.std.proofs.Common.{ap, sym, ◌∙◌, subst}
 use Rattle.std.specs.FinMap as fin
-use Rattle.std.specs.Option.{option_or}
 use Rattle.lj_book.specs.inner.Slots.{joined_map, AreApart}
-use Rattle.lj_book.proofs.Slots.{get_joined, insert_near, insert_far, apart-insert_near, apart-insert_far, either_way, ok_then}
+use Rattle.lj_book.proofs.Slots.{insert_near, insert_far, apart-insert_near, apart-insert_far, either_way, ok_then, neither_near, neither_far}
 use Rattle.lj_book.proofs.bindings.Bindings.insert.Goals as goal
-
-first_none : (x y : Option ℕ) → option_or x y ≡ None → x ≡ None
-first_none None y e = refl
-first_none (Some v) y e = grind arith
-
-last_none : (x y : Option ℕ) → option_or x y ≡ None → y ≡ None
-last_none None y e = e
-last_none (Some v) y e = grind arith
-
--- an own number that isn't bound is in neither map
-no_short : (short long m : fin.FinMap nat_cmp ℕ) (own : ℕ) → joined_map short long ≡ m → fin.get m own ≡ None → fin.get short own ≡ None
-no_short short long m own is e = first_none (fin.get short own) (fin.get long own) (sym (get_joined short long own) ∙ ap (λ n. fin.get n own) is ∙ e)
-
-no_long : (short long m : fin.FinMap nat_cmp ℕ) (own : ℕ) → joined_map short long ≡ m → fin.get m own ≡ None → fin.get long own ≡ None
-no_long short long m own is e = last_none (fin.get short own) (fin.get long own) (sym (get_joined short long own) ∙ ap (λ n. fin.get n own) is ∙ e)
 
 pub invariant_of-self : goal.invariant_of-self
 invariant_of-self c =
     let short = c.self.inside.short in
     let long = c.self.inside.long in
-    let absent = no_long short long c.args.self.now c.args.own c.self.view_is c.requires in
+    let absent = neither_far short long c.args.self.now c.args.own c.self.view_is c.requires in
     either_way c.insert.result _ _ _ c.insert.ensures.ok c.insert.ensures.err
     (λ e. subst (λ m. AreApart m long) (sym e) (apart-insert_near short long c.args.own c.args.joint c.self.invariant absent))
     (λ e. subst (λ m. AreApart m long) (sym e) c.self.invariant)
@@ -40,14 +23,14 @@ pub invariant_of-self-2 : goal.invariant_of-self-2
 invariant_of-self-2 c =
     let short = c.self.inside.short in
     let long = c.self.inside.long in
-    let absent = no_short short long c.args.self.now c.args.own c.self.view_is c.requires in
+    let absent = neither_near short long c.args.self.now c.args.own c.self.view_is c.requires in
     either_way c.insert-2.result _ _ _ c.insert-2.ensures.ok c.insert-2.ensures.err
     (λ e. subst (AreApart short) (sym e) (apart-insert_far short long c.args.own c.args.joint c.self.invariant absent))
     (λ e. subst (AreApart short) (sym e) c.self.invariant)
 
 pub returns-clause-ok : goal.returns-clause-ok
 returns-clause-ok c =
-    let absent = no_short c.self.inside.short c.self.inside.long c.args.self.now c.args.own c.self.view_is c.requires in
+    let absent = neither_near c.self.inside.short c.self.inside.long c.args.self.now c.args.own c.self.view_is c.requires in
     ok_then c.insert-2.result _ _ c.insert-2.ensures.ok (λ e. ap (joined_map c.self.inside.short) e
     ∙ insert_far c.self.inside.short c.self.inside.long c.args.own c.args.joint absent
     ∙ ap (λ m. fin.insert m c.args.own c.args.joint) c.self.view_is)

@@ -2,7 +2,9 @@ use Rattle.std.proofs.Common.{◌≡◌, ap, sym, ◌∙◌, ℕ, List, [], ◌�
 use Rattle.std.proofs.lemmas.Bool.Decides.{nat_tests}
 use Rattle.std.specs.Prelude.{map, Option, Some}
 use Rattle.std.specs.FinMap as fin
-use Rattle.lj_book.specs.inner.Slots.{slot_map}
+use Rattle.lj_book.specs.inner.Slots.{slot_map, joined_map}
+use Rattle.lj_book.specs.inner.Opened.{opened_slots}
+use Rattle.lj_book.proofs.OpenedLaws.{Numbered}
 use Rattle.lj_book.proofs.short_map.ShortMap.look_up.Goals as goal
 
 all : (get : ℕ → Option ℕ) (keys values left : List ℕ) → map get keys ≡ map Some values ++ map get left → length left ≡ 0 → map get keys ≡ map Some values
@@ -11,10 +13,11 @@ all get keys values (key ∷ left) so_far none = absurd (omega arith)
 
 pub returns : goal.returns
 returns g c found =
-    let value = g.S.Slot.value in
-    let slots = c.as_slice-slots.result.now in
+    let slots = map g.S.Slot.value c.as_slice-slots.result.now in
+    let opened : Numbered = slot_map (opened_slots 0 c.parts-parts.result.0.now c.parts-parts.result.1) in
     let left : List ℕ = drop c.loop-key.key-index c.args.keys.now in
     let whole : c.len.result ≡ length c.args.keys.now = grind (arith, nat_tests, found) in
     let none : length left ≡ 0 = omega (arith, whole, c.len.ensures, c.loop-key.invariant.len) in
-    ap (λ m. map (fin.get m) c.args.keys.now) (sym (ap (λ ys. slot_map (map value ys)) c.as_slice-slots.ensures.value ∙ c.self.view_is))
-    ∙ all (fin.get (slot_map (map value slots))) c.args.keys.now c.loop-key.values.items left c.loop-key.invariant.values none
+    ap (λ m. map (fin.get (joined_map c.args.opened.now m)) c.args.keys.now) (sym (ap (λ ys. slot_map (map g.S.Slot.value ys)) c.as_slice-slots.ensures.value ∙ c.self.view_is))
+    ∙ ap (λ (m : Numbered). map (fin.get (joined_map m (slot_map slots))) c.args.keys.now) c.parts-parts.ensures
+    ∙ all (fin.get (joined_map opened (slot_map slots))) c.args.keys.now c.loop-key.values.items left c.loop-key.invariant.values none
