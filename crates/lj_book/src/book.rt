@@ -77,8 +77,8 @@ impl Model for Book {
 }
 
 impl Book {
-    /// A new book for so many seats, each of which holds the clauses of the formula under their numbers. Its history
-    /// takes at most `max_steps` additions.
+    /// A new book for so many seats, each of which holds the clauses of the formula under their numbers. Its history takes at
+    /// most `max_steps` additions. Takes time linear in the literals of the formula, and constant time for each seat.
     ///
     /// # Errors
     /// [`NoMemory`] where a growth was refused.
@@ -125,7 +125,7 @@ impl Book {
         self.ledger.numbers_holding(alloc, lit)
     }
 
-    /// The live clause of a joint number.
+    /// The live clause of a joint number. Takes O(log n) time.
     pub fn clause(&self, joint: u64) -> Option<ClauseView<'_>>
         ensures { result ≡ fin.get (live self.now) joint }
     {
@@ -171,7 +171,8 @@ impl Book {
         self.refuted
     }
 
-    /// The formula, where the history has an empty clause: no assignment satisfies it.
+    /// The formula, where the history has an empty clause: no assignment satisfies it. Takes time linear in the literals of the
+    /// formula.
     ///
     /// # Errors
     /// [`NoMemory`] where a growth was refused.
@@ -188,7 +189,8 @@ impl Book {
         Ok(Some(Verified::new(self.formula.copy()?)))
     }
 
-    /// The steps of the history, in order, by value. Takes no memory: the tables and the live clauses are let go of.
+    /// The steps of the history, in order, by value. Takes no memory: the tables and the live clauses are let go of. Takes time
+    /// linear in what is let go of.
     pub fn into_steps(self) -> Steps
         ensures { result ≡ steps_of self.history }
     {

@@ -1,4 +1,6 @@
 //! The book: the tables of several seats, the clauses that live, and the history of the calls that were accepted.
+//!
+//! A call takes constant time where neither it nor its type tells a cost.
 #![tactic(auto)]
 
 mod bindings;

@@ -38,7 +38,8 @@ impl Model for Ready {
 }
 
 impl Ready {
-    /// The receipt with what its entry takes.
+    /// The receipt with what its entry takes. Takes time linear in the literals of the lemma and in the numbers that are
+    /// listed.
     ///
     /// # Errors
     /// With the receipt, [`NoMemory`] where a growth was refused.

@@ -51,7 +51,8 @@ impl Clause {
         Ok(Clause { lits })
     }
 
-    /// The same of a list that may lose its order. It takes no memory for the list.
+    /// The same of a list that may lose its order. It takes no memory for the list. Takes linear time where the literals stand
+    /// in order, and O(n log n) time otherwise.
     ///
     /// # Errors
     /// [`NoMemory`] where a growth was refused.
@@ -88,7 +89,7 @@ impl Clause {
         found(self.lits.as_slice(), lit)
     }
 
-    /// Whether the two clauses are the same set.
+    /// Whether the two clauses are the same set. Takes linear time.
     pub fn same(&self, other: &Clause) -> bool
         ensures { IsTrue result ↔ (self.now ≡ other.now) }
     {

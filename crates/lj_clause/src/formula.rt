@@ -34,8 +34,9 @@ impl Model for Formula {
 }
 
 impl Formula {
-    /// The formula of these clauses over the variables from 1 to `variables`: `None` where a clause names a
-    /// variable above that number, or where it is above [`MAX_VARIABLE`] or the clauses are more than [`MAX_CLAUSES`].
+    /// The formula of these clauses over the variables from 1 to `variables`: `None` where a clause names a variable above that
+    /// number, or where it is above [`MAX_VARIABLE`] or the clauses are more than [`MAX_CLAUSES`]. Takes time linear in the
+    /// literals.
     pub fn new(variables: u32, clauses: Vec<Clause>) -> Option<Formula>
         ensures { SomeIff result (IsFormula (formula_of variables clauses.items))
             (formula_of variables clauses.items) }
@@ -79,7 +80,7 @@ impl Formula {
         self.clauses.is_empty()
     }
 
-    /// A formula of its own with the same clauses.
+    /// A formula of its own with the same clauses. Takes time linear in the clauses and their literals.
     ///
     /// # Errors
     /// [`NoMemory`] where a growth was refused.

@@ -43,7 +43,8 @@ impl Lemma {
         })
     }
 
-    /// The same of a list that may lose its order. It takes no memory for the list.
+    /// The same of a list that may lose its order. It takes no memory for the list. Takes linear time where the literals stand
+    /// in order, and O(n log n) time otherwise.
     ///
     /// # Errors
     /// [`NoMemory`] where a growth was refused.
@@ -72,7 +73,7 @@ impl Lemma {
         self.pivot
     }
 
-    /// A lemma of its own with the same literals and pivot.
+    /// A lemma of its own with the same literals and pivot. Takes time linear in the literals.
     ///
     /// # Errors
     /// [`NoMemory`] where a growth was refused.

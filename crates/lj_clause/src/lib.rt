@@ -1,4 +1,6 @@
 //! Literals, clauses, lemmas and formulas: a clause is the finite set of its literals.
+//!
+//! A call takes constant time where neither it nor its type tells a cost.
 #![tactic(auto)]
 
 mod clause;

@@ -1,4 +1,6 @@
 //! Hinted unit propagation: the walk of a case's lemma over its hints, and the receipt of a walk that closed.
+//!
+//! A call takes constant time where neither it nor its type tells a cost.
 #![tactic(auto)]
 
 mod case;

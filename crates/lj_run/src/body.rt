@@ -24,8 +24,9 @@ use std::mem;
 use std::sync::Wait;
 use std::thread::Threads;
 
-/// Does what the words ask for, and answers the status that the program is to end with. The words are those after
-/// the program's own name. The memory of a run's steps is left to the system, which takes it back when the program ends.
+/// Does what the words ask for, and answers the status that the program is to end with. The words are those after the program's
+/// own name. The memory of a run's steps is left to the system, which takes it back when the program ends. Takes the time of
+/// the run that they ask for.
 pub fn program<R: Threads + Wait + Sync, S: AsStr, F: Files, O: Sink, E: Sink>(
     rt: &R,
     alloc: Global,

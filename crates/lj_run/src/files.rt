@@ -154,7 +154,7 @@ impl MemoryFiles {
         }
     }
 
-    /// Puts a file with these bytes at a path.
+    /// Puts a file with these bytes at a path. Takes time linear in the files.
     pub fn add(&mut self, path: &str, bytes: &[u8]) -> Result<(), AllocError>
         ensures added { OnOk result (bytes_at self.new path.now ≡ Some bytes.now) }
         ensures others { OthersStay path.now (bytes_at self.old) (bytes_at self.new) }
@@ -168,8 +168,8 @@ impl MemoryFiles {
         Ok(())
     }
 
-    /// The bytes of a file that was created at a path, and dropped. Which they are is left open, since
-    /// nothing is told of what the file holds meanwhile.
+    /// The bytes of a file that was created at a path, and dropped. Which they are is left open, since nothing is told of what
+    /// the file holds meanwhile. Takes time linear in the files.
     pub fn written(&self, path: &str) -> Option<Vec<u8>>
         ensures { OnSome result (IsTrue (is_file self.now path.now)) }
     {

@@ -1,4 +1,6 @@
 //! Runs of the checker over streams and files.
+//!
+//! A call takes constant time where neither it nor its type tells a cost.
 #![tactic(auto)]
 
 mod body;

@@ -17,7 +17,7 @@ use std::sync::Wait;
 use std::thread::Threads;
 
 /// Does what the arguments ask for that the system gave, of which the first is the program's own name, as [`program`] does, and
-/// answers how the program is to end. Arguments that aren't text are told as usage.
+/// answers how the program is to end. Arguments that aren't text are told as usage. Takes the time of [`program`].
 pub fn start<R: Threads + Wait + Sync, F: Files, O: Sink, E: Sink>(
     rt: &R,
     alloc: Global,

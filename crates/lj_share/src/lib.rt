@@ -1,4 +1,6 @@
 //! The shared book: seats on many threads call one book, and each call is told the entry that it made.
+//!
+//! A call takes constant time where neither it nor its type tells a cost.
 #![tactic(auto)]
 
 mod closed;

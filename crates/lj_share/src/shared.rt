@@ -51,7 +51,8 @@ pub struct SeatsOut<L: Opening> {
 
 impl<L: Opening> Shared<L> {
     /// A new book for so many seats, and the seats, by rising number. Each holds the clauses of the formula under their
-    /// numbers. The history takes at most `max_steps` additions. The blank is the opening's, with a part for each seat.
+    /// numbers. The history takes at most `max_steps` additions. The blank is the opening's, with a part for each seat. Takes
+    /// the time of [`Book::open`].
     ///
     /// # Errors
     /// [`NoMemory`] where a growth was refused.
@@ -85,7 +86,8 @@ impl<L: Opening> Shared<L> {
 
     /// Hands a line of the seat's prover to the book, and gives the token of its entry. An addition without groups whose hints
     /// name clauses that the seat knows by itself is tested outside the lock and then committed; others, and those whose walk
-    /// stays open, are tested and entered under the lock.
+    /// stays open, are tested and entered under the lock. Takes O(log n) time for each number of the line, and time linear in
+    /// the literals of its hints; under the lock, the time of [`Book::add_inside`].
     ///
     /// # Errors
     /// The refusals of [`Book`]'s calls.
@@ -253,7 +255,8 @@ impl<L: Opening> Shared<L> {
         self.desk.lock(rt).book().take(seat.number(), addition)
     }
 
-    /// Enters the lemma of a receipt of this seat, while the clauses that it lists still live.
+    /// Enters the lemma of a receipt of this seat, while the clauses that it lists still live. Takes the time of
+    /// [`Book::commit`].
     ///
     /// # Errors
     /// With the receipt, as [`Book::commit`].
@@ -313,7 +316,7 @@ impl<L: Opening> Shared<L> {
         told
     }
 
-    /// Binds the seat's own number to a joint number that lives.
+    /// Binds the seat's own number to a joint number that lives. Takes the time of [`Book::adopt`].
     ///
     /// # Errors
     /// As [`Book::adopt`].
@@ -333,7 +336,7 @@ impl<L: Opening> Shared<L> {
         self.desk.lock(rt).adopt(seat, own, joint)
     }
 
-    /// Ends the seat's bindings. Its later calls are refused.
+    /// Ends the seat's bindings. Its later calls are refused. Takes the time of [`Book::leave`].
     ///
     /// # Errors
     /// As [`Book::leave`].

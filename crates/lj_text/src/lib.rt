@@ -1,4 +1,6 @@
 //! The texts: lines of LRAT proofs, DIMACS CNF, steps and their text, and the streams that bytes come from and go to.
+//!
+//! A call takes constant time where neither it nor its type tells a cost.
 #![tactic(auto)]
 
 mod as_step;

@@ -151,8 +151,9 @@ impl Numbers {
         }
     }
 
-    /// Lets go of the numbers, and hands out the list that they stood in, with room for so many of four bytes each. None
-    /// tells that they stood in no such list, or that a growth was refused. [`Numbers::from_short`] takes the list back.
+    /// Lets go of the numbers, and hands out the list that they stood in, with room for so many of four bytes each. None tells
+    /// that they stood in no such list, or that a growth was refused. [`Numbers::from_short`] takes the list back. Takes
+    /// constant time, but for a growth.
     #[inline(always)]
     pub fn take_room(&mut self, count: usize) -> Option<Vec<u32>>
         ensures none { self.new ≡ [] }

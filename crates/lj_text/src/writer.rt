@@ -144,7 +144,8 @@ impl<W: Sink> ProofWriter<W> {
             }
         }
     }
-    /// Gives the sink all that is held back, so that it has taken the whole text. More steps may follow.
+    /// Gives the sink all that is held back, so that it has taken the whole text. More steps may follow. Takes time linear in
+    /// what is held back.
     ///
     /// # Errors
     /// As [`ProofWriter::step`].

@@ -26,8 +26,9 @@ impl Book {
     /// memory is short. A commit of a pending receipt leaves nothing pending. A test where no case is pending, and a
     /// commit where no receipt is, answer [`Reply::Nothing`]. The other events are calls, and leave what is pending.
     ///
-    /// A seat each of whose commits comes after a take of its own, with only its tests between, is answered as if it
-    /// were alone, whatever the other seats do.
+    /// A seat each of whose commits comes after a take of its own, with only its tests between, is answered as if it were
+    /// alone, whatever the other seats do. Takes the time of the calls that the events make, and time linear in the events and
+    /// the seats.
     ///
     /// # Errors
     /// [`NoMemory`] where room for the replies or for what is pending was refused: then no event was played. A growth

@@ -18,7 +18,7 @@ use lj_text::{Addition, Numbers, Step};
 use std::alloc::Global;
 
 impl Book {
-    /// As [`Book::commit`], with a copy of the entry.
+    /// As [`Book::commit`], with a copy of the entry. Takes time linear in the entry beside that.
     ///
     /// # Errors
     /// As [`Book::commit`].
@@ -86,7 +86,7 @@ impl Book {
         }
     }
 
-    /// As [`Book::add_inside`], with a copy of the entry.
+    /// As [`Book::add_inside`], with a copy of the entry. Takes time linear in the entry beside that.
     ///
     /// # Errors
     /// As [`Book::add_inside`].
@@ -146,7 +146,7 @@ impl Book {
         }
     }
 
-    /// As [`Book::drop_numbers`], with a copy of the entry.
+    /// As [`Book::drop_numbers`], with a copy of the entry. Takes time linear in the entry beside that.
     ///
     /// # Errors
     /// As [`Book::drop_numbers`].
@@ -178,7 +178,7 @@ impl Book {
         Ok((dropped, Entry { seat, call, step }))
     }
 
-    /// As [`Book::adopt`], with a copy of the entry.
+    /// As [`Book::adopt`], with a copy of the entry. Takes time linear in the entry beside that.
     ///
     /// # Errors
     /// As [`Book::adopt`].
@@ -202,7 +202,7 @@ impl Book {
         }
     }
 
-    /// As [`Book::import`], with a copy of the entry.
+    /// As [`Book::import`], with a copy of the entry. Takes time linear in the entry beside that.
     ///
     /// # Errors
     /// As [`Book::import`].
@@ -237,7 +237,7 @@ impl Book {
         }
     }
 
-    /// As [`Book::leave`], with a copy of the entry.
+    /// As [`Book::leave`], with a copy of the entry. Takes time linear in the entry beside that.
     ///
     /// # Errors
     /// As [`Book::leave`].

@@ -60,7 +60,8 @@ impl CnfReader {
         }
     }
 
-    /// Takes the next piece of the text, which may be empty.
+    /// Takes the next piece of the text, which may be empty. Takes time linear in the piece, and in what is held of the line
+    /// that it ends.
     ///
     /// # Errors
     /// The fault of every text that begins with what was fed, or `NoMemory`; and from then on that fault again.
@@ -100,7 +101,7 @@ impl CnfReader {
         Ok(())
     }
 
-    /// Ends the text: the formula that it spells.
+    /// Ends the text: the formula that it spells. Takes time linear in the bytes of the last line.
     ///
     /// # Errors
     /// The text's fault, or `NoMemory`; a fault that was told before is told again.

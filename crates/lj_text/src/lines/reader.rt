@@ -70,7 +70,7 @@ impl LineReader {
         }
     }
 
-    /// Takes the next piece of the input, which may be empty.
+    /// Takes the next piece of the input, which may be empty. Takes time linear in the piece, amortized.
     ///
     /// # Errors
     /// `NoMemory`, and then the reader is unchanged; after any other fault, that fault.
@@ -98,7 +98,8 @@ impl LineReader {
         }
     }
 
-    /// The next whole line that says something: `None` where there is none yet.
+    /// The next whole line that says something: `None` where there is none yet. Takes time linear in the bytes of the lines
+    /// that it passes, and O(n log n) time for literals that stand in no order.
     ///
     /// # Errors
     /// The line's fault, and from then on that fault again; `NoMemory` of a line that is right, and then the reader is
@@ -153,8 +154,8 @@ impl LineReader {
         }
     }
 
-    /// Ends the input: the next line that says something, the last one too, which no line feed ends; `None` where
-    /// there is none.
+    /// Ends the input: the next line that says something, the last one too, which no line feed ends; `None` where there is
+    /// none. Takes the time of [`LineReader::next`].
     ///
     /// # Errors
     /// The line's fault, and from then on that fault again; `NoMemory` of a line that is right, and then the reader is

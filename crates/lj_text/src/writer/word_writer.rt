@@ -121,7 +121,8 @@ impl WordWriter {
         self.failed = self.held.append(sink, b"\n").is_err();
     }
 
-    /// Gives the sink all that is held back, so that it has taken the whole text. More lines may follow.
+    /// Gives the sink all that is held back, so that it has taken the whole text. More lines may follow. Takes time linear in
+    /// what is held back.
     ///
     /// # Errors
     /// [`SinkFault`] where a write of the sink failed, in this call or an earlier one: it has taken a beginning of the
