@@ -2,7 +2,8 @@
 # Measures the memory that a built program takes for streams that are meant to take much: for each, how many bytes beyond
 # those of an empty stream it takes at most for each byte of the stream's text.
 #   hostile.sh PATH-OF-LRATJOIN
-# Each stream is made of lines of one kind, eight megabytes or so of them, and none adds the empty clause.
+# Each stream is made of lines of one kind, eight megabytes or so of them, and none adds the empty clause. In the last rows 64
+# streams of a line or none stand over a formula of a million clauses, and the bytes are for each byte of the formula's text.
 set -euo pipefail
 
 program=$(realpath "${1:?usage: hostile.sh PATH-OF-LRATJOIN}")
@@ -44,3 +45,26 @@ stream 'imports' few.cnf 'BEGIN { for (i = 2; i < 600000; i++) print i " i 1 0" 
 stream 'definitions, each of a variable of its own' many.cnf 'BEGIN { for (i = 2; i < 500000; i++) print i " " i " 0 0" }'
 stream 'RAT lines with a literal in common' many.cnf \
     'BEGIN { for (i = 2; i < 400000; i++) print i " " i " -1 0 0" }'
+
+awk 'BEGIN { print "p cnf 1000 1000000"; for (i = 0; i < 1000000; i++) print i % 999 + 1, 1000, 0 }' > million.cnf
+before=$(peak 0 million.cnf nothing)
+
+# 64 streams that say the same line, or nothing.
+seats() {
+    local name=$1 line=$2 streams=() seat
+    for seat in {0..63}; do
+        printf '%s' "$line" > "seat$seat"
+        streams+=("seat$seat")
+    done
+    /usr/bin/time -q -o memory -f %M "$program" million.cnf "${streams[@]}" --in-turn > told 2>&1 || true
+    if [ "$(grep -c '^c stream .* ended$' told)" != 64 ]; then
+        echo "$name: $(tail -n 2 told)" >&2
+        exit 1
+    fi
+    awk -v name="$name" -v bytes="$(wc -c < million.cnf)" -v before="$before" -v most="$(cat memory)" \
+        'BEGIN { printf "%-44s %5.1f MB of text, %4.1f bytes for each byte\n", name, bytes / 1e6, (most - before) * 1024 / bytes }'
+}
+
+seats '64 empty streams' ''
+seats '64 streams that give up the last clause' $'1000001 d 1000000 0\n'
+seats '64 streams that add a clause' $'1000001 1 1000 0 1 0\n'
