@@ -78,7 +78,8 @@ impl Model for Book {
 
 impl Book {
     /// A new book for so many seats, each of which holds the clauses of the formula under their numbers. Its history takes at
-    /// most `max_steps` additions. Takes time linear in the literals of the formula, and constant time for each seat.
+    /// most `max_steps` additions. Takes time linear in the clauses of the formula with
+    /// their literals, and constant time for each seat.
     ///
     /// # Errors
     /// [`NoMemory`] where a growth was refused.
@@ -171,8 +172,8 @@ impl Book {
         self.refuted
     }
 
-    /// The formula, where the history has an empty clause: no assignment satisfies it. Takes time linear in the literals of the
-    /// formula.
+    /// The formula, where the history has an empty clause: no assignment satisfies it. Takes time linear in its
+    /// clauses with their literals.
     ///
     /// # Errors
     /// [`NoMemory`] where a growth was refused.

@@ -36,7 +36,7 @@ impl Model for Formula {
 impl Formula {
     /// The formula of these clauses over the variables from 1 to `variables`: `None` where a clause names a variable above that
     /// number, or where it is above [`MAX_VARIABLE`] or the clauses are more than [`MAX_CLAUSES`]. Takes time linear in the
-    /// literals.
+    /// clauses and their literals.
     pub fn new(variables: u32, clauses: Vec<Clause>) -> Option<Formula>
         ensures { SomeIff result (IsFormula (formula_of variables clauses.items))
             (formula_of variables clauses.items) }

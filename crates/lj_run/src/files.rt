@@ -154,7 +154,7 @@ impl MemoryFiles {
         }
     }
 
-    /// Puts a file with these bytes at a path. Takes time linear in the files.
+    /// Puts a file with these bytes at a path. Takes O(log n) time in the number of files, and time linear in the bytes.
     pub fn add(&mut self, path: &str, bytes: &[u8]) -> Result<(), AllocError>
         ensures added { OnOk result (bytes_at self.new path.now ≡ Some bytes.now) }
         ensures others { OthersStay path.now (bytes_at self.old) (bytes_at self.new) }

@@ -21,9 +21,8 @@ use std::sync::Wait;
 
 /// Reads a formula, and runs the streams one after the other on one book of it, each under a seat of its own: the closing one
 /// has the last seat, and runs last. Where a sink is handed in, the proof is written into it: the lines of the steps up to the
-/// first addition of the empty clause, trimmed where the options ask for it, and of all steps where none adds it. Takes time
-/// linear in the bytes that it reads, beside the calls of the book for their lines, and the time of trimming where that is
-/// asked for.
+/// first addition of the empty clause, trimmed where the options ask for it, and of all steps where none adds it. Takes the
+/// time of the readers and of the book's calls for their lines, and of trimming where that is asked for.
 ///
 /// # Errors
 /// The fault of the formula's text, a read of it that failed, or want of memory outside the streams.

@@ -30,8 +30,8 @@ use std::thread::Threads;
 /// empty clause, trimmed where the options ask for it, and of all steps where none adds it.
 ///
 /// The workers run on threads of their own beside one another, and that of the closing stream on the caller's. Where a thread
-/// is refused, the run answers want of memory once the workers that were started have ended. Takes time linear in the bytes
-/// that it reads, beside the calls of the book for their lines, and the time of trimming where that is asked for.
+/// is refused, the run answers want of memory once the workers that were started have ended. Takes the
+/// time of the readers and of the book's calls for their lines, and of trimming where that is asked for.
 ///
 /// # Errors
 /// The fault of the formula's text, a read of it that failed, want of memory outside the streams, or

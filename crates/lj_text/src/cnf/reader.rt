@@ -101,7 +101,8 @@ impl CnfReader {
         Ok(())
     }
 
-    /// Ends the text: the formula that it spells. Takes time linear in the bytes of the last line.
+    /// Ends the text: the formula that it spells. Takes time linear in the last
+    /// line and in all clauses with their literals.
     ///
     /// # Errors
     /// The text's fault, or `NoMemory`; a fault that was told before is told again.
