@@ -23,6 +23,7 @@ mod PlaceLaws
 pub mod PlayLaws
 mod Slots
 mod HeldSlots
+mod Shifts
 mod OpenedLaws
 mod Bounds
 mod OccurrenceLaws

@@ -193,6 +193,9 @@ joined_some near far k b h = ap is_some (get_joined near far k) ∙ either (fin.
 pub joined_empty : {V : Type 0} → joined_map (fin.empty {X = V}) fin.empty ≡ fin.empty
 joined_empty {V} = same_map (joined_map (fin.empty {X = V}) fin.empty) fin.empty (λ q. get_joined fin.empty fin.empty q ∙ or_none (fin.get fin.empty q) (fin.get fin.empty q) (fin.get-empty nat_cmp q))
 
+pub joined_none : {V : Type 0} (near : Numbered V) → joined_map near fin.empty ≡ near
+joined_none near = same_map (joined_map near fin.empty) near (λ q. joined_alone near fin.empty q (fin.get-empty nat_cmp q))
+
 put_first : {V : Type 0} (b : Bool) (v : V) (o p : Option V) → option_or (cond b (Some v) o) p ≡ cond b (Some v) (option_or o p)
 put_first true v o p = refl
 put_first false v o p = refl

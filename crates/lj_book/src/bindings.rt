@@ -1,7 +1,7 @@
 //! The bindings of a seat.
 ghost use Rattle.std.specs.Prelude.{◌≡◌, ◌≤◌, [], length, map, true, vec_capacity, OnOk, OnErr, IfOk, None, Some};
 ghost use Rattle.std.specs.FinMap as fin;
-ghost use Rattle.lj_book.specs.inner.Slots.{AreApart, joined_map};
+ghost use Rattle.lj_book.specs.inner.Slots.{AreBefore, joined_map, shifted};
 
 use crate::dying::rising;
 use crate::opened::Opened;
@@ -49,17 +49,10 @@ impl Bindings {
     pub(crate) fn new(alloc: Global) -> Self
         ensures { result ≡ fin.empty }
     {
-        Bindings::reaching(alloc, 0)
-    }
-
-    /// No bindings, as if so many numbers had been bound before.
-    pub(crate) fn reaching(alloc: Global, bound: u64) -> Self
-        ensures { result ≡ fin.empty }
-    {
         Bindings {
             short: ShortMap::new(alloc),
             long: TreeMap::new(alloc),
-            reach: FIRST_SLOTS.saturating_add(bound),
+            reach: FIRST_SLOTS,
         }
     }
 
@@ -70,20 +63,28 @@ impl Bindings {
     {
         match self.short.get(own) {
             Some(joint) => Some(joint),
-            None => long_joint(&self.long, own),
+            None => self.long.number(own),
         }
     }
 
-    /// Puts the joint numbers of these own numbers, or else themselves where they are held from the opening on, into a list that
-    /// has none, up to the first that is neither held nor in a slot, and answers whether there is none.
+    /// Puts into a list that has none the own numbers themselves where they are held from an opening on, and from its end on
+    /// the joint numbers that are bound to how far behind it they are, up to the first that is neither held nor in a slot.
+    /// Answers whether there is none.
     #[inline(always)]
-    pub(crate) fn look_up(&self, opened: &Opened, owns: &[u32], joints: &mut Vec<u32>) -> bool
+    pub(crate) fn look_up(
+        &self,
+        opened: &Opened,
+        end: u64,
+        owns: &[u32],
+        joints: &mut Vec<u32>,
+    ) -> bool
         requires none { joints.old.items ≡ [] }
         requires room { length owns.now ≤ vec_capacity joints.old }
-        ensures { result ≡ true → map (fin.get (joined_map opened.now self.now)) owns.now
+        requires before { AreBefore end opened.now }
+        ensures { result ≡ true → map (fin.get (joined_map opened.now (shifted end self.now))) owns.now
             ≡ map Some joints.new.items }
     {
-        self.short.look_up(opened, owns, joints)
+        self.short.look_up(opened, end, owns, joints)
     }
 
     /// Binds an own number that isn't bound.
@@ -155,12 +156,4 @@ impl Bindings {
             None => self.long.remove(own),
         }
     }
-}
-
-/// The joint number that the tree has for the own number.
-#[inline(always)]
-fn long_joint(long: &TreeMap<u64>, own: u64) -> Option<u64>
-    ensures { result ≡ fin.get long.now own }
-{
-    long.get(own).copied()
 }

@@ -9,6 +9,7 @@ mod committing;
 mod copying;
 mod counts;
 mod dying;
+mod early_table;
 mod entry;
 mod event;
 mod history;

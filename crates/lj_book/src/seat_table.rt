@@ -1,37 +1,41 @@
 //! The table of a seat.
-ghost use Rattle.std.specs.Prelude.{◌≡◌, ◌<◌, ◌≤◌, ◌^◌, [], length, map, true, vec_capacity, OnOk, OnErr, IfOk, None, Some};
+ghost use Rattle.std.specs.Prelude.{◌≡◌, ◌+◌, ◌-◌, ◌<◌, ◌≤◌, ◌^◌, ◌++◌, [], length, map, true, vec_capacity, OnOk, OnErr, IfOk, None, Some};
+ghost use Rattle.std.specs.List.{All};
 ghost use Rattle.std.specs.FinMap as fin;
 ghost use Rattle.lj_book.specs.Tables.{up_to};
 
 use crate::bindings::Bindings;
 use crate::dying::rising;
-use crate::opened::Opened;
+use crate::early_table::EarlyTable;
 use lj_clause::NoMemory;
 use std::alloc::Global;
 use std::marker::Model;
 
-/// The own numbers of a seat with the joint numbers that they are bound to, seen as a finite map: those that it holds from the
-/// opening on, and those that were bound since.
+/// The own numbers of a seat with the joint numbers that they are bound to, seen as a finite map. The bindings of numbers
+/// behind those of the opening stand apart, by how far behind the number is: so a seat's first number of its own takes no
+/// room for the numbers before.
 #[derive(Drop)]
 pub(crate) struct SeatTable {
-    opened: Opened,
-    bound: Bindings,
+    early: EarlyTable,
+    late: Bindings,
+    /// The first number behind those of the opening.
+    end: u64,
 }
 
 impl Model for SeatTable {
-    ghost use Rattle.std.specs.Prelude.{ℕ};
+    ghost use Rattle.std.specs.Prelude.{ℕ, ◌-◌, ◌^◌};
     ghost use Rattle.std.specs.Ordering.{nat_cmp};
     ghost use Rattle.std.specs.Coded.{coded_ℕ};
     ghost use Rattle.std.specs.FinMap as fin;
-    ghost use Rattle.lj_book.specs.inner.Slots.{joined_map, AreApart};
+    ghost use Rattle.lj_book.specs.inner.Slots.{joined_map, shifted, AreBefore};
 
     ghost Value = { fin.FinMap nat_cmp ℕ };
 
     ghost coded = { fin.code coded_ℕ coded_ℕ };
 
-    ghost view = { λ t. joined_map t.opened t.bound };
+    ghost view = { λ t. joined_map t.early (shifted t.end t.late) };
 
-    ghost invariant = { λ t. AreApart t.opened t.bound };
+    ghost invariant = { λ t. AreBefore t.end t.early × AreBefore (2 ^ 64 - t.end) t.late };
 }
 
 impl SeatTable {
@@ -43,10 +47,11 @@ impl SeatTable {
         requires { last < 2 ^ 63 }
         ensures { IfOk result (λ table. table ≡ up_to last) }
     {
-        let opened = Opened::up_to(alloc, last)?;
+        let early = EarlyTable::up_to(alloc, last)?;
         Ok(SeatTable {
-            opened,
-            bound: Bindings::reaching(alloc, last),
+            early,
+            late: Bindings::new(alloc),
+            end: last + 1,
         })
     }
 
@@ -55,10 +60,10 @@ impl SeatTable {
     pub(crate) fn get(&self, own: u64) -> Option<u64>
         ensures { result ≡ fin.get self.now own }
     {
-        if self.opened.holds(own) {
-            return Some(own);
+        if own >= self.end {
+            return self.late.get(own - self.end);
         }
-        self.bound.get(own)
+        self.early.get(own)
     }
 
     /// Puts the joint numbers of these own numbers into a list that has none, up to the first that isn't near, and answers
@@ -69,7 +74,8 @@ impl SeatTable {
         requires room { length owns.now ≤ vec_capacity joints.old }
         ensures { result ≡ true → map (fin.get self.now) owns.now ≡ map Some joints.new.items }
     {
-        self.bound.look_up(&self.opened, owns, joints)
+        self.late
+            .look_up(self.early.opened(), self.end, owns, joints)
     }
 
     /// Binds an own number that isn't bound.
@@ -82,7 +88,10 @@ impl SeatTable {
         ensures ok { OnOk result (self.new ≡ fin.insert self.old own joint) }
         ensures err { OnErr result (self.new ≡ self.old) }
     {
-        self.bound.insert(own, joint)
+        if own >= self.end {
+            return self.late.insert(own - self.end, joint);
+        }
+        self.early.insert(own, joint)
     }
 
     /// The own numbers, rising. Takes O(n log n) time, and time linear in how many there were at the opening.
@@ -92,9 +101,9 @@ impl SeatTable {
     pub(crate) fn keys(&self, alloc: Global) -> Result<Vec<u64>, NoMemory>
         ensures { IfOk result (λ keys. keys.items ≡ fin.keys self.now) }
     {
-        let mut keys = self.opened.keys(alloc)?;
-        let bound = self.bound.keys(alloc)?;
-        keys.extend_from_slice(&bound)?;
+        let mut keys = self.early.keys(alloc)?;
+        let late = self.late.keys(alloc)?;
+        put_greater(&mut keys, &late, self.end)?;
         Ok(rising(keys))
     }
 
@@ -104,10 +113,23 @@ impl SeatTable {
         ensures before { result ≡ fin.get self.old own }
         ensures removed { self.new ≡ fin.remove self.old own }
     {
-        if self.opened.holds(own) {
-            self.opened.remove(own);
-            return Some(own);
+        if own >= self.end {
+            return self.late.remove(own - self.end);
         }
-        self.bound.remove(own)
+        self.early.remove(own)
     }
+}
+
+/// Puts these numbers, each so much greater, behind the keys.
+///
+/// # Errors
+/// [`NoMemory`] where a growth was refused.
+fn put_greater(keys: &mut Vec<u64>, numbers: &[u64], by: u64) -> Result<(), NoMemory>
+    requires { All (λ number. by + number < 2 ^ 64) numbers.now }
+    ensures { OnOk result (keys.new.items ≡ keys.old.items ++ map (λ number. by + number) numbers.now) }
+{
+    for number in numbers {
+        keys.push(by + *number)?;
+    }
+    Ok(())
 }

@@ -1,7 +1,7 @@
 //! Maps from numbers that lie close together to small numbers.
 ghost use Rattle.std.specs.Prelude.{◌≡◌, ◌<◌, ◌≤◌, [], vec_capacity, OnOk, OnErr, IfOk, IfSome, length, map, None, Some, true};
 ghost use Rattle.std.specs.FinMap as fin;
-ghost use Rattle.lj_book.specs.inner.Slots.{slot_map, slot_numbers, joined_map};
+ghost use Rattle.lj_book.specs.inner.Slots.{slot_map, slot_numbers, joined_map, shifted, AreBefore};
 ghost use Rattle.lj_book.specs.inner.Opened.{opened_slots};
 
 use crate::opened::{Opened, is_kept};
@@ -51,19 +51,26 @@ impl<S: Slot> ShortMap<S> {
         number_at(&self.slots, key)
     }
 
-    /// Puts the values at these keys, or the keys that are held from the opening on, into a list that has none, up to the first
-    /// that is neither, and answers whether there is none.
+    /// Puts into a list that has none the keys themselves where they are held from an opening on, and from its end on the
+    /// values at how far behind it they are, up to the first that is neither. Answers whether there is none.
     #[inline(always)]
-    pub(crate) fn look_up(&self, opened: &Opened, keys: &[u32], values: &mut Vec<u32>) -> bool
+    pub(crate) fn look_up(
+        &self,
+        opened: &Opened,
+        end: u64,
+        keys: &[u32],
+        values: &mut Vec<u32>,
+    ) -> bool
         requires none { values.old.items ≡ [] }
         requires room { length keys.now ≤ vec_capacity values.old }
-        ensures { result ≡ true → map (fin.get (joined_map opened.now self.now)) keys.now
+        requires before { AreBefore end opened.now }
+        ensures { result ≡ true → map (fin.get (joined_map opened.now (shifted end self.now))) keys.now
             ≡ map Some values.new.items }
     {
         let parts = opened.parts();
         let slots = self.slots.as_slice();
         for key in keys {
-            match near(parts.0, parts.1, slots, *key) {
+            match near(parts.0, parts.1, end, slots, *key) {
                 Some(value) => values.push_reserved(value),
                 None => break,
             }
@@ -144,18 +151,23 @@ fn number_at<S: Slot>(slots: &[S], key: u64) -> Option<u64>
     }
 }
 
-/// The key where it is held from the opening on, and else the number in its slot.
+/// From the end on the number in the slot at how far behind it the key is, and before it the key where it is held.
 #[inline(always)]
-fn near<S: Slot>(kept: &[bool], end: usize, slots: &[S], key: u32) -> Option<u32>
+fn near<S: Slot>(kept: &[bool], last: usize, end: u64, slots: &[S], key: u32) -> Option<u32>
+    requires { AreBefore end (slot_map (opened_slots 0 kept.now last)) }
     ensures { IfSome result (λ value. fin.get
-        (joined_map (slot_map (opened_slots 0 kept.now end)) (slot_map (map S.value slots.now)))
+        (joined_map (slot_map (opened_slots 0 kept.now last)) (shifted end (slot_map (map S.value slots.now))))
         key ≡ Some value) }
 {
     let number = u64::from(key);
-    if is_kept(kept, end, number) {
-        return Some(key);
+    if number < end {
+        return if is_kept(kept, last, number) {
+            Some(key)
+        } else {
+            None
+        };
     }
-    match number_at(slots, number) {
+    match number_at(slots, number - end) {
         Some(value) => Some(value as u32),
         None => None,
     }

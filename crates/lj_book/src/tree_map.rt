@@ -123,3 +123,13 @@ impl<V: Drop> TreeMap<V> {
         self.entries.remove(&key)
     }
 }
+
+impl TreeMap<u64> {
+    /// The number at the key.
+    #[inline(always)]
+    pub(crate) fn number(&self, key: u64) -> Option<u64>
+        ensures { result ≡ fin.get self.now key }
+    {
+        self.get(key).copied()
+    }
+}

@@ -1,5 +1,5 @@
 -- How a map from numbers is kept: in slots by number, and in a tree beside them.
-use Rattle.std.specs.Prelude.{◌≡◌, ◌≤◌, ℕ, zero, suc, Bool, true, if◌then◌else◌, List, [], ◌∷◌, ◌++◌, Option, Some, None, is_some}
+use Rattle.std.specs.Prelude.{◌≡◌, ◌≤◌, ℕ, zero, suc, Bool, true, if◌then◌else◌, List, [], ◌∷◌, ◌++◌, ◌+◌, map, Option, Some, None, is_some}
 use Rattle.std.specs.Ordering.{nat_cmp}
 use Rattle.std.specs.FinMap as fin
 
@@ -22,6 +22,10 @@ slot_map slots = fin.from_entries (slot_entries 0 slots)
 abbrev pub joined_map : {V : Type 0} → fin.FinMap nat_cmp V → fin.FinMap nat_cmp V
     → fin.FinMap nat_cmp V
 joined_map near far = fin.from_entries (fin.entries near ++ fin.entries far)
+
+-- the map in which each number is so much greater
+abbrev pub shifted : {V : Type 0} → ℕ → fin.FinMap nat_cmp V → fin.FinMap nat_cmp V
+shifted by m = fin.from_entries (map (λ e. (by + e.0, e.1)) (fin.entries m))
 
 -- no number is in both maps
 abbrev pub AreApart : {V : Type 0} → fin.FinMap nat_cmp V → fin.FinMap nat_cmp V → Type 0

@@ -11,4 +11,4 @@ returns-in-Some c =
 pub returns-in-None : goal.returns-in-None
 returns-in-None c =
     let absent = sym c.get.ensures.value ∙ c.in-None.is in
-    c.long_joint.ensures ∙ sym (joined_far c.self.inside.short c.self.inside.long c.args.own absent) ∙ ap (λ m. fin.get m c.args.own) c.self.view_is
+    c.number.ensures ∙ sym (joined_far c.self.inside.short c.self.inside.long c.args.own absent) ∙ ap (λ m. fin.get m c.args.own) c.self.view_is

@@ -1,15 +1,16 @@
-use Rattle.std.proofs.Common.{ap, sym, ◌∙◌, Some, None, Bool}
-use Rattle.std.specs.Prelude.{if◌then◌else◌}
+use Rattle.std.proofs.Common.{ap, sym, ◌∙◌}
 use Rattle.std.specs.FinMap as fin
-use Rattle.lj_book.proofs.Slots.{joined_near, joined_far}
+use Rattle.lj_book.proofs.Shifts.{late_get, early_get}
 use Rattle.lj_book.proofs.seat_table.SeatTable.get.Goals as goal
 
-pub returns-then-holds : goal.returns-then-holds
-returns-then-holds c =
-    let there = c.holds.ensures ∙ ap (λ (b : Bool). if b then Some c.args.own else None) c.if-holds.true in
-    sym (joined_near c.self.inside.opened c.self.inside.bound c.args.own c.args.own there) ∙ ap (λ m. fin.get m c.args.own) c.self.view_is
+pub returns-then-own-self : goal.returns-then-own-self
+returns-then-own-self c =
+    c.get.ensures
+    ∙ sym (late_get c.self.inside.end c.args.own c.self.inside.early c.self.inside.late c.self.invariant.0 c.if-own-self.true)
+    ∙ ap (λ m. fin.get m c.args.own) c.self.view_is
 
 pub returns : goal.returns
 returns c =
-    let absent = c.holds.ensures ∙ ap (λ (b : Bool). if b then Some c.args.own else None) c.if-holds.false in
-    c.get.ensures ∙ sym (joined_far c.self.inside.opened c.self.inside.bound c.args.own absent) ∙ ap (λ m. fin.get m c.args.own) c.self.view_is
+    c.get-2.ensures
+    ∙ sym (early_get c.self.inside.end c.args.own c.self.inside.early c.self.inside.late c.if-own-self.false)
+    ∙ ap (λ m. fin.get m c.args.own) c.self.view_is

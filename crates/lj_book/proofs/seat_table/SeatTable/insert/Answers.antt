@@ -1,24 +1,51 @@
-use Rattle.std.proofs.Common.{ap, sym, ◌∙◌, subst}
+use Rattle.std.proofs.Common.{◌≡◌, ap, sym, ◌∙◌, subst, arith, ◌-◌, ◌^◌, ◌<◌, None}
 use Rattle.std.specs.FinMap as fin
-use Rattle.lj_book.specs.inner.Slots.{joined_map, AreApart}
-use Rattle.lj_book.proofs.Slots.{insert_far, apart-insert_far, either_way, ok_then, neither_near, neither_far}
+use Rattle.lj_book.specs.inner.Slots.{joined_map, shifted, AreBefore}
+use Rattle.lj_book.proofs.Slots.{insert_near, either_way, ok_then}
+use Rattle.lj_book.proofs.Bounds.{before-insert}
+use Rattle.lj_book.proofs.Shifts.{late_get, early_get, late_insert}
 use Rattle.lj_book.proofs.seat_table.SeatTable.insert.Goals as goal
 
 pub insert-requires : goal.insert-requires
-insert-requires c = neither_far c.self.inside.opened c.self.inside.bound c.args.self.now c.args.own c.self.view_is c.requires
+insert-requires c =
+    sym (late_get c.self.inside.end c.args.own c.self.inside.early c.self.inside.late c.self.invariant.0 c.if-own-self.true)
+    ∙ ap (λ m. fin.get m c.args.own) c.self.view_is
+    ∙ c.requires
 
 pub invariant_of-self : goal.invariant_of-self
 invariant_of-self c =
-    let opened = c.self.inside.opened in
-    let bound = c.self.inside.bound in
-    let absent = neither_near opened bound c.args.self.now c.args.own c.self.view_is c.requires in
+    let end = c.self.inside.end in
+    let late = c.self.inside.late in
+    let room : c.args.own - end < 2 ^ 64 - end = omega (arith, c.if-own-self.true, c.ranges.own) in
     either_way c.insert.result _ _ _ c.insert.ensures.ok c.insert.ensures.err
-    (λ e. subst (AreApart opened) (sym e) (apart-insert_far opened bound c.args.own c.args.joint c.self.invariant absent))
-    (λ e. subst (AreApart opened) (sym e) c.self.invariant)
+    (λ e. (c.self.invariant.0, subst (AreBefore (2 ^ 64 - end)) (sym e) (before-insert (2 ^ 64 - end) late (c.args.own - end) c.args.joint room c.self.invariant.1)))
+    (λ e. (c.self.invariant.0, subst (AreBefore (2 ^ 64 - end)) (sym e) c.self.invariant.1))
+
+pub returns-then-own-self-clause-ok : goal.returns-then-own-self-clause-ok
+returns-then-own-self-clause-ok c =
+    let early = c.self.inside.early in
+    let end = c.self.inside.end in
+    ok_then c.insert.result _ _ c.insert.ensures.ok (λ e. ap (λ m. joined_map early (shifted end m)) e
+    ∙ late_insert end c.args.own early c.self.inside.late c.args.joint c.self.invariant.0 c.if-own-self.true
+    ∙ ap (λ m. fin.insert m c.args.own c.args.joint) c.self.view_is)
+
+pub insert-requires-2 : goal.insert-requires-2
+insert-requires-2 c =
+    sym (early_get c.self.inside.end c.args.own c.self.inside.early c.self.inside.late c.if-own-self.false)
+    ∙ ap (λ m. fin.get m c.args.own) c.self.view_is
+    ∙ c.requires
+
+pub invariant_of-self-2 : goal.invariant_of-self-2
+invariant_of-self-2 c =
+    let end = c.self.inside.end in
+    let early = c.self.inside.early in
+    either_way c.insert-2.result _ _ _ c.insert-2.ensures.ok c.insert-2.ensures.err
+    (λ e. (subst (AreBefore end) (sym e) (before-insert end early c.args.own c.args.joint c.if-own-self.false c.self.invariant.0), c.self.invariant.1))
+    (λ e. (subst (AreBefore end) (sym e) c.self.invariant.0, c.self.invariant.1))
 
 pub returns-clause-ok : goal.returns-clause-ok
 returns-clause-ok c =
-    let absent = neither_near c.self.inside.opened c.self.inside.bound c.args.self.now c.args.own c.self.view_is c.requires in
-    ok_then c.insert.result _ _ c.insert.ensures.ok (λ e. ap (joined_map c.self.inside.opened) e
-    ∙ insert_far c.self.inside.opened c.self.inside.bound c.args.own c.args.joint absent
+    let late = shifted c.self.inside.end c.self.inside.late in
+    ok_then c.insert-2.result _ _ c.insert-2.ensures.ok (λ e. ap (λ m. joined_map m late) e
+    ∙ insert_near c.self.inside.early late c.args.own c.args.joint
     ∙ ap (λ m. fin.insert m c.args.own c.args.joint) c.self.view_is)

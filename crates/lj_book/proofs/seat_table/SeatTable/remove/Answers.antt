@@ -1,41 +1,43 @@
-use Rattle.std.proofs.Common.{ap, sym, ◌∙◌, subst, Some, None, Bool}
-use Rattle.std.specs.Prelude.{is_some, if◌then◌else◌}
+use Rattle.std.proofs.Common.{ap, sym, ◌∙◌, subst, ◌-◌, ◌^◌}
 use Rattle.std.specs.FinMap as fin
-use Rattle.lj_book.specs.inner.Slots.{joined_map, AreApart}
-use Rattle.lj_book.proofs.Slots.{joined_near, joined_far, remove_near, remove_far, apart-remove_near, apart-remove_far}
+use Rattle.lj_book.specs.inner.Slots.{joined_map, shifted, AreBefore}
+use Rattle.lj_book.proofs.Bounds.{before-remove}
+use Rattle.lj_book.proofs.Shifts.{late_get, early_get, late_remove, early_remove}
 use Rattle.lj_book.proofs.seat_table.SeatTable.remove.Goals as goal
 
 pub invariant_of-self : goal.invariant_of-self
 invariant_of-self c =
-    subst (λ m. AreApart m c.self.inside.bound) (sym c.remove.ensures)
-    (apart-remove_near c.self.inside.opened c.self.inside.bound c.args.own c.self.invariant)
+    let end = c.self.inside.end in
+    (c.self.invariant.0, subst (AreBefore (2 ^ 64 - end)) (sym c.remove.ensures.removed) (before-remove (2 ^ 64 - end) c.self.inside.late (c.args.own - end) c.self.invariant.1))
 
-pub returns-then-holds-clause-before : goal.returns-then-holds-clause-before
-returns-then-holds-clause-before c =
-    let there = c.holds.ensures ∙ ap (λ (b : Bool). if b then Some c.args.own else None) c.if-holds.true in
-    sym (joined_near c.self.inside.opened c.self.inside.bound c.args.own c.args.own there) ∙ ap (λ m. fin.get m c.args.own) c.self.view_is
+pub returns-then-own-self-clause-before : goal.returns-then-own-self-clause-before
+returns-then-own-self-clause-before c =
+    c.remove.ensures.before
+    ∙ sym (late_get c.self.inside.end c.args.own c.self.inside.early c.self.inside.late c.self.invariant.0 c.if-own-self.true)
+    ∙ ap (λ m. fin.get m c.args.own) c.self.view_is
 
-pub returns-then-holds-clause-removed : goal.returns-then-holds-clause-removed
-returns-then-holds-clause-removed c =
-    let there = c.holds.ensures ∙ ap (λ (b : Bool). if b then Some c.args.own else None) c.if-holds.true in
-    let apart = c.self.invariant c.args.own (ap is_some there) in
-    ap (λ m. joined_map m c.self.inside.bound) c.remove.ensures
-    ∙ remove_near c.self.inside.opened c.self.inside.bound c.args.own apart
+pub returns-then-own-self-clause-removed : goal.returns-then-own-self-clause-removed
+returns-then-own-self-clause-removed c =
+    let early = c.self.inside.early in
+    let end = c.self.inside.end in
+    ap (λ m. joined_map early (shifted end m)) c.remove.ensures.removed
+    ∙ late_remove end c.args.own early c.self.inside.late c.self.invariant.0 c.if-own-self.true
     ∙ ap (λ m. fin.remove m c.args.own) c.self.view_is
 
 pub invariant_of-self-2 : goal.invariant_of-self-2
 invariant_of-self-2 c =
-    subst (λ m. AreApart c.self.inside.opened m) (sym c.remove-2.ensures.removed)
-    (apart-remove_far c.self.inside.opened c.self.inside.bound c.args.own c.self.invariant)
+    let end = c.self.inside.end in
+    (subst (AreBefore end) (sym c.remove-2.ensures.removed) (before-remove end c.self.inside.early c.args.own c.self.invariant.0), c.self.invariant.1)
 
 pub returns-clause-before : goal.returns-clause-before
 returns-clause-before c =
-    let absent = c.holds.ensures ∙ ap (λ (b : Bool). if b then Some c.args.own else None) c.if-holds.false in
-    c.remove-2.ensures.before ∙ sym (joined_far c.self.inside.opened c.self.inside.bound c.args.own absent) ∙ ap (λ m. fin.get m c.args.own) c.self.view_is
+    c.remove-2.ensures.before
+    ∙ sym (early_get c.self.inside.end c.args.own c.self.inside.early c.self.inside.late c.if-own-self.false)
+    ∙ ap (λ m. fin.get m c.args.own) c.self.view_is
 
 pub returns-clause-removed : goal.returns-clause-removed
 returns-clause-removed c =
-    let absent = c.holds.ensures ∙ ap (λ (b : Bool). if b then Some c.args.own else None) c.if-holds.false in
-    ap (joined_map c.self.inside.opened) c.remove-2.ensures.removed
-    ∙ remove_far c.self.inside.opened c.self.inside.bound c.args.own absent
+    let end = c.self.inside.end in
+    ap (λ m. joined_map m (shifted end c.self.inside.late)) c.remove-2.ensures.removed
+    ∙ early_remove end c.args.own c.self.inside.early c.self.inside.late c.if-own-self.false
     ∙ ap (λ m. fin.remove m c.args.own) c.self.view_is

@@ -1,17 +1,22 @@
-use Rattle.std.proofs.Common.{◌≡◌, ap, sym, ◌∙◌, subst}
-use Rattle.std.specs.Ordering.{nat_cmp}
+use Rattle.std.proofs.Common.{◌≡◌, ap, sym, ◌∙◌, subst, arith, ◌+◌, ◌-◌, ◌^◌, ◌<◌, ◌≤◌}
 use Rattle.std.specs.FinMap as fin
-use Rattle.lj_book.specs.inner.Slots.{joined_map, AreApart}
-use Rattle.lj_book.proofs.Slots.{joined_alone}
-use Rattle.lj_book.proofs.NumberMaps.{same_map}
-use Rattle.lj_book.proofs.OpenedLaws.{Numbered}
+use Rattle.lj_book.specs.inner.Slots.{joined_map, shifted, AreBefore}
+use Rattle.lj_book.proofs.Slots.{joined_none}
+use Rattle.lj_book.proofs.Bounds.{before-empty}
+use Rattle.lj_book.proofs.Shifts.{shifted-empty}
+use Rattle.lj_book.proofs.TableLaws.{up_to-above}
 use Rattle.lj_book.proofs.seat_table.SeatTable.up_to.Goals as goal
 
-with_none : (m : Numbered) → joined_map m fin.empty ≡ m
-with_none m = same_map (joined_map m fin.empty) m (λ q. joined_alone m fin.empty q (fin.get-empty nat_cmp q))
-
 pub invariant_of-result : goal.invariant_of-result
-invariant_of-result c = subst (AreApart c.in_ok-opened.opened) (sym c.reaching.ensures) (λ q _. fin.get-empty nat_cmp q)
+invariant_of-result c =
+    let last = c.args.last in
+    let early : AreBefore (last + 1) c.in_ok-early.early = subst (AreBefore (last + 1)) (sym c.in_ok-early.ensures) (λ q h. up_to-above last q (omega (arith, h))) in
+    (early, subst (AreBefore (2 ^ 64 - (last + 1))) (sym c.new.ensures) (before-empty (2 ^ 64 - (last + 1))))
 
 pub returns : goal.returns
-returns c = ap (joined_map c.in_ok-opened.opened) c.reaching.ensures ∙ with_none c.in_ok-opened.opened ∙ c.in_ok-opened.ensures
+returns c =
+    let early = c.in_ok-early.early in
+    ap (λ m. joined_map early (shifted (c.args.last + 1) m)) c.new.ensures
+    ∙ ap (joined_map early) (shifted-empty (c.args.last + 1))
+    ∙ joined_none early
+    ∙ c.in_ok-early.ensures

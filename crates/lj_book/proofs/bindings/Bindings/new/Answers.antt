@@ -2,7 +2,7 @@ use Rattle.std.proofs.Common.{ap, sym, ◌∙◌, subst}
 use Rattle.std.specs.FinMap as fin
 use Rattle.lj_book.specs.inner.Slots.{joined_map, AreApart}
 use Rattle.lj_book.proofs.Slots.{joined_empty, apart-empty}
-use Rattle.lj_book.proofs.bindings.Bindings.reaching.Goals as goal
+use Rattle.lj_book.proofs.bindings.Bindings.new.Goals as goal
 
 pub invariant_of-result : goal.invariant_of-result
 invariant_of-result c = subst (λ m. AreApart c.new.result m) (sym c.new-2.ensures) (subst (λ m. AreApart m fin.empty) (sym c.new.ensures) apart-empty)
