@@ -81,7 +81,8 @@ impl Bindings {
         requires none { joints.old.items ≡ [] }
         requires room { length owns.now ≤ vec_capacity joints.old }
         requires before { AreBefore end opened.now }
-        ensures { result ≡ true → map (fin.get (joined_map opened.now (shifted end self.now))) owns.now
+        ensures { result ≡ true
+            → map (fin.get (joined_map opened.now (shifted end self.now))) owns.now
             ≡ map Some joints.new.items }
     {
         self.short.look_up(opened, end, owns, joints)

@@ -10,18 +10,18 @@ use std::alloc::Global;
 use std::marker::Model;
 
 /// The numbers from 1 up to a bound that weren't given up since the opening, each bound to itself, seen as a finite map. What
-/// was never touched is said by the bound alone; there is a byte for each number up to the greatest that was given up, in room
+/// was never touched is said by the bound alone; there is a bit for each number up to the greatest that was given up, in room
 /// that was made at the opening, so that a number is given up without memory.
 #[derive(Drop)]
 pub(crate) struct Opened {
-    /// Whether each number from 0 on is kept. Those behind are.
-    kept: Vec<bool>,
+    /// Bit k mod 64 of word k div 64 says whether number k was given up. Those behind the words weren't.
+    given_up: Vec<u64>,
     /// All numbers are below this one.
     end: usize,
 }
 
 impl Model for Opened {
-    ghost use Rattle.std.specs.Prelude.{ℕ, ◌≤◌, vec_len, vec_capacity};
+    ghost use Rattle.std.specs.Prelude.{ℕ, ◌+◌, ◌*◌, ◌<◌, ◌≤◌, vec_len, vec_capacity};
     ghost use Rattle.std.specs.Ordering.{nat_cmp};
     ghost use Rattle.std.specs.Coded.{coded_ℕ};
     ghost use Rattle.std.specs.FinMap as fin;
@@ -32,9 +32,12 @@ impl Model for Opened {
 
     ghost coded = { fin.code coded_ℕ coded_ℕ };
 
-    ghost view = { λ o. slot_map (opened_slots 0 o.kept.items o.end) };
+    ghost view = { λ o. slot_map (opened_slots 0 o.given_up.items o.end) };
 
-    ghost invariant = { λ o. (vec_len o.kept ≤ o.end) × (o.end ≤ vec_capacity o.kept) };
+    ghost invariant = { λ o. record {
+      few : 64 * vec_len o.given_up < o.end + 64;
+      room : o.end ≤ 64 * vec_capacity o.given_up;
+    } };
 }
 
 impl Opened {
@@ -47,17 +50,18 @@ impl Opened {
         ensures { IfOk result (λ opened. opened ≡ up_to last) }
     {
         let end = last as usize + 1;
-        let mut kept = Vec::with_capacity(alloc, end)?;
-        kept.push_reserved(false);
-        Ok(Opened { kept, end })
+        let mut given_up = Vec::with_capacity(alloc, last as usize / 64 + 1)?;
+        // The number 0 is given up from the start.
+        given_up.push_reserved(1);
+        Ok(Opened { given_up, end })
     }
 
-    /// What it is made of: whether each number from 0 on is kept, and the bound.
+    /// What it is made of: a bit for each number from 0 on, set where it was given up, and the bound.
     #[inline(always)]
-    pub(crate) fn parts(&self) -> (&[bool], usize)
+    pub(crate) fn parts(&self) -> (&[u64], usize)
         ensures { self.now ≡ slot_map (opened_slots 0 result.0.now result.1) }
     {
-        (self.kept.as_slice(), self.end)
+        (self.given_up.as_slice(), self.end)
     }
 
     /// Whether the number is bound, to itself then.
@@ -65,10 +69,10 @@ impl Opened {
     pub(crate) fn holds(&self, number: u64) -> bool
         ensures { fin.get self.now number ≡ (if result then Some number else None) }
     {
-        is_kept(&self.kept, self.end, number)
+        is_kept(&self.given_up, self.end, number)
     }
 
-    /// Gives the number up. Takes constant time, amortized over the numbers.
+    /// Gives the number up. Takes constant time, amortized over the numbers / 64.
     pub(crate) fn remove(&mut self, number: u64)
         ensures { self.new ≡ fin.remove self.old number }
     {
@@ -76,8 +80,9 @@ impl Opened {
         if at >= self.end {
             return;
         }
-        cover(&mut self.kept, at);
-        self.kept[at] = false;
+        let word = at / 64;
+        cover(&mut self.given_up, word);
+        self.given_up[word] |= 1 << (at % 64);
     }
 
     /// The numbers, rising. Takes time linear in the bound.
@@ -87,47 +92,48 @@ impl Opened {
     pub(crate) fn keys(&self, alloc: Global) -> Result<Vec<u64>, NoMemory>
         ensures { IfOk result (λ keys. keys.items ≡ fin.keys self.now) }
     {
-        keys_of(alloc, &self.kept, self.end)
+        keys_of(alloc, &self.given_up, self.end)
     }
 }
 
-/// Whether the number is below the end, and kept by this list.
+/// Whether the number is below the end, and these words don't say that it was given up.
 #[inline(always)]
-pub(crate) fn is_kept(kept: &[bool], end: usize, number: u64) -> bool
-    ensures { fin.get (slot_map (opened_slots 0 kept.now end)) number
+pub(crate) fn is_kept(given_up: &[u64], end: usize, number: u64) -> bool
+    ensures { fin.get (slot_map (opened_slots 0 given_up.now end)) number
         ≡ (if result then Some number else None) }
 {
     let at = number as usize;
     if at >= end {
         return false;
     }
-    match kept.get(at) {
-        Some(kept) => *kept,
+    match given_up.get(at / 64) {
+        Some(word) => (*word >> (at % 64)) & 1 == 0,
         None => true,
     }
 }
 
-/// Says of each number up to this one whether it is kept. There is room for that.
-fn cover(kept: &mut Vec<bool>, at: usize)
-    requires { at < vec_capacity kept.old }
-    ensures there { at < length kept.new.items }
+/// Adds words that give nothing up, so that there is one at this place. There is room for that.
+fn cover(given_up: &mut Vec<u64>, at: usize)
+    requires { at < vec_capacity given_up.old }
+    ensures there { at < length given_up.new.items }
     ensures same { (n count : ℕ)
-        → opened_slots n kept.new.items count ≡ opened_slots n kept.old.items count }
-    ensures few { (end : ℕ) → vec_len kept.old ≤ end → at < end → vec_len kept.new ≤ end }
-    ensures capacity { vec_capacity kept.old ≤ vec_capacity kept.new }
+        → opened_slots n given_up.new.items count ≡ opened_slots n given_up.old.items count }
+    ensures few { (end : ℕ) → vec_len given_up.old ≤ end → at < end → vec_len given_up.new ≤ end }
+    ensures capacity { vec_capacity given_up.old ≤ vec_capacity given_up.new }
 {
-    for _ in kept.len()..=at {
-        kept.push_reserved(true);
+    for _ in given_up.len()..=at {
+        given_up.push_reserved(0);
     }
 }
 
-/// The numbers below the end that this list keeps, rising.
-fn keys_of(alloc: Global, kept: &[bool], end: usize) -> Result<Vec<u64>, NoMemory>
-    ensures { IfOk result (λ keys. keys.items ≡ fin.keys (slot_map (opened_slots 0 kept.now end))) }
+/// The numbers below the end that these words don't give up, rising.
+fn keys_of(alloc: Global, given_up: &[u64], end: usize) -> Result<Vec<u64>, NoMemory>
+    ensures { IfOk result
+        (λ keys. keys.items ≡ fin.keys (slot_map (opened_slots 0 given_up.now end))) }
 {
     let mut keys = Vec::new(alloc);
     for at in 0..end {
-        if is_kept(kept, end, at as u64) {
+        if is_kept(given_up, end, at as u64) {
             keys.push(at as u64)?;
         }
     }

@@ -126,7 +126,8 @@ impl SeatTable {
 /// [`NoMemory`] where a growth was refused.
 fn put_greater(keys: &mut Vec<u64>, numbers: &[u64], by: u64) -> Result<(), NoMemory>
     requires { All (λ number. by + number < 2 ^ 64) numbers.now }
-    ensures { OnOk result (keys.new.items ≡ keys.old.items ++ map (λ number. by + number) numbers.now) }
+    ensures { OnOk result
+        (keys.new.items ≡ keys.old.items ++ map (λ number. by + number) numbers.now) }
 {
     for number in numbers {
         keys.push(by + *number)?;

@@ -64,7 +64,8 @@ impl<S: Slot> ShortMap<S> {
         requires none { values.old.items ≡ [] }
         requires room { length keys.now ≤ vec_capacity values.old }
         requires before { AreBefore end opened.now }
-        ensures { result ≡ true → map (fin.get (joined_map opened.now (shifted end self.now))) keys.now
+        ensures { result ≡ true
+            → map (fin.get (joined_map opened.now (shifted end self.now))) keys.now
             ≡ map Some values.new.items }
     {
         let parts = opened.parts();
@@ -153,15 +154,16 @@ fn number_at<S: Slot>(slots: &[S], key: u64) -> Option<u64>
 
 /// From the end on the number in the slot at how far behind it the key is, and before it the key where it is held.
 #[inline(always)]
-fn near<S: Slot>(kept: &[bool], last: usize, end: u64, slots: &[S], key: u32) -> Option<u32>
-    requires { AreBefore end (slot_map (opened_slots 0 kept.now last)) }
+fn near<S: Slot>(given_up: &[u64], last: usize, end: u64, slots: &[S], key: u32) -> Option<u32>
+    requires { AreBefore end (slot_map (opened_slots 0 given_up.now last)) }
     ensures { IfSome result (λ value. fin.get
-        (joined_map (slot_map (opened_slots 0 kept.now last)) (shifted end (slot_map (map S.value slots.now))))
+        (joined_map (slot_map (opened_slots 0 given_up.now last))
+        (shifted end (slot_map (map S.value slots.now))))
         key ≡ Some value) }
 {
     let number = u64::from(key);
     if number < end {
-        return if is_kept(kept, last, number) {
+        return if is_kept(given_up, last, number) {
             Some(key)
         } else {
             None

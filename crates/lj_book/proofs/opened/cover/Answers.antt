@@ -1,18 +1,18 @@
-use Rattle.std.proofs.Common.{◌≡◌, ap, ◌∙◌, arith, ◌+◌, length, ℕ, ◌∷◌, [], true}
+use Rattle.std.proofs.Common.{◌≡◌, ap, ◌∙◌, arith, ◌+◌, length, ℕ, ◌∷◌, []}
 use Rattle.std.proofs.lemmas.List.{length-append}
 use Rattle.lj_book.specs.inner.Opened.{opened_slots}
-use Rattle.lj_book.proofs.OpenedLaws.{push_kept}
+use Rattle.lj_book.proofs.OpenedLaws.{push_none}
 use Rattle.lj_book.proofs.opened.cover.Goals as goal
 
 pub loop-preserved : goal.loop-preserved
 loop-preserved c =
-    let more : length c.push_reserved.new.self.items ≡ length c.loop.kept.items + 1 = ap length c.push_reserved.ensures.items ∙ length-append c.loop.kept.items (true ∷ []) in
+    let more : length c.push_reserved.new.self.items ≡ length c.loop.given_up.items + 1 = ap length c.push_reserved.ensures.items ∙ length-append c.loop.given_up.items (0 ∷ []) in
     record {
-      same = λ n count. ap (λ bs. opened_slots n bs count) c.push_reserved.ensures.items ∙ push_kept n c.loop.kept.items count ∙ c.loop.invariant.same n count;
+      same = λ n count. ap (λ words. opened_slots n words count) c.push_reserved.ensures.items ∙ push_none n c.loop.given_up.items count ∙ c.loop.invariant.same n count;
       few = λ end le lt. omega (arith, more, c.loop.invariant.len, c.loop-test.true, lt);
       len = more ∙ ap (λ (n : ℕ). n + 1) c.loop.invariant.len;
       capacity = omega (arith, c.loop.invariant.capacity, c.push_reserved.ensures.capacity);
     }
 
 pub returns-2-clause-same : goal.returns-2-clause-same
-returns-2-clause-same c = λ n count. ap (λ bs. opened_slots n bs count) c.push_reserved.ensures.items ∙ push_kept n c.loop.kept.items count ∙ c.loop.invariant.same n count
+returns-2-clause-same c = λ n count. ap (λ words. opened_slots n words count) c.push_reserved.ensures.items ∙ push_none n c.loop.given_up.items count ∙ c.loop.invariant.same n count

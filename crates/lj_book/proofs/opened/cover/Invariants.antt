@@ -5,8 +5,8 @@ use Rattle.lj_book.proofs.opened.cover.Given as goal
 
 abbrev pub invariant-loop : goal.invariant-loop
 invariant-loop l = record {
-  same : (n count : ℕ) → opened_slots n l.kept.items count ≡ opened_slots n l.fn.kept.items count;
-  few : (end : ℕ) → length l.fn.kept.items ≤ end → l.at < end → length l.kept.items ≤ end;
-  len : length l.kept.items ≡ l.counter;
-  capacity : vec_capacity l.fn.kept ≡ vec_capacity l.kept;
+  same : (n count : ℕ) → opened_slots n l.given_up.items count ≡ opened_slots n l.fn.given_up.items count;
+  few : (end : ℕ) → length l.fn.given_up.items ≤ end → l.at < end → length l.given_up.items ≤ end;
+  len : length l.given_up.items ≡ l.counter;
+  capacity : vec_capacity l.fn.given_up ≡ vec_capacity l.given_up;
 }

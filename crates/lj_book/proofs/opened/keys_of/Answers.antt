@@ -10,9 +10,9 @@ use Rattle.lj_book.proofs.opened.keys_of.Goals.{then-is_kept+in_ok-push, else-is
 
 pub loop-at-preserved : goal.loop-at-preserved
 loop-at-preserved c =
-    let xs = opened_slots 0 c.args.kept.now c.args.end in
+    let xs = opened_slots 0 c.args.given_up.now c.args.end in
     let k = c.loop-at.at in
-    let there : k < length xs = subst (λ (n : ℕ). k < n) (sym (opened-length 0 c.args.kept.now c.args.end)) c.loop-at-test.true in
+    let there : k < length xs = subst (λ (n : ℕ). k < n) (sym (opened-length 0 c.args.given_up.now c.args.end)) c.loop-at-test.true in
     let x : Option ℕ = if c.is_kept.result then Some k else None in
     let held : x ≡ slice_index_or xs k x = sym c.is_kept.ensures ∙ get_slot xs k ∙ slot_within xs k x there in
     let later = slot_numbers (λ _. true) (k + 1) (drop (k + 1) xs) in
@@ -30,8 +30,8 @@ loop-at-preserved c =
 
 pub returns : goal.returns
 returns c =
-    let xs = opened_slots 0 c.args.kept.now c.args.end in
-    let end = subst (λ (n : ℕ). n ≤ c.loop-at.at) (sym (opened-length 0 c.args.kept.now c.args.end)) c.loop-at-test.false in
+    let xs = opened_slots 0 c.args.given_up.now c.args.end in
+    let end = subst (λ (n : ℕ). n ≤ c.loop-at.at) (sym (opened-length 0 c.args.given_up.now c.args.end)) c.loop-at-test.false in
     sym (append-nil c.loop-at.keys.items)
     ∙ ap (λ (ks : List ℕ). c.loop-at.keys.items ++ ks) (sym (numbers-end (λ _. true) xs c.loop-at.at end))
     ∙ c.loop-at.invariant

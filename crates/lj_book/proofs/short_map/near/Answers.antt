@@ -9,7 +9,7 @@ use Rattle.lj_book.proofs.short_map.near.Goals as goal
 
 pub returns-then-is_kept : goal.returns-then-is_kept
 returns-then-is_kept g c =
-    let opened : Numbered = slot_map (opened_slots 0 c.args.kept.now c.args.last) in
+    let opened : Numbered = slot_map (opened_slots 0 c.args.given_up.now c.args.last) in
     let same : c.from-number.result ≡ c.args.key = c.from-number.ensures in
     let early : c.args.key < c.args.end = omega (arith, same, c.if-number-end.true) in
     early_get c.args.end c.args.key opened (slot_map (map g.S.Slot.value c.args.slots.now)) early
@@ -17,7 +17,7 @@ returns-then-is_kept g c =
 
 pub returns-in-Some : goal.returns-in-Some
 returns-in-Some g c =
-    let opened : Numbered = slot_map (opened_slots 0 c.args.kept.now c.args.last) in
+    let opened : Numbered = slot_map (opened_slots 0 c.args.given_up.now c.args.last) in
     let same : c.from-number.result ≡ c.args.key = c.from-number.ensures in
     let slots = slot_map (map g.S.Slot.value c.args.slots.now) in
     let late : c.args.end ≤ c.args.key = omega (arith, same, c.if-number-end.false) in
