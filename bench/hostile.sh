@@ -2,8 +2,9 @@
 # Measures the memory that a built program takes for streams that are meant to take much: for each, how many bytes beyond
 # those of an empty stream it takes at most for each byte of the stream's text.
 #   hostile.sh PATH-OF-LRATJOIN
-# Each stream is made of lines of one kind, eight megabytes or so of them, and none adds the empty clause. In the last rows 64
-# streams of a line or none stand over a formula of a million clauses, and the bytes are for each byte of the formula's text.
+# Each stream is made of lines of one kind, eight megabytes or so of them, and none adds the empty clause. Then come formulas of
+# one kind of clause, with an empty stream. In the last rows 64 streams of a line or none stand over a formula of a million
+# clauses. There the bytes are for each byte of the formula's text.
 set -euo pipefail
 
 program=$(realpath "${1:?usage: hostile.sh PATH-OF-LRATJOIN}")
@@ -45,6 +46,19 @@ stream 'imports' few.cnf 'BEGIN { for (i = 2; i < 600000; i++) print i " i 1 0" 
 stream 'definitions, each of a variable of its own' many.cnf 'BEGIN { for (i = 2; i < 500000; i++) print i " " i " 0 0" }'
 stream 'RAT lines with a literal in common' many.cnf \
     'BEGIN { for (i = 2; i < 400000; i++) print i " " i " -1 0 0" }'
+
+# A formula, with an empty stream.
+formula() {
+    local name=$1 before most
+    awk "$2" > formula.cnf
+    before=$(peak 0 few.cnf nothing)
+    most=$(peak 0 formula.cnf nothing)
+    awk -v name="$name" -v bytes="$(wc -c < formula.cnf)" -v before="$before" -v most="$most" \
+        'BEGIN { printf "%-44s %5.1f MB of text, %4.1f bytes for each byte\n", name, bytes / 1e6, (most - before) * 1024 / bytes }'
+}
+
+formula 'a formula of unit clauses' 'BEGIN { print "p cnf 9 2000000"; for (i = 0; i < 2000000; i++) print 1, 0 }'
+formula 'a formula of empty clauses' 'BEGIN { print "p cnf 9 4000000"; for (i = 0; i < 4000000; i++) print 0 }'
 
 awk 'BEGIN { print "p cnf 1000 1000000"; for (i = 0; i < 1000000; i++) print i % 999 + 1, 1000, 0 }' > million.cnf
 before=$(peak 0 million.cnf nothing)

@@ -1,16 +1,21 @@
 //! The tables of the seats.
-ghost use Rattle.std.specs.Prelude.{◌≡◌, ℕ, ◌+◌, ◌^◌, ◌<◌, ◌≤◌, IsTrue, ◌↔◌, OnOk, OnErr, IfOk, is_some, option_copied, filter_map, Some, None, replicate, length, true, false};
+ghost use Rattle.std.specs.Prelude.{◌≡◌, ℕ, ◌+◌, ◌^◌, ◌<◌, ◌≤◌, IsTrue, ◌↔◌, OnOk, OnErr, IfOk, is_some, option_copied, filter_map, Some, None, replicate, length, true, false, ◌==◌, ◌||◌};
 ghost use Rattle.std.specs.FinMap as fin;
-ghost use Rattle.lj_book.specs.Tables.{up_to, table_of, is_here, joint_of, is_bound, with_table, without_keys, without_seat, is_held, keys_lost};
+ghost use Rattle.lj_book.specs.Tables.{up_to, table_of, is_here, joint_of, is_bound, with_table, without_keys, without_seat, is_among, is_held, keys_lost};
 ghost use Rattle.lj_book.specs.inner.Tables.{own_numbers};
 ghost use Rattle.lj_book.specs.inner.Holders.{count_in, count_at, holders_of, one_if_at, all_up_to};
 
 use crate::counts::Counts;
+use crate::dying::rising;
 use crate::seat_table::SeatTable;
 use lj_clause::NoMemory;
 use lj_text::Numbers;
 use std::alloc::Global;
 use std::marker::Model;
+use std::mem::replace;
+
+/// For how many joint numbers a deletion makes room at once.
+const FEW_JOINTS: usize = 1024;
 
 /// The table of each seat, from own numbers to joint numbers, and none for a seat that has left.
 #[derive(Drop)]
@@ -72,6 +77,7 @@ impl SeatTables {
     }
 
     /// The joint number that the seat's own number is bound to.
+    #[inline(always)]
     pub(crate) fn joint(&self, seat: u32, own: u64) -> Option<u64>
         ensures { result ≡ joint_of self.now seat own }
     {
@@ -202,7 +208,8 @@ impl SeatTables {
         self.seats[at] = None;
     }
 
-    /// The joint numbers that these own numbers are bound to, for those that are, in their order.
+    /// The joint numbers that these own numbers are bound to, for those that are. Takes O(n log n) time, and memory for four
+    /// times as many as differ, or for a few.
     ///
     /// # Errors
     /// [`NoMemory`] where a growth was refused.
@@ -212,8 +219,8 @@ impl SeatTables {
         seat: u32,
         numbers: &Numbers,
     ) -> Result<Vec<u64>, NoMemory>
-        ensures { IfOk result
-            (λ joints. joints.items ≡ filter_map (joint_of self.now seat) numbers.now) }
+        ensures { IfOk result (λ joints. (q : ℕ) → is_among joints.items q
+            ≡ is_among (filter_map (joint_of self.now seat) numbers.now) q) }
     {
         let Some(table) = table_in(&self.seats, seat) else {
             return Ok(Vec::new(alloc));
@@ -312,12 +319,13 @@ fn unbind_all_in(table: &mut SeatTable, holders: &mut Counts, owns: &[u32]) -> u
 /// # Errors
 /// [`NoMemory`] where a growth was refused.
 fn short_joints(alloc: Global, table: &SeatTable, owns: &[u32]) -> Result<Vec<u64>, NoMemory>
-    ensures { IfOk result (λ joints. joints.items ≡ filter_map (fin.get table.now) owns.now) }
+    ensures { IfOk result (λ joints. (q : ℕ) → is_among joints.items q
+        ≡ is_among (filter_map (fin.get table.now) owns.now) q) }
 {
-    let mut joints = Vec::with_capacity(alloc, owns.len())?;
+    let mut joints = Vec::with_capacity(alloc, owns.len().min(FEW_JOINTS))?;
     for own in owns {
         if let Some(joint) = table.get(u64::from(*own)) {
-            joints.push(joint)?;
+            put_joint(&mut joints, joint)?;
         }
     }
     Ok(joints)
@@ -329,15 +337,47 @@ fn short_joints(alloc: Global, table: &SeatTable, owns: &[u32]) -> Result<Vec<u6
 /// [`NoMemory`] where a growth was refused.
 #[cold]
 fn each_joint(alloc: Global, table: &SeatTable, numbers: &Numbers) -> Result<Vec<u64>, NoMemory>
-    ensures { IfOk result (λ joints. joints.items ≡ filter_map (fin.get table.now) numbers.now) }
+    ensures { IfOk result (λ joints. (q : ℕ) → is_among joints.items q
+        ≡ is_among (filter_map (fin.get table.now) numbers.now) q) }
 {
     let mut joints = Vec::new(alloc);
     for own in numbers.iter() {
         if let Some(joint) = table.get(own) {
-            joints.push(joint)?;
+            put_joint(&mut joints, joint)?;
         }
     }
     Ok(joints)
+}
+
+/// Puts a number among others. Where there is no room, those that stand there twice make way first.
+///
+/// # Errors
+/// [`NoMemory`] where a growth was refused.
+#[inline]
+fn put_joint(joints: &mut Vec<u64>, joint: u64) -> Result<(), NoMemory>
+    ensures { OnOk result ((q : ℕ) → is_among joints.new.items q
+        ≡ (is_among joints.old.items q || joint == q)) }
+{
+    if joints.len() == joints.capacity() {
+        make_way(joints)?;
+    }
+    joints.push(joint)?;
+    Ok(())
+}
+
+/// Leaves each of the numbers once, and makes room for as many more.
+///
+/// # Errors
+/// [`NoMemory`] where a growth was refused.
+#[cold]
+#[inline(never)]
+fn make_way(joints: &mut Vec<u64>) -> Result<(), NoMemory>
+    ensures { OnOk result ((q : ℕ) → is_among joints.new.items q ≡ is_among joints.old.items q) }
+{
+    let all = replace(joints, Vec::new(*joints.allocator()));
+    *joints = rising(all);
+    joints.reserve_exact(joints.len())?;
+    Ok(())
 }
 
 /// The table of a seat.

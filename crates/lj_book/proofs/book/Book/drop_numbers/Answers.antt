@@ -19,7 +19,7 @@ invariant_of-self-2 c =
     let s : State = record { formula = c.self.inside.formula; max_steps = c.self.inside.max_steps; tables = c.self.inside.tables; history = c.self.inside.ledger.history.entries } in
     let ns = c.args.numbers.now in
     let here = sym c.is_here.ensures ∙ c.if-not-is_here.false in
-    let dead = found_dead s c.args.seat ns c.rising-joints.result.items c.no_longer_held-died.result.items c.unbind_all-count.new.self (IsSound-reached s c.self.invariant.reached) here c.unbind_all-count.ensures.removed c.rising-joints.ensures.rising (λ q. c.rising-joints.ensures.same q ∙ ap (λ (ms : List ℕ). is_among ms q) c.in_ok-joints.ensures) c.no_longer_held-died.ensures in
+    let dead = found_dead s c.args.seat ns c.rising-joints.result.items c.no_longer_held-died.result.items c.unbind_all-count.new.self (IsSound-reached s c.self.invariant.reached) here c.unbind_all-count.ensures.removed c.rising-joints.ensures.rising (λ q. c.rising-joints.ensures.same q ∙ c.in_ok-joints.ensures q) c.no_longer_held-died.ensures in
     let entry : Entry = record { seat = c.args.seat; call = calls.Drop ns; step = (if_some c.no_longer_held-died.result.items) } in
     let pushed : c.push_drop.new.self.history.entries ≡ s.history ++ entry ∷ [] = c.push_drop.ensures.entries ∙ ap (λ (ds : List ℕ). c.reserve_deaths.new.self.history.entries ++ record { seat = c.args.seat; call = calls.Drop ns; step = if_some ds } ∷ []) c.deref.ensures.value ∙ ap (λ (es : List Entry). es ++ entry ∷ []) c.in_ok-reserve_deaths.ensures.same in
     let is = dropped_state s c.args.seat ns ns c.no_longer_held-died.result.items c.unbind_all-count.new.self (if_some c.no_longer_held-died.result.items) c.push_drop.new.self.history.entries c.unbind_all-count.ensures.removed refl dead refl pushed in
@@ -31,7 +31,7 @@ returns-clause-ok c =
     let s : State = record { formula = c.self.inside.formula; max_steps = c.self.inside.max_steps; tables = c.self.inside.tables; history = c.self.inside.ledger.history.entries } in
     let ns = c.args.numbers.now in
     let here = sym c.is_here.ensures ∙ c.if-not-is_here.false in
-    let dead = found_dead s c.args.seat ns c.rising-joints.result.items c.no_longer_held-died.result.items c.unbind_all-count.new.self (IsSound-reached s c.self.invariant.reached) here c.unbind_all-count.ensures.removed c.rising-joints.ensures.rising (λ q. c.rising-joints.ensures.same q ∙ ap (λ (ms : List ℕ). is_among ms q) c.in_ok-joints.ensures) c.no_longer_held-died.ensures in
+    let dead = found_dead s c.args.seat ns c.rising-joints.result.items c.no_longer_held-died.result.items c.unbind_all-count.new.self (IsSound-reached s c.self.invariant.reached) here c.unbind_all-count.ensures.removed c.rising-joints.ensures.rising (λ q. c.rising-joints.ensures.same q ∙ c.in_ok-joints.ensures q) c.no_longer_held-died.ensures in
     let entry : Entry = record { seat = c.args.seat; call = calls.Drop ns; step = (if_some c.no_longer_held-died.result.items) } in
     let pushed : c.push_drop.new.self.history.entries ≡ s.history ++ entry ∷ [] = c.push_drop.ensures.entries ∙ ap (λ (ds : List ℕ). c.reserve_deaths.new.self.history.entries ++ record { seat = c.args.seat; call = calls.Drop ns; step = if_some ds } ∷ []) c.deref.ensures.value ∙ ap (λ (es : List Entry). es ++ entry ∷ []) c.in_ok-reserve_deaths.ensures.same in
     dropped_state s c.args.seat ns ns c.no_longer_held-died.result.items c.unbind_all-count.new.self (if_some c.no_longer_held-died.result.items) c.push_drop.new.self.history.entries c.unbind_all-count.ensures.removed refl dead refl pushed

@@ -21,7 +21,7 @@ returns-clause-told c =
     ap (λ (t : State). t.tables) c.self-2.view_is
     ∙ ap (λ (t : State). t.tables) c.in-Ok.ensures.ok
     ∙ ap (λ (t : State). with_table (without_keys ns) t.tables seat) (sym c.self.view_is) in
-    let dead = found_dead s seat ns c.rising-joints.result.items c.no_longer_held.result.items c.self-2.inside.tables (IsSound-reached s c.self.invariant.reached) here left c.rising-joints.ensures.rising (λ q. c.rising-joints.ensures.same q ∙ ap (λ (ms : List ℕ). is_among ms q) c.in_ok-joints.ensures) c.no_longer_held.ensures in
+    let dead = found_dead s seat ns c.rising-joints.result.items c.no_longer_held.result.items c.self-2.inside.tables (IsSound-reached s c.self.invariant.reached) here left c.rising-joints.ensures.rising (λ q. c.rising-joints.ensures.same q ∙ c.in_ok-joints.ensures q) c.no_longer_held.ensures in
     let entry : List ℕ → Option Step → Entry = λ ms o. record { seat = seat; call = calls.Drop ms; step = o } in
     (λ i. entry (c.in_ok-copy.ensures i) ((c.deletion_of-step.ensures ∙ ap if_some dead) i))
     ∙ ap (λ (t : State). drop_entry t seat ns) c.self.view_is

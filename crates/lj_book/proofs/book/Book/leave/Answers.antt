@@ -20,7 +20,7 @@ invariant_of-self-2 c =
     let here = sym c.is_here.ensures ∙ c.if-not-is_here.false in
     let ns = c.new-numbers.result in
     let gone : c.leave.new.self ≡ without_seat s.tables c.args.seat = c.leave.ensures in
-    let dead = left_dead s c.args.seat ns c.rising-joints.result.items c.no_longer_held-died.result.items c.leave.new.self (IsSound-reached s c.self.invariant.reached) here (c.new-numbers.ensures ∙ c.in_ok-own_numbers.ensures) gone c.rising-joints.ensures.rising (λ q. c.rising-joints.ensures.same q ∙ ap (λ (ms : List ℕ). is_among ms q) c.in_ok-joints.ensures) c.no_longer_held-died.ensures in
+    let dead = left_dead s c.args.seat ns c.rising-joints.result.items c.no_longer_held-died.result.items c.leave.new.self (IsSound-reached s c.self.invariant.reached) here (c.new-numbers.ensures ∙ c.in_ok-own_numbers.ensures) gone c.rising-joints.ensures.rising (λ q. c.rising-joints.ensures.same q ∙ c.in_ok-joints.ensures q) c.no_longer_held-died.ensures in
     let entry : Entry = record { seat = c.args.seat; call = calls.Leave; step = (if_some c.no_longer_held-died.result.items) } in
     let pushed : c.push_leave.new.self.history.entries ≡ s.history ++ entry ∷ [] = c.push_leave.ensures.entries ∙ ap (λ (ds : List ℕ). c.reserve_deaths.new.self.history.entries ++ record { seat = c.args.seat; call = calls.Leave; step = if_some ds } ∷ []) c.deref.ensures.value ∙ ap (λ (es : List Entry). es ++ entry ∷ []) c.in_ok-reserve_deaths.ensures.same in
     let is = left_state s c.args.seat c.no_longer_held-died.result.items c.leave.new.self (if_some c.no_longer_held-died.result.items) c.push_leave.new.self.history.entries gone dead refl pushed in
@@ -33,7 +33,7 @@ returns-clause-ok c =
     let here = sym c.is_here.ensures ∙ c.if-not-is_here.false in
     let ns = c.new-numbers.result in
     let gone : c.leave.new.self ≡ without_seat s.tables c.args.seat = c.leave.ensures in
-    let dead = left_dead s c.args.seat ns c.rising-joints.result.items c.no_longer_held-died.result.items c.leave.new.self (IsSound-reached s c.self.invariant.reached) here (c.new-numbers.ensures ∙ c.in_ok-own_numbers.ensures) gone c.rising-joints.ensures.rising (λ q. c.rising-joints.ensures.same q ∙ ap (λ (ms : List ℕ). is_among ms q) c.in_ok-joints.ensures) c.no_longer_held-died.ensures in
+    let dead = left_dead s c.args.seat ns c.rising-joints.result.items c.no_longer_held-died.result.items c.leave.new.self (IsSound-reached s c.self.invariant.reached) here (c.new-numbers.ensures ∙ c.in_ok-own_numbers.ensures) gone c.rising-joints.ensures.rising (λ q. c.rising-joints.ensures.same q ∙ c.in_ok-joints.ensures q) c.no_longer_held-died.ensures in
     let entry : Entry = record { seat = c.args.seat; call = calls.Leave; step = (if_some c.no_longer_held-died.result.items) } in
     let pushed : c.push_leave.new.self.history.entries ≡ s.history ++ entry ∷ [] = c.push_leave.ensures.entries ∙ ap (λ (ds : List ℕ). c.reserve_deaths.new.self.history.entries ++ record { seat = c.args.seat; call = calls.Leave; step = if_some ds } ∷ []) c.deref.ensures.value ∙ ap (λ (es : List Entry). es ++ entry ∷ []) c.in_ok-reserve_deaths.ensures.same in
     left_state s c.args.seat c.no_longer_held-died.result.items c.leave.new.self (if_some c.no_longer_held-died.result.items) c.push_leave.new.self.history.entries gone dead refl pushed

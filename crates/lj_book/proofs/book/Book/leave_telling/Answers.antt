@@ -21,7 +21,7 @@ returns-clause-told c =
     ap (λ (t : State). t.tables) c.self-2.view_is
     ∙ ap (λ (t : State). t.tables) c.in-Ok.ensures.ok
     ∙ ap (λ (t : State). without_seat t.tables seat) (sym c.self.view_is) in
-    let dead = left_dead s seat ns c.rising-joints.result.items c.no_longer_held.result.items c.self-2.inside.tables (IsSound-reached s c.self.invariant.reached) here (c.new-numbers.ensures ∙ c.in_ok-own_numbers.ensures) left c.rising-joints.ensures.rising (λ q. c.rising-joints.ensures.same q ∙ ap (λ (ms : List ℕ). is_among ms q) c.in_ok-joints.ensures) c.no_longer_held.ensures in
+    let dead = left_dead s seat ns c.rising-joints.result.items c.no_longer_held.result.items c.self-2.inside.tables (IsSound-reached s c.self.invariant.reached) here (c.new-numbers.ensures ∙ c.in_ok-own_numbers.ensures) left c.rising-joints.ensures.rising (λ q. c.rising-joints.ensures.same q ∙ c.in_ok-joints.ensures q) c.no_longer_held.ensures in
     let entry : Option Step → Entry = λ o. record { seat = seat; call = calls.Leave; step = o } in
     ap entry (c.deletion_of-step.ensures ∙ ap if_some dead)
     ∙ ap (λ (t : State). leave_entry t seat) c.self.view_is

@@ -1,7 +1,7 @@
 use Rattle.std.proofs.Common.{◌≡◌, ap, sym, ◌∙◌, refl, ℕ}
 use Rattle.std.specs.Prelude.{List, [], ◌∷◌, Option, None, filter_map, option_and_then, option_copied}
 use Rattle.std.specs.FinMap as fin
-use Rattle.lj_book.specs.Tables.{Table, Tables, table_of, joint_of}
+use Rattle.lj_book.specs.Tables.{Table, Tables, table_of, joint_of, is_among}
 use Rattle.lj_book.proofs.seat_tables.SeatTables.joints.Goals as goal
 
 abbrev unbound : ℕ → Option ℕ
@@ -20,4 +20,4 @@ returns-in_default c =
     let at : table_of c.args.self.now c.args.seat ≡ None =
     ap (λ (us : Tables). table_of us c.args.seat) (sym c.self.view_is ∙ sym c.deref.ensures.value)
     ∙ sym c.table_in.ensures ∙ ap option_copied c.in_default.is in
-    c.new.ensures.items ∙ sym (no_joints c.args.self.now c.args.seat c.args.numbers.now at)
+    λ q. ap (λ (ms : List ℕ). is_among ms q) (c.new.ensures.items ∙ sym (no_joints c.args.self.now c.args.seat c.args.numbers.now at))
