@@ -27,17 +27,27 @@ peak() {
     cat memory
 }
 
+# The fourth word, where there is one, is how many lines are done before one is refused.
 stream() {
     local name=$1 formula=$2 before most
     awk "$3" > stream
     before=$(peak 0 "$formula" nothing)
-    most=$(peak "$(wc -l < stream)" "$formula" stream)
+    most=$(peak "${4:-$(wc -l < stream)}" "$formula" stream)
     awk -v name="$name" -v bytes="$(wc -c < stream)" -v before="$before" -v most="$most" \
         'BEGIN { printf "%-44s %5.1f MB of text, %4.1f bytes for each byte\n", name, bytes / 1e6, (most - before) * 1024 / bytes }'
 }
 
 stream 'one line of hints' few.cnf 'BEGIN { printf "2 3 0"; for (i = 0; i < 4000000; i++) printf " 1"; print " 0" }'
 stream 'one line of deletions' few.cnf 'BEGIN { printf "2 d"; for (i = 0; i < 4000000; i++) printf " 2"; print " 0" }'
+stream 'one line of deletions of one clause' few.cnf 'BEGIN { printf "2 d"; for (i = 0; i < 4000000; i++) printf " 1"; print " 0" }'
+stream 'the same, the last number a great one' few.cnf \
+    'BEGIN { printf "2 d"; for (i = 0; i < 4000000; i++) printf " 1"; print " 9999999999 0" }'
+stream 'one line of hints, the last a great one' few.cnf \
+    'BEGIN { printf "2 3 0"; for (i = 0; i < 4000000; i++) printf " 1"; print " 9999999999 0" }' 0
+stream 'one line of groups without hints' few.cnf \
+    'BEGIN { printf "2 1 0"; for (i = 0; i < 2700000; i++) printf " -1"; print " 0" }' 0
+stream 'one line of groups of a hint each' few.cnf \
+    'BEGIN { printf "2 1 0"; for (i = 0; i < 1600000; i++) printf " -1 1"; print " 0" }' 0
 stream 'deletions that delete nothing' few.cnf 'BEGIN { for (i = 0; i < 1300000; i++) print "1 d 0" }'
 stream 'additions under numbers near one another' few.cnf 'BEGIN { for (i = 2; i < 600000; i++) print i " 1 0 1 0" }'
 stream 'additions under numbers far apart' few.cnf \

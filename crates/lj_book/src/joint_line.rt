@@ -1,5 +1,5 @@
 //! An addition's hints and groups in joint numbers.
-ghost use Rattle.std.specs.Prelude.{◌≡◌, []};
+ghost use Rattle.std.specs.Prelude.{◌≡◌, [], true, is_ok};
 ghost use Rattle.std.specs.FinMap as fin;
 ghost use Rattle.lj_book.specs.Tables.{joint_of};
 ghost use Rattle.lj_book.specs.Calls.{IsReplyBy};
@@ -14,6 +14,9 @@ use std::alloc::Global;
 
 /// For how many groups a list that is used again keeps its room.
 const FEW_GROUPS: usize = 4;
+
+/// Where a line has more groups, they are looked through before room is made for their joint numbers.
+const MANY_GROUPS: usize = 1024;
 
 /// The hints of a seat's addition in joint numbers, and its groups, in lists that were used before. Each own number is
 /// looked up once.
@@ -40,6 +43,11 @@ pub(crate) fn joint_line(
     if groups.is_empty() {
         return Ok(());
     }
+    if groups.len() > MANY_GROUPS && are_held(tables, seat, groups) {
+        if let Some(own) = repeated_group(alloc, tables, seat, groups)? {
+            return Err(Refusal::GroupRepeated(own));
+        }
+    }
     if let Err(refusal) = put_joint_groups(alloc, tables, seat, groups, joints) {
         return Err(refusal);
     }
@@ -50,6 +58,32 @@ pub(crate) fn joint_line(
         return Err(Refusal::GroupRepeated(own));
     }
     Ok(())
+}
+
+/// Whether the seat holds all numbers of these groups.
+#[cold]
+fn are_held(tables: &SeatTables, seat: u32, groups: &[Group]) -> bool
+    ensures { result ≡ true
+        → is_ok (joint_groups_in (joint_of tables.now seat) groups.now) ≡ true }
+{
+    for group in groups {
+        if !tables.is_bound(seat, group.candidate) || !holds_all(tables, seat, &group.hints) {
+            return false;
+        }
+    }
+    true
+}
+
+/// Whether the seat holds all of these numbers.
+fn holds_all(tables: &SeatTables, seat: u32, numbers: &Numbers) -> bool
+    ensures { result ≡ true → is_ok (joints_in (joint_of tables.now seat) numbers.now) ≡ true }
+{
+    for own in numbers.iter() {
+        if !tables.is_bound(seat, own) {
+            return false;
+        }
+    }
+    true
 }
 
 /// Lets go of the groups, and of their room where it is for more than a few.
