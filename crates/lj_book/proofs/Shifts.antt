@@ -1,7 +1,6 @@
 -- Maps whose numbers are all so much greater.
-use Rattle.std.proofs.Common.{inl, inr, ◌≡◌, ap, refl, sym, ◌∙◌, subst, ℕ, Bool, cond, true, false, arith, ◌+◌, ◌-◌, ◌<◌, ◌≤◌, ◌==◌}
+use Rattle.std.proofs.Common.{inl, inr, ◌≡◌, ap, refl, sym, ◌∙◌, subst, ℕ, cond, true, false, arith, ◌+◌, ◌-◌, ◌<◌, ◌≤◌, ◌==◌}
 use Rattle.std.specs.Prelude.{◌⊎◌, ◌||◌, List, [], ◌∷◌, ◌++◌, map, Option, Some, None, is_some}
-use Rattle.std.specs.Option.{option_or}
 use Rattle.std.proofs.lemmas.Bool.{cases_lt}
 use Rattle.std.specs.Ordering.{nat_cmp, eq_by_cmp}
 use Rattle.std.specs.Cmp.{nat_cmp_total, eq_by_cmp_equiv}
@@ -13,7 +12,7 @@ use Rattle.lj_book.specs.Tables.{is_among}
 use Rattle.lj_book.specs.inner.Slots.{joined_map, shifted, AreBefore}
 use Rattle.lj_book.proofs.NumberMaps.{same_map}
 use Rattle.lj_book.proofs.HistoryLaws.{among-keys}
-use Rattle.lj_book.proofs.Slots.{get_joined, joined_near, joined_far, joined_alone, insert_far, remove_near, remove_far}
+use Rattle.lj_book.proofs.Slots.{joined_near, joined_far, joined_alone, insert_far, remove_near, remove_far}
 
 abbrev Numbered : Type 0 → Type 0
 Numbered V = fin.FinMap nat_cmp V

@@ -4,7 +4,7 @@ use Rattle.lj_text.specs.Steps.{without}
 use Rattle.lj_text.specs.Needed.{if_some}
 use Rattle.lj_book.specs.declared.entry.Call.TheVariants as calls
 use Rattle.lj_book.specs.declared.entry.Entry.{Entry}
-use Rattle.lj_book.specs.Tables.{is_among, is_held}
+use Rattle.lj_book.specs.Tables.{is_held}
 use Rattle.lj_book.specs.State.{State}
 use Rattle.lj_book.specs.History.{after_entry}
 use Rattle.lj_book.specs.inner.Kept.{IsKept}

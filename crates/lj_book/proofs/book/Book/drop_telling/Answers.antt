@@ -4,7 +4,7 @@ use Rattle.lj_text.specs.declared.step.Step.{Step}
 use Rattle.lj_text.specs.Needed.{if_some}
 use Rattle.lj_book.specs.declared.entry.Call.TheVariants as calls
 use Rattle.lj_book.specs.declared.entry.Entry.{Entry}
-use Rattle.lj_book.specs.Tables.{is_among, with_table, without_keys}
+use Rattle.lj_book.specs.Tables.{with_table, without_keys}
 use Rattle.lj_book.specs.State.{State}
 use Rattle.lj_book.specs.Calls.{drop_entry}
 use Rattle.lj_book.proofs.HistoryLaws.{IsSound-reached}

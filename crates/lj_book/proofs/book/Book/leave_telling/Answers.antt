@@ -1,10 +1,10 @@
-use Rattle.std.proofs.Common.{◌≡◌, ap, sym, ◌∙◌, ℕ}
-use Rattle.std.specs.Prelude.{List, Option}
+use Rattle.std.proofs.Common.{◌≡◌, ap, sym, ◌∙◌}
+use Rattle.std.specs.Prelude.{Option}
 use Rattle.lj_text.specs.declared.step.Step.{Step}
 use Rattle.lj_text.specs.Needed.{if_some}
 use Rattle.lj_book.specs.declared.entry.Call.TheVariants as calls
 use Rattle.lj_book.specs.declared.entry.Entry.{Entry}
-use Rattle.lj_book.specs.Tables.{is_among, without_seat}
+use Rattle.lj_book.specs.Tables.{without_seat}
 use Rattle.lj_book.specs.State.{State}
 use Rattle.lj_book.specs.Calls.{leave_entry}
 use Rattle.lj_book.proofs.HistoryLaws.{IsSound-reached}

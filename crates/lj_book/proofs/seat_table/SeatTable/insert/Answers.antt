@@ -1,4 +1,4 @@
-use Rattle.std.proofs.Common.{◌≡◌, ap, sym, ◌∙◌, subst, arith, ◌-◌, ◌^◌, ◌<◌, None}
+use Rattle.std.proofs.Common.{ap, sym, ◌∙◌, subst, arith, ◌-◌, ◌^◌, ◌<◌}
 use Rattle.std.specs.FinMap as fin
 use Rattle.lj_book.specs.inner.Slots.{joined_map, shifted, AreBefore}
 use Rattle.lj_book.proofs.Slots.{insert_near, either_way, ok_then}

@@ -1,5 +1,4 @@
-use Rattle.std.proofs.Common.{◌≡◌, ap, sym, ◌∙◌, subst, arith, ◌+◌, ◌-◌, ◌^◌, ◌<◌, ◌≤◌}
-use Rattle.std.specs.FinMap as fin
+use Rattle.std.proofs.Common.{ap, sym, ◌∙◌, subst, arith, ◌+◌, ◌-◌, ◌^◌}
 use Rattle.lj_book.specs.inner.Slots.{joined_map, shifted, AreBefore}
 use Rattle.lj_book.proofs.Slots.{joined_none}
 use Rattle.lj_book.proofs.Bounds.{before-empty}
