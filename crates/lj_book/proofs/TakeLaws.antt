@@ -25,19 +25,14 @@ take_is s m seat a here free is =
 
 -- ---- repeated groups
 
-next_group : (gs : List HintGroup) (i : ℕ) (g : HintGroup) → i < length gs → g ≡ get_or gs i g → drop i gs ≡ g ∷ drop (i + 1) gs
-next_group gs i g lt is = drop-cons gs i g lt ∙ ap (λ (h : HintGroup). h ∷ drop (suc i) gs) (sym is) ∙ ap (λ (k : ℕ). g ∷ drop k gs) (sym (add-one i))
+pub repeated-new : (joint : ℕ → Option ℕ) (before : List ℕ) (g : HintGroup) (gs : List HintGroup) (j : ℕ) → joint g.candidate ≡ Some j → is_among before j ≡ false → repeated_after joint (j ∷ before) gs ≡ repeated_after joint before (g ∷ gs)
+repeated-new joint before g gs j at fresh =
+    sym (ap (λ o. if is_seen before o then Some g.candidate else repeated_after joint (with_seen o before) gs) at
+    ∙ ap (λ b. if b then Some g.candidate else repeated_after joint (j ∷ before) gs) fresh)
 
-pub repeated-new : (joint : ℕ → Option ℕ) (before : List ℕ) (gs : List HintGroup) (i j : ℕ) (g : HintGroup) → i < length gs → g ≡ get_or gs i g → joint g.candidate ≡ Some j → is_among before j ≡ false → repeated_after joint (j ∷ before) (drop (i + 1) gs) ≡ repeated_after joint before (drop i gs)
-repeated-new joint before gs i j g lt is at fresh =
-    sym (ap (repeated_after joint before) (next_group gs i g lt is)
-    ∙ ap (λ o. if is_seen before o then Some g.candidate else repeated_after joint (with_seen o before) (drop (i + 1) gs)) at
-    ∙ ap (λ b. if b then Some g.candidate else repeated_after joint (j ∷ before) (drop (i + 1) gs)) fresh)
-
-pub repeated-none : (joint : ℕ → Option ℕ) (before : List ℕ) (gs : List HintGroup) (i : ℕ) (g : HintGroup) → i < length gs → g ≡ get_or gs i g → joint g.candidate ≡ None → repeated_after joint before (drop (i + 1) gs) ≡ repeated_after joint before (drop i gs)
-repeated-none joint before gs i g lt is at =
-    sym (ap (repeated_after joint before) (next_group gs i g lt is)
-    ∙ ap (λ o. if is_seen before o then Some g.candidate else repeated_after joint (with_seen o before) (drop (i + 1) gs)) at)
+pub repeated-none : (joint : ℕ → Option ℕ) (before : List ℕ) (g : HintGroup) (gs : List HintGroup) → joint g.candidate ≡ None → repeated_after joint before gs ≡ repeated_after joint before (g ∷ gs)
+repeated-none joint before g gs at =
+    sym (ap (λ o. if is_seen before o then Some g.candidate else repeated_after joint (with_seen o before) gs) at)
 
 pub seen-none : (m : fin.FinMap nat_cmp (Unit {0})) → m ≡ fin.empty → (q : ℕ) → fin.contains_key m q ≡ is_among [] q
 seen-none m is q = ap (λ (k : fin.FinMap nat_cmp (Unit {0})). fin.contains_key k q) is ∙ ap is_some (fin.get-empty nat_cmp q)

@@ -273,8 +273,7 @@ impl Book {
         ensures err { OnErr result (self.new ≡ self.old) }
     {
         let joint = self.formula.len() as u64 + 1 + u64::from(self.added);
-        let groups = step.groups.as_slice();
-        let step = LentAddition::new(joint, &step.lemma, &step.hints, groups);
+        let step = LentAddition::new(joint, &step.lemma, &step.hints, &step.groups);
         let place = self.ledger.history().len();
         let (seat, own) = (receipt.seat(), receipt.own());
         enter_addition(&mut self.ledger, &mut self.tables, seat, own, &step)?;

@@ -51,7 +51,7 @@ pub(crate) fn step_of(alloc: Global, receipt: &Receipt) -> Result<Addition, NoMe
         number: 0,
         lemma: receipt.lemma().copy()?,
         hints: numbers_of(alloc, receipt.listed())?,
-        groups: Groups::new(Vec::new(alloc)),
+        groups: Groups::new(alloc),
     })
 }
 

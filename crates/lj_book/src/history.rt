@@ -389,7 +389,7 @@ fn numbers_of(step: &LentAddition<'_>) -> usize
     ensures { result < 2 ^ 63 → addition_numbers step.now ≤ result }
 {
     let mut count = step.hints.len().saturating_add(7);
-    for group in step.groups {
+    for group in step.groups.iter() {
         count = count.saturating_add(group.hints.len()).saturating_add(2);
     }
     count

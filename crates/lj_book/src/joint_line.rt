@@ -9,7 +9,7 @@ use crate::refusal::Refusal;
 use crate::seat_table::SeatTable;
 use crate::seat_tables::SeatTables;
 use crate::taking::repeated_group;
-use lj_text::{Addition, Group, Numbers};
+use lj_text::{Addition, Group, Groups, Numbers, NumbersIter};
 use std::alloc::Global;
 
 /// For how many groups a list that is used again keeps its room.
@@ -39,7 +39,7 @@ pub(crate) fn joint_line(
         return Err(refusal);
     }
     clear(joints);
-    let groups = addition.groups.as_slice();
+    let groups = &addition.groups;
     if groups.is_empty() {
         return Ok(());
     }
@@ -62,12 +62,12 @@ pub(crate) fn joint_line(
 
 /// Whether the seat holds all numbers of these groups.
 #[cold]
-fn are_held(tables: &SeatTables, seat: u32, groups: &[Group]) -> bool
+fn are_held(tables: &SeatTables, seat: u32, groups: &Groups) -> bool
     ensures { result ≡ true
         → is_ok (joint_groups_in (joint_of tables.now seat) groups.now) ≡ true }
 {
-    for group in groups {
-        if !tables.is_bound(seat, group.candidate) || !holds_all(tables, seat, &group.hints) {
+    for group in groups.iter() {
+        if !tables.is_bound(seat, group.candidate) || !holds_all(tables, seat, group.hints) {
             return false;
         }
     }
@@ -75,10 +75,11 @@ fn are_held(tables: &SeatTables, seat: u32, groups: &[Group]) -> bool
 }
 
 /// Whether the seat holds all of these numbers.
-fn holds_all(tables: &SeatTables, seat: u32, numbers: &Numbers) -> bool
-    ensures { result ≡ true → is_ok (joints_in (joint_of tables.now seat) numbers.now) ≡ true }
+fn holds_all(tables: &SeatTables, seat: u32, numbers: NumbersIter<'_>) -> bool
+    ensures { result ≡ true
+        → is_ok (joints_in (joint_of tables.now seat) numbers.entry) ≡ true }
 {
-    for own in numbers.iter() {
+    for own in numbers {
         if !tables.is_bound(seat, own) {
             return false;
         }
@@ -200,6 +201,29 @@ fn put_each(table: &SeatTable, numbers: &Numbers, joints: &mut Numbers) -> Resul
     Ok(())
 }
 
+/// Puts the joint numbers of the own numbers that are still to come into a list that has none.
+///
+/// # Errors
+/// As [`put_joints`].
+fn put_held(
+    tables: &SeatTables,
+    seat: u32,
+    numbers: NumbersIter<'_>,
+    joints: &mut Numbers,
+) -> Result<(), Refusal>
+    requires { joints.old ≡ [] }
+    ensures { IsReplyBy (λ _. joints.new) result
+        (joints_in (joint_of tables.now seat) numbers.entry) }
+{
+    for own in numbers {
+        let Some(joint) = tables.joint(seat, own) else {
+            return Err(Refusal::UnknownNumber(own));
+        };
+        joints.push(joint)?;
+    }
+    Ok(())
+}
+
 /// Puts the groups in joint numbers into a list.
 ///
 /// # Errors
@@ -208,7 +232,7 @@ fn put_joint_groups(
     alloc: Global,
     tables: &SeatTables,
     seat: u32,
-    groups: &[Group],
+    groups: &Groups,
     joints: &mut Vec<Group>,
 ) -> Result<(), Refusal>
     requires { joints.old.items ≡ [] }
@@ -216,12 +240,12 @@ fn put_joint_groups(
         (joint_groups_in (joint_of tables.now seat) groups.now) }
 {
     joints.reserve_exact(groups.len())?;
-    for group in groups {
+    for group in groups.iter() {
         let Some(candidate) = tables.joint(seat, group.candidate) else {
             return Err(Refusal::UnknownNumber(group.candidate));
         };
         let mut hints = Numbers::with_capacity(alloc, group.hints.len())?;
-        match put_joints(tables, seat, &group.hints, &mut hints) {
+        match put_held(tables, seat, group.hints, &mut hints) {
             Ok(()) => joints.push(Group { candidate, hints })?,
             Err(refusal) => return Err(refusal),
         }

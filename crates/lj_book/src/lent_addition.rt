@@ -2,9 +2,8 @@
 ghost use Rattle.std.specs.Prelude.{◌≡◌, IfOk};
 ghost use Rattle.lj_book.specs.inner.JointLines.{addition_of_parts};
 
-use crate::copying::copy_of_groups;
 use lj_clause::{ClauseView, Lemma, NoMemory};
-use lj_text::{Addition, Group, Numbers};
+use lj_text::{Addition, Groups, Numbers};
 use std::alloc::Global;
 use std::marker::Model;
 
@@ -16,7 +15,7 @@ pub(crate) struct LentAddition<'a> {
     /// The clause of the lemma.
     pub clause: ClauseView<'a>,
     pub hints: &'a Numbers,
-    pub groups: &'a [Group],
+    pub groups: &'a Groups,
 }
 
 impl<'a> Model for LentAddition<'a> {
@@ -45,7 +44,7 @@ impl<'a> LentAddition<'a> {
         number: u64,
         lemma: &'a Lemma,
         hints: &'a Numbers,
-        groups: &'a [Group],
+        groups: &'a Groups,
     ) -> LentAddition<'a>
         ensures { result
             ≡ addition_of_parts number lemma.now (hints.now, groups.now) }
@@ -64,14 +63,14 @@ impl<'a> LentAddition<'a> {
     ///
     /// # Errors
     /// [`NoMemory`] where a growth was refused.
-    pub(crate) fn copy(&self, alloc: Global) -> Result<Addition, NoMemory>
+    pub(crate) fn copy(&self) -> Result<Addition, NoMemory>
         ensures { IfOk result (λ copy. copy ≡ self.now) }
     {
         Ok(Addition {
             number: self.number,
             lemma: self.lemma.copy()?,
             hints: self.hints.copy()?,
-            groups: copy_of_groups(alloc, self.groups)?,
+            groups: self.groups.copy()?,
         })
     }
 }

@@ -6,7 +6,6 @@
 mod bindings;
 mod book;
 mod committing;
-mod copying;
 mod counts;
 mod dying;
 mod early_table;

@@ -57,7 +57,7 @@ pub(crate) fn tested_line(
     match test_over(alloc, ledger, lemma, hints, groups, marks) {
         Ok(Passed::Closed(read)) => {
             hints.truncate(read);
-            Ok(Groups::new(Vec::new(alloc)))
+            Ok(Groups::new(alloc))
         }
         Ok(Passed::Covered(covered)) => {
             ledger.tend_lists(lemma);

@@ -4,7 +4,6 @@ ghost use Rattle.lj_book.specs.Calls.{entry_with};
 ghost use Rattle.lj_book.specs.inner.Ready.{IsStepOf, IsReady};
 
 use crate::committing::step_of;
-use crate::copying::copy_of_addition;
 use crate::entry::{Call, Entry};
 use lj_clause::{Lemma, NoMemory};
 use lj_hint::Receipt;
@@ -109,7 +108,22 @@ fn parts_of(alloc: Global, receipt: &Receipt) -> Result<(Addition, Addition, Lem
     ensures { IfOk result (λ parts. IsReady receipt.now parts.0 parts.1 parts.2) }
 {
     let step = step_of(alloc, receipt)?;
-    let told = copy_of_addition(alloc, &step)?;
+    let told = copy_of(&step)?;
     let lemma = receipt.lemma().copy()?;
     Ok((step, told, lemma))
+}
+
+/// An addition of its own with the same contents.
+///
+/// # Errors
+/// [`NoMemory`] where a growth was refused.
+fn copy_of(addition: &Addition) -> Result<Addition, NoMemory>
+    ensures { IfOk result (λ copy. copy ≡ addition.now) }
+{
+    Ok(Addition {
+        number: addition.number,
+        lemma: addition.lemma.copy()?,
+        hints: addition.hints.copy()?,
+        groups: addition.groups.copy()?,
+    })
 }

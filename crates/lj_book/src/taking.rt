@@ -10,7 +10,7 @@ use crate::seat_tables::SeatTables;
 use crate::tree_map::TreeMap;
 use lj_clause::{Clause, NoMemory};
 use lj_hint::{Case, Pair};
-use lj_text::{Addition, Group, Numbers};
+use lj_text::{Addition, Groups, NumbersIter};
 use std::alloc::Global;
 
 /// The case of an addition, whose seat is there and whose own number is free.
@@ -29,15 +29,15 @@ pub(crate) fn case_of(
         (pairs_of (pair_in tables.now ledger.now.live seat) addition.now.hints)
         (group_pairs_of (pair_in tables.now ledger.now.live seat) addition.now.groups)) }
 {
-    let hints = match pairs_of(alloc, tables, ledger, seat, &addition.hints) {
+    let hints = match pairs_of(alloc, tables, ledger, seat, addition.hints.iter()) {
         Ok(hints) => hints,
         Err(refusal) => return Err(refusal),
     };
-    let groups = match group_pairs_of(alloc, tables, ledger, seat, addition.groups.as_slice()) {
+    let groups = match group_pairs_of(alloc, tables, ledger, seat, &addition.groups) {
         Ok(groups) => groups,
         Err(refusal) => return Err(refusal),
     };
-    if let Some(own) = repeated_group(alloc, tables, seat, addition.groups.as_slice())? {
+    if let Some(own) = repeated_group(alloc, tables, seat, &addition.groups)? {
         return Err(Refusal::GroupRepeated(own));
     }
     let lemma = addition.lemma.copy()?;
@@ -76,13 +76,13 @@ fn pairs_of(
     tables: &SeatTables,
     ledger: &Ledger,
     seat: u32,
-    numbers: &Numbers,
+    numbers: NumbersIter<'_>,
 ) -> Result<Vec<Pair>, Refusal>
     ensures { IsReplyBy (λ v. v.items) result
-        (pairs_of (pair_in tables.now ledger.now.live seat) numbers.now) }
+        (pairs_of (pair_in tables.now ledger.now.live seat) numbers.entry) }
 {
     let mut pairs = Vec::new(alloc);
-    for own in numbers.iter() {
+    for own in numbers {
         let Some(pair) = pair_in(tables, ledger, seat, own)? else {
             return Err(Refusal::UnknownNumber(own));
         };
@@ -100,17 +100,17 @@ fn group_pairs_of(
     tables: &SeatTables,
     ledger: &Ledger,
     seat: u32,
-    groups: &[Group],
+    groups: &Groups,
 ) -> Result<Vec<(Pair, Vec<Pair>)>, Refusal>
     ensures { IsReplyBy (λ v. groups_of v.items) result
         (group_pairs_of (pair_in tables.now ledger.now.live seat) groups.now) }
 {
     let mut pairs = Vec::new(alloc);
-    for group in groups {
+    for group in groups.iter() {
         let Some(candidate) = pair_in(tables, ledger, seat, group.candidate)? else {
             return Err(Refusal::UnknownNumber(group.candidate));
         };
-        match pairs_of(alloc, tables, ledger, seat, &group.hints) {
+        match pairs_of(alloc, tables, ledger, seat, group.hints) {
             Ok(hints) => pairs.push((candidate, hints))?,
             Err(refusal) => return Err(refusal),
         }
@@ -126,12 +126,12 @@ pub(crate) fn repeated_group(
     alloc: Global,
     tables: &SeatTables,
     seat: u32,
-    groups: &[Group],
+    groups: &Groups,
 ) -> Result<Option<u64>, NoMemory>
     ensures { IfOk result (λ own. own ≡ repeated_after (joint_of tables.now seat) [] groups.now) }
 {
     let mut seen: TreeMap<()> = TreeMap::new(alloc);
-    for group in groups {
+    for group in groups.iter() {
         if let Some(joint) = tables.joint(seat, group.candidate) {
             if seen.contains_key(joint) {
                 return Ok(Some(group.candidate));

@@ -1,6 +1,5 @@
 -- The test of the candidates of a lemma's pivot, and of a whole line.
-use Rattle.std.specs.Prelude.{◌≡◌, ℤ, List, map, Option, Some, None, Vec, Result, Ok, Err, MatchResult}
-use Rattle.std.specs.declared.alloc.Global.{Global}
+use Rattle.std.specs.Prelude.{◌≡◌, ℤ, List, map, Option, Some, None, Result, Ok, Err, MatchResult}
 use Rattle.lj_clause.specs.LiteralSet.{LiteralSet}
 use Rattle.lj_clause.specs.ClauseMap.{ClauseMap}
 use Rattle.lj_clause.specs.Rat as rats
@@ -37,7 +36,7 @@ IsRatRefusal (GroupStuck n place) reply = reply ≡ Err (GroupStuck n place)
 IsRatRefusal (GroupOpen n) reply = reply ≡ Err (GroupOpen n)
 
 -- an answer is the reply, and NoMemory may stand in place of it
-abbrev pub IsRatReply : Result (Vec HintGroup Global) RatRefusal
-    → Result (List HintGroup) RatRefusal → Type 0
-IsRatReply answer reply = MatchResult answer (λ groups. reply ≡ Ok groups.items)
+abbrev pub IsRatReply : Result (List HintGroup) RatRefusal → Result (List HintGroup) RatRefusal
+    → Type 0
+IsRatReply answer reply = MatchResult answer (λ groups. reply ≡ Ok groups)
     (λ e. IsRatRefusal e reply)

@@ -61,7 +61,7 @@ pub fn test_line<L: Live>(
         Ok(Ending::StuckAt(place)) => Err(LineRefusal::Stuck(place)),
         Ok(Ending::StaysOpen) => {
             match test_open(alloc, live, lemma.pivot(), groups, &mut marks.lits) {
-                Ok(groups) => Ok(Passed::Covered(Groups::new(groups))),
+                Ok(groups) => Ok(Passed::Covered(groups)),
                 Err(refusal) => Err(LineRefusal::Rat(refusal)),
             }
         }
@@ -104,7 +104,7 @@ fn test_open<L: Live>(
     pivot: Option<Lit>,
     groups: &[Group],
     held: &mut TrueLits,
-) -> Result<Vec<Group>, RatRefusal>
+) -> Result<Groups, RatRefusal>
     requires { is_contradictory (from_literals held.old) ≡ false }
     ensures { IsRatReply result (rat_reply (L.live live.now) (from_literals held.old) pivot
         (groups_in (L.live live.now) groups.now)) }

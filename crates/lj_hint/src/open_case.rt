@@ -17,7 +17,7 @@ use crate::rat_refusal::RatRefusal;
 use crate::true_lits::TrueLits;
 use crate::walk::{Ending, walk_negation};
 use lj_clause::NoMemory;
-use lj_text::Group;
+use lj_text::Groups;
 
 /// The test of a case whose walk stays open, by resolution asymmetric tautology (Cruz-Filipe et al., CADE 2017): the
 /// candidates are the live clauses that hold the negation of the lemma's pivot, their hints those of the case. The
@@ -30,7 +30,7 @@ use lj_text::Group;
 /// # Errors
 /// [`RatRefusal::EmptyOpen`] for a lemma without a pivot, else that of the first candidate that isn't covered, and
 /// [`RatRefusal::NoMemory`] where a growth was refused.
-pub fn rat_test<L: Live>(live: &L, case: &Case, marks: &mut Marks) -> Result<Vec<Group>, RatRefusal>
+pub fn rat_test<L: Live>(live: &L, case: &Case, marks: &mut Marks) -> Result<Groups, RatRefusal>
     requires { (a : LiteralSet) × (walk_of case.now ≡ Open a) }
     ensures reply { (a : LiteralSet) → walk_of case.now ≡ Open a → IsRatReply result
         (rat_reply (L.live live.now) a case.now.lemma.pivot (named_groups case.now.groups)) }

@@ -18,7 +18,7 @@ use crate::rat_refusal::RatRefusal;
 use crate::true_lits::TrueLits;
 use crate::walk::{Ending, walk};
 use lj_clause::{ClauseView, Lit, NoMemory};
-use lj_text::{Group, Numbers};
+use lj_text::{Group, Groups, Numbers};
 use std::alloc::Global;
 use std::collections::BTreeMap;
 
@@ -36,14 +36,14 @@ pub(crate) fn cover<L: Live, G: GroupList>(
     held: &mut TrueLits,
     pivot: Lit,
     groups: &G,
-) -> Result<Vec<Group>, RatRefusal>
+) -> Result<Groups, RatRefusal>
     requires { is_contradictory (from_literals held.old) ≡ false }
     ensures { IsRatReply result (rat_told (rat_over (from_literals held.old) pivot
         (G.groups groups.now) (candidates (L.live live.now) pivot))) }
 {
     let places = places_among(alloc, groups)?;
     let numbers = live.candidates(pivot.negated())?;
-    let mut covered = room_for(alloc, numbers.len())?;
+    let mut covered = Groups::new(alloc);
     for &number in &numbers {
         let Some(clause) = live.clause(number) else {
             continue;
@@ -57,24 +57,14 @@ pub(crate) fn cover<L: Live, G: GroupList>(
     Ok(covered)
 }
 
-/// No groups, with room for so many.
-///
-/// # Errors
-/// [`NoMemory`] where a growth was refused.
-fn room_for(alloc: Global, count: usize) -> Result<Vec<Group>, NoMemory>
-    ensures { IfOk result (λ groups. groups.items ≡ []) }
-{
-    Ok(Vec::with_capacity(alloc, count)?)
-}
-
 /// Puts a group at the end.
 ///
 /// # Errors
 /// [`NoMemory`] where a growth was refused.
-fn add(groups: &mut Vec<Group>, group: Group) -> Result<(), NoMemory>
-    ensures { OnOk result (groups.new.items ≡ groups.old.items ++ group ∷ []) }
+fn add(groups: &mut Groups, group: Group) -> Result<(), NoMemory>
+    ensures { OnOk result (groups.new ≡ groups.old ++ group ∷ []) }
 {
-    groups.push(group)?;
+    groups.push(group.candidate, group.hints.iter())?;
     Ok(())
 }
 

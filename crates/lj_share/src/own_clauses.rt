@@ -49,7 +49,7 @@ impl OwnClauses {
         ensures lemma { IfOk result (λ case. IfSome case (λ c. c.lemma ≡ addition.now.lemma)) }
     {
         let own = addition.number;
-        if !addition.groups.as_slice().is_empty() || self.is_bound(formula, own) {
+        if !addition.groups.is_empty() || self.is_bound(formula, own) {
             return Ok(None);
         }
         let Some(hints) = self.pairs(formula, &addition.hints)? else {

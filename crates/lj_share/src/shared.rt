@@ -158,6 +158,36 @@ impl<L: Opening> Shared<L> {
         Ok(told)
     }
 
+    /// The receipt of an addition over the clauses that the seat holds as it knows by itself, with all that its entry takes:
+    /// none where they don't tell.
+    ///
+    /// # Errors
+    /// [`Refusal::HintNotUnit`].
+    fn ready_alone(
+        &self,
+        seat: &mut Seat<L>,
+        addition: &Addition,
+    ) -> Option<Result<Ready, Refusal>>
+        ensures seat { IfSome result
+            (λ answer. IfOk answer (λ ready. ready.seat ≡ seat.old.number)) }
+        ensures own { IfSome result
+            (λ answer. IfOk answer (λ ready. ready.own ≡ addition.now.number)) }
+        ensures lemma { IfSome result
+            (λ answer. IfOk answer (λ ready. ready.lemma ≡ addition.now.lemma)) }
+        ensures kept { seat.new ≡ seat.old }
+    {
+        let case = seat.case(&self.formula, addition)?;
+        let receipt = match case.test(&mut seat.marks) {
+            Tested::Closed(receipt) => receipt,
+            Tested::Stuck(place) => return Some(Err(Refusal::HintNotUnit(place))),
+            Tested::Open(_) | Tested::NoMemory(_, _) => return None,
+        };
+        match Ready::new(self.alloc, receipt) {
+            Ok(ready) => Some(Ok(ready)),
+            Err(_) => None,
+        }
+    }
+
     /// Tests an addition over the clauses that the seat holds as it knows by itself, and enters it; or answers nothing, where
     /// it has to be taken from the book.
     fn submit_alone<R: Wait, G: Gate>(
@@ -176,14 +206,9 @@ impl<L: Opening> Shared<L> {
         ensures nothing { result ≡ None → seat.new ≡ seat.old }
     {
         let number = seat.number();
-        let case = seat.case(&self.formula, addition)?;
-        let receipt = match case.test(&mut seat.marks) {
-            Tested::Closed(receipt) => receipt,
-            Tested::Stuck(place) => return Some(Err(Refusal::HintNotUnit(place))),
-            Tested::Open(_) | Tested::NoMemory(_, _) => return None,
-        };
-        let Ok(ready) = Ready::new(self.alloc, receipt) else {
-            return None;
+        let ready = match self.ready_alone(seat, addition)? {
+            Ok(ready) => ready,
+            Err(refusal) => return Some(Err(refusal)),
         };
         gate.pass(number, at);
         let answer = match self.commit_ready(rt, seat, ready) {

@@ -2,7 +2,8 @@
 use lj_book::Book;
 use lj_clause::{Clause, Formula, Lemma, Lit, MAX_VARIABLE, NoMemory};
 use lj_text::{
-    Addition, CnfReader, Group, Groups, Line as ProofLine, LineFault, LineReader, Numbers, Step,
+    Addition, CnfReader, Groups, Line as ProofLine, LineFault, LineReader, Numbers, NumbersIter,
+    Step,
 };
 use std::alloc::Global;
 use std::process::Abort;
@@ -66,16 +67,13 @@ pub fn addition(alloc: Global, line: &Line) -> Result<Addition, NoMemory> {
 }
 
 fn listed_groups(alloc: Global, groups: &[&[u64]]) -> Result<Groups, NoMemory> {
-    let mut made = Vec::new(alloc);
+    let mut made = Groups::new(alloc);
     for group in groups {
         if let Some((candidate, hints)) = group.split_first() {
-            made.push(Group {
-                candidate: *candidate,
-                hints: Numbers::from_slice(alloc, hints)?,
-            })?;
+            made.push(*candidate, Numbers::from_slice(alloc, hints)?.iter())?;
         }
     }
-    Ok(Groups::new(made))
+    Ok(made)
 }
 
 /// A formula of these clauses, over variables up to 9.
@@ -155,19 +153,23 @@ pub fn assert_step(rt: &impl Abort, step: Option<&Step>, wanted: &ListedStep) {
 }
 
 fn assert_groups(rt: &impl Abort, groups: &Groups, wanted: &[&[u64]]) {
-    assert!(rt; groups.as_slice().len() == wanted.len());
-    for (group, listed) in groups.as_slice().iter().zip(wanted) {
+    assert!(rt; groups.len() == wanted.len());
+    for (group, listed) in groups.iter().zip(wanted) {
         let Some((candidate, hints)) = listed.split_first() else {
             panic!(rt; "no candidate");
         };
         assert!(rt; group.candidate == *candidate);
-        assert_numbers(rt, &group.hints, hints);
+        assert_left(rt, group.hints, hints);
     }
 }
 
 pub fn assert_numbers(rt: &impl Abort, numbers: &Numbers, wanted: &[u64]) {
+    assert_left(rt, numbers.iter(), wanted);
+}
+
+fn assert_left(rt: &impl Abort, numbers: NumbersIter<'_>, wanted: &[u64]) {
     assert!(rt; numbers.len() == wanted.len());
-    for (number, listed) in numbers.iter().zip(wanted) {
+    for (number, listed) in numbers.zip(wanted) {
         assert!(rt; number == *listed);
     }
 }

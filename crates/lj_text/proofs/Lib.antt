@@ -4,6 +4,7 @@ pub mod NeededLaws
 mod CnfLemmas
 mod CutLemmas
 mod DigitLemmas
+mod GroupRows
 mod HeldLemmas
 mod JudgeLemmas
 mod PassLemmas

@@ -103,8 +103,9 @@ deletion_parts leading ns =
     sym (line-spaced (decimal leading) (codes "d" ∷ (map decimal ns ++ codes "0" ∷ []))
     ∙ ap (λ t. decimal leading ++ ((32 ∷ 100 ∷ []) ++ t)) (end-spaced (map decimal ns)))
 
-parts-of-addition : (a : Addition) → decimal a.number ++ (spaced_words (map signed_decimal (written_literals a.lemma)) ++ ((32 ∷ 48 ∷ []) ++ (numbers_text a.hints ++ (groups_text a.groups ++ (32 ∷ 48 ∷ 10 ∷ []))))) ≡ addition_text a
-parts-of-addition a =
+-- the line of an addition by its parts
+pub addition_parts : (a : Addition) → decimal a.number ++ (spaced_words (map signed_decimal (written_literals a.lemma)) ++ ((32 ∷ 48 ∷ []) ++ (numbers_text a.hints ++ (groups_text a.groups ++ (32 ∷ 48 ∷ 10 ∷ []))))) ≡ addition_text a
+addition_parts a =
     let ls = map signed_decimal (written_literals a.lemma) in
     let hs = map decimal a.hints in
     let gs = flat_map group_words a.groups in
@@ -117,12 +118,6 @@ parts-of-addition a =
     ∙ ap (λ t. spaced_words ls ++ ((32 ∷ 48 ∷ []) ++ t))
     (append_assoc (spaced_words hs) (spaced_words (gs ++ codes "0" ∷ [])) (10 ∷ [])
     ∙ ap (λ t. spaced_words hs ++ t) (end-spaced gs))))
-
--- the line of an addition with these groups by its parts
-pub addition_parts : (a : Addition) (gs : List HintGroup) → gs ≡ a.groups → decimal a.number ++ (spaced_words (map signed_decimal (written_literals a.lemma)) ++ ((32 ∷ 48 ∷ []) ++ (numbers_text a.hints ++ (groups_text gs ++ (32 ∷ 48 ∷ 10 ∷ []))))) ≡ addition_text a
-addition_parts a gs e =
-    ap (λ t. decimal a.number ++ (spaced_words (map signed_decimal (written_literals a.lemma)) ++ ((32 ∷ 48 ∷ []) ++ (numbers_text a.hints ++ (groups_text t ++ (32 ∷ 48 ∷ 10 ∷ [])))))) e
-    ∙ parts-of-addition a
 
 text_after-append : (n : ℕ) (xs ys : List Step) → text_after n (xs ++ ys) ≡ text_after n xs ++ text_after (greatest_number n xs) ys
 text_after-append n [] ys = refl

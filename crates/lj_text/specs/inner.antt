@@ -9,6 +9,7 @@ pub mod CnfReading
 pub mod CnfResuming
 pub mod CnfHeld
 pub mod Numbers
+pub mod Groups
 pub mod StepText
 pub mod Writing
 pub mod Codes

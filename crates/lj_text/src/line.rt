@@ -1,6 +1,7 @@
 //! Lines of an LRAT proof, under the numbers of whoever wrote them.
 use crate::boxed::Boxed;
-use crate::numbers::{Groups, Numbers};
+use crate::groups::Groups;
+use crate::numbers::Numbers;
 use lj_clause::{Clause, Lemma};
 
 /// An addition: a lemma under a number, the hints of its unit propagation, and a group of hints for each candidate.

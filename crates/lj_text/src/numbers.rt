@@ -1,19 +1,16 @@
-//! Lists of clause numbers, and hint groups.
-ghost use Rattle.std.specs.Prelude.{◌≡◌, ◌==◌, ◌≤◌, ◌∷◌, ◌++◌, [], length, take, slice_get, vec_capacity, IfOk, IfSome, OnOk, OnErr};
+//! Lists of clause numbers.
+ghost use Rattle.std.specs.Prelude.{◌≡◌, ◌==◌, ◌≤◌, ◌∷◌, ◌++◌, ◌↔◌, IsTrue, [], length, take, drop, slice_get, vec_capacity, IfOk, IfSome, OnOk, OnErr};
 ghost use Rattle.lj_text.specs.inner.Numbers.{numbers_in, numbers_left};
 ghost use Rattle.lj_text.specs.inner.LineReading.{IsReadOn};
 
 use crate::bytes::short_number;
 use crate::few_numbers::{FEW, FewNumbers};
-use std::alloc::{AllocError, AllocFailed, Global};
+use std::alloc::{AllocError, Global};
 use std::marker::Model;
 use std::mem::replace;
 
 /// The greatest number that takes four bytes.
 const MAX_SHORT: u64 = u32::MAX as u64;
-
-/// For how many groups a list keeps its room when it is cleared: for as many as it takes room for with its first.
-const FEW_GROUPS: usize = 4;
 
 /// A list of clause numbers. Two are equal where their contents are.
 ///
@@ -270,6 +267,21 @@ impl Numbers {
         }
     }
 
+    /// Whether the two lists are equal. Takes time linear in how many numbers there are.
+    pub fn same(&self, other: &Numbers) -> bool
+        ensures { IsTrue result ↔ (self.now ≡ other.now) }
+    {
+        if self.len() != other.len() {
+            return false;
+        }
+        for index in 0..self.len() {
+            if self.get(index) != other.get(index) {
+                return false;
+            }
+        }
+        true
+    }
+
     /// A list of its own with the same numbers. Takes time linear in how many there are.
     ///
     /// # Errors
@@ -407,6 +419,54 @@ impl<'a> Model for NumbersIter<'a> {
     ghost view = { λ n. numbers_left n.rest };
 }
 
+impl<'a> NumbersIter<'a> {
+    /// No numbers.
+    #[inline]
+    pub(crate) fn empty() -> NumbersIter<'a>
+        ensures { result ≡ [] }
+    {
+        NumbersIter {
+            rest: Rest::Short(&[]),
+        }
+    }
+
+    /// How many numbers are still to come.
+    #[inline]
+    pub fn len(&self) -> usize
+        ensures { result ≡ length self.now }
+    {
+        match self.rest {
+            Rest::Short(rest) => rest.len(),
+            Rest::Long(rest) => rest.len(),
+        }
+    }
+
+    /// Takes the first numbers, so many.
+    #[inline]
+    pub(crate) fn take_front(&mut self, count: usize) -> NumbersIter<'a>
+        requires { count ≤ length self.old }
+        ensures front { result ≡ take count self.old }
+        ensures behind { self.new ≡ drop count self.old }
+    {
+        match self.rest {
+            Rest::Short(rest) => {
+                let (front, behind) = rest.split_at(count);
+                self.rest = Rest::Short(behind);
+                NumbersIter {
+                    rest: Rest::Short(front),
+                }
+            }
+            Rest::Long(rest) => {
+                let (front, behind) = rest.split_at(count);
+                self.rest = Rest::Long(behind);
+                NumbersIter {
+                    rest: Rest::Long(front),
+                }
+            }
+        }
+    }
+}
+
 impl<'a> Iterator for NumbersIter<'a> {
     type Item = u64;
 
@@ -430,88 +490,5 @@ impl<'a> Iterator for NumbersIter<'a> {
                 Some(*first)
             }
         }
-    }
-}
-
-/// The hints for one candidate.
-#[derive(Debug, Drop)]
-pub struct Group {
-    pub candidate: u64,
-    pub hints: Numbers,
-}
-
-impl Model for Group {
-    ghost use Rattle.lj_clause.specs.Rat.{HintGroup};
-    ghost use Rattle.lj_clause.specs.inner.Codes.{hint_group_code};
-
-    ghost Value = { HintGroup };
-
-    ghost coded = { hint_group_code };
-
-    ghost view = { λ g. record { candidate = g.candidate; hints = g.hints } };
-}
-
-/// A list of groups. Two are equal where their contents are.
-#[derive(Debug, Drop)]
-pub struct Groups {
-    groups: Vec<Group>,
-}
-
-impl Model for Groups {
-    ghost use Rattle.std.specs.Prelude.{List};
-    ghost use Rattle.std.specs.Coded.{coded_list};
-    ghost use Rattle.lj_clause.specs.Rat.{HintGroup};
-    ghost use Rattle.lj_clause.specs.inner.Codes.{hint_group_code};
-
-    ghost Value = { List HintGroup };
-
-    ghost coded = { coded_list hint_group_code };
-
-    ghost view = { λ g. g.groups.items };
-}
-
-impl Groups {
-    /// The list of these groups. Takes no memory.
-    pub fn new(groups: Vec<Group>) -> Groups
-        ensures { result ≡ groups.items }
-    {
-        Groups { groups }
-    }
-
-    /// The groups, in order.
-    pub fn as_slice(&self) -> &[Group]
-        ensures { result.now ≡ self.now }
-    {
-        &self.groups
-    }
-
-    /// Takes a group behind the others.
-    ///
-    /// # Errors
-    /// [`AllocFailed`] where a growth was refused, and then nothing has changed.
-    pub(crate) fn push(&mut self, group: Group) -> Result<(), AllocFailed<Group>>
-        ensures { OnOk result (self.new ≡ self.old ++ group ∷ []) }
-    {
-        self.groups.push(group)
-    }
-
-    /// Lets go of the groups, and of their room where it is for more than a few.
-    #[inline(always)]
-    pub(crate) fn clear(&mut self)
-        ensures { self.new ≡ [] }
-    {
-        if !self.groups.is_empty() {
-            self.groups.clear();
-            if self.groups.capacity() > FEW_GROUPS {
-                self.groups.shrink_to_fit();
-            }
-        }
-    }
-
-    /// Gives the groups back. Takes no memory.
-    pub fn into_vec(self) -> Vec<Group>
-        ensures { result.items ≡ self }
-    {
-        self.groups
     }
 }

@@ -25,12 +25,12 @@ filter_all p (x ∷ xs) e =
     ∙ ap (λ t. x ∷ t) (filter_all p xs (second_so (p x) (list_all p xs) e))
 
 -- an addition all of whose candidates stay
-pub whole : (test : ℕ → Bool) (step : Step) (a : Addition) (gs : List HintGroup) → step ≡ Add a → test a.number ≡ true → gs ≡ a.groups → list_all (λ g. test g.candidate) gs ≡ true → Some step ≡ trimmed_by test step
-whole test step a gs e here f all =
+pub whole : (test : ℕ → Bool) (step : Step) (a : Addition) → step ≡ Add a → test a.number ≡ true → list_all (λ g. test g.candidate) a.groups ≡ true → Some step ≡ trimmed_by test step
+whole test step a e here all =
     ap Some e
     ∙ sym (ap (trimmed_by test) e
     ∙ ap (λ b. cond b (Some (Add (record a { groups = groups_by test a.groups }))) None) here
-    ∙ ap (λ t. Some (Add (record a { groups = t }))) (filter_all (λ g. test g.candidate) a.groups (ap (list_all (λ g. test g.candidate)) (sym f) ∙ all)))
+    ∙ ap (λ t. Some (Add (record a { groups = t }))) (filter_all (λ g. test g.candidate) a.groups all))
 
 single : (o : Option Step) → cons_option o [] ≡ option_to_list o
 single None = refl

@@ -3,7 +3,7 @@ ghost use Rattle.std.specs.Prelude.{◌≡◌, false, ℕ, [], ◌∷◌, IfOk, 
 ghost use Rattle.lj_text.specs.Needed.{all_hints};
 
 use lj_clause::NoMemory;
-use lj_text::{Addition, Numbers};
+use lj_text::{Addition, NumbersIter};
 use std::alloc::Global;
 use std::collections::BTreeSet;
 
@@ -53,10 +53,10 @@ impl Marks {
     }
 
     /// Marks numbers.
-    pub(crate) fn mark_numbers(&mut self, numbers: &Numbers) -> Result<(), NoMemory>
-        ensures { OnOk result (Marked self.old self.new numbers.now) }
+    pub(crate) fn mark_numbers(&mut self, numbers: NumbersIter<'_>) -> Result<(), NoMemory>
+        ensures { OnOk result (Marked self.old self.new numbers.entry) }
     {
-        for number in numbers.iter() {
+        for number in numbers {
             self.mark(number)?;
         }
         Ok(())
@@ -66,9 +66,9 @@ impl Marks {
     pub(crate) fn mark_hints(&mut self, addition: &Addition) -> Result<(), NoMemory>
         ensures { OnOk result (Marked self.old self.new (all_hints addition.now)) }
     {
-        self.mark_numbers(&addition.hints)?;
-        for group in addition.groups.as_slice() {
-            self.mark_numbers(&group.hints)?;
+        self.mark_numbers(addition.hints.iter())?;
+        for group in addition.groups.iter() {
+            self.mark_numbers(group.hints)?;
         }
         Ok(())
     }

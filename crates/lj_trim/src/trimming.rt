@@ -10,7 +10,7 @@ use crate::kept::Kept;
 use crate::marks::Marks;
 use crate::needed::{first_empty, needed_marks};
 use lj_clause::{Formula, NoMemory};
-use lj_text::{Addition, Group, Groups, Numbers, Step};
+use lj_text::{Addition, Groups, Numbers, Step};
 use std::alloc::Global;
 use thiserror::Error;
 
@@ -62,12 +62,15 @@ fn kept_numbers(
 }
 
 /// Whether each group's candidate is kept.
-fn all_kept(clauses: u64, marks: &Marks, groups: &[Group]) -> bool
+fn all_kept(clauses: u64, marks: &Marks, groups: &Groups) -> bool
     ensures { result ≡ list_all (λ g. keeps clauses marks.now g.candidate) groups.now }
 {
-    groups
-        .iter()
-        .all(|group| is_kept(clauses, marks, group.candidate))
+    for group in groups.iter() {
+        if !is_kept(clauses, marks, group.candidate) {
+            return false;
+        }
+    }
+    true
 }
 
 /// The groups whose candidate is kept.
@@ -75,27 +78,17 @@ fn kept_groups(
     alloc: Global,
     clauses: u64,
     marks: &Marks,
-    groups: &[Group],
-) -> Result<Vec<Group>, NoMemory>
-    ensures { IfOk result (λ v. v.items ≡ groups_by (keeps clauses marks.now) groups.now) }
+    groups: &Groups,
+) -> Result<Groups, NoMemory>
+    ensures { IfOk result (λ kept. kept ≡ groups_by (keeps clauses marks.now) groups.now) }
 {
-    let mut kept = Vec::new(alloc);
-    for group in groups {
+    let mut kept = Groups::new(alloc);
+    for group in groups.iter() {
         if is_kept(clauses, marks, group.candidate) {
-            kept.push(copy_of(group)?)?;
+            kept.push(group.candidate, group.hints)?;
         }
     }
     Ok(kept)
-}
-
-/// A group of its own with the same hints.
-fn copy_of(group: &Group) -> Result<Group, NoMemory>
-    ensures { IfOk result (λ g. g ≡ group.now) }
-{
-    Ok(Group {
-        candidate: group.candidate,
-        hints: Numbers::new(group.hints.to_vec()?),
-    })
 }
 
 /// The addition without the groups whose candidate isn't kept.
@@ -112,7 +105,7 @@ fn with_kept_groups(
         number: addition.number,
         lemma: addition.lemma.copy()?,
         hints: Numbers::new(addition.hints.to_vec()?),
-        groups: Groups::new(kept_groups(alloc, clauses, marks, addition.groups.as_slice())?),
+        groups: kept_groups(alloc, clauses, marks, &addition.groups)?,
     })
 }
 
@@ -131,7 +124,7 @@ fn trimmed_step<'a>(
             if !is_kept(clauses, marks, addition.number) {
                 return Ok(None);
             }
-            if all_kept(clauses, marks, addition.groups.as_slice()) {
+            if all_kept(clauses, marks, &addition.groups) {
                 return Ok(Some(Kept::Whole(step)));
             }
             let part = with_kept_groups(alloc, clauses, marks, addition)?;

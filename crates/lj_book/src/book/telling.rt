@@ -135,8 +135,8 @@ impl Book {
             Ok(groups) => groups,
             Err(refusal) => return Err(refusal),
         };
-        let step = LentAddition::new(self.next(), &addition.lemma, hints, groups.as_slice());
-        let entry = match entry_of_line(self.ledger.allocator(), seat, addition.number, &step) {
+        let step = LentAddition::new(self.next(), &addition.lemma, hints, &groups);
+        let entry = match entry_of_line(seat, addition.number, &step) {
             Ok(entry) => entry,
             Err(refused) => return Err(Refusal::NoMemory(refused)),
         };
@@ -269,7 +269,6 @@ impl Book {
 /// # Errors
 /// [`NoMemory`] where a growth was refused.
 fn entry_of_line(
-    alloc: Global,
     seat: u32,
     own: u64,
     step: &LentAddition<'_>,
@@ -280,6 +279,6 @@ fn entry_of_line(
         own,
         lemma: step.lemma.copy()?,
     };
-    let step = Some(Step::Add(step.copy(alloc)?));
+    let step = Some(Step::Add(step.copy()?));
     Ok(Entry { seat, call, step })
 }

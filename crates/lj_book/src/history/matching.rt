@@ -42,7 +42,7 @@ fn are_hints_of(sizes: Sizes, words: &[u32], addition: &Addition) -> bool
         ≡ addition.now.groups)) }
 {
     match are_numbers(words, sizes.hints, &addition.hints) {
-        Some(rest) => are_groups(rest, sizes.groups, addition.groups.as_slice()).is_some(),
+        Some(rest) => are_groups(rest, sizes.groups, &addition.groups).is_some(),
         None => false,
     }
 }

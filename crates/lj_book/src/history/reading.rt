@@ -10,7 +10,7 @@ use super::{ADDITION, ADOPT, DROP, DROP_ONCE, IMPORT, KINDS, SEATS};
 use crate::entry::{Call, Entry};
 use crate::words::{behind_list, groups, list, number, numbers};
 use lj_clause::{Clause, Lemma, Lit, NoMemory};
-use lj_text::{Addition, Groups, Step};
+use lj_text::{Addition, Step};
 use std::alloc::Global;
 
 /// The words of the entry at a place, and what stands behind them.
@@ -85,12 +85,11 @@ fn addition(alloc: Global, lits: &[Lit], sizes: Sizes, words: &[u32]) -> Result<
     let (joint, rest) = number(words);
     let (literals, rest) = placed(lits, sizes.lits, rest);
     let (hints, rest) = numbers(alloc, sizes.hints, rest)?;
-    let groups = groups(alloc, sizes.groups, rest)?;
     Ok(Addition {
         number: joint,
         lemma: Lemma::from_lits(alloc, literals)?,
         hints,
-        groups: Groups::new(groups),
+        groups: groups(alloc, sizes.groups, rest)?,
     })
 }
 

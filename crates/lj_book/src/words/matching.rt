@@ -3,7 +3,7 @@ ghost use Rattle.std.specs.Prelude.{◌≡◌, IfSome, IfNone};
 ghost use Rattle.lj_book.specs.inner.Words.{number_in, list_in, many_in, hint_group_in};
 
 use super::reading::number;
-use lj_text::{Group, Numbers};
+use lj_text::{Groups, LentGroup, Numbers, NumbersIter};
 
 /// What stands behind the list at the front of the words, if it has these numbers.
 pub(crate) fn list_matches<'a>(words: &'a [u32], numbers: &Numbers) -> Option<&'a [u32]>
@@ -20,11 +20,20 @@ pub(crate) fn are_numbers<'a>(words: &'a [u32], count: u64, numbers: &Numbers) -
         (λ rest. many_in number_in count words.now ≡ (numbers.now, rest.now)) }
     ensures other { IfNone result ((many_in number_in count words.now).0 ≡ numbers.now → ⊥) }
 {
+    are_left(words, count, numbers.iter())
+}
+
+/// What stands behind so many numbers at the front of the words, if they are those that are still to come.
+fn are_left<'a>(words: &'a [u32], count: u64, numbers: NumbersIter<'_>) -> Option<&'a [u32]>
+    ensures same { IfSome result
+        (λ rest. many_in number_in count words.now ≡ (numbers.entry, rest.now)) }
+    ensures other { IfNone result ((many_in number_in count words.now).0 ≡ numbers.entry → ⊥) }
+{
     if count != numbers.len() as u64 {
         return None;
     }
     let mut rest = words;
-    for wanted in numbers.iter() {
+    for wanted in numbers {
         let (next, after) = number(rest);
         if next != wanted {
             return None;
@@ -54,19 +63,20 @@ pub(crate) fn numbers_match<'a>(words: &'a [u32], numbers: &[u64]) -> Option<&'a
 }
 
 /// What stands behind the group at the front of the words, if it is this one.
-fn group_matches<'a>(words: &'a [u32], group: &Group) -> Option<&'a [u32]>
-    ensures same { IfSome result (λ rest. hint_group_in words.now ≡ (group.now, rest.now)) }
-    ensures other { IfNone result ((hint_group_in words.now).0 ≡ group.now → ⊥) }
+fn group_matches<'a>(words: &'a [u32], group: LentGroup<'_>) -> Option<&'a [u32]>
+    ensures same { IfSome result (λ rest. hint_group_in words.now ≡ (group.entry, rest.now)) }
+    ensures other { IfNone result ((hint_group_in words.now).0 ≡ group.entry → ⊥) }
 {
     let (candidate, rest) = number(words);
     if candidate != group.candidate {
         return None;
     }
-    list_matches(rest, &group.hints)
+    let (count, rest) = number(rest);
+    are_left(rest, count, group.hints)
 }
 
 /// What stands behind so many groups at the front of the words, if they are these.
-pub(crate) fn are_groups<'a>(words: &'a [u32], count: u64, groups: &[Group]) -> Option<&'a [u32]>
+pub(crate) fn are_groups<'a>(words: &'a [u32], count: u64, groups: &Groups) -> Option<&'a [u32]>
     ensures same { IfSome result
         (λ rest. many_in hint_group_in count words.now ≡ (groups.now, rest.now)) }
     ensures other { IfNone result
@@ -76,7 +86,7 @@ pub(crate) fn are_groups<'a>(words: &'a [u32], count: u64, groups: &[Group]) -> 
         return None;
     }
     let mut rest = words;
-    for group in groups {
+    for group in groups.iter() {
         match group_matches(rest, group) {
             Some(after) => rest = after,
             None => return None,

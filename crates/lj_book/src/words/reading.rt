@@ -4,7 +4,7 @@ ghost use Rattle.lj_book.specs.inner.Words.{long_in, number_in, list_in, many_in
 
 use super::LONG_MARK;
 use lj_clause::NoMemory;
-use lj_text::{Group, Numbers};
+use lj_text::{Group, Groups, Numbers};
 use std::alloc::Global;
 
 /// The number at the front of the words, and what stands behind it.
@@ -100,15 +100,14 @@ fn group(alloc: Global, words: &[u32]) -> Result<(Group, &[u32]), NoMemory>
 ///
 /// # Errors
 /// [`NoMemory`] where a growth was refused.
-pub(crate) fn groups(alloc: Global, count: u64, words: &[u32]) -> Result<Vec<Group>, NoMemory>
-    ensures { IfOk result
-        (λ groups. groups.items ≡ (many_in hint_group_in count words.now).0) }
+pub(crate) fn groups(alloc: Global, count: u64, words: &[u32]) -> Result<Groups, NoMemory>
+    ensures { IfOk result (λ groups. groups ≡ (many_in hint_group_in count words.now).0) }
 {
-    let mut groups = Vec::new(alloc);
+    let mut groups = Groups::new(alloc);
     let mut rest = words;
     for _ in 0..count {
         let (next, after) = group(alloc, rest)?;
-        groups.push(next)?;
+        groups.push(next.candidate, next.hints.iter())?;
         rest = after;
     }
     Ok(groups)

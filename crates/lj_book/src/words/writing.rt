@@ -3,7 +3,7 @@ ghost use Rattle.std.specs.Prelude.{◌≡◌, ◌+◌, ◌*◌, ◌/◌, ◌%�
 ghost use Rattle.lj_book.specs.inner.Words.{long_mark, number_words, list_words, hint_group_words, group_numbers, groups_numbers};
 
 use super::LONG_MARK;
-use lj_text::{Group, Numbers};
+use lj_text::{Groups, LentGroup, Numbers, NumbersIter};
 
 /// So many numbers are copied one by one, and more as they stand.
 const FEW: usize = 8;
@@ -93,7 +93,18 @@ pub(crate) fn put_all(words: &mut Vec<u32>, numbers: &Numbers)
         put_short(words, short);
         return;
     }
-    for number in numbers.iter() {
+    put_left(words, numbers.iter());
+}
+
+/// Puts the numbers that are still to come behind the words, which have room for them.
+#[inline]
+fn put_left(words: &mut Vec<u32>, numbers: NumbersIter<'_>)
+    requires { vec_len words.old + 3 * length numbers ≤ vec_capacity words.old }
+    ensures words { words.new.items ≡ words.old.items ++ flat_map number_words numbers.entry }
+    ensures len { vec_len words.new ≤ vec_len words.old + 3 * length numbers.entry }
+    ensures capacity { vec_capacity words.old ≤ vec_capacity words.new }
+{
+    for number in numbers {
         put_number(words, number);
     }
 }
@@ -112,25 +123,26 @@ pub(crate) fn put_numbers(words: &mut Vec<u32>, numbers: &[u64])
 }
 
 /// Puts a group behind the words, which have room for it.
-fn put_group(words: &mut Vec<u32>, group: &Group)
-    requires { vec_len words.old + 3 * group_numbers group.now ≤ vec_capacity words.old }
-    ensures words { words.new.items ≡ words.old.items ++ hint_group_words group.now }
-    ensures len { vec_len words.new ≤ vec_len words.old + 3 * group_numbers group.now }
+fn put_group(words: &mut Vec<u32>, group: LentGroup<'_>)
+    requires { vec_len words.old + 3 * group_numbers group ≤ vec_capacity words.old }
+    ensures words { words.new.items ≡ words.old.items ++ hint_group_words group.entry }
+    ensures len { vec_len words.new ≤ vec_len words.old + 3 * group_numbers group.entry }
     ensures capacity { vec_capacity words.old ≤ vec_capacity words.new }
 {
     put_number(words, group.candidate);
-    put_list(words, &group.hints);
+    put_number(words, group.hints.len() as u64);
+    put_left(words, group.hints);
 }
 
 /// Puts groups behind the words, which have room for them.
 #[inline]
-pub(crate) fn put_groups(words: &mut Vec<u32>, groups: &[Group])
+pub(crate) fn put_groups(words: &mut Vec<u32>, groups: &Groups)
     requires { vec_len words.old + 3 * groups_numbers groups.now ≤ vec_capacity words.old }
     ensures words { words.new.items ≡ words.old.items ++ flat_map hint_group_words groups.now }
     ensures len { vec_len words.new ≤ vec_len words.old + 3 * groups_numbers groups.now }
     ensures capacity { vec_capacity words.old ≤ vec_capacity words.new }
 {
-    for group in groups {
+    for group in groups.iter() {
         put_group(words, group);
     }
 }

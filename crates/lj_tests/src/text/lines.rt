@@ -68,9 +68,12 @@ fn describe(alloc: Global, line: &Line, at: u64) -> Result<String, Fail> {
             let mut told = format!(in alloc;
                 "{at}: Add {number} {literals:?} {pivot:?} {hints:?}"
             )?;
-            for group in addition.groups.as_slice() {
+            for group in addition.groups.iter() {
                 let candidate = group.candidate;
-                let hints = group.hints.to_vec()?;
+                let mut hints = Vec::new(alloc);
+                for hint in group.hints {
+                    hints.push(hint)?;
+                }
                 told.push_str(&format!(in alloc; " -{candidate} {hints:?}")?)?;
             }
             told.push_str(";")?;

@@ -6,7 +6,8 @@ ghost use Rattle.lj_text.specs.inner.LineReading.{Gives, HintsGive, words_of, gr
 use super::closing::{check_closed, cut_short};
 use super::fault::LineFaultKind;
 use crate::bytes::{Word, next_word};
-use crate::numbers::{Group, Groups, Numbers};
+use crate::groups::Groups;
+use crate::numbers::Numbers;
 
 /// The hints up to the closing 0 or a candidate, behind those that were read, and that candidate with what follows it.
 fn read_hints<'a>(
@@ -55,10 +56,7 @@ fn read_groups(
     loop {
         room.clear();
         let next = read_hints(room, ended, rest)?;
-        groups.push(Group {
-            candidate,
-            hints: room.copy()?,
-        })?;
+        groups.push(candidate, room.iter())?;
         match next {
             None => return Ok(()),
             Some((number, after)) => {

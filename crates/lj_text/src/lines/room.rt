@@ -1,7 +1,8 @@
 //! Room for what a line says.
 
+use crate::groups::Groups;
 use crate::line::Addition;
-use crate::numbers::{Groups, Numbers};
+use crate::numbers::Numbers;
 use lj_clause::{Lemma, Lit, NoMemory};
 use std::alloc::Global;
 
@@ -56,7 +57,7 @@ fn new_addition(alloc: Global) -> Result<Box<Addition>, NoMemory> {
         number: 0,
         lemma: Lemma::from_lits(alloc, &[])?,
         hints: Numbers::from_short(Vec::new(alloc)),
-        groups: Groups::new(Vec::new(alloc)),
+        groups: Groups::new(alloc),
     };
     Ok(Box::new(alloc, empty)?)
 }

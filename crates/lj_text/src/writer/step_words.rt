@@ -9,8 +9,9 @@ ghost use Rattle.lj_text.specs.Writing.{spaced_word};
 ghost use Rattle.lj_text.specs.inner.Writing.{Wrote, Broke, spaced_words};
 
 use super::held::Held;
+use crate::groups::{Groups, LentGroup};
 use crate::line::Addition;
-use crate::numbers::{Group, Numbers};
+use crate::numbers::{Numbers, NumbersIter};
 use crate::sink::{Sink, SinkFault};
 use itoa::Buffer;
 use lj_clause::{Lemma, Lit};
@@ -129,7 +130,26 @@ fn write_numbers<W: Sink>(sink: &mut W, held: &mut Held, numbers: &Numbers) -> R
     ensures failed { OnErr result (W.failures sink.new ≡ 1) }
     ensures none { OnErr result (held.new ≡ []) }
 {
-    for number in numbers.iter() {
+    write_each(sink, held, numbers.iter())
+}
+
+/// Writes the numbers that are still to come, each behind a space.
+fn write_each<W: Sink>(
+    sink: &mut W,
+    held: &mut Held,
+    numbers: NumbersIter<'_>,
+) -> Result<(), SinkFault>
+    requires { W.failures sink.old ≡ 0 }
+
+    ensures wrote { OnOk result (Wrote (W.taken sink.old) held.old (W.taken sink.new) held.new
+        (spaced_words (map decimal numbers.entry))) }
+    ensures unfailed { OnOk result (W.failures sink.new ≡ 0) }
+    ensures broke { OnErr result (Broke (W.taken sink.old) held.old (W.taken sink.new)
+        (spaced_words (map decimal numbers.entry))) }
+    ensures failed { OnErr result (W.failures sink.new ≡ 1) }
+    ensures none { OnErr result (held.new ≡ []) }
+{
+    for number in numbers {
         write_number(sink, held, number)?;
     }
     Ok(())
@@ -183,23 +203,27 @@ fn write_literals<W: Sink>(sink: &mut W, held: &mut Held, lemma: &Lemma) -> Resu
 }
 
 /// Writes a candidate and its hints, each behind a space.
-fn write_group<W: Sink>(sink: &mut W, held: &mut Held, group: &Group) -> Result<(), SinkFault>
+fn write_group<W: Sink>(
+    sink: &mut W,
+    held: &mut Held,
+    group: LentGroup<'_>,
+) -> Result<(), SinkFault>
     requires { W.failures sink.old ≡ 0 }
 
     ensures wrote { OnOk result (Wrote (W.taken sink.old) held.old (W.taken sink.new) held.new
-        (spaced_words (group_words group.now))) }
+        (spaced_words (group_words group.entry))) }
     ensures unfailed { OnOk result (W.failures sink.new ≡ 0) }
     ensures broke { OnErr result (Broke (W.taken sink.old) held.old (W.taken sink.new)
-        (spaced_words (group_words group.now))) }
+        (spaced_words (group_words group.entry))) }
     ensures failed { OnErr result (W.failures sink.new ≡ 1) }
     ensures none { OnErr result (held.new ≡ []) }
 {
     write_candidate(sink, held, group.candidate)?;
-    write_numbers(sink, held, &group.hints)
+    write_each(sink, held, group.hints)
 }
 
 /// Writes groups, one after the other.
-fn write_groups<W: Sink>(sink: &mut W, held: &mut Held, groups: &[Group]) -> Result<(), SinkFault>
+fn write_groups<W: Sink>(sink: &mut W, held: &mut Held, groups: &Groups) -> Result<(), SinkFault>
     requires { W.failures sink.old ≡ 0 }
 
     ensures wrote { OnOk result (Wrote (W.taken sink.old) held.old (W.taken sink.new) held.new
@@ -210,7 +234,7 @@ fn write_groups<W: Sink>(sink: &mut W, held: &mut Held, groups: &[Group]) -> Res
     ensures failed { OnErr result (W.failures sink.new ≡ 1) }
     ensures none { OnErr result (held.new ≡ []) }
 {
-    for group in groups {
+    for group in groups.iter() {
         write_group(sink, held, group)?;
     }
     Ok(())
@@ -236,7 +260,7 @@ pub(super) fn write_addition<W: Sink>(
     write_literals(sink, held, &addition.lemma)?;
     held.append(sink, b" 0")?;
     write_numbers(sink, held, &addition.hints)?;
-    write_groups(sink, held, addition.groups.as_slice())?;
+    write_groups(sink, held, &addition.groups)?;
     held.append(sink, b" 0\n")
 }
 

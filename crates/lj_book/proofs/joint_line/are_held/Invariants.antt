@@ -6,4 +6,4 @@ use Rattle.lj_book.proofs.joint_line.are_held.Given as goal
 
 -- the numbers of the groups so far are held
 abbrev pub invariant-loop-group : goal.invariant-loop-group
-invariant-loop-group l = is_ok (joint_groups_in (joint_of l.tables l.seat) (drop l.group-index l.groups)) ≡ is_ok (joint_groups_in (joint_of l.tables l.seat) l.groups)
+invariant-loop-group l = is_ok (joint_groups_in (joint_of l.tables l.seat) l.group-iterator) ≡ is_ok (joint_groups_in (joint_of l.tables l.seat) l.groups)

@@ -22,4 +22,4 @@ returns-in-Ok-Closed-clause-reply c number =
     c.in-Ok-Closed.ensures
     ∙ ap Ok c.in-Ok-Closed.field-0-is in
     closed_line p b c.in-Ok-Closed.read told
-    ∙ (λ i. Ok (made (sym c.truncate.ensures i) (sym (c.new-in-Ok-Closed.ensures ∙ c.new.ensures.items) i)))
+    ∙ (λ i. Ok (made (sym c.truncate.ensures i) (sym c.new.ensures i)))

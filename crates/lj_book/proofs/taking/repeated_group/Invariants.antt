@@ -7,4 +7,4 @@ use Rattle.lj_book.proofs.taking.repeated_group.Given as goal
 
 abbrev pub invariant-loop-group : goal.invariant-loop-group
 invariant-loop-group l =
-    (before : List ℕ) × ((q : ℕ) → fin.contains_key l.seen q ≡ is_among before q) × (repeated_after (joint_of l.tables l.seat) before (drop l.group-index l.groups) ≡ repeated_after (joint_of l.tables l.seat) [] l.groups)
+    (before : List ℕ) × ((q : ℕ) → fin.contains_key l.seen q ≡ is_among before q) × (repeated_after (joint_of l.tables l.seat) before l.group-iterator ≡ repeated_after (joint_of l.tables l.seat) [] l.groups)

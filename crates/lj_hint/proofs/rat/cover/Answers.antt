@@ -48,7 +48,7 @@ returns-in-Err g c =
     (λ x one.
     ap (λ (h : List ℤ). rat_told (rat_over (from_literals h) q named es)) (sym c.loop-number.invariant.same)
     ∙ sym c.loop-number.invariant.told
-    ∙ candidate_refused a q named es i n d c.loop-number.covered.items x is (told ∙ one))
+    ∙ candidate_refused a q named es i n d c.loop-number.covered x is (told ∙ one))
     replies.reply
 
 pub loop-number-preserved : goal.loop-number-preserved
@@ -76,9 +76,9 @@ loop-number-preserved g c =
     let later : List ℤ → List HintGroup → Type 0 = λ h gs. behind_groups gs (rat_told (rat_over (from_literals h) q named (drop (i + 1) es))) ≡ rat_told (rat_over (from_literals h) q named es) in
     record {
       same = replies.back ∙ c.loop-number.invariant.same;
-      told = subst (λ (h : List ℤ). later h c.add.new.groups.items) (sym replies.back)
+      told = subst (λ (h : List ℤ). later h c.add.new.groups) (sym replies.back)
           (subst (later c.loop-number.held) (sym c.in_ok-add-in-Ok.ensures)
-          (candidate_covered a q named es i n d c.loop-number.covered.items c.in-Ok.group is told ∙ c.loop-number.invariant.told));
+          (candidate_covered a q named es i n d c.loop-number.covered c.in-Ok.group is told ∙ c.loop-number.invariant.told));
       placed = c.loop-number.invariant.placed;
     }
 
@@ -94,7 +94,7 @@ returns g c =
     let are = candidate_numbers live c.args.pivot _ ns c.negated.ensures (c.deref-number-items.ensures.value ∙ c.in_ok-numbers.ensures) in
     ap (λ (h : List ℤ). rat_told (rat_over (from_literals h) q named es)) (sym c.loop-number.invariant.same)
     ∙ sym c.loop-number.invariant.told
-    ∙ all_covered (from_literals c.loop-number.held) q named es i c.loop-number.covered.items (omega (arith, ap length are, length-map es first))
+    ∙ all_covered (from_literals c.loop-number.held) q named es i c.loop-number.covered (omega (arith, ap length are, length-map es first))
 
 pub hints_for-hints-requires : goal.hints_for-hints-requires
 hints_for-hints-requires g c = c.loop-number.invariant.placed

@@ -12,7 +12,7 @@ use Rattle.lj_hint.proofs.rat.cover.Given as goal
 abbrev pub invariant-loop-number : goal.invariant-loop-number
 invariant-loop-number g l = record {
   same : l.held ≡ l.initial.held;
-  told : behind_groups l.covered.items (rat_told (rat_over (from_literals l.held) l.pivot (g.G.GroupList.groups l.groups) (drop l.number-index (candidates (g.L.Live.live l.live) l.pivot))))
+  told : behind_groups l.covered (rat_told (rat_over (from_literals l.held) l.pivot (g.G.GroupList.groups l.groups) (drop l.number-index (candidates (g.L.Live.live l.live) l.pivot))))
       ≡ rat_told (rat_over (from_literals l.held) l.pivot (g.G.GroupList.groups l.groups) (candidates (g.L.Live.live l.live) l.pivot));
   placed : IfSome l.places (λ places. (n : ℕ) → group_at (g.G.GroupList.groups l.groups) (get nat_cmp places n) ≡ group_of n (g.G.GroupList.groups l.groups));
 }

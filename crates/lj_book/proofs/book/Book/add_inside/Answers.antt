@@ -46,7 +46,7 @@ enter_addition-requires-clause-unheld c =
     let sound = IsSound-reached s c.self.invariant.reached in
     let step = c.new-step.result in
     let joint : c.next-joint.result ≡ next s = c.next-joint.ensures ∙ ap next (sym c.self.view_is) in
-    let lent : step ≡ addition_of_parts (next s) a.lemma (c.recorded_line.new.hints, c.in-Ok.groups) = c.new-step.ensures ∙ (λ i. addition_of_parts (joint i) a.lemma (c.recorded_line.new.hints, c.as_slice.ensures i)) in
+    let lent : step ≡ addition_of_parts (next s) a.lemma (c.recorded_line.new.hints, c.in-Ok.groups) = c.new-step.ensures ∙ (λ i. addition_of_parts (joint i) a.lemma (c.recorded_line.new.hints, c.in-Ok.groups)) in
     let room : addition_count s.history < s.max_steps = let counted = c.self.invariant.additions in omega arith in
     let passed : inside_line s seat a ≡ Ok step = parts_passed c.self.inside.ledger.live s seat a step c.self.invariant.lives free (c.in-Ok.ensures.reply (next s) ∙ ap Ok (sym lent)) room in
     (line_can s seat a step sound passed).1
@@ -60,7 +60,7 @@ invariant_of-self-2 c =
     let sound = IsSound-reached s c.self.invariant.reached in
     let step = c.new-step.result in
     let joint : c.next-joint.result ≡ next s = c.next-joint.ensures ∙ ap next (sym c.self.view_is) in
-    let lent : step ≡ addition_of_parts (next s) a.lemma (c.recorded_line.new.hints, c.in-Ok.groups) = c.new-step.ensures ∙ (λ i. addition_of_parts (joint i) a.lemma (c.recorded_line.new.hints, c.as_slice.ensures i)) in
+    let lent : step ≡ addition_of_parts (next s) a.lemma (c.recorded_line.new.hints, c.in-Ok.groups) = c.new-step.ensures ∙ (λ i. addition_of_parts (joint i) a.lemma (c.recorded_line.new.hints, c.in-Ok.groups)) in
     let room : addition_count s.history < s.max_steps = let counted = c.self.invariant.additions in omega arith in
     let passed : inside_line s seat a ≡ Ok step = parts_passed c.self.inside.ledger.live s seat a step c.self.invariant.lives free (c.in-Ok.ensures.reply (next s) ∙ ap Ok (sym lent)) room in
     let place : c.len-place.result ≡ length s.history = c.len-place.ensures.len ∙ ap (λ h. length h.entries) c.history.ensures ∙ (λ i. length (c.in-Ok.ensures.same i).history.entries) in
@@ -81,7 +81,7 @@ returns-clause-reply c =
     let sound = IsSound-reached s c.self.invariant.reached in
     let step = c.new-step.result in
     let joint : c.next-joint.result ≡ next s = c.next-joint.ensures ∙ ap next (sym c.self.view_is) in
-    let lent : step ≡ addition_of_parts (next s) a.lemma (c.recorded_line.new.hints, c.in-Ok.groups) = c.new-step.ensures ∙ (λ i. addition_of_parts (joint i) a.lemma (c.recorded_line.new.hints, c.as_slice.ensures i)) in
+    let lent : step ≡ addition_of_parts (next s) a.lemma (c.recorded_line.new.hints, c.in-Ok.groups) = c.new-step.ensures ∙ (λ i. addition_of_parts (joint i) a.lemma (c.recorded_line.new.hints, c.in-Ok.groups)) in
     let room : addition_count s.history < s.max_steps = let counted = c.self.invariant.additions in omega arith in
     let passed : inside_line s seat a ≡ Ok step = parts_passed c.self.inside.ledger.live s seat a step c.self.invariant.lives free (c.in-Ok.ensures.reply (next s) ∙ ap Ok (sym lent)) room in
     let place : c.len-place.result ≡ length s.history = c.len-place.ensures.len ∙ ap (λ h. length h.entries) c.history.ensures ∙ (λ i. length (c.in-Ok.ensures.same i).history.entries) in
@@ -99,7 +99,7 @@ returns-clause-ok c =
     let sound = IsSound-reached s c.self.invariant.reached in
     let step = c.new-step.result in
     let joint : c.next-joint.result ≡ next s = c.next-joint.ensures ∙ ap next (sym c.self.view_is) in
-    let lent : step ≡ addition_of_parts (next s) a.lemma (c.recorded_line.new.hints, c.in-Ok.groups) = c.new-step.ensures ∙ (λ i. addition_of_parts (joint i) a.lemma (c.recorded_line.new.hints, c.as_slice.ensures i)) in
+    let lent : step ≡ addition_of_parts (next s) a.lemma (c.recorded_line.new.hints, c.in-Ok.groups) = c.new-step.ensures ∙ (λ i. addition_of_parts (joint i) a.lemma (c.recorded_line.new.hints, c.in-Ok.groups)) in
     let room : addition_count s.history < s.max_steps = let counted = c.self.invariant.additions in omega arith in
     let passed : inside_line s seat a ≡ Ok step = parts_passed c.self.inside.ledger.live s seat a step c.self.invariant.lives free (c.in-Ok.ensures.reply (next s) ∙ ap Ok (sym lent)) room in
     let place : c.len-place.result ≡ length s.history = c.len-place.ensures.len ∙ ap (λ h. length h.entries) c.history.ensures ∙ (λ i. length (c.in-Ok.ensures.same i).history.entries) in

@@ -30,7 +30,7 @@ returns-in-Ok-enter_line-clause-told c =
     let s : State = c.args.self.now in
     let told = c.in-Ok.ensures in
     let step = addition_of_parts (next s) c.args.addition.now.lemma (c.inside_line.new.hints, c.in-Ok.groups) in
-    let lent : c.new-step.result ≡ step = c.new-step.ensures ∙ (λ i. addition_of_parts ((c.next.ensures ∙ ap next told.same) i) c.args.addition.now.lemma (c.inside_line.new.hints, c.as_slice.ensures i)) in
+    let lent : c.new-step.result ≡ step = c.new-step.ensures ∙ (λ i. addition_of_parts ((c.next.ensures ∙ ap next told.same) i) c.args.addition.now.lemma (c.inside_line.new.hints, c.in-Ok.groups)) in
     let e = entered s c.args.seat c.args.addition.now step told.reply in
     c.in-Ok-entry_of_line.ensures ∙ ap (λ (a : Addition). line_entry c.args.seat c.args.addition.now.number a) lent ∙ sym (entered_entry s c.args.seat c.args.addition.now step e.0 (IsSound-reached s told.reached) e.1)
 
@@ -39,7 +39,7 @@ returns-in-Ok-enter_line-clause-ok c =
     let s : State = c.args.self.now in
     let told = c.in-Ok.ensures in
     let step = addition_of_parts (next s) c.args.addition.now.lemma (c.inside_line.new.hints, c.in-Ok.groups) in
-    let lent : c.new-step.result ≡ step = c.new-step.ensures ∙ (λ i. addition_of_parts ((c.next.ensures ∙ ap next told.same) i) c.args.addition.now.lemma (c.inside_line.new.hints, c.as_slice.ensures i)) in
+    let lent : c.new-step.result ≡ step = c.new-step.ensures ∙ (λ i. addition_of_parts ((c.next.ensures ∙ ap next told.same) i) c.args.addition.now.lemma (c.inside_line.new.hints, c.in-Ok.groups)) in
     let e = entered s c.args.seat c.args.addition.now step told.reply in
     c.in-Ok-enter_line.ensures.ok
     ∙ ap (λ (t : State). after_entry t (line_entry c.args.seat c.args.addition.now.number c.new-step.result)) told.same

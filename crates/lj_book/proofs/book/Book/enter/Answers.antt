@@ -33,7 +33,7 @@ invariant_of-self-2 c =
     let made : ℕ → ℕ → Entry = λ seat own. record { seat = seat; call = calls.Add own step.lemma; step = Some (steps.Add step) } in
     let entry : Entry = made c.seat-seat.result c.own-own.result in
     let is_entry : entry ≡ entry_with (c.len.result + 1 + c.from.result) r = (λ i. made (c.seat-seat.ensures i) (c.own-own.ensures i)) ∙ c.requires.step (c.len.result + 1 + c.from.result) in
-    let lent : c.new-step.result ≡ step = c.new-step.ensures ∙ ap (λ (gs : List HintGroup). addition_of_parts (c.len.result + 1 + c.from.result) c.args.step.lemma (c.args.step.hints, gs)) c.as_slice-groups.ensures in
+    let lent : c.new-step.result ≡ step = c.new-step.ensures in
     let pushed : c.enter_addition.new.ledger.history.entries ≡ s.history ++ entry ∷ [] = c.in_ok-enter_addition.ensures.entries ∙ ap (λ (a : Addition). s.history ++ record { seat = c.seat-seat.result; call = calls.Add c.own-own.result a.lemma; step = Some (steps.Add a) } ∷ []) lent in
     let is_lemma : c.args.step.lemma ≡ r.lemma = ap (λ (e : Entry). lemma_called e.call r.lemma) (c.requires.step (c.len.result + 1 + c.from.result)) in
     let is = committed_state s r (c.len.result + 1 + c.from.result) entry c.enter_addition.new.tables c.enter_addition.new.ledger.history.entries joint is_entry (c.in_ok-enter_addition.ensures.tables ∙ ap (λ (a : Addition). with_table (λ (t : Table). fin.insert t c.own-own.result a.number) s.tables c.seat-seat.result) lent ∙ (λ i. with_table (λ (t : Table). fin.insert t (c.own-own.ensures i) (c.len.result + 1 + c.from.result)) s.tables (c.seat-seat.ensures i))) pushed in
@@ -53,7 +53,7 @@ returns-clause-ok c =
     let made : ℕ → ℕ → Entry = λ seat own. record { seat = seat; call = calls.Add own step.lemma; step = Some (steps.Add step) } in
     let entry : Entry = made c.seat-seat.result c.own-own.result in
     let is_entry : entry ≡ entry_with (c.len.result + 1 + c.from.result) r = (λ i. made (c.seat-seat.ensures i) (c.own-own.ensures i)) ∙ c.requires.step (c.len.result + 1 + c.from.result) in
-    let lent : c.new-step.result ≡ step = c.new-step.ensures ∙ ap (λ (gs : List HintGroup). addition_of_parts (c.len.result + 1 + c.from.result) c.args.step.lemma (c.args.step.hints, gs)) c.as_slice-groups.ensures in
+    let lent : c.new-step.result ≡ step = c.new-step.ensures in
     let pushed : c.enter_addition.new.ledger.history.entries ≡ s.history ++ entry ∷ [] = c.in_ok-enter_addition.ensures.entries ∙ ap (λ (a : Addition). s.history ++ record { seat = c.seat-seat.result; call = calls.Add c.own-own.result a.lemma; step = Some (steps.Add a) } ∷ []) lent in
     let is = committed_state s r (c.len.result + 1 + c.from.result) entry c.enter_addition.new.tables c.enter_addition.new.ledger.history.entries joint is_entry (c.in_ok-enter_addition.ensures.tables ∙ ap (λ (a : Addition). with_table (λ (t : Table). fin.insert t c.own-own.result a.number) s.tables c.seat-seat.result) lent ∙ (λ i. with_table (λ (t : Table). fin.insert t (c.own-own.ensures i) (c.len.result + 1 + c.from.result)) s.tables (c.seat-seat.ensures i))) pushed in
     is ∙ ap (λ (t : State). after_entry t (commit_entry t r)) c.self.view_is

@@ -1,4 +1,4 @@
-use Rattle.std.proofs.Common.{◌≡◌, ℕ, ℤ, List, [], ◌∷◌, ◌++◌, map, ap, ◌∙◌, refl}
+use Rattle.std.proofs.Common.{◌≡◌, ℕ, ℤ, List, [], ◌∷◌, ◌++◌, map, ap, ◌∙◌}
 use Rattle.std.specs.Prelude.{flat_map}
 use Rattle.std.specs.Fmt.{decimal, signed_decimal}
 use Rattle.lj_text.specs.declared.line.Addition.{Addition}
@@ -35,4 +35,4 @@ returns-clause-given g c =
     (given_then _ _ _ _ _ c.write_numbers-rest.ensures.given
     (given_then _ _ _ _ _ c.write_groups.ensures.given
     (given_then _ _ _ _ _ c.word-2.ensures.given c.end_line.ensures.given))))))
-    ((λ i. line_of s (joint i) (literals i) (hints i) (groups i)) ∙ addition_parts a a.groups refl)
+    ((λ i. line_of s (joint i) (literals i) (hints i) (groups i)) ∙ addition_parts a)

@@ -6,7 +6,7 @@ use Rattle.lj_book.proofs.words.writing.put_groups.Given as goal
 abbrev pub invariant-loop-group : goal.invariant-loop-group
 invariant-loop-group l =
     record {
-      words : l.words.items ++ flat_map hint_group_words (drop l.group-index l.groups) ≡ l.fn.words.items ++ flat_map hint_group_words l.groups;
-      len : vec_len l.words + 3 * groups_numbers (drop l.group-index l.groups) ≤ vec_len l.fn.words + 3 * groups_numbers l.groups;
+      words : l.words.items ++ flat_map hint_group_words l.group-iterator ≡ l.fn.words.items ++ flat_map hint_group_words l.groups;
+      len : vec_len l.words + 3 * groups_numbers l.group-iterator ≤ vec_len l.fn.words + 3 * groups_numbers l.groups;
       capacity : vec_capacity l.fn.words ≤ vec_capacity l.words;
     }

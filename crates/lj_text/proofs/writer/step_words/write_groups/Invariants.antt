@@ -1,12 +1,12 @@
-use Rattle.std.proofs.Common.{◌≡◌, take}
-use Rattle.std.specs.Prelude.{flat_map}
-use Rattle.lj_text.specs.StepText.{group_words}
-use Rattle.lj_text.specs.inner.Writing.{Wrote, spaced_words}
+use Rattle.std.proofs.Common.{◌≡◌, ◌++◌}
+use Rattle.lj_text.specs.inner.Writing.{Wrote}
+use Rattle.lj_text.proofs.WrittenWords.{groups_text}
 use Rattle.lj_text.proofs.writer.step_words.write_groups.Given as goal
 
 -- the first groups are written
 abbrev pub invariant-loop-group : goal.invariant-loop-group
 invariant-loop-group g l = record {
-  wrote : Wrote (g.W.Sink.taken l.fn.sink) l.fn.held (g.W.Sink.taken l.sink) l.held (spaced_words (flat_map group_words (take l.group-index l.groups)));
+  wrote : Wrote (g.W.Sink.taken l.fn.sink) l.fn.held (g.W.Sink.taken l.sink) l.held (groups_text l.yielded);
+  left : l.groups ≡ l.yielded ++ l.group-iterator;
   unfailed : g.W.Sink.failures l.sink ≡ 0;
 }

@@ -6,5 +6,5 @@ use Rattle.lj_trim.proofs.marks.Marks.mark_numbers.Given as goal
 abbrev pub invariant-loop-number : goal.invariant-loop-number
 invariant-loop-number l = record {
   marked : Marked l.fn.self l.self l.yielded;
-  left : l.numbers ≡ l.yielded ++ l.number-iterator;
+  left : l.fn.numbers ≡ l.yielded ++ l.number-iterator;
 }

@@ -1,12 +1,12 @@
 use Rattle.std.proofs.Common.{◌≡◌, ◌++◌}
 use Rattle.lj_text.specs.inner.Writing.{Wrote}
 use Rattle.lj_text.proofs.WrittenWords.{numbers_text}
-use Rattle.lj_text.proofs.writer.step_words.write_numbers.Given as goal
+use Rattle.lj_text.proofs.writer.step_words.write_each.Given as goal
 
 -- the first numbers are written
 abbrev pub invariant-loop-number : goal.invariant-loop-number
 invariant-loop-number g l = record {
   wrote : Wrote (g.W.Sink.taken l.fn.sink) l.fn.held (g.W.Sink.taken l.sink) l.held (numbers_text l.yielded);
-  left : l.numbers ≡ l.yielded ++ l.number-iterator;
+  left : l.fn.numbers ≡ l.yielded ++ l.number-iterator;
   unfailed : g.W.Sink.failures l.sink ≡ 0;
 }
