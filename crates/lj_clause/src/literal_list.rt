@@ -53,7 +53,7 @@ impl LiteralList {
         }
     }
 
-    /// These literals.
+    /// These literals. Takes time linear in them.
     ///
     /// # Errors
     /// [`NoMemory`] where a growth was refused.

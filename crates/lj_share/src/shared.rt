@@ -87,7 +87,7 @@ impl<L: Opening> Shared<L> {
     /// Hands a line of the seat's prover to the book, and gives the token of its entry. An addition without groups whose hints
     /// name clauses that the seat knows by itself is tested outside the lock and then committed; others, and those whose walk
     /// stays open, are tested and entered under the lock. Takes O(log n) time for each number of the line, and time linear in
-    /// the literals of its hints; under the lock, the time of [`Book::add_inside`].
+    /// the literals of its hints; under the lock, the time of [`Book::add_inside`] or [`Book::import`].
     ///
     /// # Errors
     /// The refusals of [`Book`]'s calls.
@@ -280,8 +280,8 @@ impl<L: Opening> Shared<L> {
         self.desk.lock(rt).book().take(seat.number(), addition)
     }
 
-    /// Enters the lemma of a receipt of this seat, while the clauses that it lists still live. Takes the time of
-    /// [`Book::commit`].
+    /// Enters the lemma of a receipt of this seat, while the clauses that it lists still live. Takes O(log n) time for each of
+    /// them, and time linear in their literals and in those of the lemma.
     ///
     /// # Errors
     /// With the receipt, as [`Book::commit`].
@@ -341,7 +341,8 @@ impl<L: Opening> Shared<L> {
         told
     }
 
-    /// Binds the seat's own number to a joint number that lives. Takes the time of [`Book::adopt`].
+    /// Binds the seat's own number to a joint number that lives. Takes the time of [`Book::adopt`], and time linear in the
+    /// clause's literals, of which the seat takes a copy.
     ///
     /// # Errors
     /// As [`Book::adopt`].
@@ -361,7 +362,8 @@ impl<L: Opening> Shared<L> {
         self.desk.lock(rt).adopt(seat, own, joint)
     }
 
-    /// Ends the seat's bindings. Its later calls are refused. Takes the time of [`Book::leave`].
+    /// Ends the seat's bindings. Its later calls are refused. Takes the time of [`Book::leave`], and time linear in what the
+    /// seat knows by itself, which it lets go of.
     ///
     /// # Errors
     /// As [`Book::leave`].
@@ -415,7 +417,8 @@ impl<L: Opening> Shared<L> {
         }
     }
 
-    /// Gives the book out of the lock, where all seats are handed in. Takes no memory.
+    /// Gives the book out of the lock, where all seats are handed in. Takes no memory, and time linear in the seats and in
+    /// what is let go of: what they know by themselves, and the formula that they read without the lock.
     ///
     /// # Errors
     /// [`SeatsOut`], with all that was handed in, where some seat is missing.

@@ -54,7 +54,11 @@ impl<S: Sink> Sink for &mut S {
     }
 }
 
-/// Puts all of the bytes. After a failure a beginning of them was taken, and not all.
+/// Puts all of the bytes. After a failure a beginning of them was taken, and not all. Takes the time of as many puts as the
+/// sink takes pieces: at most one for each byte.
+///
+/// # Errors
+/// [`SinkFault`] where a put failed.
 pub fn write_all<S: Sink>(sink: &mut S, bytes: &[u8]) -> Result<(), SinkFault>
     requires { S.failures sink.old ≡ 0 }
 

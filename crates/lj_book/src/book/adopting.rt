@@ -35,8 +35,10 @@ impl Book {
         Ok(self.bind_live(seat, own, joint, None)?)
     }
 
-    /// Binds the seat's own number to the least live number with exactly this clause. Takes time linear in the live
-    /// clauses that hold that literal of it which the fewest hold, and the first time in all live clauses.
+    /// Binds the seat's own number to the least live number with exactly this clause. Takes time linear in the clause's
+    /// literals, and that again for each clause that holds the literal of it which the fewest hold; those that died since
+    /// one asked for this literal count too. The first time it takes time linear in all joint numbers given so far and in the
+    /// literals of the live clauses.
     ///
     /// # Errors
     /// [`Refusal::SeatGone`], [`Refusal::NumberTaken`], [`Refusal::NoSuchClause`] where no clause with exactly these

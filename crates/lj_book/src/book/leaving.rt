@@ -10,7 +10,8 @@ use lj_text::Numbers;
 
 impl Book {
     /// Ends the bindings of a seat, which is then gone. The clauses that no seat holds any more die in the same entry,
-    /// whose place in the history is the answer. Takes O(log n) time for each binding.
+    /// whose place in the history is the answer. Takes O(log n) time for each binding, and time linear in the clauses of the
+    /// formula and in how often the seat has bound a number.
     ///
     /// # Errors
     /// [`Refusal::SeatGone`], and [`Refusal::NoMemory`] where a growth was refused.

@@ -60,8 +60,9 @@ impl CnfReader {
         }
     }
 
-    /// Takes the next piece of the text, which may be empty. Takes time linear in the piece, and in what is held of the line
-    /// that it ends.
+    /// Takes the next piece of the text, which may be empty. Takes time linear in the piece, in what is held of the line that
+    /// it ends and in the literals of the clauses that it closes, and O(n log n) time for literals of one that stand in no
+    /// order.
     ///
     /// # Errors
     /// The fault of every text that begins with what was fed, or `NoMemory`; and from then on that fault again.
@@ -101,8 +102,8 @@ impl CnfReader {
         Ok(())
     }
 
-    /// Ends the text: the formula that it spells. Takes time linear in the last
-    /// line and in all clauses with their literals.
+    /// Ends the text: the formula that it spells. Takes the time of [`CnfReader::feed`] for the last line, and time linear in
+    /// all clauses with their literals.
     ///
     /// # Errors
     /// The text's fault, or `NoMemory`; a fault that was told before is told again.

@@ -5,7 +5,8 @@ ghost use Rattle.lj_text.specs.LinesRead.{HasNoLineEnd};
 
 use memchr::memchr;
 
-/// The bytes before the first line feed, and those after it, where it isn't among the first `searched`.
+/// The bytes before the first line feed, and those after it, where it isn't among the first `searched`. Takes time linear in
+/// the bytes behind those, up to it.
 pub(crate) fn first_line(bytes: &[u8], searched: usize) -> Option<(&[u8], &[u8])>
     requires within { searched ≤ length bytes.now }
     requires none_before { HasNoLineEnd (take searched bytes.now) }

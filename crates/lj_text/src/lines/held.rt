@@ -52,7 +52,10 @@ impl Held {
         }
     }
 
-    /// Takes a piece behind what is held.
+    /// Takes a piece behind what is held. Takes time linear in the piece, amortized.
+    ///
+    /// # Errors
+    /// [`AllocError`] where a growth was refused, and then nothing has changed.
     pub fn push(&mut self, piece: &[u8]) -> Result<(), AllocError>
         ensures ok { OnOk result (self.new ≡ self.old ++ piece.now) }
         ensures err { OnErr result (self.new ≡ self.old) }
@@ -109,7 +112,8 @@ impl Held {
         last
     }
 
-    /// The first line; no line ends among the first `searched` bytes.
+    /// The first line; no line ends among the first `searched` bytes. Takes time linear in the bytes behind those, up to
+    /// its end.
     #[inline(always)]
     pub fn first_line(&self, searched: usize) -> Option<&[u8]>
         requires within { searched ≤ length self.now }
@@ -123,7 +127,7 @@ impl Held {
         Some(line)
     }
 
-    /// Lets go of the first bytes, which end a line.
+    /// Lets go of the first bytes, which end a line. Takes constant time, but for the runs that it lets go of.
     #[inline(always)]
     pub fn pass_line(&mut self, count: usize)
         requires within { count ≤ length self.old }
@@ -141,7 +145,7 @@ impl Held {
         }
     }
 
-    /// Lets go of all but the last bytes, which begin a line.
+    /// Lets go of all but the last bytes, which begin a line. Takes time linear in the runs that it lets go of.
     #[cold]
     pub fn keep_last(&mut self, count: u128)
         requires within { count ≤ length self.old }
@@ -206,7 +210,8 @@ impl<'a> Ahead<'a> {
         self.front.len()
     }
 
-    /// The bytes before the first line feed, and those after it, where it isn't among the first `searched`.
+    /// The bytes before the first line feed, and those after it, where it isn't among the first `searched`. Takes time linear
+    /// in the bytes behind those, up to it.
     pub fn first_line(&self, searched: usize) -> Option<(&'a [u8], Ahead<'a>)>
         requires within { searched ≤ length self.now }
         requires none_before { HasNoLineEnd (take searched self.now) }
