@@ -10,9 +10,7 @@ pub(crate) fn same_step(step: &Step, other: &Step) -> bool
 {
     match (step, other) {
         (Step::Add(addition), Step::Add(other)) => same_addition(addition, other),
-        (Step::Delete { numbers }, Step::Delete { numbers: others }) => {
-            numbers.same(others)
-        }
+        (Step::Delete { numbers }, Step::Delete { numbers: others }) => { numbers.same(others) }
         _ => false,
     }
 }

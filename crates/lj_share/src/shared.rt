@@ -163,11 +163,7 @@ impl<L: Opening> Shared<L> {
     ///
     /// # Errors
     /// [`Refusal::HintNotUnit`].
-    fn ready_alone(
-        &self,
-        seat: &mut Seat<L>,
-        addition: &Addition,
-    ) -> Option<Result<Ready, Refusal>>
+    fn ready_alone(&self, seat: &mut Seat<L>, addition: &Addition) -> Option<Result<Ready, Refusal>>
         ensures seat { IfSome result
             (λ answer. IfOk answer (λ ready. ready.seat ≡ seat.old.number)) }
         ensures own { IfSome result

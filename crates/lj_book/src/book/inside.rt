@@ -29,8 +29,9 @@ impl Book {
     /// al., CADE 2017). The room may have served any walk before.
     ///
     /// Takes O(log n) time for each number of the line and each hint that is read, and constant time for each literal
-    /// of these hints. Where the first list stays open, takes time linear in the candidates too, and the first time in
-    /// the live clauses.
+    /// of the lemma and of these hints. Where the first list stays open, takes constant time for each literal of the
+    /// candidates too, and for each clause that held the pivot's negation and died since one asked for it; and the first
+    /// time that one stays open, time linear in the live clauses with their literals.
     ///
     /// # Errors
     /// The first that holds of [`Refusal::SeatGone`], [`Refusal::NumberTaken`], [`Refusal::UnknownNumber`],

@@ -268,11 +268,7 @@ impl Book {
 ///
 /// # Errors
 /// [`NoMemory`] where a growth was refused.
-fn entry_of_line(
-    seat: u32,
-    own: u64,
-    step: &LentAddition<'_>,
-) -> Result<Entry, NoMemory>
+fn entry_of_line(seat: u32, own: u64, step: &LentAddition<'_>) -> Result<Entry, NoMemory>
     ensures { IfOk result (λ entry. entry ≡ line_entry seat own step.now) }
 {
     let call = Call::Add {

@@ -1,5 +1,5 @@
 -- Groups in one row of numbers.
-use Rattle.std.specs.Prelude.{◌≡◌, ℕ, zero, suc, ◌+◌, List, [], ◌∷◌, ◌++◌, length, take, drop, Option, Some, None, Box}
+use Rattle.std.specs.Prelude.{◌≡◌, ℕ, zero, suc, List, [], ◌∷◌, ◌++◌, length, take, drop, Option, Some, None, Box}
 use Rattle.lj_clause.specs.Rat.{HintGroup}
 use Rattle.std.specs.declared.alloc.Global.{Global}
 

@@ -1,4 +1,4 @@
-use Rattle.std.proofs.Common.{◌≡◌, drop}
+use Rattle.std.proofs.Common.{◌≡◌}
 use Rattle.lj_book.specs.Tables.{joint_of}
 use Rattle.lj_book.specs.inner.JointLines.{joint_groups_in}
 use Rattle.lj_book.specs.inner.Fronts.{with_front}

@@ -1,4 +1,4 @@
-use Rattle.std.proofs.Common.{◌≡◌, drop}
+use Rattle.std.proofs.Common.{◌≡◌}
 use Rattle.lj_hint.specs.Case.{groups_of}
 use Rattle.lj_book.specs.Calls.{group_pairs_of, pair_in}
 use Rattle.lj_book.specs.inner.Fronts.{with_front}

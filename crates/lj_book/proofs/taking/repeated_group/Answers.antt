@@ -1,11 +1,9 @@
-use Rattle.std.proofs.Common.{ap, sym, ◌∙◌, refl}
-use Rattle.std.specs.Prelude.{List, [], ◌∷◌}
-use Rattle.std.specs.FinMap as fin
-use Rattle.std.specs.Ordering.{nat_cmp}
+use Rattle.std.proofs.Common.{ap, sym, ◌∙◌}
+use Rattle.std.specs.Prelude.{[], ◌∷◌}
 use Rattle.lj_clause.specs.Rat.{HintGroup}
 use Rattle.lj_book.specs.Tables.{joint_of}
 use Rattle.lj_book.specs.Calls.{repeated_after}
-use Rattle.lj_book.proofs.TakeLaws.{repeated-new, repeated-none, seen-none, seen-more}
+use Rattle.lj_book.proofs.TakeLaws.{repeated-new, seen-none, seen-more}
 use Rattle.lj_book.proofs.taking.repeated_group.Goals as goal
 
 pub loop-group-init : goal.loop-group-init
@@ -18,11 +16,10 @@ loop-group-preserved-in-Continue-1 c =
     let has = c.loop-group.invariant.1 in
     let same = c.loop-group.invariant.2 in
     let j = c.in-Some-joint.joint in
-    let at = ap (λ (h : HintGroup). joint h.candidate) (sym c.group.view_is) ∙ sym c.joint.ensures ∙ c.in-Some-joint.is in
-    (
+    let at = ap (λ (h : HintGroup). joint h.candidate) (sym c.group.view_is) ∙ sym c.joint.ensures ∙ c.in-Some-joint.is in (
       j ∷ before,
       seen-more c.loop-group.seen c.insert.new.self before j has c.in_ok-insert.ensures.ok,
       repeated-new joint before c.in-Some.group c.next.new.self j at (sym (has j) ∙ sym c.contains_key.ensures ∙ c.if-contains_key.false)
-      ∙ ap (repeated_after joint before) (sym c.in-Some.ensures.steps)
-      ∙ same,
+          ∙ ap (repeated_after joint before) (sym c.in-Some.ensures.steps)
+          ∙ same,
     )

@@ -1,4 +1,4 @@
-use Rattle.std.proofs.Common.{◌≡◌, drop, ℕ}
+use Rattle.std.proofs.Common.{◌≡◌, ℕ}
 use Rattle.std.specs.Prelude.{List, []}
 use Rattle.std.specs.FinMap as fin
 use Rattle.lj_book.specs.Tables.{joint_of, is_among}

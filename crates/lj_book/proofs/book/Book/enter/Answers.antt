@@ -1,7 +1,6 @@
 use Rattle.std.proofs.Common.{◌≡◌, ap, sym, ◌∙◌, subst, ℕ, ◌+◌}
-use Rattle.std.specs.Prelude.{List, [], ◌∷◌, ◌++◌, Option, Some, length}
+use Rattle.std.specs.Prelude.{[], ◌∷◌, ◌++◌, Option, Some, length}
 use Rattle.std.specs.FinMap as fin
-use Rattle.lj_clause.specs.Rat.{HintGroup}
 use Rattle.lj_text.specs.declared.line.Addition.{Addition}
 use Rattle.lj_text.specs.declared.step.Step.TheVariants as steps
 use Rattle.lj_book.specs.declared.entry.Call.TheVariants as calls
@@ -11,7 +10,6 @@ use Rattle.lj_book.specs.Tables.{Table, with_table, is_held}
 use Rattle.lj_book.specs.inner.Kept.{IsKept, refuted_after}
 use Rattle.lj_book.specs.History.{after_entry}
 use Rattle.lj_book.specs.Calls.{commit_refusal, commit_entry, entry_with}
-use Rattle.lj_book.specs.inner.JointLines.{addition_of_parts}
 use Rattle.lj_book.specs.inner.Ready.{numbered}
 use Rattle.lj_book.proofs.HistoryLaws.{IsSound-reached}
 use Rattle.lj_book.proofs.CommitLaws.{IsKept-commit, committed_state, not_held_at_next, can_commit, lemma_called}

@@ -1,4 +1,3 @@
-use Rattle.std.proofs.Common.{drop}
 use Rattle.lj_book.specs.inner.Words.{many_in, hint_group_in, Matches}
 use Rattle.lj_book.proofs.words.matching.are_groups.Given as goal
 

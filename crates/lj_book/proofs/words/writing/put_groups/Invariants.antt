@@ -1,4 +1,4 @@
-use Rattle.std.proofs.Common.{◌≡◌, ◌+◌, ◌*◌, ◌≤◌, ◌++◌, vec_len, vec_capacity, drop}
+use Rattle.std.proofs.Common.{◌≡◌, ◌+◌, ◌*◌, ◌≤◌, ◌++◌, vec_len, vec_capacity}
 use Rattle.std.specs.Prelude.{flat_map}
 use Rattle.lj_book.specs.inner.Words.{hint_group_words, groups_numbers}
 use Rattle.lj_book.proofs.words.writing.put_groups.Given as goal
