@@ -115,7 +115,7 @@ impl Book {
 
     /// The numbers of the live clauses that hold a literal, rising. Once an addition or an import has asked for clauses by
     /// their literals, takes time linear in them and in those that died since one asked for this literal; before, in all
-    /// live clauses.
+    /// joint numbers that were given, and O(log n) for each live clause.
     ///
     /// # Errors
     /// [`NoMemory`] where a growth was refused.
@@ -219,7 +219,8 @@ impl Book {
         case_of(alloc, &self.tables, &self.ledger, seat, addition)
     }
 
-    /// Enters the lemma of a receipt, while the clauses that it lists still live. Takes O(log n) time for each of them.
+    /// Enters the lemma of a receipt, while the clauses that it lists still live. Takes O(log n) time for each of them, and
+    /// time linear in their literals and in those of the lemma.
     ///
     /// # Errors
     /// With the receipt: [`Refusal::SeatGone`], [`Refusal::NumberTaken`], [`Refusal::Stale`], [`Refusal::Full`], and
