@@ -12,6 +12,11 @@ use std::test::Fail;
 /// The literals that clauses are made of.
 const LITERALS: [i32; 8] = [1, -1, 2, -2, 3, -3, 4, -4];
 
+/// How many events most lists have, and how many each hundredth has: enough that a literal's list holds more dead numbers
+/// than live ones, and that far own numbers come near.
+const FEW_EVENTS: u64 = 24;
+const MANY_EVENTS: u64 = 400;
+
 /// Own numbers: those of the formula's clauses, some near and some far beyond them.
 const OWN: [u64; 12] = [
     1,
@@ -49,8 +54,11 @@ impl Random {
     }
 
     fn own(&mut self) -> u64 {
-        let at = self.below(12) as usize;
-        OWN.get(at).copied().unwrap_or(1)
+        let at = self.below(20) as usize;
+        match OWN.get(at) {
+            Some(own) => *own,
+            None => 8 + self.below(48),
+        }
     }
 
     /// Three literals at most.
@@ -337,7 +345,12 @@ fn play_next(
 fn play_list(rt: &impl Abort, alloc: Global, seed: u64) -> Result<(), Fail> {
     let mut random = Random(seed);
     let (mut book, mut plain) = opened(rt, alloc, &mut random)?;
-    for _ in 0..24 {
+    let events = if seed % 100 == 0 {
+        MANY_EVENTS
+    } else {
+        FEW_EVENTS
+    };
+    for _ in 0..events {
         play_next(rt, alloc, &mut random, &mut book, &mut plain)?;
         assert_scanned(rt, alloc, &book, &plain, random.literal())?;
     }
