@@ -1,12 +1,27 @@
 -- Stamps in pages.
-use Rattle.std.proofs.Common.{◌≡◌, ap, refl, sym, ◌∙◌, ℕ, zero, suc, ◌-◌, ◌<◌, ◌≤◌, ◌/◌, ◌%◌, true, false, cond, arith, get_or, take, length}
+use Rattle.std.proofs.Common.{◌≡◌, ap, refl, sym, ◌∙◌, ℕ, zero, suc, ◌-◌, ◌*◌, ◌<◌, ◌≤◌, ◌/◌, ◌%◌, true, false, cond, arith, get_or, take, length}
 use Rattle.std.specs.Prelude.{◌==◌, List, [], ◌∷◌, ◌++◌, replicate, slice_index, slice_index_or, slice_set, if◌then◌else◌}
 use Rattle.std.proofs.lemmas.Bool.Decides.{nat_tests}
 use Rattle.std.proofs.lemmas.List.{get_or-set_other, get_or_read, get_or_past, set-get_or, take_all}
 use Rattle.std.proofs.lemmas.Grind.{get_or-set_at}
 use Rattle.std.specs.Prelude.{Result, Ok, Err, OnErr}
 use Rattle.std.proofs.lemmas.Bool.{eqb-true, eqb-false}
-use Rattle.lj_hint.specs.inner.Stamps.{page_at, page_stamp}
+use Rattle.std.specs.Prelude.{nat_lt, unwrap_or, Some, None}
+use Rattle.std.specs.Map.{lookup}
+use Rattle.std.specs.BTreeMap.{is_at}
+use Rattle.std.specs.Ordering.{nat_cmp}
+use Rattle.std.specs.Cmp.{unsigned_tied}
+use Rattle.std.proofs.lemmas.List.{length-set}
+use Rattle.std.proofs.Common.{◌+◌, length-append}
+use Rattle.std.proofs.Math.ListN.{get_or-append}
+use Rattle.std.proofs.Math.Seq.{get_or-append_seam}
+use Rattle.lj_hint.specs.inner.Stamps.{page_at, page_stamp, is_reached, stamp_in_page, few_stamp}
+
+below : (a b : ℕ) → nat_lt a b ≡ true → a < b
+below a b e = grind (arith, nat_tests)
+
+above : (a b : ℕ) → nat_lt a b ≡ false → b ≤ a
+above a b e = grind (arith, nat_tests)
 
 zero_at : (m q : ℕ) → slice_index (replicate m 0) q ≡ 0
 zero_at zero q = refl
@@ -30,57 +45,245 @@ written xs at v q lt =
       | false ↦ λ e. get_or-set_other xs at q v 0 (eqb-false q at e)
     ] refl
 
--- pages that are the same one by one have the same stamps
-pub same_stamps : (old new : List (List ℕ)) → ((k : ℕ) → slice_index_or new k [] ≡ slice_index_or old k []) → (q : ℕ) → page_stamp new q ≡ page_stamp old q
-unfolding page_stamp
-same_stamps old new h q = ap (λ page. slice_index page (q % 8192)) (h (q / 8192))
+-- ---- the tree
 
--- one stamp is written in its page
-pub stamped : (pages : List (List ℕ)) (place v : ℕ) (before after : List ℕ) → place / 8192 < length pages → before ≡ get_or pages (place / 8192) before → ((q : ℕ) → slice_index after q ≡ (if q == place % 8192 then v else slice_index before q)) → (q : ℕ) → page_stamp (slice_set pages (place / 8192) after) q ≡ (if q == place then v else page_stamp pages q)
-unfolding page_stamp
-stamped pages place v before after lt is h q =
-    elim (q / 8192 == place / 8192) as (λ b. (q / 8192 == place / 8192) ≡ b → slice_index (page_at (slice_set pages (place / 8192) after) (q / 8192)) (q % 8192) ≡ (if q == place then v else slice_index (page_at pages (q / 8192)) (q % 8192))) [
-      | true ↦ λ e.
-          let there : q / 8192 ≡ place / 8192 = eqb-true (q / 8192) (place / 8192) e in
-          ap (λ page. slice_index page (q % 8192)) (get_or-set_at pages (place / 8192) (q / 8192) after [] there lt)
-          ∙ h (q % 8192)
-          ∙ (λ i. if same_place q place there i then v else slice_index ((is ∙ before_is there) i) (q % 8192))
-      | false ↦ λ e.
-          ap (λ page. slice_index page (q % 8192)) (get_or-set_other pages (place / 8192) (q / 8192) after [] (eqb-false (q / 8192) (place / 8192) e))
-          ∙ ap (λ b. if b then v else slice_index (page_at pages (q / 8192)) (q % 8192)) (sym (elsewhere q place e))
+-- a tree without an entry has no stamp
+pub no_few : (entries : List (ℕ × ℕ)) → entries ≡ [] → (q : ℕ) → few_stamp entries q ≡ 0
+unfolding few_stamp
+no_few entries is q = ap (λ (es : List (ℕ × ℕ)). few_stamp es q) is
+
+-- a stamp that is looked up there
+pub few_found : (entries : List (ℕ × ℕ)) (place v : ℕ) → Some v ≡ lookup (is_at (nat_cmp place)) entries → v ≡ few_stamp entries place
+unfolding few_stamp
+few_found entries place v e = ap (λ o. unwrap_or o 0) e
+
+pub few_missed : (entries : List (ℕ × ℕ)) (place : ℕ) → None ≡ lookup (is_at (nat_cmp place)) entries → 0 ≡ few_stamp entries place
+unfolding few_stamp
+few_missed entries place e = ap (λ o. unwrap_or o 0) e
+
+swapped : (k q : ℕ) → is_at (nat_cmp k) q ≡ (q == k)
+swapped k q = unsigned_tied k q ∙ turned k q
+  where
+    turned : (a b : ℕ) → (a == b) ≡ (b == a)
+    turned a b = grind (arith, nat_tests)
+
+-- a stamp is put into a tree
+pub few_put : (entries others : List (ℕ × ℕ)) (place v : ℕ) → ((q : ℕ) → lookup (is_at (nat_cmp q)) others ≡ cond (is_at (nat_cmp place) q) (Some v) (lookup (is_at (nat_cmp q)) entries)) → (q : ℕ) → few_stamp others q ≡ (if q == place then v else few_stamp entries q)
+unfolding few_stamp
+few_put entries others place v h q =
+    ap (λ o. unwrap_or o 0) (h q ∙ ap (λ b. cond b (Some v) (lookup (is_at (nat_cmp q)) entries)) (swapped place q))
+    ∙ elim (q == place) as (λ b. unwrap_or (cond b (Some v) (lookup (is_at (nat_cmp q)) entries)) 0 ≡ cond b v (few_stamp entries q)) [
+      | true ↦ refl
+      | false ↦ refl
+    ]
+
+-- a stamp is taken out of it
+pub few_taken : (entries others : List (ℕ × ℕ)) (place : ℕ) → ((q : ℕ) → lookup (is_at (nat_cmp q)) others ≡ cond (is_at (nat_cmp place) q) None (lookup (is_at (nat_cmp q)) entries)) → (q : ℕ) → few_stamp others q ≡ (if q == place then 0 else few_stamp entries q)
+unfolding few_stamp
+few_taken entries others place h q =
+    ap (λ o. unwrap_or o 0) (h q ∙ ap (λ b. cond b None (lookup (is_at (nat_cmp q)) entries)) (swapped place q))
+    ∙ elim (q == place) as (λ b. unwrap_or (cond b None (lookup (is_at (nat_cmp q)) entries)) 0 ≡ cond b 0 (few_stamp entries q)) [
+      | true ↦ refl
+      | false ↦ refl
+    ]
+
+-- ---- pages with their tree
+
+-- the stamp at a place whose page is this one
+abbrev read : List ℕ → List (ℕ × ℕ) → ℕ → ℕ
+read page few q = if nat_lt (q % 8192) (length page) then slice_index page (q % 8192) else few_stamp few q
+
+read_page : (pages : List (List ℕ)) (few : List (ℕ × ℕ)) (q : ℕ) → page_stamp (pages, few) q ≡ read (page_at pages (q / 8192)) few q
+unfolding page_stamp is_reached stamp_in_page
+read_page pages few q = refl
+
+-- pages that are the same one by one have the same stamps
+pub same_stamps : (old new : List (List ℕ)) (few : List (ℕ × ℕ)) → ((k : ℕ) → slice_index_or new k [] ≡ slice_index_or old k []) → (q : ℕ) → page_stamp (new, few) q ≡ page_stamp (old, few) q
+same_stamps old new few h q = read_page new few q ∙ ap (λ page. read page few q) (h (q / 8192)) ∙ sym (read_page old few q)
+
+-- a stamp that a page has
+pub stamp_read : (pages : List (List ℕ)) (few : List (ℕ × ℕ)) (place : ℕ) → is_reached pages place ≡ true → slice_index (page_at pages (place / 8192)) (place % 8192) ≡ page_stamp (pages, few) place
+unfolding page_stamp stamp_in_page
+stamp_read pages few place e = ap (λ b. if b then slice_index (page_at pages (place / 8192)) (place % 8192) else few_stamp few place) (sym e)
+
+-- a stamp that no page has
+pub few_read : (pages : List (List ℕ)) (few : List (ℕ × ℕ)) (place : ℕ) → is_reached pages place ≡ false → few_stamp few place ≡ page_stamp (pages, few) place
+unfolding page_stamp stamp_in_page
+few_read pages few place e = ap (λ b. if b then slice_index (page_at pages (place / 8192)) (place % 8192) else few_stamp few place) (sym e)
+
+-- a stamp that no page has is set
+pub few_set : (pages : List (List ℕ)) (few others : List (ℕ × ℕ)) (place v : ℕ) → is_reached pages place ≡ false → ((q : ℕ) → few_stamp others q ≡ (if q == place then v else few_stamp few q)) → (q : ℕ) → page_stamp (pages, others) q ≡ (if q == place then v else page_stamp (pages, few) q)
+few_set pages few others place v e h q =
+    elim (q == place) as (λ b. (q == place) ≡ b → page_stamp (pages, others) q ≡ cond b v (page_stamp (pages, few) q)) [
+      | true ↦ λ is.
+          ap (λ n. page_stamp (pages, others) n) (eqb-true q place is)
+          ∙ sym (few_read pages others place e)
+          ∙ h place
+          ∙ ap (λ b. if b then v else few_stamp few place) (itself place)
+      | false ↦ λ is.
+          read_page pages others q
+          ∙ ap (λ n. if nat_lt (q % 8192) (length (page_at pages (q / 8192))) then slice_index (page_at pages (q / 8192)) (q % 8192) else n) (h q ∙ ap (λ b. if b then v else few_stamp few q) is)
+          ∙ sym (read_page pages few q)
     ] refl
   where
+    itself : (a : ℕ) → (a == a) ≡ true
+    itself a = grind (arith, nat_tests)
+
+-- the same stamps in the tree
+pub same_few : (pages : List (List ℕ)) (few others : List (ℕ × ℕ)) → ((q : ℕ) → few_stamp others q ≡ few_stamp few q) → (q : ℕ) → page_stamp (pages, others) q ≡ page_stamp (pages, few) q
+same_few pages few others h q =
+    read_page pages others q
+    ∙ ap (λ n. if nat_lt (q % 8192) (length (page_at pages (q / 8192))) then slice_index (page_at pages (q / 8192)) (q % 8192) else n) (h q)
+    ∙ sym (read_page pages few q)
+
+none_reached : (a b : ℕ) → b ≡ 0 → false ≡ nat_lt a b
+none_reached a b e = grind (arith, nat_tests)
+
+-- whether a page reaches a place
+pub reach_read : (pages : List (List ℕ)) (place : ℕ) (page : List ℕ) → page ≡ page_at pages (place / 8192) → nat_lt (place % 8192) (length page) ≡ is_reached pages place
+unfolding is_reached
+reach_read pages place page is = ap (λ (p : List ℕ). nat_lt (place % 8192) (length p)) is
+
+-- past the last page none does
+pub past_pages : (pages : List (List ℕ)) (place : ℕ) → length pages ≤ place / 8192 → false ≡ is_reached pages place
+unfolding is_reached
+past_pages pages place le = none_reached (place % 8192) (length (page_at pages (place / 8192))) (ap length (get_or_past pages (place / 8192) [] le))
+
+-- a page that reaches a place is there
+pub reached : (pages : List (List ℕ)) (place : ℕ) → is_reached pages place ≡ true → (place / 8192 < length pages) × (place % 8192 < length (page_at pages (place / 8192)))
+unfolding is_reached
+reached pages place e = (there, within)
+  where
+    within : place % 8192 < length (page_at pages (place / 8192))
+    within = below (place % 8192) (length (page_at pages (place / 8192))) e
+
+    nothing : length (page_at pages (place / 8192)) ≡ 0 → ⊥
+    nothing none = let h = within in omega arith
+
+    there : place / 8192 < length pages
+    there = elim (nat_lt (place / 8192) (length pages)) as (λ b. nat_lt (place / 8192) (length pages) ≡ b → place / 8192 < length pages) [
+      | true ↦ λ is. below (place / 8192) (length pages) is
+      | false ↦ λ is. absurd (nothing (ap length (get_or_past pages (place / 8192) [] (above (place / 8192) (length pages) is))))
+    ] refl
+
+-- a long page reaches each of its places
+pub all_reached : (pages : List (List ℕ)) (place : ℕ) → 8192 ≤ length (page_at pages (place / 8192)) → is_reached pages place ≡ true
+unfolding is_reached
+all_reached pages place le = lower (place % 8192) (length (page_at pages (place / 8192))) (omega arith)
+  where
+    lower : (a b : ℕ) → a < b → nat_lt a b ≡ true
+    lower a b lt = grind (arith, nat_tests)
+
+-- the pages with one of them changed
+changed : (pages : List (List ℕ)) (n k : ℕ) (page : List ℕ) → n < length pages → page_at (slice_set pages n page) k ≡ (if k == n then page else page_at pages k)
+changed pages n k page lt =
+    elim (k == n) as (λ b. (k == n) ≡ b → page_at (slice_set pages n page) k ≡ cond b page (page_at pages k)) [
+      | true ↦ λ e. get_or-set_at pages n k page [] (eqb-true k n e) lt
+      | false ↦ λ e. get_or-set_other pages n k page [] (eqb-false k n e)
+    ] refl
+
+-- a stamp is written in a page
+pub page_written : (pages : List (List ℕ)) (few : List (ℕ × ℕ)) (place v : ℕ) (before after : List ℕ) → is_reached pages place ≡ true → before ≡ get_or pages (place / 8192) before → after ≡ slice_set before (place % 8192) v → (q : ℕ) → page_stamp (slice_set pages (place / 8192) after, few) q ≡ (if q == place then v else page_stamp (pages, few) q)
+page_written pages few place v before after e is wrote q =
+    read_page (slice_set pages (place / 8192) after) few q
+    ∙ ap (λ page. read page few q) (changed pages (place / 8192) (q / 8192) after there)
+    ∙ elim (q / 8192 == place / 8192) as (λ b. (q / 8192 == place / 8192) ≡ b → read (cond b after (page_at pages (q / 8192))) few q ≡ (if q == place then v else page_stamp (pages, few) q)) [
+      | true ↦ λ same.
+          ap (λ page. read page few q) (wrote ∙ ap (λ page. slice_set page (place % 8192) v) was)
+          ∙ in_page (page_at pages (place / 8192)) within
+          ∙ ap (λ b. if b then v else read (page_at pages (place / 8192)) few q) (same_place q place (eqb-true (q / 8192) (place / 8192) same))
+          ∙ ap (λ n. if q == place then v else n) (ap (λ k. read (page_at pages k) few q) (sym (eqb-true (q / 8192) (place / 8192) same)) ∙ sym (read_page pages few q))
+      | false ↦ λ other.
+          sym (read_page pages few q) ∙ ap (λ b. if b then v else page_stamp (pages, few) q) (sym (elsewhere q place other))
+    ] refl
+  where
+    there : place / 8192 < length pages
+    there = (reached pages place e).0
+
+    within : place % 8192 < length (page_at pages (place / 8192))
+    within = (reached pages place e).1
+
+    was : before ≡ page_at pages (place / 8192)
+    was = get_or_read pages (place / 8192) before there is []
+
+    lower : (a b : ℕ) → a < b → nat_lt a b ≡ true
+    lower a b lt = grind (arith, nat_tests)
+
+    in_page : (page : List ℕ) → place % 8192 < length page → read (slice_set page (place % 8192) v) few q ≡ (if q % 8192 == place % 8192 then v else read page few q)
+    in_page page lt = elim (q % 8192 == place % 8192) as (λ b. (q % 8192 == place % 8192) ≡ b → read (slice_set page (place % 8192) v) few q ≡ cond b v (read page few q)) [
+      | true ↦ λ same.
+          let there = lower (q % 8192) (length (slice_set page (place % 8192) v)) (omega (arith, length-set page (place % 8192) v, eqb-true (q % 8192) (place % 8192) same)) in
+          ap (λ b. if b then slice_index (slice_set page (place % 8192) v) (q % 8192) else few_stamp few q) there
+          ∙ get_or-set_at page (place % 8192) (q % 8192) v 0 (eqb-true (q % 8192) (place % 8192) same) lt
+      | false ↦ λ other. (λ i. if nat_lt (q % 8192) (length-set page (place % 8192) v i) then get_or-set_other page (place % 8192) (q % 8192) v 0 (eqb-false (q % 8192) (place % 8192) other) i else few_stamp few q)
+    ] refl
+
     same_place : (q p : ℕ) → q / 8192 ≡ p / 8192 → (q % 8192 == p % 8192) ≡ (q == p)
     same_place q p e = grind (arith, nat_tests)
 
     elsewhere : (q p : ℕ) → (q / 8192 == p / 8192) ≡ false → (q == p) ≡ false
     elsewhere q p e = grind (arith, nat_tests)
 
-    before_is : q / 8192 ≡ place / 8192 → get_or pages (place / 8192) before ≡ page_at pages (q / 8192)
-    before_is there = sym is ∙ get_or_read pages (place / 8192) before lt is [] ∙ ap (page_at pages) (sym there)
+-- a page takes over its next stamp
+pub taken_over : (pages : List (List ℕ)) (few others : List (ℕ × ℕ)) (n v : ℕ) (before after : List ℕ) → n < length pages → before ≡ get_or pages n before → length before < 8192 → v ≡ few_stamp few (n * 8192 + length before) → after ≡ before ++ v ∷ [] → ((q : ℕ) → few_stamp others q ≡ (if q == n * 8192 + length before then 0 else few_stamp few q)) → (q : ℕ) → page_stamp (slice_set pages n after, others) q ≡ page_stamp (pages, few) q
+taken_over pages few others n v before after lt is short has pushed h q =
+    read_page (slice_set pages n after) others q
+    ∙ ap (λ page. read page others q) (changed pages n (q / 8192) after lt)
+    ∙ elim (q / 8192 == n) as (λ b. (q / 8192 == n) ≡ b → read (cond b after (page_at pages (q / 8192))) others q ≡ page_stamp (pages, few) q) [
+      | true ↦ λ same.
+          let there = eqb-true (q / 8192) n same in
+          in_page there
+          ∙ ap (λ page. read page few q) (get_or_read pages n before lt is [] ∙ ap (page_at pages) (sym there))
+          ∙ sym (read_page pages few q)
+      | false ↦ λ other. in_others (page_at pages (q / 8192)) (elsewhere q n (length before) short other) ∙ sym (read_page pages few q)
+    ] refl
+  where
+    in_others : (page : List ℕ) → (q == n * 8192 + length before) ≡ false → read page others q ≡ read page few q
+    in_others page other = ap (λ k. if nat_lt (q % 8192) (length page) then slice_index page (q % 8192) else k) (h q ∙ ap (λ b. if b then 0 else few_stamp few q) other)
 
--- without a page there is no stamp
-pub no_stamps : (pages : List (List ℕ)) → pages ≡ [] → (q : ℕ) → page_stamp pages q ≡ 0
-unfolding page_stamp
-no_stamps pages is q = ap (λ ps. slice_index (page_at ps (q / 8192)) (q % 8192)) is
+    lower : (a b : ℕ) → a < b → nat_lt a b ≡ true
+    lower a b lt = grind (arith, nat_tests)
 
--- nor past the last page
-pub past_pages : (pages : List (List ℕ)) (place : ℕ) → length pages ≤ place / 8192 → page_stamp pages place ≡ 0
-unfolding page_stamp
-past_pages pages place le = ap (λ page. slice_index page (place % 8192)) (get_or_past pages (place / 8192) [] le)
+    higher : (a b : ℕ) → b ≤ a → nat_lt a b ≡ false
+    higher a b le = grind (arith, nat_tests)
 
--- nothing to erase there
-pub none_erased : (pages : List (List ℕ)) (place : ℕ) → length pages ≤ place / 8192 → (q : ℕ) → page_stamp pages q ≡ (if q == place then 0 else page_stamp pages q)
-none_erased pages place le q =
-    elim (q == place) as (λ b. (q == place) ≡ b → page_stamp pages q ≡ cond b 0 (page_stamp pages q)) [
-      | true ↦ λ e. ap (page_stamp pages) (eqb-true q place e) ∙ past_pages pages place le
-      | false ↦ λ e. refl
+    same_test : (a b : ℕ) → (a == b) ≡ false → nat_lt a (b + 1) ≡ nat_lt a b
+    same_test a b e = grind (arith, nat_tests)
+
+    elsewhere : (q n k : ℕ) → k < 8192 → (q / 8192 == n) ≡ false → (q == n * 8192 + k) ≡ false
+    elsewhere q n k lt e = grind (arith, nat_tests)
+
+    place_is : (q n k : ℕ) → q / 8192 ≡ n → q % 8192 ≡ k → n * 8192 + k ≡ q
+    place_is q n k d m = omega arith
+
+    not_place : (q n k : ℕ) → k < 8192 → (q % 8192 == k) ≡ false → (q == n * 8192 + k) ≡ false
+    not_place q n k lt e = grind (arith, nat_tests)
+
+    longer : length after ≡ length before + 1
+    longer = ap length pushed ∙ length-append before (v ∷ [])
+
+    in_page : q / 8192 ≡ n → read after others q ≡ read before few q
+    in_page there = elim (q % 8192 == length before) as (λ b. (q % 8192 == length before) ≡ b → read after others q ≡ read before few q) [
+      | true ↦ λ e.
+          let at = eqb-true (q % 8192) (length before) e in
+          ap (λ b. if b then slice_index after (q % 8192) else few_stamp others q) (lower (q % 8192) (length after) (omega (arith, at, longer)))
+          ∙ (λ i. slice_index (pushed i) (at i))
+          ∙ get_or-append_seam before v [] 0
+          ∙ has
+          ∙ ap (few_stamp few) (place_is q n (length before) there at)
+          ∙ ap (λ b. if b then slice_index before (q % 8192) else few_stamp few q) (sym (higher (q % 8192) (length before) (omega (arith, at))))
+      | false ↦ λ e.
+          in_others after (not_place q n (length before) short e)
+          ∙ ap (λ b. if b then slice_index after (q % 8192) else few_stamp few q) (ap (nat_lt (q % 8192)) longer ∙ same_test (q % 8192) (length before) e)
+          ∙ elim (nat_lt (q % 8192) (length before)) as (λ b. nat_lt (q % 8192) (length before) ≡ b → (if b then slice_index after (q % 8192) else few_stamp few q) ≡ (if b then slice_index before (q % 8192) else few_stamp few q)) [
+            | true ↦ λ lt. ap (λ page. slice_index page (q % 8192)) pushed ∙ get_or-append before (v ∷ []) 0 (q % 8192) (below (q % 8192) (length before) lt)
+            | false ↦ λ ge. refl
+          ] refl
     ] refl
 
--- a stamp that is read
-pub stamp_read : (pages : List (List ℕ)) (place : ℕ) (page : List ℕ) → page ≡ page_at pages (place / 8192) → slice_index page (place % 8192) ≡ page_stamp pages place
-unfolding page_stamp
-stamp_read pages place page is = ap (λ p. slice_index p (place % 8192)) is
+-- without a page and a tree there is no stamp
+pub no_stamps : (pages : List (List ℕ)) (few : List (ℕ × ℕ)) (q : ℕ) → pages ≡ [] → few_stamp few q ≡ 0 → page_stamp (pages, few) q ≡ 0
+no_stamps pages few q is none = read_page pages few q ∙ ap (λ (ps : List (List ℕ)). read (page_at ps (q / 8192)) few q) is ∙ ap (λ b. if b then slice_index (page_at [] (q / 8192)) (q % 8192) else few_stamp few q) (sym (none_reached (q % 8192) (length (page_at [] (q / 8192))) refl)) ∙ none
 
 -- a fact that holds whatever the result
 pub on_err : {T E : Type 0} (r : Result T E) (P : Type 0) → P → OnErr r P

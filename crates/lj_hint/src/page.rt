@@ -1,5 +1,5 @@
 //! One list of stamps.
-ghost use Rattle.std.specs.Prelude.{◌≡◌, ◌==◌, ◌<◌, ◌≤◌, ℕ, OnOk, OnErr, slice_index, slice_set, vec_len, length, nat_lt, [], if◌then◌else◌};
+ghost use Rattle.std.specs.Prelude.{◌≡◌, ◌==◌, ◌<◌, ◌≤◌, ℕ, OnOk, OnErr, slice_index, slice_set, vec_len, length, nat_lt, [], ◌∷◌, ◌++◌, if◌then◌else◌};
 
 use lj_clause::NoMemory;
 use std::alloc::Global;
@@ -27,6 +27,13 @@ impl Page {
         Page {
             stamps: Vec::new(alloc),
         }
+    }
+
+    /// How many places the list has.
+    pub(crate) fn len(&self) -> usize
+        ensures { result ≡ length self.now }
+    {
+        self.stamps.len()
     }
 
     /// Whether the list goes so far.
@@ -76,6 +83,18 @@ impl Page {
     {
         make_room(&mut self.stamps, at, room)?;
         self.stamps[at] = stamp;
+        Ok(())
+    }
+
+    /// Puts a stamp at the end.
+    ///
+    /// # Errors
+    /// [`NoMemory`] where a growth was refused.
+    pub(crate) fn push(&mut self, stamp: u32) -> Result<(), NoMemory>
+        ensures ok { OnOk result (self.new ≡ self.old ++ stamp ∷ []) }
+        ensures err { OnErr result (self.new ≡ self.old) }
+    {
+        self.stamps.push(stamp)?;
         Ok(())
     }
 

@@ -14,8 +14,9 @@ pub(crate) const NEAR: usize = 1_048_576;
 /// The least number of places that the list takes more than it has to.
 const SPARE: usize = 1024;
 
-/// A stamp for each place of a literal, 0 where none was set. Those of the first places stand in one list, which grows
-/// with the greatest of them that was set, and the others in pages, so that a great variable alone costs little.
+/// A stamp for each place of a literal, 0 where none was set. Those of the first places, the near ones, stand in one list,
+/// which grows with the greatest of them that was set. Those of the far places stand in pages, where many of a page were
+/// set, and else in a tree, so that each costs little wherever it is.
 #[derive(Drop)]
 pub(crate) struct Stamps {
     near: Page,
@@ -66,7 +67,7 @@ impl Stamps {
         self.near.get(place) == stamp
     }
 
-    /// Sets the stamp at a place. Takes constant time, amortized.
+    /// Sets the stamp at a place. Takes constant time, amortized, and O(log n) for a far place without a page.
     ///
     /// # Errors
     /// [`NoMemory`] where a growth was refused.
@@ -100,7 +101,7 @@ impl Stamps {
         self.near.set(place, stamp, room_for(place))
     }
 
-    /// Sets the stamp at a place to 0. Takes constant time.
+    /// Sets the stamp at a place to 0. Takes constant time, and O(log n) for a far place without a page.
     #[inline]
     pub(crate) fn erase(&mut self, place: usize)
         ensures { (q : ℕ) → stamp_at self.new q ≡ (if q == place then 0 else stamp_at self.old q) }
@@ -151,7 +152,7 @@ impl<'a> Model for LentStamps<'a> {
 }
 
 impl<'a> LentStamps<'a> {
-    /// Whether this is the stamp at a place. Takes constant time.
+    /// Whether this is the stamp at a place. Takes constant time, and O(log n) for a far place without a page.
     #[inline(always)]
     pub(crate) fn is(&self, place: usize, stamp: u32) -> bool
         ensures { result ≡ (stamp_at self.now place == stamp) }

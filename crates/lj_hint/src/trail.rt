@@ -7,7 +7,8 @@ use lj_clause::{Lit, NoMemory};
 use std::alloc::Global;
 use std::marker::Model;
 
-/// Literals in the order in which they came in, each once, with constant time for the question whether one is there.
+/// Literals in the order in which they came in, each once, with constant time for the question whether one is there. Of a
+/// variable beyond 524,287 it takes O(log n) time, until many such literals near it have been there.
 #[derive(Drop)]
 pub(crate) struct Trail {
     stamps: Stamps,
@@ -62,7 +63,7 @@ impl Trail {
         self.lits.len()
     }
 
-    /// Whether the literal is there. Takes constant time.
+    /// Whether the literal is there. Takes constant time, and O(log n) for a far one without a page.
     #[inline]
     pub(crate) fn holds(&self, lit: Lit) -> bool
         ensures { result ≡ holds (from_literals self.now) lit }
@@ -82,7 +83,8 @@ impl Trail {
         }
     }
 
-    /// Puts a literal at the end that isn't there yet. Takes constant time, but for the first of its page.
+    /// Puts a literal at the end that isn't there yet. Takes constant time, amortized, and O(log n) for a far one without a
+    /// page.
     ///
     /// # Errors
     /// [`NoMemory`] where a growth was refused.
@@ -101,7 +103,7 @@ impl Trail {
         Ok(())
     }
 
-    /// Takes the last literal out. Takes constant time.
+    /// Takes the last literal out. Takes constant time, and O(log n) for a far one without a page.
     #[inline]
     pub(crate) fn pop(&mut self)
         ensures { self.new ≡ take (length self.old - 1) self.old }
@@ -132,7 +134,7 @@ impl<'a> Model for LentTrail<'a> {
 }
 
 impl<'a> LentTrail<'a> {
-    /// Whether the literal is there. Takes constant time.
+    /// Whether the literal is there. Takes constant time, and O(log n) for a far one without a page.
     #[inline(always)]
     pub(crate) fn holds(&self, lit: Lit) -> bool
         ensures { result ≡ holds (from_literals self.now) lit }

@@ -57,7 +57,7 @@ impl TrueLits {
         self.trail.len()
     }
 
-    /// Whether the literal is in the set. Takes constant time.
+    /// Whether the literal is in the set. Takes the time of [`Trail::holds`].
     #[inline]
     pub(crate) fn holds(&self, lit: Lit) -> bool
         ensures { result ≡ holds (from_literals self.now) lit }
@@ -81,8 +81,7 @@ impl TrueLits {
         self.contradictory
     }
 
-    /// Puts the literal into the set. Takes constant time, but for the first of its page, and no memory where the
-    /// literal is there already.
+    /// Puts the literal into the set. Takes the time of [`Trail::push`], and no memory where the literal is there already.
     ///
     /// # Errors
     /// [`NoMemory`] where a growth was refused.
@@ -174,8 +173,8 @@ impl TrueLits {
         Ok(())
     }
 
-    /// Takes the set back to what it was with so many literals, where it held no literal and its negation. Takes
-    /// constant time for each literal that came in since.
+    /// Takes the set back to what it was with so many literals, where it held no literal and its negation. Takes the time
+    /// of [`Trail::pop`] for each literal that came in since.
     pub(crate) fn take_back(&mut self, len: usize)
         requires { is_contradictory (from_literals (take len self.old)) ≡ false }
         ensures { self.new ≡ take len self.old }

@@ -22,7 +22,7 @@ const THREE: Hint<'static> = (3, &[1, -2]);
 
 const FOUR: Hint<'static> = (4, &[-1, -2]);
 
-/// The greatest variable: only the pages of its own are made.
+/// The greatest variable: its stamp takes a place in a tree, and no page is made.
 const GREAT: &[i32] = &[134_217_727];
 
 /// The answer of a walk as a table lists it.
@@ -117,15 +117,31 @@ fn walks_close_are_stuck_or_stay_open(rt: HostRuntime) -> Result<(), Fail> {
     Ok(())
 }
 
-/// The first walk takes the greatest stamp, and the second clears the pages.
+/// The second walk takes the greatest stamp, for a great variable, and the third clears all stamps.
 #[test]
 fn walks_go_on_after_the_greatest_stamp(rt: HostRuntime) -> Result<(), Fail> {
     let alloc = rt.alloc();
-    let mut marks = Marks::after(alloc, u32::MAX - 2);
+    let mut marks = Marks::after(alloc, u32::MAX - 3);
     for _ in 0..3 {
         for row in &AROUND {
             assert_row(&rt, alloc, row, &mut marks)?;
         }
+    }
+    Ok(())
+}
+
+/// So many literals stand near the greatest one that their page is made, and some are set after that.
+#[test]
+fn walks_hold_many_great_literals(rt: HostRuntime) -> Result<(), Fail> {
+    let alloc = rt.alloc();
+    let mut great = Vec::new(alloc);
+    for below in 0..1_500 {
+        great.push(134_217_727 - below)?;
+    }
+    let hints: [Hint; 1] = [(6, &great)];
+    let mut marks = Marks::new(alloc);
+    for _ in 0..2 {
+        assert_row(&rt, alloc, &(&great, &hints, Walked::Closed(&[6])), &mut marks)?;
     }
     Ok(())
 }

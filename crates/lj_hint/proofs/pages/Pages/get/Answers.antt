@@ -1,18 +1,28 @@
-use Rattle.std.proofs.Common.{◌≤◌, ◌/◌, ap, sym, ◌∙◌, subst, length, ℕ}
-use Rattle.std.specs.Prelude.{List, []}
-use Rattle.lj_hint.specs.inner.Stamps.{page_at, page_stamp}
-use Rattle.lj_hint.proofs.StampLaws.{stamp_read, past_pages}
+use Rattle.std.proofs.Common.{ap, sym, ◌∙◌, arith, ◌%◌}
+use Rattle.std.specs.Prelude.{List, ℕ, [], slice_index}
+use Rattle.std.proofs.lemmas.List.{get_or_read}
+use Rattle.lj_hint.specs.inner.Stamps.{Paged, page_stamp, is_reached}
+use Rattle.lj_hint.proofs.StampLaws.{reached, stamp_read, few_read}
 use Rattle.lj_hint.proofs.pages.Pages.get.Goals as goal
 
-pub returns-in-Some : goal.returns-in-Some
-returns-in-Some c =
-    let h = c.in-Some.ensures in
-    c.get-in-Some.ensures
-    ∙ stamp_read c.self.inside.pages.items c.args.place c.in-Some.page.now (h.lookup.3.1 [] ∙ ap (λ (ps : List (List ℕ)). page_at ps (c.args.place / 8192)) c.deref.ensures.value)
-    ∙ ap (λ (ps : List (List ℕ)). page_stamp ps c.args.place) c.self.view_is
+pub index-page-requires : goal.index-page-requires
+index-page-requires c =
+    let e = ap (λ (p : Paged). is_reached p.0 c.args.place) c.self.view_is ∙ sym c.reaches.ensures ∙ c.if-reaches.true in
+    let there = (reached c.self.inside.pages.items c.args.place e).0 in
+    omega (arith, there, c.self.inside.pages.ok.0)
 
-pub returns-in-None : goal.returns-in-None
-returns-in-None c =
-    let h = c.in-None.ensures in
-    sym (past_pages c.self.inside.pages.items c.args.place (subst (λ (ps : List (List ℕ)). length ps ≤ c.args.place / 8192) c.deref.ensures.value h.lookup.3))
-    ∙ ap (λ (ps : List (List ℕ)). page_stamp ps c.args.place) c.self.view_is
+pub returns-then-reaches : goal.returns-then-reaches
+returns-then-reaches c =
+    let e = ap (λ (p : Paged). is_reached p.0 c.args.place) c.self.view_is ∙ sym c.reaches.ensures ∙ c.if-reaches.true in
+    let there = (reached c.self.inside.pages.items c.args.place e).0 in
+    c.get.ensures
+    ∙ ap (λ (page : List ℕ). slice_index page (c.args.place % 8192)) (get_or_read c.self.inside.pages.items _ c.index-page.result.now there c.index-page.ensures [])
+    ∙ stamp_read c.self.inside.pages.items c.self.inside.few c.args.place e
+    ∙ ap (λ (p : Paged). page_stamp p c.args.place) c.self.view_is
+
+pub returns : goal.returns
+returns c =
+    let e = ap (λ (p : Paged). is_reached p.0 c.args.place) c.self.view_is ∙ sym c.reaches.ensures ∙ c.if-reaches.false in
+    c.get-2.ensures
+    ∙ few_read c.self.inside.pages.items c.self.inside.few c.args.place e
+    ∙ ap (λ (p : Paged). page_stamp p c.args.place) c.self.view_is
