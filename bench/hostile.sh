@@ -1,10 +1,15 @@
 #!/usr/bin/env bash
-# Measures the memory that a built program takes for streams that are meant to take much: for each, how many bytes beyond
-# those of an empty stream it takes at most for each byte of the stream's text.
+# Measures the memory and the time that a built program takes for streams that are meant to take much: for each, how many
+# bytes beyond those of empty streams it takes at most for each byte of the streams' text, and how many times as long as for
+# half as many of what its lines are made of.
 #   hostile.sh PATH-OF-LRATJOIN
-# Each stream is made of lines of one kind, eight megabytes or so of them, and none adds the empty clause. Then come formulas of
-# one kind of clause, with an empty stream. In the last rows 64 streams of a line or none stand over a formula of a million
-# clauses. There the bytes are for each byte of the formula's text.
+# Each stream is made of lines of one kind, and none adds the empty clause: first one stream in turn, and where a row says so
+# the same stream twice on threads. Then come formulas of one kind of clause, with an empty stream, and last 64 streams of a
+# line or none over one formula. In these the bytes are for each byte of the formula's text.
+# A stream's row is wrong above 8 bytes for a byte, or above the limit that it is given with its reason. A formula's row has
+# no such limit. Each row is wrong above 2.6 times as long as its half: a time is that of a whole process, the least of three,
+# each in turn, and of nine where it is wrong after three; none is told where the whole takes less than 0.2 s. The rows that
+# are wrong are named in the last line, and the status is 1 then.
 set -euo pipefail
 
 program=$(realpath "${1:?usage: hostile.sh PATH-OF-LRATJOIN}")
@@ -14,81 +19,185 @@ cd "$scratch"
 
 printf 'p cnf 9 1\n1 0\n' > few.cnf
 printf 'p cnf 1000000 1\n1 0\n' > many.cnf
+printf 'p cnf 134217727 1\n1 0\n' > all.cnf
 : > nothing
+: > wrong
 
-# The kilobytes that a run takes at most, which has to do as many lines as are asked for.
-peak() {
-    local lines=$1 formula=$2 stream=$3
-    /usr/bin/time -q -o memory -f %M "$program" "$formula" "$stream" --in-turn > told 2>&1 || true
-    if ! awk -v lines="$lines" '/^c stream 0:/ { done = $4 + $6 + $8 } END { exit done != lines }' told; then
-        echo "$stream: $(tail -n 2 told)" >&2
+# Runs the program on these words, each of whose streams has to do as many lines as are asked for. Prints the kilobytes that
+# it takes at most and the microseconds.
+run() {
+    local lines=$1 start end
+    shift
+    start=${EPOCHREALTIME/[.,]/}
+    /usr/bin/time -q -o memory -f %M "$program" "$@" > told 2>&1 || true
+    end=${EPOCHREALTIME/[.,]/}
+    if ! awk -v lines="$lines" '/^c stream/ { seen = 1; if ($4 + $6 + $8 != lines) wrong = 1 } END { exit wrong || !seen }' told; then
+        echo "$*: $(head -n 3 told)" >&2
         exit 1
     fi
-    cat memory
+    echo "$(tail -n 1 memory) $((end - start))"
 }
 
-# The fourth word, where there is one, is how many lines are done before one is refused.
-stream() {
-    local name=$1 formula=$2 before most
-    awk "$3" > stream
-    before=$(peak 0 "$formula" nothing)
-    most=$(peak "${4:-$(wc -l < stream)}" "$formula" stream)
-    awk -v name="$name" -v bytes="$(wc -c < stream)" -v before="$before" -v most="$most" \
-        'BEGIN { printf "%-44s %5.1f MB of text, %4.1f bytes for each byte\n", name, bytes / 1e6, (most - before) * 1024 / bytes }'
-}
-
-stream 'one line of hints' few.cnf 'BEGIN { printf "2 3 0"; for (i = 0; i < 4000000; i++) printf " 1"; print " 0" }'
-stream 'one line of deletions' few.cnf 'BEGIN { printf "2 d"; for (i = 0; i < 4000000; i++) printf " 2"; print " 0" }'
-stream 'one line of deletions of one clause' few.cnf 'BEGIN { printf "2 d"; for (i = 0; i < 4000000; i++) printf " 1"; print " 0" }'
-stream 'the same, the last number a great one' few.cnf \
-    'BEGIN { printf "2 d"; for (i = 0; i < 4000000; i++) printf " 1"; print " 9999999999 0" }'
-stream 'one line of hints, the last a great one' few.cnf \
-    'BEGIN { printf "2 3 0"; for (i = 0; i < 4000000; i++) printf " 1"; print " 9999999999 0" }' 0
-stream 'one line of groups without hints' few.cnf \
-    'BEGIN { printf "2 1 0"; for (i = 0; i < 2700000; i++) printf " -1"; print " 0" }' 0
-stream 'one line of groups of a hint each' few.cnf \
-    'BEGIN { printf "2 1 0"; for (i = 0; i < 1600000; i++) printf " -1 1"; print " 0" }' 0
-stream 'deletions that delete nothing' few.cnf 'BEGIN { for (i = 0; i < 1300000; i++) print "1 d 0" }'
-stream 'additions under numbers near one another' few.cnf 'BEGIN { for (i = 2; i < 600000; i++) print i " 1 0 1 0" }'
-stream 'additions under numbers far apart' few.cnf \
-    'BEGIN { for (i = 0; i < 300000; i++) printf "9223372036854%06d 1 0 1 0\n", 775807 - i }'
-stream 'imports' few.cnf 'BEGIN { for (i = 2; i < 600000; i++) print i " i 1 0" }'
-stream 'definitions, each of a variable of its own' many.cnf 'BEGIN { for (i = 2; i < 500000; i++) print i " " i " 0 0" }'
-stream 'RAT lines with a literal in common' many.cnf \
-    'BEGIN { for (i = 2; i < 400000; i++) print i " " i " -1 0 0" }'
-
-# A formula, with an empty stream.
-formula() {
-    local name=$1 before most
-    awk "$2" > formula.cnf
-    before=$(peak 0 few.cnf nothing)
-    most=$(peak 0 formula.cnf nothing)
-    awk -v name="$name" -v bytes="$(wc -c < formula.cnf)" -v before="$before" -v most="$most" \
-        'BEGIN { printf "%-44s %5.1f MB of text, %4.1f bytes for each byte\n", name, bytes / 1e6, (most - before) * 1024 / bytes }'
-}
-
-formula 'a formula of unit clauses' 'BEGIN { print "p cnf 9 2000000"; for (i = 0; i < 2000000; i++) print 1, 0 }'
-formula 'a formula of empty clauses' 'BEGIN { print "p cnf 9 4000000"; for (i = 0; i < 4000000; i++) print 0 }'
-
-awk 'BEGIN { print "p cnf 1000 1000000"; for (i = 0; i < 1000000; i++) print i % 999 + 1, 1000, 0 }' > million.cnf
-before=$(peak 0 million.cnf nothing)
-
-# 64 streams that say the same line, or nothing.
-seats() {
-    local name=$1 line=$2 streams=() seat
-    for seat in {0..63}; do
-        printf '%s' "$line" > "seat$seat"
-        streams+=("seat$seat")
+# The rows that follow are compared with their halves: the runs are `half` and `whole`, functions of no word, and `empty`
+# is the whole without what its text asks for. Takes the name, the limit and the bytes of text.
+row() {
+    local name=$1 limit=$2 bytes=$3 cost
+    cost=$(empty)
+    echo "empty $cost" > costs
+    for _ in 1 2 3; do
+        for _ in 1 2 3; do
+            cost=$(half)
+            echo "half $cost"
+            cost=$(whole)
+            echo "whole $cost"
+        done >> costs
+        if tell "$name" "$limit" "$bytes" < costs > line; then break; fi
     done
-    /usr/bin/time -q -o memory -f %M "$program" million.cnf "${streams[@]}" --in-turn > told 2>&1 || true
-    if [ "$(grep -c '^c stream .* ended$' told)" != 64 ]; then
-        echo "$name: $(tail -n 2 told)" >&2
-        exit 1
-    fi
-    awk -v name="$name" -v bytes="$(wc -c < million.cnf)" -v before="$before" -v most="$(cat memory)" \
-        'BEGIN { printf "%-44s %5.1f MB of text, %4.1f bytes for each byte\n", name, bytes / 1e6, (most - before) * 1024 / bytes }'
+    head -n 1 line
+    sed 1d line >> wrong
 }
 
-seats '64 empty streams' ''
-seats '64 streams that give up the last clause' $'1000001 d 1000000 0\n'
-seats '64 streams that add a clause' $'1000001 1 1000 0 1 0\n'
+# A row's line, and behind it what is wrong with it. The status is 1 where its time is.
+tell() {
+    awk -v name="$1" -v limit="$2" -v bytes="$3" '
+        $2 > most[$1] { most[$1] = $2 }
+        !($1 in least) || $3 < least[$1] { least[$1] = $3 }
+        END {
+            taken = sprintf("%.1f", (most["whole"] - most["empty"]) * 1024 / bytes)
+            printf "%-66s %5.1f MB of text, %6s bytes for each byte", name, bytes / 1e6, taken
+            seconds = least["whole"] / 1e6
+            times = least["whole"] / least["half"]
+            if (seconds >= 0.2) printf ", %5.2f s, %4.2f times as long as its half", seconds, times
+            print ""
+            if (limit && taken + 0 > limit) printf "%s (%s bytes for each byte, and not %s)\n", name, taken, limit
+            if (seconds >= 0.2 && times > 2.6) {
+                printf "%s (%.2f times as long as its half)\n", name, times
+                exit 1
+            }
+        }'
+}
+
+# What a row is made from: a formula is a file, or is made from a count as a stream is.
+make() {
+    local part=$1 count=$2 formula=$3 text=$4
+    case $formula in
+        BEGIN*) awk -v n="$count" "$formula" > "$part.cnf" ;;
+        *) cp "$formula" "$part.cnf" ;;
+    esac
+    awk -v n="$count" "$text" > "$part"
+}
+
+# A row of a stream: its name, its formula, a count and its text. The fifth word, where there is one, is how many lines are
+# done before one is refused, and the sixth how many bytes for a byte it may take where more than 8 can't be helped.
+stream() {
+    local name=$1 formula=$2 count=$3 text=$4 limit=${6:-8} done_half done_whole
+    make half "$((count / 2))" "$formula" "$text"
+    make whole "$count" "$formula" "$text"
+    done_half=${5:-$(wc -l < half)}
+    done_whole=${5:-$(wc -l < whole)}
+    empty() { run 0 whole.cnf nothing --in-turn; }
+    half() { run "$done_half" half.cnf half --in-turn; }
+    whole() { run "$done_whole" whole.cnf whole --in-turn; }
+    row "$name" "$limit" "$(wc -c < whole)"
+}
+
+# The same, and then a row of that stream twice, on threads.
+both() {
+    local name=$1 limit=${6:-8} done_half done_whole
+    stream "$@"
+    done_half=${5:-$(wc -l < half)}
+    done_whole=${5:-$(wc -l < whole)}
+    empty() { run 0 whole.cnf nothing nothing; }
+    half() { run "$done_half" half.cnf half half; }
+    whole() { run "$done_whole" whole.cnf whole whole; }
+    row "$name, twice on threads" "$limit" "$((2 * $(wc -c < whole)))"
+}
+
+both 'one line of hints' few.cnf 4000000 'BEGIN { printf "2 3 0"; for (i = 0; i < n; i++) printf " 1"; print " 0" }'
+both 'one line of deletions' few.cnf 4000000 'BEGIN { printf "2 d"; for (i = 0; i < n; i++) printf " 2"; print " 0" }'
+both 'one line of deletions of one clause' few.cnf 4000000 \
+    'BEGIN { printf "2 d"; for (i = 0; i < n; i++) printf " 1"; print " 0" }'
+both 'the same, the last number a great one' few.cnf 4000000 \
+    'BEGIN { printf "2 d"; for (i = 0; i < n; i++) printf " 1"; print " 9999999999 0" }'
+both 'one line of hints, the last a great one' few.cnf 4000000 \
+    'BEGIN { printf "2 3 0"; for (i = 0; i < n; i++) printf " 1"; print " 9999999999 0" }' 0
+both 'one line of groups without hints' few.cnf 2700000 \
+    'BEGIN { printf "2 1 0"; for (i = 0; i < n; i++) printf " -1"; print " 0" }' 0
+both 'one line of groups of a hint each' few.cnf 1600000 \
+    'BEGIN { printf "2 1 0"; for (i = 0; i < n; i++) printf " -1 1"; print " 0" }' 0
+both 'deletions that delete nothing' few.cnf 1300000 'BEGIN { for (i = 0; i < n; i++) print "1 d 0" }'
+both 'additions under numbers near one another' few.cnf 600000 'BEGIN { for (i = 2; i < n; i++) print i " 1 0 1 0" }'
+both 'additions under numbers far apart' few.cnf 300000 \
+    'BEGIN { for (i = 0; i < n; i++) printf "9223372036854%06d 1 0 1 0\n", 775807 - i }'
+both 'imports' few.cnf 600000 'BEGIN { for (i = 2; i < n; i++) print i " i 1 0" }'
+stream 'definitions, each of a variable of its own' many.cnf 1000000 'BEGIN { for (i = 2; i < n; i++) print i " " i " 0 0" }'
+stream 'RAT lines with a literal in common' many.cnf 1000000 'BEGIN { for (i = 2; i < n; i++) print i " " i " -1 0 0" }'
+stream 'a lemma with a literal in every 4,096th variable' all.cnf 32640 \
+    'BEGIN { printf "2"; for (i = 0; i < n; i++) printf " %d", 524288 + 4096 * i; print " 0 0" }'
+stream 'a long clause walked and deleted' all.cnf 2000000 'BEGIN {
+    for (line = 2; line < 4; line++) { printf line; for (i = 1; i <= n; i++) printf " %d", i; print " 0 " line - 1 " 0" }
+    print "4 d 2 3 0" }'
+stream 'an accepted line of groups without hints' \
+    'BEGIN { print "p cnf 2 " n; for (i = 1; i <= n; i++) print "-1 2 0" }' 1000000 \
+    'BEGIN { printf "%d 1 -2 0", n + 1; for (i = 1; i <= n; i++) printf " -%d", i; print " 0" }'
+stream 'an accepted line of groups of a hint each' \
+    'BEGIN { print "p cnf " n " " n; print "1 0"; for (i = 2; i <= n; i++) print "-1 " i " 0" }' 1000000 \
+    'BEGIN { printf "%d 1 0", n + 1; for (i = 2; i <= n; i++) printf " -%d 1", i; print " 0" }'
+stream 'imports through a long list' \
+    'BEGIN { print "p cnf 2000 2000"; print "1 2 0"; for (i = 2; i <= 2000; i++) print "1 2 " i " 0" }' 50000 \
+    'BEGIN { for (i = 1; i <= n; i++) print i + 2000 " i 1 2 0" }'
+stream 'a list of candidates most of whose clauses are dead' 'BEGIN { print "p cnf 6 2"; print "-1 2 0"; print "5 6 0" }' 600000 'BEGIN {
+    print "3 i 5 6 0"
+    for (i = 4; i < n / 2; i++) print i " -1 2 0 1 0"
+    printf "3 d"; for (i = 4; i < n / 2; i++) printf " %d", i; print " 0"
+    for (; i < n; i++) print i " 1 -2 0 0" }'
+# (Its record has a group for each candidate, of eight bytes: 800 for each line of 13 bytes or so.)
+stream 'RAT lines of 100 candidates that close before any hint' \
+    'BEGIN { print "p cnf 2 100"; for (i = 1; i <= 100; i++) print "-1 2 0" }' 100000 \
+    'BEGIN { for (i = 1; i <= n; i++) print i + 100 " 1 -2 0 0" }' '' 70
+
+# A row of a formula, with an empty stream: its name, a count and its text.
+formula() {
+    local name=$1 count=$2 text=$3
+    awk -v n="$((count / 2))" "$text" > half.cnf
+    awk -v n="$count" "$text" > whole.cnf
+    empty() { run 0 few.cnf nothing --in-turn; }
+    half() { run 0 half.cnf nothing --in-turn; }
+    whole() { run 0 whole.cnf nothing --in-turn; }
+    row "$name" '' "$(wc -c < whole.cnf)"
+}
+
+formula 'a formula of unit clauses' 2000000 'BEGIN { print "p cnf 9 " n; for (i = 0; i < n; i++) print 1, 0 }'
+formula 'a formula of empty clauses' 4000000 'BEGIN { print "p cnf 9 " n; for (i = 0; i < n; i++) print 0 }'
+
+# A row of 64 streams that say the same line, or nothing: its name, a count, its formula, the line, where %d stands for the
+# count, and how many lines are done.
+seats() {
+    local name=$1 count=$2 formula=$3 line=$4 lines=$5 seat
+    awk -v n="$((count / 2))" "$formula" > half.cnf
+    awk -v n="$count" "$formula" > whole.cnf
+    for seat in {0..63}; do
+        : > "half$seat"
+        : > "whole$seat"
+        if [ "$line" ]; then
+            printf "$line\n" "$((count / 2))" > "half$seat"
+            printf "$line\n" "$count" > "whole$seat"
+        fi
+    done
+    empty() { run 0 whole.cnf nothing --in-turn; }
+    half() { run "$lines" half.cnf half{0..63} --in-turn; }
+    whole() { run "$lines" whole.cnf whole{0..63} --in-turn; }
+    row "$name" 8 "$(wc -c < whole.cnf)"
+}
+
+pairs='BEGIN { print "p cnf 1000", n; for (i = 0; i < n; i++) print i % 999 + 1, 1000, 0 }'
+seats '64 empty streams' 1000000 "$pairs" '' 0
+seats '64 streams that give up the last clause' 1000000 "$pairs" '1000001 d %d 0' 1
+seats '64 streams that add a clause' 1000000 "$pairs" '1%d 1 1000 0 1 0' 1
+seats '64 streams that ask for many candidates, the last without a group' 200000 \
+    'BEGIN { print "p cnf 3 " n; for (i = 1; i < n; i++) print "-1 2 0"; print "-1 3 0" }' '1%d 1 -2 0 0' 0
+
+if [ -s wrong ]; then
+    echo "wrong: $(paste -s -d ';' wrong | sed 's/;/; /g')" >&2
+    exit 1
+fi

@@ -1,7 +1,7 @@
 #!/usr/bin/env bash
 # Measures a built program on a proof of some 230,000 lines that is made without a solver, and on one of half its size:
 # extended resolution, so that a sixth of the lines are RAT. It prints lines, MB/s and peak memory of both, and how many
-# times as long the longer one takes.
+# times as long the longer one takes: its status is 1 where that is above 2.2.
 #   pigeonhole.sh PATH-OF-LRATJOIN
 # Each time is that of a whole process on files that were read before, and the least of three, each in turn.
 set -euo pipefail
@@ -34,4 +34,8 @@ done | awk '
     END {
         for (n = 25; n <= 30; n += 5) printf "%d lines, %.1f MB: %.3f s, %.1f MB/s, %.0f MB at most\n", lines[n], bytes[n] / 1e6, micros[n] / 1e6, bytes[n] / micros[n], kilobytes[n] / 1024
         printf "%.2f times the lines, %.2f times the bytes, %.2f times as long\n", lines[30] / lines[25], bytes[30] / bytes[25], micros[30] / micros[25]
+        if (micros[30] > 2.2 * micros[25]) {
+            print "wrong: the longer one takes more than 2.2 times as long" > "/dev/stderr"
+            exit 1
+        }
     }'
