@@ -12,9 +12,11 @@ use std::test::Fail;
 /// The literals that clauses are made of.
 const LITERALS: [i32; 8] = [1, -1, 2, -2, 3, -3, 4, -4];
 
-/// How many events most lists have, and how many each hundredth has: enough that a literal's list holds more dead numbers
-/// than live ones, and that far own numbers come near.
+/// How many events most lists have.
 const FEW_EVENTS: u64 = 24;
+
+/// How many events each hundredth list has: enough that a literal's list holds more dead numbers than live ones, and that
+/// far own numbers come near.
 const MANY_EVENTS: u64 = 400;
 
 /// Own numbers: those of the formula's clauses, some near and some far beyond them.

@@ -141,7 +141,12 @@ fn walks_hold_many_great_literals(rt: HostRuntime) -> Result<(), Fail> {
     let hints: [Hint; 1] = [(6, &great)];
     let mut marks = Marks::new(alloc);
     for _ in 0..2 {
-        assert_row(&rt, alloc, &(&great, &hints, Walked::Closed(&[6])), &mut marks)?;
+        assert_row(
+            &rt,
+            alloc,
+            &(&great, &hints, Walked::Closed(&[6])),
+            &mut marks,
+        )?;
     }
     Ok(())
 }
