@@ -64,7 +64,7 @@ tell() {
         !($1 in least) || $3 < least[$1] { least[$1] = $3 }
         END {
             taken = sprintf("%.1f", (most["whole"] - most["empty"]) * 1024 / bytes)
-            printf "%-66s %5.1f MB of text, %6s bytes for each byte", name, bytes / 1e6, taken
+            printf "%-79s %5.1f MB of text, %6s bytes for each byte", name, bytes / 1e6, taken
             seconds = least["whole"] / 1e6
             times = least["whole"] / least["half"]
             if (seconds >= 0.2) printf ", %5.2f s, %4.2f times as long as its half", seconds, times
@@ -117,9 +117,9 @@ both 'one line of hints' few.cnf 4000000 'BEGIN { printf "2 3 0"; for (i = 0; i 
 both 'one line of deletions' few.cnf 4000000 'BEGIN { printf "2 d"; for (i = 0; i < n; i++) printf " 2"; print " 0" }'
 both 'one line of deletions of one clause' few.cnf 4000000 \
     'BEGIN { printf "2 d"; for (i = 0; i < n; i++) printf " 1"; print " 0" }'
-both 'the same, the last number a great one' few.cnf 4000000 \
+both 'one line of deletions of one clause, the last a great number' few.cnf 4000000 \
     'BEGIN { printf "2 d"; for (i = 0; i < n; i++) printf " 1"; print " 9999999999 0" }'
-both 'one line of hints, the last a great one' few.cnf 4000000 \
+both 'one line of hints, the last a great number' few.cnf 4000000 \
     'BEGIN { printf "2 3 0"; for (i = 0; i < n; i++) printf " 1"; print " 9999999999 0" }' 0
 both 'one line of groups without hints' few.cnf 2700000 \
     'BEGIN { printf "2 1 0"; for (i = 0; i < n; i++) printf " -1"; print " 0" }' 0
@@ -130,6 +130,16 @@ both 'additions under numbers near one another' few.cnf 600000 'BEGIN { for (i =
 both 'additions under numbers far apart' few.cnf 300000 \
     'BEGIN { for (i = 0; i < n; i++) printf "9223372036854%06d 1 0 1 0\n", 775807 - i }'
 both 'imports' few.cnf 600000 'BEGIN { for (i = 2; i < n; i++) print i " i 1 0" }'
+both 'lemmas of nine literals, behind an import' few.cnf 300000 \
+    'BEGIN { print "2 i 1 0"; for (i = 3; i < n; i++) print i " 1 2 3 4 5 6 7 8 9 0 1 0" }'
+both 'a walk over many clauses' 'BEGIN {
+    print "p cnf " n " " n + 1
+    for (i = 1; i <= n; i++) print i " 0"
+    for (i = 1; i <= n; i++) printf "-%d ", i
+    print "0" }' 1000000 'BEGIN { printf "%d -%d 0", n + 2, n; for (i = 1; i <= n + 1; i++) printf " %d", i; print " 0" }'
+both 'an accepted line of one group of many hints' \
+    'BEGIN { print "p cnf 2 3"; print "-1 2 0"; print "-2 0"; print "1 0" }' 4000000 \
+    'BEGIN { printf "4 1 0 -1"; for (i = 0; i < n; i++) printf " 2"; print " 3 0" }'
 stream 'definitions, each of a variable of its own' many.cnf 1000000 'BEGIN { for (i = 2; i < n; i++) print i " " i " 0 0" }'
 stream 'RAT lines with a literal in common' many.cnf 1000000 'BEGIN { for (i = 2; i < n; i++) print i " " i " -1 0 0" }'
 stream 'a lemma with a literal in every 4,096th variable' all.cnf 32640 \
@@ -137,6 +147,12 @@ stream 'a lemma with a literal in every 4,096th variable' all.cnf 32640 \
 stream 'a long clause walked and deleted' all.cnf 2000000 'BEGIN {
     for (line = 2; line < 4; line++) { printf line; for (i = 1; i <= n; i++) printf " %d", i; print " 0 " line - 1 " 0" }
     print "4 d 2 3 0" }'
+stream 'an import of a long clause' \
+    'BEGIN { print "p cnf " n " 1"; for (i = 1; i <= n; i++) printf "%d ", i; print "0" }' 1000000 \
+    'BEGIN { printf "2 i"; for (i = 1; i <= n; i++) printf " %d", i; print " 0" }'
+stream 'lemmas added and given up in turn, behind an import' few.cnf 300000 'BEGIN {
+    print "2 i 1 0"
+    for (i = 3; i < n; i++) { print "3 1 2 3 4 5 6 7 8 9 0 1 0"; print "3 d 3 0" } }'
 stream 'an accepted line of groups without hints' \
     'BEGIN { print "p cnf 2 " n; for (i = 1; i <= n; i++) print "-1 2 0" }' 1000000 \
     'BEGIN { printf "%d 1 -2 0", n + 1; for (i = 1; i <= n; i++) printf " -%d", i; print " 0" }'
