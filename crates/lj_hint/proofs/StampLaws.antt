@@ -47,19 +47,41 @@ written xs at v q lt =
 
 -- ---- the tree
 
+less : (a b : ℕ) → a < b → nat_lt a b ≡ true
+less a b lt = grind (arith, nat_tests)
+
+not_less : (a b : ℕ) → b ≤ a → nat_lt a b ≡ false
+not_less a b le = grind (arith, nat_tests)
+
+-- the stamp at a place that the tree can have
+few_within : (entries : List (ℕ × ℕ)) (place : ℕ) → place < 4294967296 → unwrap_or (lookup (is_at (nat_cmp place)) entries) 0 ≡ few_stamp entries place
+unfolding few_stamp
+few_within entries place lt = ap (λ b. if b then unwrap_or (lookup (is_at (nat_cmp place)) entries) 0 else 0) (sym (less place 4294967296 lt))
+
+-- there is none at another
+pub few_beyond : (entries : List (ℕ × ℕ)) (place : ℕ) → 4294967296 ≤ place → 0 ≡ few_stamp entries place
+unfolding few_stamp
+few_beyond entries place le = ap (λ b. if b then unwrap_or (lookup (is_at (nat_cmp place)) entries) 0 else 0) (sym (not_less place 4294967296 le))
+
+-- what holds at both holds at each
+for_each : (entries : List (ℕ × ℕ)) (P : ℕ → ℕ → Type 0) → ((q : ℕ) → q < 4294967296 → P q (unwrap_or (lookup (is_at (nat_cmp q)) entries) 0)) → ((q : ℕ) → 4294967296 ≤ q → P q 0) → (q : ℕ) → P q (few_stamp entries q)
+unfolding few_stamp
+for_each entries P within beyond q =
+    elim (nat_lt q 4294967296) as (λ b. nat_lt q 4294967296 ≡ b → P q (if b then unwrap_or (lookup (is_at (nat_cmp q)) entries) 0 else 0)) [
+      | true ↦ λ e. within q (below q 4294967296 e)
+      | false ↦ λ e. beyond q (above q 4294967296 e)
+    ] refl
+
 -- a tree without an entry has no stamp
 pub no_few : (entries : List (ℕ × ℕ)) → entries ≡ [] → (q : ℕ) → few_stamp entries q ≡ 0
-unfolding few_stamp
-no_few entries is q = ap (λ (es : List (ℕ × ℕ)). few_stamp es q) is
+no_few entries is = for_each entries (λ q n. n ≡ 0) (λ q lt. ap (λ (es : List (ℕ × ℕ)). unwrap_or (lookup (is_at (nat_cmp q)) es) 0) is) (λ q le. refl)
 
 -- a stamp that is looked up there
-pub few_found : (entries : List (ℕ × ℕ)) (place v : ℕ) → Some v ≡ lookup (is_at (nat_cmp place)) entries → v ≡ few_stamp entries place
-unfolding few_stamp
-few_found entries place v e = ap (λ o. unwrap_or o 0) e
+pub few_found : (entries : List (ℕ × ℕ)) (place v : ℕ) → place < 4294967296 → Some v ≡ lookup (is_at (nat_cmp place)) entries → v ≡ few_stamp entries place
+few_found entries place v lt e = ap (λ o. unwrap_or o 0) e ∙ few_within entries place lt
 
-pub few_missed : (entries : List (ℕ × ℕ)) (place : ℕ) → None ≡ lookup (is_at (nat_cmp place)) entries → 0 ≡ few_stamp entries place
-unfolding few_stamp
-few_missed entries place e = ap (λ o. unwrap_or o 0) e
+pub few_missed : (entries : List (ℕ × ℕ)) (place : ℕ) → place < 4294967296 → None ≡ lookup (is_at (nat_cmp place)) entries → 0 ≡ few_stamp entries place
+few_missed entries place lt e = ap (λ o. unwrap_or o 0) e ∙ few_within entries place lt
 
 swapped : (k q : ℕ) → is_at (nat_cmp k) q ≡ (q == k)
 swapped k q = unsigned_tied k q ∙ turned k q
@@ -67,25 +89,38 @@ swapped k q = unsigned_tied k q ∙ turned k q
     turned : (a b : ℕ) → (a == b) ≡ (b == a)
     turned a b = grind (arith, nat_tests)
 
+apart : (q place : ℕ) → place < 4294967296 → 4294967296 ≤ q → false ≡ (q == place)
+apart q place lt le = grind (arith, nat_tests)
+
 -- a stamp is put into a tree
-pub few_put : (entries others : List (ℕ × ℕ)) (place v : ℕ) → ((q : ℕ) → lookup (is_at (nat_cmp q)) others ≡ cond (is_at (nat_cmp place) q) (Some v) (lookup (is_at (nat_cmp q)) entries)) → (q : ℕ) → few_stamp others q ≡ (if q == place then v else few_stamp entries q)
-unfolding few_stamp
-few_put entries others place v h q =
+pub few_put : (entries others : List (ℕ × ℕ)) (place v : ℕ) → place < 4294967296 → ((q : ℕ) → lookup (is_at (nat_cmp q)) others ≡ cond (is_at (nat_cmp place) q) (Some v) (lookup (is_at (nat_cmp q)) entries)) → (q : ℕ) → few_stamp others q ≡ (if q == place then v else few_stamp entries q)
+few_put entries others place v here h = for_each others (λ q n. n ≡ (if q == place then v else few_stamp entries q))
+    (λ q lt.
     ap (λ o. unwrap_or o 0) (h q ∙ ap (λ b. cond b (Some v) (lookup (is_at (nat_cmp q)) entries)) (swapped place q))
     ∙ elim (q == place) as (λ b. unwrap_or (cond b (Some v) (lookup (is_at (nat_cmp q)) entries)) 0 ≡ cond b v (few_stamp entries q)) [
       | true ↦ refl
-      | false ↦ refl
-    ]
+      | false ↦ few_within entries q lt
+    ])
+    (λ q le. few_beyond entries q le ∙ ap (λ b. cond b v (few_stamp entries q)) (apart q place here le))
 
 -- a stamp is taken out of it
-pub few_taken : (entries others : List (ℕ × ℕ)) (place : ℕ) → ((q : ℕ) → lookup (is_at (nat_cmp q)) others ≡ cond (is_at (nat_cmp place) q) None (lookup (is_at (nat_cmp q)) entries)) → (q : ℕ) → few_stamp others q ≡ (if q == place then 0 else few_stamp entries q)
-unfolding few_stamp
-few_taken entries others place h q =
+pub few_taken : (entries others : List (ℕ × ℕ)) (place : ℕ) → place < 4294967296 → ((q : ℕ) → lookup (is_at (nat_cmp q)) others ≡ cond (is_at (nat_cmp place) q) None (lookup (is_at (nat_cmp q)) entries)) → (q : ℕ) → few_stamp others q ≡ (if q == place then 0 else few_stamp entries q)
+few_taken entries others place here h = for_each others (λ q n. n ≡ (if q == place then 0 else few_stamp entries q))
+    (λ q lt.
     ap (λ o. unwrap_or o 0) (h q ∙ ap (λ b. cond b None (lookup (is_at (nat_cmp q)) entries)) (swapped place q))
     ∙ elim (q == place) as (λ b. unwrap_or (cond b None (lookup (is_at (nat_cmp q)) entries)) 0 ≡ cond b 0 (few_stamp entries q)) [
       | true ↦ refl
-      | false ↦ refl
-    ]
+      | false ↦ few_within entries q lt
+    ])
+    (λ q le. few_beyond entries q le ∙ ap (λ b. cond b 0 (few_stamp entries q)) (apart q place here le))
+
+-- nothing to take out there
+pub few_kept : (entries : List (ℕ × ℕ)) (place : ℕ) → 4294967296 ≤ place → (q : ℕ) → few_stamp entries q ≡ (if q == place then 0 else few_stamp entries q)
+few_kept entries place le q =
+    elim (q == place) as (λ b. (q == place) ≡ b → few_stamp entries q ≡ cond b 0 (few_stamp entries q)) [
+      | true ↦ λ e. ap (few_stamp entries) (eqb-true q place e) ∙ sym (few_beyond entries place le)
+      | false ↦ λ e. refl
+    ] refl
 
 -- ---- pages with their tree
 

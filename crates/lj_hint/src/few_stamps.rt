@@ -1,5 +1,5 @@
 //! Stamps of places that lie far apart.
-ghost use Rattle.std.specs.Prelude.{◌≡◌, ◌==◌, ◌<◌, ◌^◌, ℕ, OnOk, OnErr, if◌then◌else◌};
+ghost use Rattle.std.specs.Prelude.{◌≡◌, ◌==◌, ◌<◌, ◌^◌, ◌/◌, ℕ, false, OnOk, OnErr, if◌then◌else◌};
 ghost use Rattle.lj_hint.specs.inner.Stamps.{few_stamp};
 
 use crate::pages::PAGE;
@@ -8,13 +8,16 @@ use std::alloc::Global;
 use std::collections::BTreeMap;
 use std::marker::Model;
 
-/// From so many stamps on, a page's places may take as much memory here as the page would.
-const MANY: u16 = 1024;
+/// The first place that can't have a stamp here. No literal's place is so great.
+pub(crate) const REACH: usize = 4_294_967_296;
 
-/// Stamps in a tree, where that of a place takes 32 bytes at most. Where none was set it is 0.
+/// From so many stamps on, a page's places may take as much memory here as the page would.
+const MANY: u16 = 1400;
+
+/// Stamps in a tree, where that of a place takes 23 bytes at most. Where none was set it is 0.
 #[derive(Drop)]
 pub(crate) struct FewStamps {
-    stamps: BTreeMap<usize, u32>,
+    stamps: BTreeMap<u32, u32>,
     /// How many of them are of places of each page. It decides when a page is made, and no stamp.
     counts: Vec<u16>,
 }
@@ -42,14 +45,22 @@ impl FewStamps {
     pub(crate) fn get(&self, place: usize) -> u32
         ensures { result ≡ few_stamp self.now place }
     {
-        match self.stamps.get(&place) {
+        if place >= REACH {
+            return 0;
+        }
+        match self.stamps.get(&(place as u32)) {
             Some(stamp) => *stamp,
             None => 0,
         }
     }
 
-    /// Whether many places of the page of this number have a stamp here.
-    pub(crate) fn are_many(&self, number: usize) -> bool {
+    /// Whether many places of the page of this number have a stamp here, or can't have one.
+    pub(crate) fn are_many(&self, number: usize) -> bool
+        ensures { result ≡ false → number < REACH / PAGE }
+    {
+        if number >= REACH / PAGE {
+            return true;
+        }
         match self.counts.get(number) {
             Some(count) => *count >= MANY,
             None => false,
@@ -62,12 +73,13 @@ impl FewStamps {
     /// # Errors
     /// [`NoMemory`] where a growth was refused.
     pub(crate) fn set(&mut self, place: usize, stamp: u32) -> Result<(), NoMemory>
+        requires { place < REACH }
         ensures ok { OnOk result ((q : ℕ) → few_stamp self.new q
             ≡ (if q == place then stamp else few_stamp self.old q)) }
         ensures err { OnErr result ((q : ℕ) → few_stamp self.new q ≡ few_stamp self.old q) }
     {
         make_room(&mut self.counts, place / PAGE)?;
-        if self.stamps.insert(place, stamp)?.is_none() {
+        if self.stamps.insert(place as u32, stamp)?.is_none() {
             count_one_more(&mut self.counts, place / PAGE);
         }
         Ok(())
@@ -78,7 +90,10 @@ impl FewStamps {
         ensures { (q : ℕ)
             → few_stamp self.new q ≡ (if q == place then 0 else few_stamp self.old q) }
     {
-        if self.stamps.remove(&place).is_some() {
+        if place >= REACH {
+            return;
+        }
+        if self.stamps.remove(&(place as u32)).is_some() {
             count_one_less(&mut self.counts, place / PAGE);
         }
     }

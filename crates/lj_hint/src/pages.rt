@@ -12,7 +12,7 @@ use std::marker::Model;
 pub(crate) const PAGE: usize = 8192;
 
 /// A stamp for each place of a literal, 0 where none was set. Those of a page's places stand in a tree until they are
-/// many; then the page is made, and takes them over. So a stamp takes 32 bytes at most wherever its place is, beside two
+/// many; then the page is made, and takes them over. So a stamp takes 23 bytes at most wherever its place is, beside two
 /// for each page up to the greatest with a stamp, amortized, and 24 for each up to the greatest that was made.
 #[derive(Drop)]
 pub(crate) struct Pages {

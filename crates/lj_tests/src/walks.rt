@@ -135,8 +135,8 @@ fn walks_go_on_after_the_greatest_stamp(rt: HostRuntime) -> Result<(), Fail> {
 fn walks_hold_many_great_literals(rt: HostRuntime) -> Result<(), Fail> {
     let alloc = rt.alloc();
     let mut great = Vec::new(alloc);
-    for below in 0..1_500 {
-        great.push(134_217_727 - below)?;
+    for variable in 134_215_000..134_216_500 {
+        great.push(variable)?;
     }
     let hints: [Hint; 1] = [(6, &great)];
     let mut marks = Marks::new(alloc);

@@ -5,6 +5,7 @@ use Rattle.std.specs.BTreeMap.{is_at}
 use Rattle.std.specs.Ordering.{nat_cmp}
 use Rattle.lj_clause.specs.Literal.{place_of}
 use Rattle.lj_clause.specs.LiteralSet.{holds, from_literals}
+use Rattle.lj_hint.specs.declared.few_stamps.TheConstants.{REACH}
 use Rattle.lj_hint.specs.declared.pages.TheConstants.{PAGE}
 use Rattle.lj_hint.specs.declared.stamps.TheConstants.{NEAR}
 
@@ -22,7 +23,8 @@ stamp_in_page pages place = slice_index (page_at pages (place / PAGE)) (place % 
 
 -- the stamp at a place in a tree of places with their stamps: 0 where none was set
 unfoldable pub few_stamp : List (ℕ × ℕ) → ℕ → ℕ
-few_stamp entries place = unwrap_or (lookup (is_at (nat_cmp place)) entries) 0
+few_stamp entries place = if nat_lt place REACH then unwrap_or (lookup (is_at (nat_cmp place)) entries) 0
+    else 0
 
 -- pages, and the tree with the stamps of the places that no page reaches
 abbrev pub Paged : Type 0
