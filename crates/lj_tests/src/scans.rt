@@ -59,7 +59,7 @@ impl Random {
         let at = self.below(20) as usize;
         match OWN.get(at) {
             Some(own) => *own,
-            None => 8 + self.below(48),
+            None => self.below(48).saturating_add(8),
         }
     }
 
