@@ -487,3 +487,13 @@ neither_near near far m k is e = first_none (fin.get near k) (fin.get far k) (sy
 
 pub neither_far : {V : Type 0} (near far m : Numbered V) (k : ℕ) → joined_map near far ≡ m → fin.get m k ≡ None → fin.get far k ≡ None
 neither_far near far m k is e = last_none (fin.get near k) (fin.get far k) (sym (get_joined near far k) ∙ ap (λ n. fin.get n k) is ∙ e)
+
+-- two maps in one are empty where each is
+pub empty_near : {V : Type 0} (near far : Numbered V) → joined_map near far ≡ fin.empty → near ≡ fin.empty
+empty_near near far is = same_map _ _ (λ q. neither_near near far fin.empty q is (fin.get-empty nat_cmp q) ∙ sym (fin.get-empty nat_cmp q))
+
+pub empty_far : {V : Type 0} (near far : Numbered V) → joined_map near far ≡ fin.empty → far ≡ fin.empty
+empty_far near far is = same_map _ _ (λ q. neither_far near far fin.empty q is (fin.get-empty nat_cmp q) ∙ sym (fin.get-empty nat_cmp q))
+
+pub both_empty : {V : Type 0} (near far : Numbered V) → near ≡ fin.empty → far ≡ fin.empty → joined_map near far ≡ fin.empty
+both_empty near far e f = ap (λ m. joined_map m far) e ∙ ap (joined_map fin.empty) f ∙ joined_empty

@@ -4,10 +4,10 @@ ghost use Rattle.std.specs.FinMap as fin;
 ghost use Rattle.lj_book.specs.inner.Slots.{AreBefore, joined_map, shifted};
 
 use crate::dying::rising;
+use crate::far_numbers::FarNumbers;
 use crate::opened::Opened;
 use crate::short_map::ShortMap;
 use crate::slot::{SHORT_END, ShortSlot};
-use crate::tree_map::TreeMap;
 use lj_clause::NoMemory;
 use std::alloc::Global;
 use std::marker::Model;
@@ -16,14 +16,15 @@ use std::marker::Model;
 const FIRST_SLOTS: u64 = 1024;
 
 /// The own numbers of a seat with the joint numbers that they are bound to, seen as a finite map. Own numbers up to a bound
-/// that follows how many were bound have slots of four bytes for joint numbers below 4,294,967,295; all others stand in a
-/// tree. So memory is linear in how many were bound, whatever numbers they are.
+/// that follows how many were bound have slots of four bytes for joint numbers below 4,294,967,295; all others stand in
+/// trees, where one takes 23 bytes at most if both it and its joint number are below 4,294,967,296, and 39 at most
+/// elsewhere. So memory is linear in how many were bound, whatever numbers they are.
 ///
 /// A call takes constant time for an own number that has a slot, amortized, and O(log n) time for others.
 #[derive(Drop)]
 pub(crate) struct Bindings {
     short: ShortMap<ShortSlot>,
-    long: TreeMap<u64>,
+    long: FarNumbers,
     /// Own numbers up to twice this have slots: one more for each time that a number was bound.
     reach: u64,
 }
@@ -51,7 +52,7 @@ impl Bindings {
     {
         Bindings {
             short: ShortMap::new(alloc),
-            long: TreeMap::new(alloc),
+            long: FarNumbers::new(alloc),
             reach: FIRST_SLOTS,
         }
     }

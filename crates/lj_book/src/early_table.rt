@@ -4,8 +4,8 @@ ghost use Rattle.std.specs.FinMap as fin;
 ghost use Rattle.lj_book.specs.Tables.{up_to};
 
 use crate::dying::rising;
+use crate::far_numbers::FarNumbers;
 use crate::opened::Opened;
-use crate::tree_map::TreeMap;
 use lj_clause::NoMemory;
 use std::alloc::Global;
 use std::marker::Model;
@@ -17,7 +17,7 @@ use std::marker::Model;
 #[derive(Drop)]
 pub(crate) struct EarlyTable {
     opened: Opened,
-    anew: TreeMap<u64>,
+    anew: FarNumbers,
 }
 
 impl Model for EarlyTable {
@@ -48,7 +48,7 @@ impl EarlyTable {
         let opened = Opened::up_to(alloc, last)?;
         Ok(EarlyTable {
             opened,
-            anew: TreeMap::new(alloc),
+            anew: FarNumbers::new(alloc),
         })
     }
 

@@ -34,3 +34,6 @@ returns-clause-ok c =
     ok_then c.insert-2.result _ _ c.insert-2.ensures.ok (λ e. ap (joined_map c.self.inside.short) e
     ∙ insert_far c.self.inside.short c.self.inside.long c.args.own c.args.joint absent
     ∙ ap (λ m. fin.insert m c.args.own c.args.joint) c.self.view_is)
+
+pub insert-requires-2 : goal.insert-requires-2
+insert-requires-2 c = neither_far c.self.inside.short c.self.inside.long c.args.self.now c.args.own c.self.view_is c.requires
