@@ -1,6 +1,5 @@
-use Rattle.std.proofs.Common.{◌≡◌, ap, sym, ◌∙◌, Bool, true, false}
+use Rattle.std.proofs.Common.{sym, ◌∙◌}
 use Rattle.std.proofs.lemmas.Bool.{false≢true}
-use Rattle.std.specs.FinMap as fin
 use Rattle.lj_book.proofs.Slots.{empty_near, empty_far, both_empty}
 use Rattle.lj_book.proofs.far_numbers.FarNumbers.is_empty.Goals as goal
 
