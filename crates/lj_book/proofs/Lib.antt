@@ -34,3 +34,4 @@ pub mod WordLaws
 pub mod RecordLaws
 pub mod StepLineLemmas
 mod RisingGroups
+pub mod CompareLaws

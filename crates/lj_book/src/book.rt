@@ -1,5 +1,5 @@
 //! The book.
-ghost use Rattle.std.specs.Prelude.{◌≡◌, ◌<◌, ◌+◌, length, ◌↔◌, IsTrue, OnOk, OnErr, IfOk, IfErr, Err, option_copied, option_map, slice_get, is_some, IfSome, None, Some};
+ghost use Rattle.std.specs.Prelude.{◌≡◌, ◌<◌, ◌+◌, length, ◌↔◌, IsTrue, OnOk, OnErr, IfOk, IfErr, Err, option_copied, option_map, slice_get, is_some, IfSome, None, Some, true};
 ghost use Rattle.std.specs.FinMap as fin;
 ghost use Rattle.lj_text.specs.Steps.{replay, refutes};
 ghost use Rattle.lj_text.specs.Needed.{if_some};
@@ -19,6 +19,7 @@ mod telling;
 use crate::committing::{enter_addition, first_stale, refuted_at, step_of};
 use crate::dying::{no_longer_held, rising};
 use crate::entry::{Added, Dropped, Entry};
+use crate::entry_log::EntryLog;
 use crate::ledger::Ledger;
 use crate::lent_addition::LentAddition;
 use crate::refusal::Refusal;
@@ -163,6 +164,15 @@ impl Book {
         ensures { IsTrue result ↔ (slice_get self.now.history place ≡ Some entry.now) }
     {
         self.ledger.history().is_entry(place, entry)
+    }
+
+    /// Whether there is an entry at a place of the history, counted from 0, and it is the one at this place of the log. Takes time
+    /// linear in its contents, and no memory.
+    pub fn is_entry_of(&self, place: u64, log: &EntryLog, at: u64) -> bool
+        ensures { IsTrue result ↔ ((is_some (slice_get self.now.history place) ≡ true)
+            × (slice_get self.now.history place ≡ slice_get log.now at)) }
+    {
+        log.is_entry_of(at, self.ledger.history(), place)
     }
 
     /// The place of the first entry that adds the empty clause.

@@ -1,5 +1,8 @@
 //! What the history keeps of a call.
-use lj_clause::{Clause, Lemma};
+ghost use Rattle.std.specs.Prelude.{◌≡◌, IfOk};
+
+use crate::lent_addition::LentAddition;
+use lj_clause::{Clause, Lemma, NoMemory};
 use lj_text::{Numbers, Step};
 
 /// A call that was accepted, as it was made.
@@ -23,6 +26,75 @@ pub struct Entry {
     pub seat: u32,
     pub call: Call,
     pub step: Option<Step>,
+}
+
+impl Call {
+    /// A call of its own with the same contents.
+    ///
+    /// # Errors
+    /// [`NoMemory`] where a growth was refused.
+    fn copy(&self) -> Result<Call, NoMemory>
+        ensures { IfOk result (λ copy. copy ≡ self.now) }
+    {
+        Ok(match self {
+            Call::Add { own, lemma } => Call::Add {
+                own: *own,
+                lemma: lemma.copy()?,
+            },
+            Call::Drop { numbers } => Call::Drop {
+                numbers: numbers.copy()?,
+            },
+            Call::Adopt { own, joint } => Call::Adopt {
+                own: *own,
+                joint: *joint,
+            },
+            Call::Import { own, clause } => Call::Import {
+                own: *own,
+                clause: clause.copy()?,
+            },
+            Call::Leave => Call::Leave,
+        })
+    }
+}
+
+impl Entry {
+    /// An entry of its own with the same contents.
+    ///
+    /// # Errors
+    /// [`NoMemory`] where a growth was refused.
+    pub(crate) fn copy(&self) -> Result<Entry, NoMemory>
+        ensures { IfOk result (λ copy. copy ≡ self.now) }
+    {
+        Ok(Entry {
+            seat: self.seat,
+            call: self.call.copy()?,
+            step: copy_of_step(&self.step)?,
+        })
+    }
+}
+
+/// A step of its own with the same contents, if there is one.
+///
+/// # Errors
+/// [`NoMemory`] where a growth was refused.
+fn copy_of_step(step: &Option<Step>) -> Result<Option<Step>, NoMemory>
+    ensures { IfOk result (λ copy. copy ≡ step.now) }
+{
+    Ok(match step {
+        Some(Step::Add(addition)) => {
+            let lent = LentAddition::new(
+                addition.number,
+                &addition.lemma,
+                &addition.hints,
+                &addition.groups,
+            );
+            Some(Step::Add(lent.copy()?))
+        }
+        Some(Step::Delete { numbers }) => Some(Step::Delete {
+            numbers: numbers.copy()?,
+        }),
+        None => None,
+    })
 }
 
 /// The reply to an addition.

@@ -1,5 +1,5 @@
 //! The history of a book.
-ghost use Rattle.std.specs.Prelude.{◌≡◌, ◌≢◌, ◌↔◌, ◌+◌, ◌*◌, ◌<◌, ◌≤◌, ◌++◌, ◌∷◌, [], ◌^◌, length, IfOk, OnOk, OnErr, IsTrue, true, IfSome, Some, None, option_copied, slice_get, option_map};
+ghost use Rattle.std.specs.Prelude.{◌≡◌, ◌≢◌, ◌↔◌, ◌+◌, ◌*◌, ◌<◌, ◌≤◌, ◌++◌, ◌∷◌, [], ◌^◌, length, IfOk, OnOk, OnErr, IsTrue, true, IfSome, Some, None, option_copied, slice_get, option_map, is_some};
 ghost use Rattle.lj_clause.specs.LiteralSet.{literals};
 ghost use Rattle.lj_text.specs.declared.step.Step.TheVariants.{Add};
 ghost use Rattle.lj_text.specs.Needed.{if_some, up_to_empty};
@@ -9,6 +9,8 @@ ghost use Rattle.lj_book.specs.State.{steps_of};
 ghost use Rattle.lj_book.specs.declared.entry.Call.TheVariants as calls;
 ghost use Rattle.lj_book.specs.inner.Records.{lemma_lits, addition_numbers, binding_call, binding_lits, entry_of};
 
+mod comparing;
+mod copying;
 mod lines;
 mod matching;
 mod reading;
@@ -380,6 +382,23 @@ impl History {
         match words_at(&self.starts, &self.words, place) {
             Some(words) => matching::is_entry(&self.lits, words, entry),
             None => false,
+        }
+    }
+
+    /// Whether there is an entry at a place, counted from 0, and it is the one at this place of the other history. Takes time
+    /// linear in its contents, and no memory.
+    pub(crate) fn is_same_entry(&self, place: u64, other: &History, at: u64) -> bool
+        ensures { IsTrue result ↔ ((is_some (slice_get self.now.entries place) ≡ true)
+            × (slice_get self.now.entries place ≡ slice_get other.now.entries at)) }
+    {
+        match (
+            words_at(&self.starts, &self.words, place),
+            words_at(&other.starts, &other.words, at),
+        ) {
+            (Some(words), Some(others)) => {
+                comparing::same_entry(&self.lits, words, &other.lits, others)
+            }
+            _ => false,
         }
     }
 }

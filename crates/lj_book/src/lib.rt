@@ -10,6 +10,7 @@ mod counts;
 mod dying;
 mod early_table;
 mod entry;
+mod entry_log;
 mod event;
 mod far_numbers;
 mod history;
@@ -42,6 +43,7 @@ mod words;
 
 pub use book::{Book, laws};
 pub use entry::{Added, Call, Dropped, Entry, Imported};
+pub use entry_log::EntryLog;
 pub use event::{Event, Reply};
 pub use own_map::OwnMap;
 pub use ready::Ready;

@@ -65,3 +65,12 @@ pub record Matches {A : Type 0} (one : List ℕ → A × List ℕ) (whole : List
   pub same : (many_in one (length left) rest).0 ≡ left
       → whole ≡ (wanted, (many_in one (length left) rest).1)
   pub other : whole.0 ≡ wanted → (many_in one (length left) rest).0 ≡ left
+
+-- What is read of two words as wholes is the same exactly where so many values at the front of their rests are, and the words
+-- behind them are the same as behind the wholes.
+pub record Agree {A : Type 0} (one : List ℕ → A × List ℕ) (whole other : List A × List ℕ)
+    (rest other_rest : List ℕ) (left : ℕ) : Type 0 where
+  pub same : (many_in one left rest).0 ≡ (many_in one left other_rest).0 → whole.0 ≡ other.0
+  pub back : whole.0 ≡ other.0 → (many_in one left rest).0 ≡ (many_in one left other_rest).0
+  pub rest_is : (many_in one left rest).1 ≡ whole.1
+  pub other_is : (many_in one left other_rest).1 ≡ other.1

@@ -28,7 +28,7 @@ fn are_of_lemma(lits: &[Lit], lemma: &Lemma) -> bool
 }
 
 /// Whether the two lists are the same.
-fn same_lits(lits: &[Lit], others: &[Lit]) -> bool
+pub(super) fn same_lits(lits: &[Lit], others: &[Lit]) -> bool
     ensures { IsTrue result ↔ (lits.now ≡ others.now) }
 {
     lits == others
