@@ -4,7 +4,7 @@ mod provers;
 
 use crate::tables::{Line, ListedStep, addition, assert_numbers, assert_step, clause};
 use lj_book::{Call, Entry, Refusal};
-use lj_share::{Closed, Opening, Seat, Shared, Told};
+use lj_share::{Closed, Opening, Seat, Shared, Tokens, Told};
 use lj_text::{Boxed, Line as ProofLine, Numbers};
 use std::alloc::Global;
 use std::process::Abort;
@@ -99,5 +99,27 @@ fn assert_confirmed<L: Opening>(
     if tokens.len() > 1 {
         tokens.swap(0, 1);
         assert!(rt; !closed.confirm(seat, tokens));
+        tokens.swap(0, 1);
     }
+}
+
+/// Asserts that the seat's tokens are confirmed once all are kept, and not before, nor with two exchanged.
+fn assert_kept_confirmed<L: Opening>(
+    rt: &impl Abort,
+    alloc: Global,
+    closed: &Closed<L>,
+    seat: u32,
+    tokens: Vec<Told>,
+    in_order: bool,
+) -> Result<(), Fail> {
+    let mut kept = Tokens::new(alloc);
+    for told in tokens {
+        assert!(rt; !closed.confirm_tokens(seat, &kept));
+        kept.reserve()?;
+        kept.push(told)?;
+    }
+    assert!(rt; closed.confirm_tokens(seat, &kept) == in_order);
+    kept.reserve()?;
+    assert!(rt; closed.confirm_tokens(seat, &kept) == in_order);
+    Ok(())
 }

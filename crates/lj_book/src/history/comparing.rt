@@ -75,7 +75,8 @@ fn same_additions(
     requires named { sized_lits lits.now (code_in head) (sizes_in (code_in head) words.now)
         ≡ lemma_lits
         (sized_addition lits.now (code_in head) (sizes_in (code_in head) words.now)).lemma }
-    requires other_named { sized_lits other_lits.now (code_in other_head) (sizes_in (code_in other_head) others.now)
+    requires other_named { sized_lits other_lits.now (code_in other_head)
+        (sizes_in (code_in other_head) others.now)
         ≡ lemma_lits (sized_addition other_lits.now (code_in other_head)
         (sizes_in (code_in other_head) others.now)).lemma }
     ensures { IsTrue result
@@ -212,7 +213,8 @@ fn same_behind(
 ) -> bool
     requires named { named_in lits.now (kind_in head) (code_in head) words.now
         ≡ call_lits (call_in lits.now (kind_in head) (code_in head) words.now) }
-    requires other_named { named_in other_lits.now (kind_in other_head) (code_in other_head) others.now
+    requires other_named { named_in other_lits.now (kind_in other_head) (code_in other_head)
+        others.now
         ≡ call_lits
         (call_in other_lits.now (kind_in other_head) (code_in other_head) others.now) }
     ensures { IsTrue result

@@ -1,15 +1,16 @@
 //! Copies of entries that a history takes behind its own.
-ghost use Rattle.std.specs.Prelude.{◌≡◌, ◌+◌, ◌*◌, ◌≤◌, ◌<◌, ◌++◌, ◌∷◌, [], length, IfOk, OnErr, true, false, Some, None};
+ghost use Rattle.std.specs.Prelude.{◌≡◌, ◌+◌, ◌*◌, ◌≤◌, ◌<◌, ◌++◌, ◌∷◌, [], length, vec_len, vec_capacity, IfOk, OnErr, true, false, Some, None};
 ghost use Rattle.lj_text.specs.Needed.{if_some};
 ghost use Rattle.lj_text.specs.declared.step.Step.TheVariants.{Add};
 ghost use Rattle.lj_book.specs.declared.entry.Call.TheVariants as calls;
-ghost use Rattle.lj_book.specs.inner.Records.{entry_of};
+ghost use Rattle.lj_book.specs.inner.Records.{entry_of, drop_words, leave_words};
 
-use super::History;
-use super::writing::{put_drop_listed, put_leave_listed};
+use super::writing::put_head;
+use super::{DROP, History, LEAVE};
 use crate::entry::{Call, Entry};
 use crate::lent_addition::LentAddition;
 use crate::same::same_lemma;
+use crate::words::put_list;
 use lj_clause::{Clause, Lemma, NoMemory};
 use lj_text::{Addition, Numbers, Step};
 
@@ -39,7 +40,7 @@ impl History {
         }
     }
 
-    /// The same of an addition.
+    /// As [`History::push_entry`], of an addition.
     ///
     /// # Errors
     /// As [`History::push_entry`].
@@ -71,7 +72,7 @@ impl History {
         Ok(true)
     }
 
-    /// The same of a drop.
+    /// As [`History::push_entry`], of a drop.
     ///
     /// # Errors
     /// As [`History::push_entry`].
@@ -128,7 +129,7 @@ impl History {
         self.starts.push(start);
     }
 
-    /// The same of an adoption.
+    /// As [`History::push_entry`], of an adoption.
     ///
     /// # Errors
     /// As [`History::push_entry`].
@@ -144,7 +145,7 @@ impl History {
         Ok(true)
     }
 
-    /// The same of an import.
+    /// As [`History::push_entry`], of an import.
     ///
     /// # Errors
     /// As [`History::push_entry`].
@@ -160,7 +161,7 @@ impl History {
         Ok(true)
     }
 
-    /// The same of a leave.
+    /// As [`History::push_entry`], of a leave.
     ///
     /// # Errors
     /// As [`History::push_entry`].
@@ -197,4 +198,24 @@ impl History {
         put_leave_listed(&mut self.words, seat, died);
         self.starts.push(start);
     }
+}
+
+/// Puts the words of a seat's drop of numbers by which these died behind the others, which have room for them.
+fn put_drop_listed(words: &mut Vec<u32>, seat: u32, given: &Numbers, died: &Numbers)
+    requires { vec_len words.old + 3 * (3 + length given.now + length died.now)
+        ≤ vec_capacity words.old }
+    ensures { words.new.items ≡ words.old.items ++ drop_words seat given.now died.now }
+{
+    put_head(words, seat, DROP);
+    put_list(words, given);
+    put_list(words, died);
+}
+
+/// Puts the words of a seat's leave by which these numbers died behind the others, which have room for them.
+fn put_leave_listed(words: &mut Vec<u32>, seat: u32, died: &Numbers)
+    requires { vec_len words.old + 3 * (2 + length died.now) ≤ vec_capacity words.old }
+    ensures { words.new.items ≡ words.old.items ++ leave_words seat died.now }
+{
+    put_head(words, seat, LEAVE);
+    put_list(words, died);
 }

@@ -15,7 +15,7 @@ const FEW: usize = 8;
 
 /// Puts the first number of an entry behind the words, which have room for it.
 #[inline]
-fn put_head(words: &mut Vec<u32>, seat: u32, kind: u64)
+pub(super) fn put_head(words: &mut Vec<u32>, seat: u32, kind: u64)
     requires kind { kind < 16777216 }
     requires room { vec_len words.old + 3 ≤ vec_capacity words.old }
     ensures words { words.new.items ≡ words.old.items ++ head_words seat kind }
@@ -92,17 +92,6 @@ pub(super) fn put_drop(words: &mut Vec<u32>, seat: u32, given: &Numbers, died: &
     put_numbers(words, died);
 }
 
-/// The same, where a list has those that died.
-pub(super) fn put_drop_listed(words: &mut Vec<u32>, seat: u32, given: &Numbers, died: &Numbers)
-    requires { vec_len words.old + 3 * (3 + length given.now + length died.now)
-        ≤ vec_capacity words.old }
-    ensures { words.new.items ≡ words.old.items ++ drop_words seat given.now died.now }
-{
-    put_head(words, seat, DROP);
-    put_list(words, given);
-    put_list(words, died);
-}
-
 /// Puts the words of a seat's drop of numbers that are those that died behind the others, which have room for them.
 pub(super) fn put_drop_once(words: &mut Vec<u32>, seat: u32, numbers: &Numbers)
     requires { vec_len words.old + 3 * (2 + length numbers.now) ≤ vec_capacity words.old }
@@ -152,13 +141,4 @@ pub(super) fn put_leave(words: &mut Vec<u32>, seat: u32, died: &[u64])
 {
     put_head(words, seat, LEAVE);
     put_numbers(words, died);
-}
-
-/// The same, where a list has those that died.
-pub(super) fn put_leave_listed(words: &mut Vec<u32>, seat: u32, died: &Numbers)
-    requires { vec_len words.old + 3 * (2 + length died.now) ≤ vec_capacity words.old }
-    ensures { words.new.items ≡ words.old.items ++ leave_words seat died.now }
-{
-    put_head(words, seat, LEAVE);
-    put_list(words, died);
 }

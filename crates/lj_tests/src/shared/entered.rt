@@ -1,7 +1,7 @@
 //! Lists of calls on a shared book.
 ghost use Rattle.std.specs.Prelude.{◌≡◌, ◌<◌};
 
-use crate::shared::{Called, Row, assert_confirmed, assert_entry, call};
+use crate::shared::{Called, Row, assert_confirmed, assert_entry, assert_kept_confirmed, call};
 use crate::tables::{BINARY, Line, ListedStep, formula};
 use lj_book::{Book, Refusal};
 use lj_clause::Formula;
@@ -268,7 +268,7 @@ fn assert_closed<L: Opening>(
     alloc: Global,
     shared: Shared<L>,
     seats: Vec<Seat<L>>,
-    mut tokens: Vec<Vec<Told>>,
+    tokens: Vec<Vec<Told>>,
     script: &[Row],
 ) -> Result<(), Fail>
     requires { L.parts ≡ L.seats }
@@ -277,8 +277,7 @@ fn assert_closed<L: Opening>(
         panic!(rt; "not closed");
     };
     assert_history(rt, alloc, closed.book(), script)?;
-    assert_all_confirmed(rt, &closed, &mut tokens);
-    Ok(())
+    assert_all_confirmed(rt, alloc, &closed, tokens)
 }
 
 /// An empty list of tokens for each seat.
@@ -306,10 +305,23 @@ fn assert_counted<L: Opening>(
     Ok(())
 }
 
-fn assert_all_confirmed<L: Opening>(rt: &impl Abort, closed: &Closed<L>, tokens: &mut [Vec<Told>]) {
+/// Asserts that each seat's tokens are confirmed, every other one's with the first two exchanged once it is.
+fn assert_all_confirmed<L: Opening>(
+    rt: &impl Abort,
+    alloc: Global,
+    closed: &Closed<L>,
+    tokens: Vec<Vec<Told>>,
+) -> Result<(), Fail> {
     for (seat, of_seat) in (0..u32::MAX).zip(tokens) {
-        assert_confirmed(rt, closed, seat, of_seat);
+        let mut of_seat = of_seat;
+        assert_confirmed(rt, closed, seat, &mut of_seat);
+        let exchanged = seat % 2 == 1 && of_seat.len() > 1;
+        if exchanged {
+            of_seat.swap(0, 1);
+        }
+        assert_kept_confirmed(rt, alloc, closed, seat, of_seat, !exchanged)?;
     }
+    Ok(())
 }
 
 /// Makes a row's call, sees that its token shows its entry, or that it is refused, and keeps the token.
