@@ -1,4 +1,5 @@
 pub mod Seats
 pub mod Entries
 pub mod Refusals
+pub mod Tokens
 pub mod inner

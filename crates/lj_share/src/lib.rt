@@ -10,6 +10,7 @@ mod opening;
 mod own_clauses;
 mod seat;
 mod shared;
+mod tokens;
 mod told;
 
 pub use closed::Closed;
@@ -17,4 +18,5 @@ pub use gate::{Gate, NoGate};
 pub use opening::Opening;
 pub use seat::Seat;
 pub use shared::{SeatsOut, Shared};
+pub use tokens::Tokens;
 pub use told::Told;
