@@ -15,7 +15,7 @@ use crate::joint::worker::{Ran, run_worker};
 use crate::outcome::{End, Report, RunFault};
 use lj_book::Book;
 use lj_clause::{Formula, NoMemory};
-use lj_share::{Closed, Gate, Opening, Seat, Shared, Told};
+use lj_share::{Closed, Gate, Opening, Seat, Shared, Tokens};
 use lj_text::Source;
 use std::alloc::{AllocError, Global};
 use std::snapshot::Snapshot;
@@ -89,7 +89,7 @@ fn run_all<
     requires unfailed { All (λ stream. S.failures stream ≡ 0)
         (streams_by_seat streams.items closing) }
     ensures ran { IfOk result (λ ran. HaveRun (source_state S.given S.ended S.rest S.failures)
-        (streams_by_seat streams.items closing) (map (λ r. r.told.items) ran.items)
+        (streams_by_seat streams.items closing) (map (λ r. r.told.entries) ran.items)
         (map (λ r. r.report) ran.items)) }
     ensures counted { IfOk result (λ ran. entries_made (map (λ r. r.seat) ran.items)
         ≡ sum_by (λ r. accepted_count r.report) ran.items) }
@@ -129,7 +129,7 @@ struct RunsBeside<S>(Snapshot<S>);
 
 impl<L: Opening, S: Source> Promise<Ran<L, S>> for RunsBeside<S> {
     ghost kept_by = { λ promise ran. IsStreamBeside (source_state S.given S.ended S.rest S.failures)
-        true ran.told.items promise.0.value ran.report
+        true ran.told.entries promise.0.value ran.report
         × (ran.seat.count ≡ accepted_count ran.report) };
 }
 
@@ -150,7 +150,7 @@ fn run_beside<
     requires fresh { All (λ job. job.0.count ≡ 0) jobs.items }
     requires unfailed { All (λ job. S.failures job.1 ≡ 0) jobs.items }
     ensures ran { IfOk result (λ ran. HaveRun (source_state S.given S.ended S.rest S.failures)
-        (map (λ job. job.1) jobs.items) (map (λ r. r.told.items) ran.items)
+        (map (λ job. job.1) jobs.items) (map (λ r. r.told.entries) ran.items)
         (map (λ r. r.report) ran.items)) }
     ensures counted { IfOk result (λ ran. entries_made (map (λ r. r.seat) ran.items)
         ≡ sum_by (λ r. accepted_count r.report) ran.items) }
@@ -163,7 +163,7 @@ fn run_beside<
                 × All (λ job. S.failures job.1 ≡ 0) jobs.items }
             ensures ran { IfOk result (λ ran. HaveRun
                 (source_state S.given S.ended S.rest S.failures)
-                (map (λ job. job.1) jobs.items) (map (λ r. r.told.items) ran.items)
+                (map (λ job. job.1) jobs.items) (map (λ r. r.told.entries) ran.items)
                 (map (λ r. r.report) ran.items)) }
             ensures counted { IfOk result (λ ran. entries_made (map (λ r. r.seat) ran.items)
                 ≡ sum_by (λ r. accepted_count r.report) ran.items) }
@@ -184,7 +184,7 @@ fn run_beside<
 fn parted<L: Opening, S: Drop>(
     alloc: Global,
     ran: Vec<Ran<L, S>>,
-) -> Result<(Vec<Seat<L>>, Vec<Vec<Told>>, Vec<Report<S>>), NoMemory>
+) -> Result<(Vec<Seat<L>>, Vec<Tokens>, Vec<Report<S>>), NoMemory>
     ensures seats { IfOk result (λ parts. parts.0.items ≡ map (λ r. r.seat) ran.items) }
     ensures told { IfOk result (λ parts. parts.1.items ≡ map (λ r. r.told) ran.items) }
     ensures reports { IfOk result (λ parts. parts.2.items ≡ map (λ r. r.report) ran.items) }
@@ -205,13 +205,14 @@ fn parted<L: Opening, S: Drop>(
 /// verdict where a stream says so.
 fn all_confirmed<L: Opening, S>(
     closed: &Closed<L>,
-    tokens: &[Vec<Told>],
+    tokens: &[Tokens],
     reports: &[Report<S>],
 ) -> bool
     requires same { length tokens.now ≡ length reports.now }
     requires at_most { length reports.now ≤ 1024 }
-    ensures { MatchBool result (AreConfirmed closed.now (map (λ t. t.items) tokens.now) reports.now)
-        (SomeDenied closed.now (map (λ t. t.items) tokens.now) reports.now) }
+    ensures { MatchBool result
+        (AreConfirmed closed.now (map (λ t. t.entries) tokens.now) reports.now)
+        (SomeDenied closed.now (map (λ t. t.entries) tokens.now) reports.now) }
 {
     for seat in 0..reports.len() {
         if !is_confirmed(closed, seat as u32, &tokens[seat], reports[seat].end) {
@@ -222,12 +223,12 @@ fn all_confirmed<L: Opening, S>(
 }
 
 /// Whether the entries of a seat are those of these tokens, and there is a verdict where the stream ended by one.
-fn is_confirmed<L: Opening>(closed: &Closed<L>, seat: u32, told: &[Told], end: End) -> bool
-    ensures { MatchBool result ((entries_of seat closed.now.history ≡ told.now)
+fn is_confirmed<L: Opening>(closed: &Closed<L>, seat: u32, told: &Tokens, end: End) -> bool
+    ensures { MatchBool result ((entries_of seat closed.now.history ≡ told.now.entries)
         × (end ≡ Stopped → has_verdict closed.now ≡ true)) ((entries_of seat closed.now.history
-        ≢ told.now) ⊎ ((end ≡ Stopped) × (has_verdict closed.now ≡ false))) }
+        ≢ told.now.entries) ⊎ ((end ≡ Stopped) × (has_verdict closed.now ≡ false))) }
 {
-    if !closed.confirm(seat, told) {
+    if !closed.confirm_tokens(seat, told) {
         return false;
     }
     end != End::Stopped || closed.book().verdict().is_some()

@@ -13,7 +13,7 @@ use crate::reading::{PIECE, next_line};
 use crate::stream::{Count, Tally, missed};
 use lj_book::Refusal;
 use lj_clause::MAX_VARIABLE;
-use lj_share::{Gate, Opening, Seat, Shared, Told};
+use lj_share::{Gate, Opening, Seat, Shared, Tokens};
 use lj_text::{Line, LineReader, Source};
 use std::alloc::Global;
 use std::sync::Wait;
@@ -22,7 +22,7 @@ use std::sync::Wait;
 #[derive(Drop)]
 pub(crate) struct Ran<L: Opening, S> {
     pub seat: Seat<L>,
-    pub told: Vec<Told>,
+    pub told: Tokens,
     pub report: Report<S>,
 }
 
@@ -37,11 +37,11 @@ pub(crate) fn run_worker<L: Opening, R: Wait, S: Source, G: Gate>(
     requires unfailed { S.failures job.1 ≡ 0 }
     requires fresh { job.0.count ≡ 0 }
     ensures report { IsStreamBeside (source_state S.given S.ended S.rest S.failures) true
-        result.told.items job.1 result.report }
+        result.told.entries job.1 result.report }
     ensures counted { result.seat.count ≡ accepted_count result.report }
 {
     let (mut seat, mut source) = job;
-    let mut told = Vec::new(alloc);
+    let mut told = Tokens::new(alloc);
     let tally = run_lines(rt, alloc, shared, gate, &mut seat, &mut source, &mut told);
     let report = Report {
         added: tally.added,
@@ -61,13 +61,13 @@ fn run_lines<L: Opening, R: Wait, S: Source, G: Gate>(
     gate: &G,
     seat: &mut Seat<L>,
     source: &mut S,
-    told: &mut Vec<Told>,
+    told: &mut Tokens,
 ) -> Tally
     requires unfailed { S.failures source.old ≡ 0 }
     requires fresh { seat.old.count ≡ 0 }
-    requires empty { told.old.items ≡ [] }
+    requires empty { told.old.entries ≡ [] }
     ensures report { IsStreamBeside (source_state S.given S.ended S.rest S.failures) true
-        told.new.items source.old (report_of result source.new) }
+        told.new.entries source.old (report_of result source.new) }
     ensures counted { seat.new.count ≡ accepted_count (report_of result source.new) }
 {
     let mut reader = LineReader::new(alloc, MAX_VARIABLE);
@@ -108,17 +108,17 @@ fn enter<L: Opening, R: Wait, G: Gate>(
     shared: &Shared<L>,
     gate: &G,
     seat: &mut Seat<L>,
-    told: &mut Vec<Told>,
+    told: &mut Tokens,
     line: &Line,
     at: u64,
 ) -> Result<Count, Refusal>
-    ensures told { OnOk result (IsToldOf (call_of line.now) told.old.items told.new.items) }
+    ensures told { OnOk result (IsToldOf (call_of line.now) told.old.entries told.new.entries) }
     ensures count { IfOk result (IsCounted line.now) }
     ensures counted { OnOk result (seat.new ≡ counting_one seat.old) }
-    ensures told_before { OnErr result (told.new.items ≡ told.old.items) }
+    ensures told_before { OnErr result (told.new.entries ≡ told.old.entries) }
     ensures kept { OnErr result (seat.new ≡ seat.old) }
 {
-    told.reserve(1)?;
+    told.reserve()?;
     let token = shared.submit_at(rt, seat, line, at, gate)?;
     told.push(token).unwrap();
     Ok(count_of(line))

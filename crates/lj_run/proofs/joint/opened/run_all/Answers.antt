@@ -43,7 +43,7 @@ returns-in_ok-jobs_of-in-None-clause-ran g c =
     let seen = source_state g.S.Source.given g.S.Source.ended g.S.Source.rest g.S.Source.failures in
     let many = c.requires.seats ∙ ap (λ o. length (streams_by_seat c.args.streams.items o)) c.in-None.is in
     let streams = ap (map (λ job. job.1)) c.in_ok-jobs_of-in-None.ensures ∙ streams_zipped c.args.seats.items c.args.streams.items many ∙ ap (streams_by_seat c.args.streams.items) (sym c.in-None.is) in
-    subst (λ ss. IfOk c.run_beside.result (λ ran. HaveRun seen ss (map (λ r. r.told.items) ran.items) (map (λ r. r.report) ran.items))) streams c.run_beside.ensures.ran
+    subst (λ ss. IfOk c.run_beside.result (λ ran. HaveRun seen ss (map (λ r. r.told.entries) ran.items) (map (λ r. r.report) ran.items))) streams c.run_beside.ensures.ran
 
 pub returns-in_ok-push-in-Some-clause-ran : goal.returns-in_ok-push-in-Some-clause-ran
 returns-in_ok-push-in-Some-clause-ran g c =
@@ -52,10 +52,10 @@ returns-in_ok-push-in-Some-clause-ran g c =
     let all = c.requires.seats ∙ ap (λ o. length (streams_by_seat c.args.streams.items o)) c.in-Some.is in
     let many = length_before c.args.seats.items c.pop.new.self.items c.in-Some-pop.seat c.args.streams.items c.in-Some.stream c.in-Some-pop.ensures.items all in
     let streams = ap (map (λ job. job.1)) c.in_ok-jobs_of-in-Some.ensures ∙ streams_zipped c.pop.new.self.items c.args.streams.items many in
-    let ran = subst (λ ss. HaveRun seen ss (map (λ r. r.told.items) rs) (map (λ r. r.report) rs)) streams c.in_ok-ran-in-Some.ensures.ran in
-    let more = one_more_of seen (λ r. r.told.items) (λ r. r.report) c.args.streams.items rs c.in-Some.stream c.run_worker.result ran c.run_worker.ensures.report in
-    let pushed = subst (λ xs. HaveRun seen (streams_by_seat c.args.streams.items (Some c.in-Some.stream)) (map (λ r. r.told.items) xs) (map (λ r. r.report) xs)) (sym c.in_ok-push-in-Some.ensures.items) more in
-    subst (λ o. HaveRun seen (streams_by_seat c.args.streams.items o) (map (λ r. r.told.items) c.push.new.self.items) (map (λ r. r.report) c.push.new.self.items)) (sym c.in-Some.is) pushed
+    let ran = subst (λ ss. HaveRun seen ss (map (λ r. r.told.entries) rs) (map (λ r. r.report) rs)) streams c.in_ok-ran-in-Some.ensures.ran in
+    let more = one_more_of seen (λ r. r.told.entries) (λ r. r.report) c.args.streams.items rs c.in-Some.stream c.run_worker.result ran c.run_worker.ensures.report in
+    let pushed = subst (λ xs. HaveRun seen (streams_by_seat c.args.streams.items (Some c.in-Some.stream)) (map (λ r. r.told.entries) xs) (map (λ r. r.report) xs)) (sym c.in_ok-push-in-Some.ensures.items) more in
+    subst (λ o. HaveRun seen (streams_by_seat c.args.streams.items o) (map (λ r. r.told.entries) c.push.new.self.items) (map (λ r. r.report) c.push.new.self.items)) (sym c.in-Some.is) pushed
 
 pub returns-in_ok-push-in-Some-clause-counted : goal.returns-in_ok-push-in-Some-clause-counted
 returns-in_ok-push-in-Some-clause-counted g c =

@@ -18,6 +18,6 @@ invariant-loop g l =
       max : l.reader.max ≡ MAX_VARIABLE;
       room : length l.room ≡ 65536;
       counted : l.seat.count ≡ l.tally.added + l.tally.deleted + l.tally.imported;
-      counts : AreCountsOf l.told.items l.tally.added l.tally.deleted l.tally.imported;
-      runs : SubmittedTo (seen l.fn.source) (seen l.source) l.told.items l.reader;
+      counts : AreCountsOf l.told.entries l.tally.added l.tally.deleted l.tally.imported;
+      runs : SubmittedTo (seen l.fn.source) (seen l.source) l.told.entries l.reader;
     }

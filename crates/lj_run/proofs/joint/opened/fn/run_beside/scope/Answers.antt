@@ -30,10 +30,10 @@ returns g c =
     let done = YieldsList-end list c.loop-job.yielded c.loop-job.job-iterator c.loop-job.yielded_by c.next.result c.next.new.self c.in-None.is c.next.ensures.steps in
     let streams = c.loop-job.invariant.streams ∙ ap (map (λ job. job.1)) (sym (map-id c.loop-job.yielded) ∙ done.0) in
     record {
-      ran = subst (λ ss. HaveRun seen ss (map (λ r. r.told.items) rs) (map (λ r. r.report) rs)) streams (have_run_each seen (λ w. w.promise.0.value) (λ r. r.told.items) (λ r. r.report) ws rs same (λ i w r a b.
+      ran = subst (λ ss. HaveRun seen ss (map (λ r. r.told.entries) rs) (map (λ r. r.report) rs)) streams (have_run_each seen (λ w. w.promise.0.value) (λ r. r.told.entries) (λ r. r.report) ws rs same (λ i w r a b.
           let keeps = c.in_ok-join_promised.ensures.each i r (subst (λ n. i < n) (sym c.loop-job.workers.ok.0) (got_below ws i w a)) in
           let handle = keeps.1.handle_is ∙ get_or_from_slice_get ws i w keeps.1.handle a in
-          subst (λ x. IsStreamBeside seen true x.told.items w.promise.0.value x.report) (get_or_from_slice_get rs i r r b) (subst (λ h. IsStreamBeside seen true (slice_index_or rs i r).told.items h.promise.0.value (slice_index_or rs i r).report) handle keeps.1.kept.0)));
+          subst (λ x. IsStreamBeside seen true x.told.entries w.promise.0.value x.report) (get_or_from_slice_get rs i r r b) (subst (λ h. IsStreamBeside seen true (slice_index_or rs i r).told.entries h.promise.0.value (slice_index_or rs i r).report) handle keeps.1.kept.0)));
       counted = made_each (λ r. r.seat) (λ r. accepted_count r.report) rs (λ i r b.
           let keeps = c.in_ok-join_promised.ensures.each i r (subst (λ n. i < n) (sym c.loop-job.workers.ok.0) (got_below_as ws rs same i r b)) in
           subst (λ x. x.seat.count ≡ accepted_count x.report) (get_or_from_slice_get rs i r r b) keeps.1.kept.1);
