@@ -11,6 +11,10 @@ use std::alloc::Global;
 /// clause counts its holders up and down, which is slow where many threads do so.
 const SHORT: usize = 16;
 
+/// The greatest number of hints of an addition that a seat tests by itself. A pair takes six times what its hint does, so a
+/// longer list is read where the book has its clauses.
+const MOST_HINTS: usize = 65_536;
+
 /// What a seat's own numbers are bound to, by joint numbers with their clauses. The clauses of the formula come in where
 /// they are asked for. Where a growth is refused the seat gives all of it up, so it tells what the book's table does.
 ///
@@ -34,7 +38,8 @@ impl OwnClauses {
         }
     }
 
-    /// The case of an addition of the seat, if it has no groups, its number isn't here, and those of its hints are.
+    /// The case of an addition of the seat, if it has no groups and not too many hints, its number isn't here, and those of
+    /// its hints are.
     ///
     /// # Errors
     /// [`NoMemory`] where a growth was refused.
@@ -49,7 +54,10 @@ impl OwnClauses {
         ensures lemma { IfOk result (λ case. IfSome case (λ c. c.lemma ≡ addition.now.lemma)) }
     {
         let own = addition.number;
-        if !addition.groups.is_empty() || self.is_bound(formula, own) {
+        if !addition.groups.is_empty() || addition.hints.len() > MOST_HINTS {
+            return Ok(None);
+        }
+        if self.is_bound(formula, own) {
             return Ok(None);
         }
         let Some(hints) = self.pairs(formula, &addition.hints)? else {
