@@ -29,7 +29,7 @@ use crate::taking::case_of;
 use crate::verified::Verified;
 use lj_clause::{ClauseView, Formula, Lit, NoMemory};
 use lj_hint::{Case, Receipt};
-use lj_text::{Addition, Group, Numbers, Step};
+use lj_text::{Addition, Groups, Numbers, Step};
 use std::alloc::Global;
 use std::marker::Model;
 
@@ -50,7 +50,7 @@ pub struct Book {
     /// Room for the joint hints of a line. What it holds between calls means nothing.
     joints: Numbers,
     /// Room for the joint groups of a line, likewise.
-    joint_groups: Vec<Group>,
+    joint_groups: Groups,
 }
 
 impl Model for Book {
@@ -103,7 +103,7 @@ impl Book {
             added: 0,
             refuted: None,
             joints: Numbers::from_short(Vec::new(alloc)),
-            joint_groups: Vec::new(alloc),
+            joint_groups: Groups::new(alloc),
         })
     }
 

@@ -9,11 +9,8 @@ use crate::refusal::Refusal;
 use crate::seat_table::SeatTable;
 use crate::seat_tables::SeatTables;
 use crate::taking::repeated_group;
-use lj_text::{Addition, Group, Groups, Numbers, NumbersIter};
+use lj_text::{Addition, Groups, Numbers, NumbersIter};
 use std::alloc::Global;
-
-/// For how many groups a list that is used again keeps its room.
-const FEW_GROUPS: usize = 4;
 
 /// Where a line has more groups, they are looked through before room is made for their joint numbers.
 const MANY_GROUPS: usize = 1024;
@@ -30,15 +27,15 @@ pub(crate) fn joint_line(
     seat: u32,
     addition: &Addition,
     hints: &mut Numbers,
-    joints: &mut Vec<Group>,
+    joints: &mut Groups,
 ) -> Result<(), Refusal>
-    ensures { IsReplyBy (λ _. (hints.new, joints.new.items)) result
+    ensures { IsReplyBy (λ _. (hints.new, joints.new)) result
         (joint_parts (joint_of tables.now seat) addition.now) }
 {
     if let Err(refusal) = put_joints(tables, seat, &addition.hints, hints) {
         return Err(refusal);
     }
-    clear(joints);
+    joints.let_go();
     let groups = &addition.groups;
     if groups.is_empty() {
         return Ok(());
@@ -87,25 +84,12 @@ fn holds_all(tables: &SeatTables, seat: u32, numbers: NumbersIter<'_>) -> bool
     true
 }
 
-/// Lets go of the groups, and of their room where it is for more than a few.
-#[inline]
-fn clear(groups: &mut Vec<Group>)
-    ensures { groups.new.items ≡ [] }
-{
-    if !groups.is_empty() {
-        groups.clear();
-        if groups.capacity() > FEW_GROUPS {
-            groups.shrink_to_fit();
-        }
-    }
-}
-
 /// Whether the candidates of these groups rise, so that none stands twice.
-fn are_rising(groups: &[Group]) -> bool
+fn are_rising(groups: &Groups) -> bool
     ensures { result ≡ rising_from 0 groups.now }
 {
     let mut last = 0;
-    for group in groups {
+    for group in groups.iter() {
         if group.candidate <= last {
             return false;
         }
@@ -233,20 +217,20 @@ fn put_joint_groups(
     tables: &SeatTables,
     seat: u32,
     groups: &Groups,
-    joints: &mut Vec<Group>,
+    joints: &mut Groups,
 ) -> Result<(), Refusal>
-    requires { joints.old.items ≡ [] }
-    ensures { IsReplyBy (λ _. joints.new.items) result
+    requires { joints.old ≡ [] }
+    ensures { IsReplyBy (λ _. joints.new) result
         (joint_groups_in (joint_of tables.now seat) groups.now) }
 {
-    joints.reserve_exact(groups.len())?;
+    let mut hints = Numbers::with_capacity(alloc, 0)?;
     for group in groups.iter() {
         let Some(candidate) = tables.joint(seat, group.candidate) else {
             return Err(Refusal::UnknownNumber(group.candidate));
         };
-        let mut hints = Numbers::with_capacity(alloc, group.hints.len())?;
+        hints.clear();
         match put_held(tables, seat, group.hints, &mut hints) {
-            Ok(()) => joints.push(Group { candidate, hints })?,
+            Ok(()) => joints.push(candidate, hints.iter())?,
             Err(refusal) => return Err(refusal),
         }
     }

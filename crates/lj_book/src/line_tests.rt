@@ -11,7 +11,7 @@ use crate::ledger::Ledger;
 use crate::refusal::Refusal;
 use lj_clause::{ClauseView, Lemma, Lit, NoMemory};
 use lj_hint::{LineRefusal, Live, Marks, Passed, RatRefusal, test_line};
-use lj_text::{Group, Groups, Numbers};
+use lj_text::{Groups, Numbers};
 use std::alloc::Global;
 
 /// The live clauses of a book, lent.
@@ -45,7 +45,7 @@ pub(crate) fn tested_line(
     ledger: &mut Ledger,
     lemma: &Lemma,
     hints: &mut Numbers,
-    groups: &[Group],
+    groups: &Groups,
     marks: &mut Marks,
 ) -> Result<Groups, Refusal>
     ensures reply { (number : ℕ) → IsReplyBy
@@ -81,7 +81,7 @@ fn test_over(
     ledger: &Ledger,
     lemma: &Lemma,
     hints: &Numbers,
-    groups: &[Group],
+    groups: &Groups,
     marks: &mut Marks,
 ) -> Result<Passed, LineRefusal>
     ensures { IsLineReply result (line_reply ledger.now.live lemma.now.pivot groups.now

@@ -8,4 +8,5 @@ pub mod StampLaws
 pub mod NearLaws
 pub mod TrailLaws
 pub mod RatTests
+pub mod Places
 pub mod NumberHints

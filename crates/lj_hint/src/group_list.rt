@@ -5,12 +5,12 @@ ghost use Rattle.lj_hint.specs.Case.{groups_of};
 ghost use Rattle.lj_hint.specs.RatTest.{named_groups};
 ghost use Rattle.lj_hint.specs.inner.Groups.{group_in};
 
-use crate::hint_list::{HintList, PairHints};
+use crate::hint_list::{GroupHints, PairHints};
 use crate::pair::Pair;
 
 /// A list of groups, each of which has a candidate and hints.
 pub(crate) trait GroupList {
-    type Hints: HintList + Drop;
+    type Hints: GroupHints + Drop;
 
     ghost groups: { Self → List NamedGroup };
 

@@ -1,11 +1,14 @@
 //! Lists of hints, wherever their clauses are kept.
-ghost use Rattle.std.specs.Prelude.{◌≡◌, ◌<◌, List, length};
+ghost use Rattle.std.specs.Prelude.{◌≡◌, ◌<◌, ◌≤◌, ◌++◌, ◌∷◌, [], List, length, take, IfOk, OnOk};
 ghost use Rattle.lj_clause.specs.Walk.{Hint};
 ghost use Rattle.lj_hint.specs.Hints.{named_hints};
-ghost use Rattle.lj_hint.specs.inner.Hints.{hint_number, clause_at};
+ghost use Rattle.lj_hint.specs.inner.Hints.{hint_number, hint_numbers, clause_at};
+ghost use Rattle.lj_hint.specs.inner.Groups.{read_group};
 
 use crate::pair::Pair;
-use lj_clause::ClauseView;
+use lj_clause::{ClauseView, NoMemory};
+use lj_text::{Groups, Numbers};
+use std::alloc::Global;
 
 /// A list of hints, each of which names a clause.
 pub(crate) trait HintList {
@@ -23,6 +26,24 @@ pub(crate) trait HintList {
     fn clause(&self, index: usize) -> Option<ClauseView<'_>>
         requires { index < length (hints self.now) }
         ensures { result ≡ clause_at (hints self.now) index };
+}
+
+/// A list of hints of a group.
+pub(crate) trait GroupHints: HintList {
+    /// Puts a candidate with the first hints, so many, behind the groups.
+    ///
+    /// # Errors
+    /// [`NoMemory`] where a growth was refused.
+    fn put_first(
+        &self,
+        alloc: Global,
+        candidate: u64,
+        count: usize,
+        groups: &mut Groups,
+    ) -> Result<(), NoMemory>
+        requires { count ≤ length (Self.hints self.now) }
+        ensures { OnOk result
+            (groups.new ≡ groups.old ++ read_group candidate (Self.hints self.now) count ∷ []) };
 }
 
 /// The hints of a case, which has their clauses.
@@ -51,4 +72,52 @@ impl HintList for PairHints<'_> {
     fn clause(&self, index: usize) -> Option<ClauseView<'_>> {
         Some(self.pairs[index].clause.view())
     }
+}
+
+impl GroupHints for PairHints<'_> {
+    fn put_first(
+        &self,
+        alloc: Global,
+        candidate: u64,
+        count: usize,
+        groups: &mut Groups,
+    ) -> Result<(), NoMemory> {
+        put_numbers(alloc, self, candidate, count, groups)
+    }
+}
+
+/// Puts a candidate with the first hints, so many, behind the groups, by way of a list of their numbers.
+///
+/// # Errors
+/// [`NoMemory`] where a growth was refused.
+fn put_numbers<H: HintList>(
+    alloc: Global,
+    hints: &H,
+    candidate: u64,
+    count: usize,
+    groups: &mut Groups,
+) -> Result<(), NoMemory>
+    requires { count ≤ length (H.hints hints.now) }
+    ensures { OnOk result
+        (groups.new ≡ groups.old ++ read_group candidate (H.hints hints.now) count ∷ []) }
+{
+    let numbers = numbers_of(alloc, hints, count)?;
+    groups.push(candidate, numbers.iter())?;
+    Ok(())
+}
+
+/// The numbers of the first hints, so many.
+///
+/// # Errors
+/// [`NoMemory`] where a growth was refused.
+fn numbers_of<H: HintList>(alloc: Global, hints: &H, count: usize) -> Result<Numbers, NoMemory>
+    requires { count ≤ length (H.hints hints.now) }
+    ensures { IfOk result
+        (λ numbers. numbers ≡ hint_numbers (take count (H.hints hints.now))) }
+{
+    let mut numbers = Numbers::with_capacity(alloc, count)?;
+    for index in 0..count {
+        numbers.push(hints.number(index))?;
+    }
+    Ok(numbers)
 }

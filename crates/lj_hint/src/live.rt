@@ -7,9 +7,10 @@ ghost use Rattle.lj_clause.specs.Walk.{Hint, hints_in};
 ghost use Rattle.lj_clause.specs.Rat.{groups_in};
 
 use crate::group_list::GroupList;
-use crate::hint_list::HintList;
+use crate::hint_list::{GroupHints, HintList};
 use lj_clause::{ClauseView, Lit, NoMemory};
-use lj_text::{Group, Numbers};
+use lj_text::{Groups, IndexedGroups, NumbersIter};
+use std::alloc::Global;
 
 /// The clauses that live, under their joint numbers.
 pub trait Live {
@@ -61,11 +62,11 @@ impl<L: Live> HintList for ShortHints<'_, L> {
 #[derive(Drop)]
 pub(crate) struct LiveHints<'a, L> {
     pub live: &'a L,
-    pub numbers: &'a Numbers,
+    pub numbers: NumbersIter<'a>,
 }
 
 impl<L: Live> HintList for LiveHints<'_, L> {
-    ghost hints = { λ h. hints_in (L.live h.live.now) h.numbers.now };
+    ghost hints = { λ h. hints_in (L.live h.live.now) h.numbers };
 
     #[inline]
     fn count(&self) -> usize {
@@ -86,17 +87,30 @@ impl<L: Live> HintList for LiveHints<'_, L> {
     }
 }
 
+impl<L: Live> GroupHints for LiveHints<'_, L> {
+    fn put_first(
+        &self,
+        _: Global,
+        candidate: u64,
+        count: usize,
+        groups: &mut Groups,
+    ) -> Result<(), NoMemory> {
+        groups.push(candidate, self.numbers.first(count))?;
+        Ok(())
+    }
+}
+
 /// Groups that name live clauses by their numbers.
 #[derive(Drop)]
 pub(crate) struct LiveGroups<'a, L> {
     pub live: &'a L,
-    pub groups: &'a [Group],
+    pub groups: IndexedGroups<'a>,
 }
 
 impl<'a, L: Live> GroupList for LiveGroups<'a, L> {
     type Hints = LiveHints<'a, L>;
 
-    ghost groups = { λ g. groups_in (L.live g.live.now) g.groups.now };
+    ghost groups = { λ g. groups_in (L.live g.live.now) g.groups };
 
     #[inline]
     fn count(&self) -> usize {
@@ -105,16 +119,21 @@ impl<'a, L: Live> GroupList for LiveGroups<'a, L> {
 
     #[inline]
     fn candidate(&self, index: usize) -> u64 {
-        let group = &self.groups[index];
-        group.candidate
+        match self.groups.get(index) {
+            Some(group) => group.candidate,
+            None => 0,
+        }
     }
 
     #[inline]
     fn hints(&self, index: usize) -> LiveHints<'a, L> {
-        let group = &self.groups[index];
+        let numbers = match self.groups.get(index) {
+            Some(group) => group.hints,
+            None => NumbersIter::empty(),
+        };
         LiveHints {
             live: self.live,
-            numbers: &group.hints,
+            numbers,
         }
     }
 }

@@ -14,7 +14,7 @@ use crate::rat_refusal::RatRefusal;
 use crate::true_lits::TrueLits;
 use crate::walk::{Ending, walk_negation};
 use lj_clause::{Clause, Lemma, Lit, NoMemory};
-use lj_text::{Group, Groups, Numbers};
+use lj_text::{Groups, IndexedGroups, Numbers};
 use std::alloc::Global;
 
 /// How the test of a line passed.
@@ -50,7 +50,7 @@ pub fn test_line<L: Live>(
     live: &L,
     lemma: &Lemma,
     hints: &Numbers,
-    groups: &[Group],
+    groups: &Groups,
     marks: &mut Marks,
 ) -> Result<Passed, LineRefusal>
     ensures { IsLineReply result (line_reply (L.live live.now) lemma.now.pivot groups.now
@@ -90,7 +90,10 @@ fn walk_live<L: Live>(
 {
     match numbers.as_short() {
         Some(numbers) => walk_negation(held, clause, &ShortHints { live, numbers }),
-        None => walk_negation(held, clause, &LiveHints { live, numbers }),
+        None => {
+            let numbers = numbers.iter();
+            walk_negation(held, clause, &LiveHints { live, numbers })
+        }
     }
 }
 
@@ -102,7 +105,7 @@ fn test_open<L: Live>(
     alloc: Global,
     live: &L,
     pivot: Option<Lit>,
-    groups: &[Group],
+    groups: &Groups,
     held: &mut TrueLits,
 ) -> Result<Groups, RatRefusal>
     requires { is_contradictory (from_literals held.old) ≡ false }
@@ -112,6 +115,9 @@ fn test_open<L: Live>(
     let Some(pivot) = pivot else {
         return Err(RatRefusal::EmptyOpen);
     };
-    let groups = LiveGroups { live, groups };
+    let groups = match IndexedGroups::new(alloc, groups) {
+        Ok(groups) => LiveGroups { live, groups },
+        Err(refused) => return Err(RatRefusal::NoMemory(NoMemory::from(refused))),
+    };
     cover(alloc, live, held, pivot, &groups)
 }

@@ -1,28 +1,26 @@
 //! The test of a pivot's candidates: resolution asymmetric tautologies.
-ghost use Rattle.std.specs.Prelude.{◌≡◌, ◌≤◌, ℕ, neg_ℤ, take, length, IfOk, IfSome, OnOk, is_some, option_copied, option_map, false, [], ◌∷◌, ◌++◌};
-ghost use Rattle.std.specs.BTreeMap.{get};
+ghost use Rattle.std.specs.Prelude.{◌≡◌, ◌<◌, ◌≤◌, length, get_or, IfOk, IfSome, OnOk, is_some, option_map, false, [], ◌∷◌, ◌++◌};
+ghost use Rattle.std.specs.List.Sorted.{IsStrictlySortedBy};
 ghost use Rattle.std.specs.Ordering.{nat_cmp};
 ghost use Rattle.lj_clause.specs.LiteralSet.{from_literals};
 ghost use Rattle.lj_clause.specs.Walk.{is_contradictory};
 ghost use Rattle.lj_clause.specs.Rat.{candidates, candidate_walk, rat_over, group_of};
-ghost use Rattle.lj_hint.specs.inner.Hints.{hint_numbers};
 ghost use Rattle.lj_hint.specs.inner.Trail.{Extends};
 ghost use Rattle.lj_hint.specs.inner.Ending.{ending_of};
 ghost use Rattle.lj_hint.specs.RatTest.{rat_told, IsRatReply};
-ghost use Rattle.lj_hint.specs.inner.Groups.{group_at, lent_hints, candidate_told, IsCandidateReply};
+ghost use Rattle.lj_hint.specs.inner.Groups.{group_at, before, AreGroupPlaces, lent_hints, read_group, candidate_told, IsCandidateReply};
 
 use crate::group_list::GroupList;
-use crate::hint_list::HintList;
+use crate::hint_list::{GroupHints, HintList};
 use crate::live::Live;
 use crate::rat_refusal::RatRefusal;
 use crate::true_lits::TrueLits;
 use crate::walk::{Ending, walk};
 use lj_clause::{ClauseView, Lit, NoMemory};
-use lj_text::{Group, Groups, Numbers};
+use lj_text::{Groups, NumbersIter};
 use std::alloc::Global;
-use std::collections::BTreeMap;
 
-/// Among so many groups that of a candidate is looked for one by one, and no map is made.
+/// Among so many groups that of a candidate is looked for one by one.
 const FEW: usize = 8;
 
 /// The test of all candidates of a pivot among the live clauses, for a walk that ended open with what is held: the
@@ -41,60 +39,48 @@ pub(crate) fn cover<L: Live, G: GroupList>(
     ensures { IsRatReply result (rat_told (rat_over (from_literals held.old) pivot
         (G.groups groups.now) (candidates (L.live live.now) pivot))) }
 {
-    let places = places_among(alloc, groups)?;
     let numbers = live.candidates(pivot.negated())?;
+    let places = places_among(alloc, groups, &numbers)?;
     let mut covered = Groups::new(alloc);
-    for &number in &numbers {
+    for index in 0..numbers.len() {
+        let number = numbers[index];
         let Some(clause) = live.clause(number) else {
             continue;
         };
-        let hints = hints_for(groups, &places, number);
-        match test_candidate(alloc, held, pivot, number, &clause, &hints) {
-            Ok(group) => add(&mut covered, group)?,
+        let hints = hints_for(groups, &numbers, &places, index);
+        match test_candidate(held, pivot, number, &clause, &hints) {
+            Ok(read) => put_read(alloc, &hints, number, read, &mut covered)?,
             Err(refusal) => return Err(refusal),
         }
     }
     Ok(covered)
 }
 
-/// Puts a group at the end.
-///
-/// # Errors
-/// [`NoMemory`] where a growth was refused.
-fn add(groups: &mut Groups, group: Group) -> Result<(), NoMemory>
-    ensures { OnOk result (groups.new ≡ groups.old ++ group ∷ []) }
-{
-    groups.push(group.candidate, group.hints.iter())?;
-    Ok(())
-}
-
-/// The test of one candidate. What is held comes back as it was.
+/// The test of one candidate: how many of its hints were read. What is held comes back as it was.
 ///
 /// # Errors
 /// Why the candidate isn't covered, and [`RatRefusal::NoMemory`] where a growth was refused.
 fn test_candidate<H: HintList>(
-    alloc: Global,
     held: &mut TrueLits,
     pivot: Lit,
     number: u64,
     clause: &ClauseView<'_>,
     hints: &Option<H>,
-) -> Result<Group, RatRefusal>
+) -> Result<usize, RatRefusal>
     requires { is_contradictory (from_literals held.old) ≡ false }
-    ensures reply { IsCandidateReply result
+    ensures reply { IsCandidateReply
+        (read_group number (lent_hints (option_map H.hints hints.now))) result
         (candidate_told number (is_some hints.now) (candidate_walk (from_literals held.old) pivot
         clause.now (option_map H.hints hints.now))) }
+    ensures within { IfOk result
+        (λ read. read ≤ length (lent_hints (option_map H.hints hints.now))) }
     ensures back { OnOk result (held.new ≡ held.old) }
 {
     let len = held.len();
     let ending = walk_candidate(held, pivot, clause, hints)?;
     held.take_back(len);
     match ending {
-        Ending::ClosedAfter(read) => {
-            let hints = first_numbers(alloc, hints, read)?;
-            let candidate = number;
-            Ok(Group { candidate, hints })
-        }
+        Ending::ClosedAfter(read) => Ok(read),
         Ending::StaysOpen => match hints {
             Some(_) => Err(RatRefusal::GroupOpen(number)),
             None => Err(RatRefusal::MissingGroup(number)),
@@ -103,6 +89,30 @@ fn test_candidate<H: HintList>(
             Some(_) => Err(RatRefusal::GroupStuck(number, place)),
             None => Err(RatRefusal::MissingGroup(number)),
         },
+    }
+}
+
+/// Puts a candidate with the first of its hints, so many, behind the groups.
+///
+/// # Errors
+/// [`NoMemory`] where a growth was refused.
+fn put_read<H: GroupHints>(
+    alloc: Global,
+    hints: &Option<H>,
+    candidate: u64,
+    count: usize,
+    groups: &mut Groups,
+) -> Result<(), NoMemory>
+    requires { count ≤ length (lent_hints (option_map H.hints hints.now)) }
+    ensures { OnOk result (groups.new ≡ groups.old
+        ++ read_group candidate (lent_hints (option_map H.hints hints.now)) count ∷ []) }
+{
+    match hints {
+        Some(hints) => hints.put_first(alloc, candidate, count, groups),
+        None => {
+            groups.push(candidate, NumbersIter::empty())?;
+            Ok(())
+        }
     }
 }
 
@@ -133,91 +143,67 @@ fn walk_candidate<H: HintList>(
     }
 }
 
-/// The numbers of the first hints, so many.
-///
-/// # Errors
-/// [`NoMemory`] where a growth was refused.
-fn first_numbers<H: HintList>(
-    alloc: Global,
-    hints: &Option<H>,
-    count: usize,
-) -> Result<Numbers, NoMemory>
-    requires { count ≤ length (lent_hints (option_map H.hints hints.now)) }
-    ensures { IfOk result (λ numbers. numbers
-        ≡ hint_numbers (take count (lent_hints (option_map H.hints hints.now)))) }
-{
-    match hints {
-        Some(hints) => numbers_of(alloc, hints, count),
-        None => Ok(Numbers::with_capacity(alloc, 0)?),
-    }
-}
-
-/// The numbers of the first hints, so many.
-///
-/// # Errors
-/// [`NoMemory`] where a growth was refused.
-fn numbers_of<H: HintList>(alloc: Global, hints: &H, count: usize) -> Result<Numbers, NoMemory>
-    requires { count ≤ length (H.hints hints.now) }
-    ensures { IfOk result
-        (λ numbers. numbers ≡ hint_numbers (take count (H.hints hints.now))) }
-{
-    let mut numbers = Numbers::with_capacity(alloc, count)?;
-    for index in 0..count {
-        numbers.push(hints.number(index))?;
-    }
-    Ok(numbers)
-}
-
-/// Where the first group of each candidate stands, unless there are few groups.
+/// For each of these candidates, which rise, one more than the index of its first group, and 0 where it has none; unless
+/// there are few groups.
 ///
 /// # Errors
 /// [`NoMemory`] where a growth was refused.
 fn places_among<G: GroupList>(
     alloc: Global,
     groups: &G,
-) -> Result<Option<BTreeMap<u64, usize>>, NoMemory>
+    candidates: &[u64],
+) -> Result<Option<Vec<usize>>, NoMemory>
+    requires { IsStrictlySortedBy nat_cmp candidates.now }
     ensures { IfOk result (λ found. IfSome found
-        (λ places. (n : ℕ) → group_at (G.groups groups.now) (get nat_cmp places n)
-        ≡ group_of n (G.groups groups.now))) }
+        (λ places. AreGroupPlaces (G.groups groups.now) candidates.now places.items)) }
 {
     if groups.count() <= FEW {
         return Ok(None);
     }
-    Ok(Some(places_of(alloc, groups)?))
+    Ok(Some(places_of(alloc, groups, candidates)?))
 }
 
-/// Where the first group of each candidate stands.
+/// For each of these candidates, which rise, one more than the index of its first group, and 0 where it has none. Takes
+/// O(log c) time for each group, with c candidates.
 ///
 /// # Errors
 /// [`NoMemory`] where a growth was refused.
-fn places_of<G: GroupList>(alloc: Global, groups: &G) -> Result<BTreeMap<u64, usize>, NoMemory>
-    ensures { IfOk result (λ places. (n : ℕ) → group_at (G.groups groups.now) (get nat_cmp places n)
-        ≡ group_of n (G.groups groups.now)) }
+fn places_of<G: GroupList>(
+    alloc: Global,
+    groups: &G,
+    candidates: &[u64],
+) -> Result<Vec<usize>, NoMemory>
+    requires { IsStrictlySortedBy nat_cmp candidates.now }
+    ensures { IfOk result
+        (λ places. AreGroupPlaces (G.groups groups.now) candidates.now places.items) }
 {
-    let mut places = BTreeMap::new(alloc);
+    let mut places = Vec::from_elem(alloc, 0, candidates.len())?;
     let mut at = groups.count();
     while at > 0 {
         at -= 1;
-        places.insert(groups.candidate(at), at)?;
+        if let Ok(index) = candidates.binary_search(&groups.candidate(at)) {
+            places[index] = at + 1;
+        }
     }
     Ok(places)
 }
 
-/// The hints of a candidate's group, if it has one.
+/// The hints of the group of the candidate at an index, if it has one.
 fn hints_for<G: GroupList>(
     groups: &G,
-    places: &Option<BTreeMap<u64, usize>>,
-    number: u64,
+    candidates: &[u64],
+    places: &Option<Vec<usize>>,
+    index: usize,
 ) -> Option<G::Hints>
-    requires { IfSome places.now
-        (λ places. (n : ℕ) → group_at (G.groups groups.now) (get nat_cmp places n)
-        ≡ group_of n (G.groups groups.now)) }
+    requires within { index < length candidates.now }
+    requires placed { IfSome places.now
+        (λ places. AreGroupPlaces (G.groups groups.now) candidates.now places.items) }
     ensures { option_map G.Hints.hints result
-        ≡ group_of number (G.groups groups.now) }
+        ≡ group_of (get_or candidates.now index 0) (G.groups groups.now) }
 {
     match places {
-        Some(places) => hints_at(groups, places, number),
-        None => first_hints(groups, number),
+        Some(places) => hints_at(groups, places[index]),
+        None => first_hints(groups, candidates[index]),
     }
 }
 
@@ -234,17 +220,12 @@ fn first_hints<G: GroupList>(groups: &G, number: u64) -> Option<G::Hints>
     None
 }
 
-/// The hints of the group that stands where these places tell, if there is one.
-fn hints_at<G: GroupList>(
-    groups: &G,
-    places: &BTreeMap<u64, usize>,
-    number: u64,
-) -> Option<G::Hints>
-    ensures { option_map G.Hints.hints result
-        ≡ group_at (G.groups groups.now) (get nat_cmp places.now number) }
+/// The hints of the group before this index, and none before 0.
+fn hints_at<G: GroupList>(groups: &G, place: usize) -> Option<G::Hints>
+    ensures { option_map G.Hints.hints result ≡ group_at (G.groups groups.now) (before place) }
 {
-    match places.get(&number) {
-        Some(at) if *at < groups.count() => Some(groups.hints(*at)),
-        _ => None,
+    if place == 0 || place > groups.count() {
+        return None;
     }
+    Some(groups.hints(place - 1))
 }

@@ -1,9 +1,12 @@
 //! Hint groups, and lists of them.
-ghost use Rattle.std.specs.Prelude.{◌≡◌, ◌==◌, ◌↔◌, ℕ, List, IsTrue, [], ◌∷◌, ◌++◌, length, IfOk, OnOk, OnErr};
+ghost use Rattle.std.specs.Prelude.{◌≡◌, ◌==◌, ◌↔◌, ℕ, List, IsTrue, [], ◌∷◌, ◌++◌, length, slice_get, IfOk, OnOk, OnErr};
 
 use crate::numbers::{Numbers, NumbersIter};
 use std::alloc::{AllocError, Global};
 use std::marker::Model;
+
+/// For how many numbers a list that is let go of keeps its room.
+const FEW_NUMBERS: usize = 64;
 
 /// The hints for one candidate.
 #[derive(Debug, Drop)]
@@ -188,6 +191,17 @@ impl Groups {
             row.clear();
         }
     }
+
+    /// Lets go of the groups, and of their room where it is for more than a few numbers.
+    #[inline]
+    pub fn let_go(&mut self)
+        ensures { self.new ≡ [] }
+    {
+        match &mut self.row {
+            Some(row) if row.numbers.len() <= FEW_NUMBERS => row.clear(),
+            _ => self.row = None,
+        }
+    }
 }
 
 /// A row of one group.
@@ -322,5 +336,69 @@ impl<'a> Iterator for GroupsIter<'a> {
         let hints = self.rest.take_front(count as usize);
         self.count -= 1;
         Some(LentGroup { candidate, hints })
+    }
+}
+
+/// The groups of a list, lent, each of which is found by its index in constant time.
+#[derive(Debug, Drop)]
+pub struct IndexedGroups<'a> {
+    row: NumbersIter<'a>,
+    /// Where the numbers of each group begin in the row.
+    starts: Numbers,
+}
+
+impl<'a> Model for IndexedGroups<'a> {
+    ghost use Rattle.std.specs.Prelude.{List, map};
+    ghost use Rattle.std.specs.Coded.{coded_list};
+    ghost use Rattle.lj_clause.specs.Rat.{HintGroup};
+    ghost use Rattle.lj_clause.specs.inner.Codes.{hint_group_code};
+    ghost use Rattle.lj_text.specs.inner.Groups.{group_from};
+
+    ghost Value = { List HintGroup };
+
+    ghost coded = { coded_list hint_group_code };
+
+    ghost view = { λ g. map (group_from g.row) g.starts };
+}
+
+impl<'a> IndexedGroups<'a> {
+    /// The groups of a list. Takes time linear in how many there are, and four bytes for each, or eight where their
+    /// numbers are 2^32 or more.
+    ///
+    /// # Errors
+    /// [`AllocError`] where a growth was refused.
+    pub fn new(alloc: Global, groups: &'a Groups) -> Result<IndexedGroups<'a>, AllocError>
+        ensures { IfOk result (λ indexed. indexed ≡ groups.now) }
+    {
+        let GroupsIter { rest: row, count } = groups.iter();
+        let mut starts = Numbers::with_capacity(alloc, count)?;
+        let mut rest = row.behind(0);
+        for _ in 0..count {
+            starts.push((row.len() - rest.len()) as u64)?;
+            let hints = rest.get(1).unwrap_or(0) as usize;
+            rest = rest.behind(2).behind(hints);
+        }
+        Ok(IndexedGroups { row, starts })
+    }
+
+    /// How many groups there are.
+    #[inline]
+    pub fn len(&self) -> usize
+        ensures { result ≡ length self.now }
+    {
+        self.starts.len()
+    }
+
+    /// The group at an index, counted from 0. Takes constant time.
+    pub fn get(&self, index: usize) -> Option<LentGroup<'a>>
+        ensures { result ≡ slice_get self.now index }
+    {
+        let start = self.starts.get(index)?;
+        let front = self.row.behind(start as usize);
+        let hints = front.get(1).unwrap_or(0) as usize;
+        Some(LentGroup {
+            candidate: front.get(0).unwrap_or(0),
+            hints: front.behind(2).first(hints),
+        })
     }
 }

@@ -23,7 +23,7 @@ mod writer;
 pub use as_step::AsStep;
 pub use boxed::Boxed;
 pub use cnf::{CnfFault, CnfFaultKind, CnfReader, spells_or_has_a_fault};
-pub use groups::{Group, Groups, GroupsIter, LentGroup};
+pub use groups::{Group, Groups, GroupsIter, IndexedGroups, LentGroup};
 pub use line::{Addition, Line};
 pub use lines::{LineFault, LineFaultKind, LineReader};
 pub use numbers::{Numbers, NumbersIter};

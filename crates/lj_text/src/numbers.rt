@@ -422,7 +422,7 @@ impl<'a> Model for NumbersIter<'a> {
 impl<'a> NumbersIter<'a> {
     /// No numbers.
     #[inline]
-    pub(crate) fn empty() -> NumbersIter<'a>
+    pub fn empty() -> NumbersIter<'a>
         ensures { result ≡ [] }
     {
         NumbersIter {
@@ -439,6 +439,41 @@ impl<'a> NumbersIter<'a> {
             Rest::Short(rest) => rest.len(),
             Rest::Long(rest) => rest.len(),
         }
+    }
+
+    /// The number at a place among those still to come, counted from 0. Takes constant time.
+    #[inline]
+    pub fn get(&self, index: usize) -> Option<u64>
+        ensures { result ≡ slice_get self.now index }
+    {
+        match self.rest {
+            Rest::Short(rest) => short_at(rest, index),
+            Rest::Long(rest) => rest.get(index).copied(),
+        }
+    }
+
+    /// The first of those still to come, so many, or all where there are no more. Takes constant time.
+    #[inline]
+    pub fn first(&self, count: usize) -> NumbersIter<'a>
+        ensures { result ≡ take count self.now }
+    {
+        let rest = match self.rest {
+            Rest::Short(rest) => Rest::Short(&rest[..rest.len().min(count)]),
+            Rest::Long(rest) => Rest::Long(&rest[..rest.len().min(count)]),
+        };
+        NumbersIter { rest }
+    }
+
+    /// Those still to come but for the first, so many.
+    #[inline]
+    pub(crate) fn behind(&self, count: usize) -> NumbersIter<'a>
+        ensures { result ≡ drop count self.now }
+    {
+        let rest = match self.rest {
+            Rest::Short(rest) => Rest::Short(rest.split_at(rest.len().min(count)).1),
+            Rest::Long(rest) => Rest::Long(rest.split_at(rest.len().min(count)).1),
+        };
+        NumbersIter { rest }
     }
 
     /// Takes the first numbers, so many.

@@ -20,7 +20,7 @@ use crate::refusal::Refusal;
 use crate::seat_tables::SeatTables;
 use lj_clause::{Lemma, NoMemory};
 use lj_hint::Marks;
-use lj_text::{Addition, Group, Groups, Numbers};
+use lj_text::{Addition, Groups, Numbers};
 use std::mem::replace;
 
 impl Book {
@@ -184,7 +184,7 @@ fn recorded_line(
     seat: u32,
     addition: &Addition,
     hints: &mut Numbers,
-    joints: &mut Vec<Group>,
+    joints: &mut Groups,
     marks: &mut Marks,
 ) -> Result<Groups, Refusal>
     ensures reply { (number : ℕ) → IsReplyBy
@@ -197,7 +197,9 @@ fn recorded_line(
     if let Err(refusal) = joint_line(alloc, tables, seat, addition, hints, joints) {
         return Err(refusal);
     }
-    tested_line(alloc, ledger, &addition.lemma, hints, joints, marks)
+    let tested = tested_line(alloc, ledger, &addition.lemma, hints, joints, marks);
+    joints.let_go();
+    tested
 }
 
 /// Whether the lemma has a pivot, which then is a literal of its clause.

@@ -1,8 +1,9 @@
 -- Groups by their index, and the test of one candidate.
-use Rattle.std.specs.Prelude.{◌≡◌, ℕ, Bool, List, [], Option, option_map, option_and_then, unwrap_or, slice_get, slice_index_or, if◌then◌else◌, Result, Ok, Err, MatchResult}
+use Rattle.std.specs.Prelude.{◌≡◌, ◌<◌, ℕ, zero, suc, Bool, List, [], length, take, get_or, Option, None, Some, option_map, option_and_then, unwrap_or, slice_get, slice_index_or, if◌then◌else◌, Result, Ok, Err, MatchResult}
 use Rattle.lj_clause.specs.Walk as walks
 use Rattle.lj_clause.specs.Walk.{Hint}
-use Rattle.lj_clause.specs.Rat.{HintGroup, NamedGroup}
+use Rattle.lj_clause.specs.Rat.{HintGroup, NamedGroup, group_of}
+use Rattle.lj_hint.specs.inner.Hints.{hint_numbers}
 use Rattle.lj_hint.specs.declared.rat_refusal.RatRefusal.{RatRefusal}
 use Rattle.lj_hint.specs.declared.rat_refusal.RatRefusal.TheVariants.{EmptyOpen, MissingGroup, GroupStuck, GroupOpen, NoMemory}
 
@@ -19,9 +20,25 @@ abbrev pub group_at : List NamedGroup → Option ℕ → Option (List Hint)
 group_at groups place = option_map (λ g. g.hints) (option_and_then (λ at. slice_get groups at)
     place)
 
+-- the index before this one
+abbrev pub before : ℕ → Option ℕ
+before zero = None
+before (suc index) = Some index
+
+-- For each of these candidates stands one more than the index of its first group, and 0 where it has none.
+pub record AreGroupPlaces (groups : List NamedGroup) (candidates places : List ℕ) : Type 0 where
+  pub count : length places ≡ length candidates
+  pub placed : (index : ℕ) → index < length candidates
+      → group_at groups (before (get_or places index 0))
+      ≡ group_of (get_or candidates index 0) groups
+
 -- the hints, none where there is no group
 abbrev pub lent_hints : Option (List Hint) → List Hint
 lent_hints group = unwrap_or group []
+
+-- the group of a candidate with the first hints, so many
+abbrev pub read_group : ℕ → List Hint → ℕ → HintGroup
+read_group n hints read = record { candidate = n; hints = hint_numbers (take read hints) }
 
 -- what a candidate's walk tells, by whether it has a group: the group of the hints that were read, or the refusal
 abbrev pub candidate_told : ℕ → Bool → walks.Walk → Result HintGroup RatRefusal
@@ -31,7 +48,7 @@ candidate_told n has_group (walks.Open a) = if has_group then Err (GroupOpen n)
 candidate_told n has_group (walks.Stuck place) = if has_group then Err (GroupStuck n place)
     else Err (MissingGroup n)
 
--- an answer is the reply, and NoMemory may stand in place of it
+-- a refusal is the reply, and NoMemory may stand in place of any
 abbrev pub IsCandidateRefusal : RatRefusal → Result HintGroup RatRefusal → Type 0
 IsCandidateRefusal (NoMemory e) reply = Unit {0}
 IsCandidateRefusal EmptyOpen reply = reply ≡ Err EmptyOpen
@@ -39,6 +56,7 @@ IsCandidateRefusal (MissingGroup n) reply = reply ≡ Err (MissingGroup n)
 IsCandidateRefusal (GroupStuck n place) reply = reply ≡ Err (GroupStuck n place)
 IsCandidateRefusal (GroupOpen n) reply = reply ≡ Err (GroupOpen n)
 
-abbrev pub IsCandidateReply : Result HintGroup RatRefusal → Result HintGroup RatRefusal → Type 0
-IsCandidateReply answer reply = MatchResult answer (λ group. reply ≡ Ok group)
+-- an answer of how many hints were read is the reply of such a group, and NoMemory may stand in place of it
+abbrev pub IsCandidateReply : (ℕ → HintGroup) → Result ℕ RatRefusal → Result HintGroup RatRefusal → Type 0
+IsCandidateReply group answer reply = MatchResult answer (λ read. reply ≡ Ok (group read))
     (λ e. IsCandidateRefusal e reply)

@@ -114,7 +114,59 @@ const WITHOUT_A_GROUP: [Row; 4] = [
     ),
 ];
 
-pub const EXAMPLES: [Example; 4] = [
+/// The clauses 1 to 10 are candidates, of which the last is covered without a hint; the others hold one literal each.
+const OUT_OF_ORDER: [Row; 2] = [
+    (
+        Listed::Inside(
+            0,
+            Line(
+                19,
+                &[1, 2],
+                &[],
+                &[
+                    &[9, 12],
+                    &[8, 18, 1],
+                    &[12, 11],
+                    &[1, 11],
+                    &[7, 17],
+                    &[2, 12],
+                    &[6, 16],
+                    &[3, 13],
+                    &[4, 14],
+                ],
+            ),
+        ),
+        Reply::Refused(Refusal::MissingGroup(5)),
+    ),
+    (
+        Listed::Inside(
+            0,
+            Line(
+                19,
+                &[1, 2],
+                &[],
+                &[
+                    &[9, 12],
+                    &[8, 18, 1],
+                    &[12, 11],
+                    &[1, 11],
+                    &[7, 17],
+                    &[2, 12],
+                    &[6, 16],
+                    &[3, 13],
+                    &[5, 15],
+                    &[4, 14],
+                ],
+            ),
+        ),
+        Reply::Added(Added {
+            place: 0,
+            joint: 19,
+        }),
+    ),
+];
+
+pub const EXAMPLES: [Example; 5] = [
     Example {
         name: "A neighbour's clause adopted",
         clauses: &[&[1, 2], &[1, -2]],
@@ -155,5 +207,51 @@ pub const EXAMPLES: [Example; 4] = [
         max_steps: 9,
         script: &WITHOUT_A_GROUP,
         entries: &[(0, ListedStep::Add(5, 1, &[1, 2], &[]))],
+    },
+    Example {
+        name: "Many groups out of order",
+        clauses: &[
+            &[-1, 2],
+            &[-1, 3],
+            &[-1, 4],
+            &[-1, 5],
+            &[-1, 6],
+            &[-1, 7],
+            &[-1, 8],
+            &[-1, 9],
+            &[-1, 2, 3],
+            &[-1, -2],
+            &[2],
+            &[3],
+            &[4],
+            &[5],
+            &[6],
+            &[7],
+            &[8],
+            &[9],
+        ],
+        seats: 1,
+        max_steps: 9,
+        script: &OUT_OF_ORDER,
+        entries: &[(
+            0,
+            ListedStep::Add(
+                19,
+                2,
+                &[],
+                &[
+                    &[1, 11],
+                    &[2, 12],
+                    &[3, 13],
+                    &[4, 14],
+                    &[5, 15],
+                    &[6, 16],
+                    &[7, 17],
+                    &[8, 18],
+                    &[9, 12],
+                    &[10],
+                ],
+            ),
+        )],
     },
 ];

@@ -1,5 +1,5 @@
 -- Groups in one row of numbers.
-use Rattle.std.specs.Prelude.{◌≡◌, ℕ, zero, suc, List, [], ◌∷◌, ◌++◌, length, take, drop, Option, Some, None, Box}
+use Rattle.std.specs.Prelude.{◌≡◌, ℕ, zero, suc, List, [], ◌∷◌, ◌++◌, length, take, drop, Option, Some, None, Box, get_or}
 use Rattle.lj_clause.specs.Rat.{HintGroup}
 use Rattle.std.specs.declared.alloc.Global.{Global}
 
@@ -15,6 +15,14 @@ groups_in_row (suc k) [] = []
 groups_in_row (suc k) (c ∷ []) = []
 groups_in_row (suc k) (c ∷ n ∷ ns) = record { candidate = c; hints = take n ns }
     ∷ groups_in_row k (drop n ns)
+
+-- the group at the front of numbers, and one of nothing where there are none
+abbrev pub front_group : List ℕ → HintGroup
+front_group ns = record { candidate = get_or ns 0 0; hints = take (get_or ns 1 0) (drop 2 ns) }
+
+-- the group whose numbers begin at a place of a row
+abbrev pub group_from : List ℕ → ℕ → HintGroup
+group_from ns start = front_group (drop start ns)
 
 -- what stands in a box, or this where there is none
 abbrev pub boxed_or : {A : Type 0} → A → Option (Box A Global) → A

@@ -8,4 +8,4 @@ pub returns : goal.returns
 returns g c =
     c.unwrap_or.ensures
     ∙ ap (λ (o : Option ℕ). unwrap_or o 0) c.get.ensures
-    ∙ hint_number-given (g.L.Live.live c.args.self.now.live.now) c.args.self.now.numbers.now c.args.index
+    ∙ hint_number-given (g.L.Live.live c.args.self.now.live.now) c.args.self.now.numbers c.args.index
