@@ -24,8 +24,8 @@ use lj_text::Groups;
 /// groups come back by rising candidate, one for each, cut after its closing hint. The room may have served any walk
 /// before.
 ///
-/// Takes the time of the first walk again, and for each candidate O(log g) for g groups and constant time for each
-/// literal that its walk reads.
+/// Takes the time of the first walk again, O(log c) for each group, with c candidates, and for each candidate constant
+/// time for each literal that its walk reads.
 ///
 /// # Errors
 /// [`RatRefusal::EmptyOpen`] for a lemma without a pivot, else that of the first candidate that isn't covered, and

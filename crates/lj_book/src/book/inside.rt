@@ -30,8 +30,8 @@ impl Book {
     ///
     /// Takes O(log n) time for each number of the line and each hint that is read, and constant time for each literal
     /// of the lemma and of these hints. Where the first list stays open, takes constant time for each literal of the
-    /// candidates too and for each clause that held the pivot's negation and died since one asked for it, and O(log g) for
-    /// each candidate, with g groups; and the first time that one stays open, time linear in all joint numbers that were
+    /// candidates too and for each clause that held the pivot's negation and died since one asked for it, and O(log c) for
+    /// each group, with c candidates; and the first time that one stays open, time linear in all joint numbers that were
     /// given and in the literals of the live clauses.
     ///
     /// # Errors
