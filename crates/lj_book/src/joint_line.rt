@@ -35,7 +35,7 @@ pub(crate) fn joint_line(
     if let Err(refusal) = put_joints(tables, seat, &addition.hints, hints) {
         return Err(refusal);
     }
-    joints.let_go();
+    clear(joints);
     let groups = &addition.groups;
     if groups.is_empty() {
         return Ok(());
@@ -82,6 +82,16 @@ fn holds_all(tables: &SeatTables, seat: u32, numbers: NumbersIter<'_>) -> bool
         }
     }
     true
+}
+
+/// Lets go of the groups, and of their room where it is for more than a few numbers.
+#[inline(always)]
+pub(crate) fn clear(groups: &mut Groups)
+    ensures { groups.new ≡ [] }
+{
+    if !groups.is_empty() {
+        groups.let_go();
+    }
 }
 
 /// Whether the candidates of these groups rise, so that none stands twice.

@@ -12,7 +12,7 @@ ghost use Rattle.lj_book.specs.inner.JointLines.{addition_of_parts, joint_parts,
 use crate::book::Book;
 use crate::committing::{enter_addition, refuted_at};
 use crate::entry::Added;
-use crate::joint_line::joint_line;
+use crate::joint_line::{clear, joint_line};
 use crate::ledger::Ledger;
 use crate::lent_addition::LentAddition;
 use crate::line_tests::tested_line;
@@ -71,6 +71,7 @@ impl Book {
             Ok(groups) => groups,
             Err(refusal) => return Err(refusal),
         };
+        clear(&mut self.joint_groups);
         if self.added >= self.max_steps {
             return Err(Refusal::Full);
         }
@@ -139,6 +140,7 @@ impl Book {
             Ok(groups) => groups,
             Err(refusal) => return Err(refusal),
         };
+        clear(joints);
         if added >= max_steps {
             return Err(Refusal::Full);
         }
@@ -197,9 +199,7 @@ fn recorded_line(
     if let Err(refusal) = joint_line(alloc, tables, seat, addition, hints, joints) {
         return Err(refusal);
     }
-    let tested = tested_line(alloc, ledger, &addition.lemma, hints, joints, marks);
-    joints.let_go();
-    tested
+    tested_line(alloc, ledger, &addition.lemma, hints, joints, marks)
 }
 
 /// Whether the lemma has a pivot, which then is a literal of its clause.
