@@ -15,21 +15,64 @@ const LINES: [Line; 3] = [
     Line(9, &[2], &[1, 2], &[]),
 ];
 
+/// The numbers of deletions: those of one's own lemmas, and clauses of the formula in two orders.
+const DROPS: [[u64; 2]; 3] = [[5, 6], [3, 4], [4, 3]];
+
+/// Enters a line, and keeps its entry in the log too.
+fn enter_line(alloc: Global, book: &mut Book, log: &mut EntryLog, line: &Line) -> Result<(), Fail> {
+    let mut marks = Marks::new(alloc);
+    let addition = addition(alloc, line)?;
+    let (_, entry) = book.add_inside_telling(0, &addition, &mut marks)?;
+    log.push(&entry)?;
+    Ok(())
+}
+
+/// The same of an adoption.
+fn enter_adoption(book: &mut Book, log: &mut EntryLog) -> Result<(), Fail> {
+    let (_, entry) = book.adopt_telling(0, 7, 3)?;
+    log.push(&entry)?;
+    Ok(())
+}
+
+/// The same of an import.
+fn enter_import(alloc: Global, book: &mut Book, log: &mut EntryLog) -> Result<(), Fail> {
+    let wanted = clause(alloc, &[2, -1])?;
+    let (_, entry) = book.import_telling(0, 8, &wanted)?;
+    log.push(&entry)?;
+    Ok(())
+}
+
+/// The same of a deletion of these numbers.
+fn enter_drop(
+    alloc: Global,
+    book: &mut Book,
+    log: &mut EntryLog,
+    numbers: &[u64],
+) -> Result<(), Fail> {
+    let given = Numbers::from_slice(alloc, numbers)?;
+    let (_, entry) = book.drop_telling(0, &given)?;
+    log.push(&entry)?;
+    Ok(())
+}
+
+/// The same of a leave.
+fn enter_leave(book: &mut Book, log: &mut EntryLog) -> Result<(), Fail> {
+    let (_, entry) = book.leave_telling(0)?;
+    log.push(&entry)?;
+    Ok(())
+}
+
 /// Calls of a seat that the log of the book and the log beside it both keep.
 fn enter_all(alloc: Global, book: &mut Book, log: &mut EntryLog) -> Result<(), Fail> {
-    let mut marks = Marks::new(alloc);
     for line in &LINES {
-        let (_, entry) = book.add_inside_telling(0, &addition(alloc, line)?, &mut marks)?;
-        log.push(&entry)?;
+        enter_line(alloc, book, log, line)?;
     }
-    log.push(&book.adopt_telling(0, 7, 3)?.1)?;
-    log.push(&book.import_telling(0, 8, &clause(alloc, &[2, -1])?)?.1)?;
-    for numbers in [[5, 6], [3, 4], [4, 3]] {
-        let given = Numbers::from_slice(alloc, &numbers)?;
-        log.push(&book.drop_telling(0, &given)?.1)?;
+    enter_adoption(book, log)?;
+    enter_import(alloc, book, log)?;
+    for numbers in &DROPS {
+        enter_drop(alloc, book, log, numbers)?;
     }
-    log.push(&book.leave_telling(0)?.1)?;
-    Ok(())
+    enter_leave(book, log)
 }
 
 /// Asserts that an entry of the history is the one of the log at the same place, and no other.
