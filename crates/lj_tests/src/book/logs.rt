@@ -108,6 +108,16 @@ fn other_entry(alloc: Global) -> Result<Entry, Fail> {
     })
 }
 
+/// Asserts that an entry of the history is the one a place further on in the log, and no other.
+fn assert_one_behind(rt: &impl Abort, book: &Book, log: &EntryLog) {
+    let count = book.history_len();
+    assert!(rt; log.len() == count.saturating_add(1));
+    for place in 0..count {
+        assert!(rt; !book.is_entry_of(place, log, place));
+        assert!(rt; book.is_entry_of(place, log, place + 1));
+    }
+}
+
 #[test]
 fn a_log_keeps_entries_that_no_call_makes(rt: HostRuntime) -> Result<(), Fail> {
     let alloc = rt.alloc();
@@ -115,11 +125,6 @@ fn a_log_keeps_entries_that_no_call_makes(rt: HostRuntime) -> Result<(), Fail> {
     let mut log = EntryLog::new(alloc);
     log.push(&other_entry(alloc)?)?;
     enter_all(alloc, &mut book, &mut log)?;
-    let count = book.history_len();
-    assert!(&rt; log.len() == count + 1);
-    for place in 0..count {
-        assert!(&rt; !book.is_entry_of(place, &log, place));
-        assert!(&rt; book.is_entry_of(place, &log, place + 1));
-    }
+    assert_one_behind(&rt, &book, &log);
     Ok(())
 }
