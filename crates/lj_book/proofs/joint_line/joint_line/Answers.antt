@@ -1,4 +1,4 @@
-use Rattle.std.proofs.Common.{◌≡◌, ap, sym, ◌∙◌, true, [], Ok}
+use Rattle.std.proofs.Common.{◌≡◌, sym, ◌∙◌, true, [], Ok}
 use Rattle.lj_book.specs.Tables.{joint_of}
 use Rattle.lj_book.specs.inner.JointLines.{joint_groups_in, parts_with, rising_from}
 use Rattle.lj_book.proofs.RisingGroups.{none_repeated}

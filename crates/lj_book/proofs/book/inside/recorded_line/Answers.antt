@@ -1,4 +1,4 @@
-use Rattle.std.proofs.Common.{◌≡◌, ap, sym, ◌∙◌, subst}
+use Rattle.std.proofs.Common.{◌≡◌, ap, sym, subst}
 use Rattle.std.specs.Prelude.{List, Result, Ok}
 use Rattle.lj_clause.specs.Rat.{HintGroup}
 use Rattle.lj_text.specs.declared.line.Addition.{Addition}
