@@ -108,6 +108,12 @@ fn other_entry(alloc: Global) -> Result<Entry, Fail> {
     })
 }
 
+fn keep_other(alloc: Global, log: &mut EntryLog) -> Result<(), Fail> {
+    let entry = other_entry(alloc)?;
+    log.push(&entry)?;
+    Ok(())
+}
+
 /// Asserts that an entry of the history is the one a place further on in the log, and no other.
 fn assert_one_behind(rt: &impl Abort, book: &Book, log: &EntryLog) {
     let count = book.history_len();
@@ -123,7 +129,7 @@ fn a_log_keeps_entries_that_no_call_makes(rt: HostRuntime) -> Result<(), Fail> {
     let alloc = rt.alloc();
     let mut book = opened(&rt, alloc, &BINARY, 1, 9)?;
     let mut log = EntryLog::new(alloc);
-    log.push(&other_entry(alloc)?)?;
+    keep_other(alloc, &mut log)?;
     enter_all(alloc, &mut book, &mut log)?;
     assert_one_behind(&rt, &book, &log);
     Ok(())
