@@ -34,6 +34,8 @@ pub(crate) struct Ledger {
     places: PlaceMap,
     /// `None` where nobody asked yet, or a growth was refused: then all clauses are looked through.
     lists: Option<OccurrenceLists>,
+    /// The literal whose candidates were looked up, where its list wasn't tended since.
+    asked: Option<Lit>,
     /// The greatest number that a clause was ever given.
     last: u64,
 }
@@ -65,6 +67,7 @@ impl Ledger {
             history: History::over(alloc, lits),
             places,
             lists: None,
+            asked: None,
             last: formula.len() as u64,
         })
     }
@@ -128,15 +131,35 @@ impl Ledger {
         }
     }
 
-    /// Makes the lists as [`Ledger::make_lists`] does, and sweeps the one in which the candidates of the lemma's pivot were looked
-    /// up. So who asks passes by no more dead numbers than sixteen or as many as live, beside those that died since then.
-    pub(crate) fn tend_lists(&mut self, lemma: &Lemma)
+    /// Keeps in mind that the candidates of the lemma's pivot were looked up.
+    pub(crate) fn keep_in_mind(&mut self, lemma: &Lemma)
         ensures { self.new ≡ self.old }
     {
-        self.make_lists();
         if let Some(pivot) = lemma.pivot() {
-            self.sweep_list(pivot.negated().place() as u64);
+            self.asked = Some(pivot.negated());
         }
+    }
+
+    /// Makes the lists as [`Ledger::make_lists`] does, where candidates were looked up since it was last called, and sweeps the one
+    /// in which they were. So who asks passes by no more dead numbers than sixteen or as many as live, beside those that died
+    /// since then. That waits for the next test, since what the line at hand takes is let go of by then.
+    #[inline]
+    pub(crate) fn tend_lists(&mut self)
+        ensures { self.new ≡ self.old }
+    {
+        if let Some(lit) = self.asked {
+            self.tend_list(lit);
+        }
+    }
+
+    /// The same for the literal that was asked for.
+    #[inline(never)]
+    fn tend_list(&mut self, lit: Lit)
+        ensures { self.new ≡ self.old }
+    {
+        self.asked = None;
+        self.make_lists();
+        self.sweep_list(lit.place() as u64);
     }
 
     /// Sweeps the list under a place, if the lists are made. They are given up where a growth was refused.

@@ -7,6 +7,7 @@ ghost use Rattle.lj_hint.specs.LineTest.{line_reply, IsLineReply};
 ghost use Rattle.lj_book.specs.Calls.{IsReplyBy};
 ghost use Rattle.lj_book.specs.inner.JointLines.{addition_of_parts, tested_line, refusal_of};
 
+use crate::joint_line::clear;
 use crate::ledger::Ledger;
 use crate::refusal::Refusal;
 use lj_clause::{ClauseView, Lemma, Lit, NoMemory};
@@ -34,8 +35,8 @@ impl Live for LiveClauses<'_> {
     }
 }
 
-/// The groups in the recorded form of an addition in joint numbers that the live clauses accept, and its hints in place of
-/// those that were given. Where the candidates of a pivot were asked for, the lists of the clauses are made, and its list is tended.
+/// Puts the hints and the groups of an addition in joint numbers that the live clauses accept into their recorded form. Where the
+/// candidates of a pivot were asked for, that is kept in mind, so that the lists of the clauses are tended before the next test.
 ///
 /// # Errors
 /// The refusal of its test, and [`Refusal::NoMemory`] where a growth was refused.
@@ -45,27 +46,34 @@ pub(crate) fn tested_line(
     ledger: &mut Ledger,
     lemma: &Lemma,
     hints: &mut Numbers,
-    groups: &Groups,
+    groups: &mut Groups,
     marks: &mut Marks,
-) -> Result<Groups, Refusal>
+) -> Result<(), Refusal>
     ensures reply { (number : ℕ) → IsReplyBy
-        (λ recorded. addition_of_parts number lemma.now (hints.new, recorded)) result
+        (λ _. addition_of_parts number lemma.now (hints.new, groups.new)) result
         (tested_line ledger.old.live
-        (addition_of_parts number lemma.now (hints.old, groups.now))) }
+        (addition_of_parts number lemma.now (hints.old, groups.old))) }
     ensures same { ledger.new ≡ ledger.old }
 {
+    ledger.tend_lists();
     match test_over(alloc, ledger, lemma, hints, groups, marks) {
         Ok(Passed::Closed(read)) => {
             hints.truncate(read);
-            Ok(Groups::new(alloc))
+            clear(groups);
+            Ok(())
+        }
+        Ok(Passed::AsGiven) => {
+            ledger.keep_in_mind(lemma);
+            Ok(())
         }
         Ok(Passed::Covered(covered)) => {
-            ledger.tend_lists(lemma);
-            Ok(covered)
+            ledger.keep_in_mind(lemma);
+            *groups = covered;
+            Ok(())
         }
         Err(LineRefusal::Stuck(place)) => Err(Refusal::HintNotUnit(place)),
         Err(LineRefusal::Rat(refusal)) => {
-            ledger.tend_lists(lemma);
+            ledger.keep_in_mind(lemma);
             Err(refused(refusal))
         }
     }
@@ -84,7 +92,7 @@ fn test_over(
     groups: &Groups,
     marks: &mut Marks,
 ) -> Result<Passed, LineRefusal>
-    ensures { IsLineReply result (line_reply ledger.now.live lemma.now.pivot groups.now
+    ensures { IsLineReply groups.now result (line_reply ledger.now.live lemma.now.pivot groups.now
         (walk ledger.now.live (negations lemma.now.clause) hints.now)) }
 {
     let live = LiveClauses { alloc, ledger };

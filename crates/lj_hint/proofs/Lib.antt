@@ -10,3 +10,4 @@ pub mod TrailLaws
 pub mod RatTests
 pub mod Places
 pub mod NumberHints
+pub mod Coverings

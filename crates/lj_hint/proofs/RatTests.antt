@@ -1,6 +1,7 @@
 -- The test of candidates, one after the other.
 use Rattle.std.proofs.Common.{◌≡◌, ap, refl, sym, ◌∙◌, ℕ, zero, suc, ◌+◌, ◌<◌, ◌≤◌, Bool, true, false, cond, arith, add-one, append_assoc, get_or, drop, drop-cons, length, subst}
 use Rattle.std.proofs.lemmas.List.{drop_all, append-nil, get_or-map, length-map}
+use Rattle.std.proofs.lemmas.Bool.Decides.{nat_tests}
 use Rattle.std.specs.Prelude.{ℤ, neg_ℤ, List, [], ◌∷◌, ◌++◌, map, filter, Option, Some, None, option_map, is_some, slice_get, Vec, ◌==◌, if◌then◌else◌, Result, Ok, Err}
 use Rattle.std.specs.declared.alloc.Global.{Global}
 use Rattle.std.specs.List.{AllByRecursion}
@@ -17,7 +18,7 @@ use Rattle.lj_hint.specs.declared.pair.Pair.{Pair}
 use Rattle.lj_hint.specs.Hints.{named_hints}
 use Rattle.lj_hint.specs.Case.{groups_of}
 use Rattle.lj_hint.specs.RatTest.{named_groups, rat_told, IsRatRefusal}
-use Rattle.lj_hint.specs.inner.Groups.{no_group, group_in, group_at, candidate_told, IsCandidateRefusal}
+use Rattle.lj_hint.specs.inner.Groups.{no_group, group_in, group_at, before, candidate_told, IsCandidateRefusal}
 
 -- ---- groups by their candidates
 
@@ -25,7 +26,7 @@ use Rattle.lj_hint.specs.inner.Groups.{no_group, group_in, group_at, candidate_t
 pub next_group : (gs : List NamedGroup) (k : ℕ) → k < length gs → drop k gs ≡ group_in gs k ∷ drop (k + 1) gs
 next_group gs k lt = drop-cons gs k no_group lt ∙ ap (λ (n : ℕ). group_in gs k ∷ drop n gs) (sym (add-one k))
 
-there : (gs : List NamedGroup) (k : ℕ) → k < length gs → slice_get gs k ≡ Some (group_in gs k)
+pub there : (gs : List NamedGroup) (k : ℕ) → k < length gs → slice_get gs k ≡ Some (group_in gs k)
 there [] k lt = absurd (omega arith)
 there (h ∷ gs) zero lt = refl
 there (h ∷ gs) (suc k) lt = there gs k (omega arith)
@@ -42,6 +43,17 @@ group_placed gs k n later b lt tied before =
     placed : (b : Bool) → b ≡ (g.candidate == n) → group_at gs (cond b (Some k) later) ≡ group_of n (g ∷ drop (k + 1) gs)
     placed true e = ap (option_map (λ (h : NamedGroup). h.hints)) (there gs k lt) ∙ ap (λ c. if c then Some g.hints else group_of n (drop (k + 1) gs)) e
     placed false e = before ∙ ap (λ c. if c then Some g.hints else group_of n (drop (k + 1) gs)) e
+
+-- the group of a candidate, where it is the first of those that are left
+pub group_here : (gs : List NamedGroup) (k n : ℕ) → k < length gs → (group_in gs k).candidate ≡ n → group_at gs (before (k + 1)) ≡ group_of n (drop k gs)
+group_here gs k n lt is =
+    ap (λ (m : ℕ). group_at gs (before m)) (add-one k)
+    ∙ ap (option_map (λ (h : NamedGroup). h.hints)) (there gs k lt)
+    ∙ ap (λ c. if c then Some (group_in gs k).hints else group_of n (drop (k + 1) gs)) (sym (tested (group_in gs k).candidate n is))
+    ∙ sym (ap (group_of n) (next_group gs k lt))
+  where
+    tested : (a b : ℕ) → a ≡ b → (a == b) ≡ true
+    tested a b e = grind (arith, nat_tests)
 
 -- a case has as many groups with named hints as groups
 pub pairs_counted : (gs : List (Pair × Vec Pair Global)) → length (named_groups (groups_of gs)) ≡ length gs

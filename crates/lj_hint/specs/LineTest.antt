@@ -6,7 +6,7 @@ use Rattle.lj_clause.specs.Rat.{HintGroup, groups_in}
 use Rattle.lj_hint.specs.declared.rat_refusal.RatRefusal.{RatRefusal}
 use Rattle.lj_hint.specs.declared.rat_refusal.RatRefusal.TheVariants as refusals
 use Rattle.lj_hint.specs.declared.live_line.Passed.{Passed}
-use Rattle.lj_hint.specs.declared.live_line.Passed.TheVariants.{Closed, Covered}
+use Rattle.lj_hint.specs.declared.live_line.Passed.TheVariants.{Closed, AsGiven, Covered}
 use Rattle.lj_hint.specs.declared.live_line.LineRefusal.{LineRefusal}
 use Rattle.lj_hint.specs.declared.live_line.LineRefusal.TheVariants.{Stuck, Rat}
 use Rattle.lj_hint.specs.RatTest.{rat_reply}
@@ -37,7 +37,13 @@ abbrev pub IsLineRefusal : LineRefusal → Result Passed LineRefusal → Type 0
 IsLineRefusal (Stuck place) reply = reply ≡ Err (Stuck place)
 IsLineRefusal (Rat e) reply = IsRatLine e reply
 
--- an answer is the reply, and NoMemory may stand in place of it
-abbrev pub IsLineReply : Result Passed LineRefusal → Result Passed LineRefusal → Type 0
-IsLineReply answer reply = MatchResult answer (λ passed. reply ≡ Ok passed)
+-- an answer with its groups, where those that were given are meant
+abbrev pub with_given : List HintGroup → Passed → Passed
+with_given given (Closed read) = Closed read
+with_given given AsGiven = Covered given
+with_given given (Covered groups) = Covered groups
+
+-- an answer is the reply, for a line with these groups, and NoMemory may stand in place of it
+abbrev pub IsLineReply : List HintGroup → Result Passed LineRefusal → Result Passed LineRefusal → Type 0
+IsLineReply given answer reply = MatchResult answer (λ passed. reply ≡ Ok (with_given given passed))
     (λ e. IsLineRefusal e reply)

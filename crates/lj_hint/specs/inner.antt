@@ -6,3 +6,4 @@ pub mod Trail
 pub mod Ending
 pub mod Groups
 pub mod Codes
+pub mod Coverings

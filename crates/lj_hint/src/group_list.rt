@@ -1,9 +1,9 @@
 //! Lists of groups, wherever their hints are kept.
-ghost use Rattle.std.specs.Prelude.{◌≡◌, ◌<◌, List, length};
+ghost use Rattle.std.specs.Prelude.{◌≡◌, ◌<◌, List, length, option_map};
 ghost use Rattle.lj_clause.specs.Rat.{NamedGroup};
 ghost use Rattle.lj_hint.specs.Case.{groups_of};
 ghost use Rattle.lj_hint.specs.RatTest.{named_groups};
-ghost use Rattle.lj_hint.specs.inner.Groups.{group_in};
+ghost use Rattle.lj_hint.specs.inner.Groups.{group_in, group_at, before};
 
 use crate::hint_list::{GroupHints, PairHints};
 use crate::pair::Pair;
@@ -56,4 +56,14 @@ impl<'a> GroupList for PairGroups<'a> {
             pairs: &self.groups[index].1,
         }
     }
+}
+
+/// The hints of the group before this index, and none before 0.
+pub(crate) fn hints_at<G: GroupList>(groups: &G, place: usize) -> Option<G::Hints>
+    ensures { option_map G.Hints.hints result ≡ group_at (G.groups groups.now) (before place) }
+{
+    if place == 0 || place > groups.count() {
+        return None;
+    }
+    Some(groups.hints(place - 1))
 }

@@ -4,6 +4,7 @@
 #![tactic(auto)]
 
 mod case;
+mod covering;
 mod few_stamps;
 mod group_list;
 mod hint_list;

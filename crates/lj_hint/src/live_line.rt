@@ -4,7 +4,8 @@ ghost use Rattle.lj_clause.specs.LiteralSet.{from_literals, negations};
 ghost use Rattle.lj_clause.specs.Walk.{hints_in, walk, is_contradictory, Open};
 ghost use Rattle.lj_hint.specs.inner.Ending.{ending_of};
 ghost use Rattle.lj_clause.specs.Rat.{groups_in};
-ghost use Rattle.lj_hint.specs.RatTest.{rat_reply, IsRatReply};
+ghost use Rattle.lj_hint.specs.RatTest.{rat_reply};
+ghost use Rattle.lj_hint.specs.inner.Coverings.{IsCovering};
 ghost use Rattle.lj_hint.specs.LineTest.{line_reply, IsLineReply};
 
 use crate::live::{Live, LiveGroups, LiveHints, ShortHints};
@@ -22,6 +23,9 @@ use std::alloc::Global;
 pub enum Passed {
     /// Its first list closed the walk of the lemma's negation, after so many hints.
     Closed(usize),
+    /// The walk stayed open, and its groups cover the candidates of the pivot as they are given: one for each candidate, by
+    /// rising candidate, each of which closes with its last hint.
+    AsGiven,
     /// The walk stayed open, and these groups cover the candidates of the pivot, by rising candidate, each cut after
     /// its closing hint.
     Covered(Groups),
@@ -54,7 +58,7 @@ pub fn test_line<L: Live>(
     groups: &Groups,
     marks: &mut Marks,
 ) -> Result<Passed, LineRefusal>
-    ensures { IsLineReply result (line_reply (L.live live.now) lemma.now.pivot groups.now
+    ensures { IsLineReply groups.now result (line_reply (L.live live.now) lemma.now.pivot groups.now
         (walk (L.live live.now) (negations lemma.now.clause) hints.now)) }
 {
     match walk_live(&mut marks.lits, live, lemma.clause(), hints) {
@@ -62,7 +66,8 @@ pub fn test_line<L: Live>(
         Ok(Ending::StuckAt(place)) => Err(LineRefusal::Stuck(place)),
         Ok(Ending::StaysOpen) => {
             match test_open(alloc, live, lemma.pivot(), groups, &mut marks.lits) {
-                Ok(groups) => Ok(Passed::Covered(groups)),
+                Ok(Some(groups)) => Ok(Passed::Covered(groups)),
+                Ok(None) => Ok(Passed::AsGiven),
                 Err(refusal) => Err(LineRefusal::Rat(refusal)),
             }
         }
@@ -98,7 +103,8 @@ fn walk_live<L: Live>(
     }
 }
 
-/// The test of the candidates of a pivot, if there is one, for a walk that ended open with what is held.
+/// The test of the candidates of a pivot, if there is one, for a walk that ended open with what is held. None stands for the
+/// groups as they are given.
 ///
 /// # Errors
 /// As [`cover`], and [`RatRefusal::EmptyOpen`] without a pivot.
@@ -108,9 +114,9 @@ fn test_open<L: Live>(
     pivot: Option<Lit>,
     groups: &Groups,
     held: &mut TrueLits,
-) -> Result<Groups, RatRefusal>
+) -> Result<Option<Groups>, RatRefusal>
     requires { is_contradictory (from_literals held.old) ≡ false }
-    ensures { IsRatReply result (rat_reply (L.live live.now) (from_literals held.old) pivot
+    ensures { IsCovering groups.now result (rat_reply (L.live live.now) (from_literals held.old) pivot
         (groups_in (L.live live.now) groups.now)) }
 {
     let Some(pivot) = pivot else {

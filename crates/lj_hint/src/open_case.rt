@@ -8,6 +8,7 @@ ghost use Rattle.lj_hint.specs.RatTest.{named_groups, rat_reply, IsRatReply};
 ghost use Rattle.lj_hint.specs.declared.rat_refusal.RatRefusal.TheVariants.{EmptyOpen};
 
 use crate::case::Case;
+use crate::covering::first_groups;
 use crate::group_list::PairGroups;
 use crate::hint_list::PairHints;
 use crate::live::Live;
@@ -44,7 +45,11 @@ pub fn rat_test<L: Live>(live: &L, case: &Case, marks: &mut Marks) -> Result<Gro
     let groups = PairGroups {
         groups: case.groups(),
     };
-    cover(alloc, live, &mut marks.lits, pivot, &groups)
+    match cover(alloc, live, &mut marks.lits, pivot, &groups) {
+        Ok(Some(covered)) => Ok(covered),
+        Ok(None) => Ok(first_groups(alloc, &groups, case.groups().len())?),
+        Err(refusal) => Err(refusal),
+    }
 }
 
 /// The walk of a case that stays open, once more.

@@ -7,24 +7,26 @@ ghost use Rattle.lj_clause.specs.Walk.{is_contradictory};
 ghost use Rattle.lj_clause.specs.Rat.{candidates, candidate_walk, rat_over, group_of};
 ghost use Rattle.lj_hint.specs.inner.Trail.{Extends};
 ghost use Rattle.lj_hint.specs.inner.Ending.{ending_of};
-ghost use Rattle.lj_hint.specs.RatTest.{rat_told, IsRatReply};
+ghost use Rattle.lj_hint.specs.RatTest.{rat_told};
+ghost use Rattle.lj_hint.specs.inner.Coverings.{plain_groups, IsCovering};
 ghost use Rattle.lj_hint.specs.inner.Groups.{group_at, before, AreGroupPlaces, lent_hints, read_group, candidate_told, IsCandidateReply};
 
-use crate::group_list::GroupList;
-use crate::hint_list::{GroupHints, HintList};
+use crate::covering::{cover_one, covering};
+use crate::group_list::{GroupList, hints_at};
+use crate::hint_list::HintList;
 use crate::live::Live;
 use crate::rat_refusal::RatRefusal;
 use crate::true_lits::TrueLits;
 use crate::walk::{Ending, walk};
 use lj_clause::{ClauseView, Lit, NoMemory};
-use lj_text::{Groups, NumbersIter};
+use lj_text::Groups;
 use std::alloc::Global;
 
 /// Among so many groups that of a candidate is looked for one by one.
 const FEW: usize = 8;
 
 /// The test of all candidates of a pivot among the live clauses, for a walk that ended open with what is held: the
-/// groups with the hints that were read, by rising candidate.
+/// groups with the hints that were read, by rising candidate. None stands for the groups as they are given.
 ///
 /// # Errors
 /// The first candidate that isn't covered, and [`RatRefusal::NoMemory`] where a growth was refused.
@@ -34,26 +36,27 @@ pub(crate) fn cover<L: Live, G: GroupList>(
     held: &mut TrueLits,
     pivot: Lit,
     groups: &G,
-) -> Result<Groups, RatRefusal>
+) -> Result<Option<Groups>, RatRefusal>
     requires { is_contradictory (from_literals held.old) ≡ false }
-    ensures { IsRatReply result (rat_told (rat_over (from_literals held.old) pivot
-        (G.groups groups.now) (candidates (L.live live.now) pivot))) }
+    ensures { IsCovering (plain_groups (G.groups groups.now)) result
+        (rat_told (rat_over (from_literals held.old) pivot (G.groups groups.now)
+        (candidates (L.live live.now) pivot))) }
 {
     let numbers = live.candidates(pivot.negated())?;
     let places = places_among(alloc, groups, &numbers)?;
-    let mut covered = Groups::new(alloc);
+    let mut apart = None;
     for index in 0..numbers.len() {
         let number = numbers[index];
         let Some(clause) = live.clause(number) else {
             continue;
         };
-        let hints = hints_for(groups, &numbers, &places, index);
-        match test_candidate(held, pivot, number, &clause, &hints) {
-            Ok(read) => put_read(alloc, &hints, number, read, &mut covered)?,
+        let place = place_for(groups, &numbers, &places, index);
+        match test_candidate(held, pivot, number, &clause, &hints_at(groups, place)) {
+            Ok(read) => cover_one(alloc, groups, index, place, number, read, &mut apart)?,
             Err(refusal) => return Err(refusal),
         }
     }
-    Ok(covered)
+    Ok(covering(alloc, groups, numbers.len(), apart)?)
 }
 
 /// The test of one candidate: how many of its hints were read. What is held comes back as it was.
@@ -89,30 +92,6 @@ fn test_candidate<H: HintList>(
             Some(_) => Err(RatRefusal::GroupStuck(number, place)),
             None => Err(RatRefusal::MissingGroup(number)),
         },
-    }
-}
-
-/// Puts a candidate with the first of its hints, so many, behind the groups.
-///
-/// # Errors
-/// [`NoMemory`] where a growth was refused.
-fn put_read<H: GroupHints>(
-    alloc: Global,
-    hints: &Option<H>,
-    candidate: u64,
-    count: usize,
-    groups: &mut Groups,
-) -> Result<(), NoMemory>
-    requires { count ≤ length (lent_hints (option_map H.hints hints.now)) }
-    ensures { OnOk result (groups.new ≡ groups.old
-        ++ read_group candidate (lent_hints (option_map H.hints hints.now)) count ∷ []) }
-{
-    match hints {
-        Some(hints) => hints.put_first(alloc, candidate, count, groups),
-        None => {
-            groups.push(candidate, NumbersIter::empty())?;
-            Ok(())
-        }
     }
 }
 
@@ -188,44 +167,34 @@ fn places_of<G: GroupList>(
     Ok(places)
 }
 
-/// The hints of the group of the candidate at an index, if it has one.
-fn hints_for<G: GroupList>(
+/// One more than the index of the first group of the candidate at an index, and 0 where it has none.
+fn place_for<G: GroupList>(
     groups: &G,
     candidates: &[u64],
     places: &Option<Vec<usize>>,
     index: usize,
-) -> Option<G::Hints>
+) -> usize
     requires within { index < length candidates.now }
     requires placed { IfSome places.now
         (λ places. AreGroupPlaces (G.groups groups.now) candidates.now places.items) }
-    ensures { option_map G.Hints.hints result
+    ensures { group_at (G.groups groups.now) (before result)
         ≡ group_of (get_or candidates.now index 0) (G.groups groups.now) }
 {
     match places {
-        Some(places) => hints_at(groups, places[index]),
-        None => first_hints(groups, candidates[index]),
+        Some(places) => places[index],
+        None => first_place(groups, candidates[index]),
     }
 }
 
-/// The hints of the first group of a candidate, if it has one.
-fn first_hints<G: GroupList>(groups: &G, number: u64) -> Option<G::Hints>
-    ensures { option_map G.Hints.hints result
+/// One more than the index of the first group of a candidate, and 0 where it has none.
+fn first_place<G: GroupList>(groups: &G, number: u64) -> usize
+    ensures { group_at (G.groups groups.now) (before result)
         ≡ group_of number (G.groups groups.now) }
 {
     for index in 0..groups.count() {
         if groups.candidate(index) == number {
-            return Some(groups.hints(index));
+            return index + 1;
         }
     }
-    None
-}
-
-/// The hints of the group before this index, and none before 0.
-fn hints_at<G: GroupList>(groups: &G, place: usize) -> Option<G::Hints>
-    ensures { option_map G.Hints.hints result ≡ group_at (G.groups groups.now) (before place) }
-{
-    if place == 0 || place > groups.count() {
-        return None;
-    }
-    Some(groups.hints(place - 1))
+    0
 }

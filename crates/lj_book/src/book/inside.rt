@@ -31,8 +31,8 @@ impl Book {
     /// Takes O(log n) time for each number of the line and each hint that is read, and constant time for each literal
     /// of the lemma and of these hints. Where the first list stays open, takes constant time for each literal of the
     /// candidates too and for each clause that held the pivot's negation and died since one asked for it, and O(log c) for
-    /// each group, with c candidates; and the first time that one stays open, time linear in all joint numbers that were
-    /// given and in the literals of the live clauses.
+    /// each group, with c candidates; and the first two times that one stays open, time linear in all joint numbers that
+    /// were given and in the literals of the live clauses.
     ///
     /// # Errors
     /// The first that holds of [`Refusal::SeatGone`], [`Refusal::NumberTaken`], [`Refusal::UnknownNumber`],
@@ -59,7 +59,7 @@ impl Book {
         }
         let ledger = &mut self.ledger;
         let (hints, joints) = (&mut self.joints, &mut self.joint_groups);
-        let groups = match recorded_line(
+        if let Err(refusal) = recorded_line(
             ledger,
             &self.tables,
             seat,
@@ -68,28 +68,34 @@ impl Book {
             joints,
             marks,
         ) {
-            Ok(groups) => groups,
-            Err(refusal) => return Err(refusal),
-        };
-        clear(&mut self.joint_groups);
+            return Err(refusal);
+        }
         if self.added >= self.max_steps {
             return Err(Refusal::Full);
         }
         let _ = has_pivot(&addition.lemma);
-        let step = LentAddition::new(joint, &addition.lemma, &self.joints, &groups);
+        let step = LentAddition::new(
+            joint,
+            &addition.lemma,
+            &self.joints,
+            &self.joint_groups,
+        );
         let place = self.ledger.history().len();
         enter_addition(&mut self.ledger, &mut self.tables, seat, own, &step)?;
         self.refuted = refuted_at(self.refuted, place, &step.clause);
+        clear(&mut self.joint_groups);
         self.added += 1;
         Ok(Added { place, joint })
     }
 
-    /// The room for joint hints, which has to come back.
-    pub(crate) fn lend_joints(&mut self) -> Numbers
+    /// The room for joint hints and groups, which has to come back.
+    pub(crate) fn lend_joints(&mut self) -> (Numbers, Groups)
         ensures { self.new ≡ self.old }
     {
         let alloc = self.ledger.allocator();
-        replace(&mut self.joints, Numbers::from_short(Vec::new(alloc)))
+        let hints = replace(&mut self.joints, Numbers::from_short(Vec::new(alloc)));
+        let groups = replace(&mut self.joint_groups, Groups::new(alloc));
+        (hints, groups)
     }
 
     /// The next joint number.
@@ -101,8 +107,8 @@ impl Book {
         self.formula.len() as u64 + 1 + u64::from(added)
     }
 
-    /// The hints, in a list that was used before, and the groups of a seat's addition, in recorded form. The book stays as it
-    /// is.
+    /// Puts the hints and the groups of a seat's addition, in recorded form, into lists that were used before. The book stays as
+    /// it is.
     ///
     /// # Errors
     /// As [`Book::add_inside`].
@@ -111,10 +117,11 @@ impl Book {
         seat: u32,
         addition: &Addition,
         hints: &mut Numbers,
+        groups: &mut Groups,
         marks: &mut Marks,
-    ) -> Result<Groups, Refusal>
+    ) -> Result<(), Refusal>
         ensures reply { IsReplyBy
-            (λ groups. addition_of_parts (next self.old) addition.now.lemma (hints.new, groups))
+            (λ _. addition_of_parts (next self.old) addition.now.lemma (hints.new, groups.new))
             result (inside_line self.old seat addition.now) }
         ensures reached { IsReached self.old }
         ensures refused { IfSome (free_refusal self.old seat addition.now.number)
@@ -127,24 +134,21 @@ impl Book {
             return Err(refusal);
         }
         let ledger = &mut self.ledger;
-        let joints = &mut self.joint_groups;
-        let groups = match recorded_line(
+        if let Err(refusal) = recorded_line(
             ledger,
             &self.tables,
             seat,
             addition,
             hints,
-            joints,
+            groups,
             marks,
         ) {
-            Ok(groups) => groups,
-            Err(refusal) => return Err(refusal),
-        };
-        clear(joints);
+            return Err(refusal);
+        }
         if added >= max_steps {
             return Err(Refusal::Full);
         }
-        Ok(groups)
+        Ok(())
     }
 
     /// Enters an addition with the step that was found for it.
@@ -174,7 +178,7 @@ impl Book {
     }
 }
 
-/// The groups of a seat's addition in recorded form, and its hints, in lists that were used before. The clauses stay as they
+/// Puts the hints and the groups of a seat's addition, in recorded form, into lists that were used before. The clauses stay as they
 /// are.
 ///
 /// # Errors
@@ -188,9 +192,9 @@ fn recorded_line(
     hints: &mut Numbers,
     joints: &mut Groups,
     marks: &mut Marks,
-) -> Result<Groups, Refusal>
+) -> Result<(), Refusal>
     ensures reply { (number : ℕ) → IsReplyBy
-        (λ groups. addition_of_parts number addition.now.lemma (hints.new, groups)) result
+        (λ _. addition_of_parts number addition.now.lemma (hints.new, joints.new)) result
         (tested_parts ledger.old.live number addition.now.lemma
         (joint_parts (joint_of tables.now seat) addition.now)) }
     ensures same { ledger.new ≡ ledger.old }

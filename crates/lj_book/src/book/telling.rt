@@ -9,12 +9,13 @@ ghost use Rattle.lj_book.specs.Telling.{without_receipt};
 use crate::book::{Book, deletion_of};
 use crate::dying::{no_longer_held, rising};
 use crate::entry::{Added, Call, Dropped, Entry, Imported};
+use crate::joint_line::clear;
 use crate::lent_addition::LentAddition;
 use crate::ready::Ready;
 use crate::refusal::Refusal;
 use lj_clause::{Clause, NoMemory};
 use lj_hint::{Marks, Receipt};
-use lj_text::{Addition, Numbers, Step};
+use lj_text::{Addition, Groups, Numbers, Step};
 use std::alloc::Global;
 
 impl Book {
@@ -105,13 +106,15 @@ impl Book {
             (self.new ≡ after_entry self.old (inside_entry self.old seat addition.now)) }
         ensures err { OnErr result (self.new ≡ self.old) }
     {
-        let mut hints = self.lend_joints();
-        let told = self.add_line_telling(seat, addition, &mut hints, marks);
+        let (mut hints, mut groups) = self.lend_joints();
+        let told = self.add_line_telling(seat, addition, &mut hints, &mut groups, marks);
+        clear(&mut groups);
         self.joints = hints;
+        self.joint_groups = groups;
         told
     }
 
-    /// The same, with a list for the hints in joint numbers.
+    /// The same, with lists for the hints and the groups in joint numbers.
     ///
     /// # Errors
     /// As [`Book::add_inside`].
@@ -120,6 +123,7 @@ impl Book {
         seat: u32,
         addition: &Addition,
         hints: &mut Numbers,
+        groups: &mut Groups,
         marks: &mut Marks,
     ) -> Result<(Added, Entry), Refusal>
         ensures reply { IsReplyBy (λ told. told.0) result
@@ -131,11 +135,10 @@ impl Book {
             (self.new ≡ after_entry self.old (inside_entry self.old seat addition.now)) }
         ensures err { OnErr result (self.new ≡ self.old) }
     {
-        let groups = match self.inside_line(seat, addition, hints, marks) {
-            Ok(groups) => groups,
-            Err(refusal) => return Err(refusal),
-        };
-        let step = LentAddition::new(self.next(), &addition.lemma, hints, &groups);
+        if let Err(refusal) = self.inside_line(seat, addition, hints, groups, marks) {
+            return Err(refusal);
+        }
+        let step = LentAddition::new(self.next(), &addition.lemma, hints, groups);
         let entry = match entry_of_line(seat, addition.number, &step) {
             Ok(entry) => entry,
             Err(refused) => return Err(Refusal::NoMemory(refused)),

@@ -5,7 +5,8 @@ use Rattle.lj_clause.specs.Walk.{walk}
 use Rattle.lj_clause.specs.Rat.{HintGroup}
 use Rattle.lj_text.specs.declared.line.Addition.{Addition}
 use Rattle.lj_hint.specs.declared.live_line.Passed.TheVariants.{Closed}
-use Rattle.lj_hint.specs.LineTest.{line_reply}
+use Rattle.lj_hint.specs.declared.live_line.Passed.{Passed}
+use Rattle.lj_hint.specs.LineTest.{line_reply, with_given}
 use Rattle.lj_book.specs.inner.JointLines.{addition_of_parts}
 use Rattle.lj_book.proofs.LineLaws.{closed_line}
 use Rattle.lj_book.proofs.line_tests.tested_line.Goals as goal
@@ -19,7 +20,8 @@ returns-in-Ok-Closed-clause-reply c number =
     let b = addition_of_parts number lemma (given, groups) in
     let made : List ℕ → List HintGroup → Addition = λ ns gs. record { number = number; lemma = lemma; hints = ns; groups = gs } in
     let told : line_reply p lemma.pivot groups (walk p (negations lemma.clause) given) ≡ Ok (Closed c.in-Ok-Closed.read) =
-    c.in-Ok-Closed.ensures
-    ∙ ap Ok c.in-Ok-Closed.field-0-is in
+    (λ i. line_reply (sym c.tend_lists.ensures i).live lemma.pivot groups (walk (sym c.tend_lists.ensures i).live (negations lemma.clause) given))
+    ∙ c.in-Ok-Closed.ensures
+    ∙ ap (λ (passed : Passed). Ok (with_given groups passed)) c.in-Ok-Closed.field-0-is in
     closed_line p b c.in-Ok-Closed.read told
-    ∙ (λ i. Ok (made (sym c.truncate.ensures i) (sym c.new.ensures i)))
+    ∙ (λ i. Ok (made (sym c.truncate.ensures i) (sym c.clear.ensures i)))

@@ -32,10 +32,10 @@ returns-then-self-clause-reply c =
     let a = c.args.addition.now in
     let free : free_refusal s seat a.number ≡ None = ap (λ (t : State). free_refusal t seat a.number) c.self.view_is ∙ sym c.free_refusal.ensures ∙ c.in_default.is in
     let sound = IsSound-reached s c.self.invariant.reached in
-    let tested = addition_of_parts (next s) a.lemma (c.recorded_line.new.hints, c.in-Ok.groups) in
+    let tested = addition_of_parts (next s) a.lemma (c.recorded_line.new.hints, c.recorded_line.new.joints) in
     let full : s.max_steps ≤ addition_count s.history = let counted = c.self.invariant.additions in omega arith in
     ap (λ (t : State). inside_reply t seat a) (sym c.self.view_is)
-    ∙ inside_refused s seat a Full sound (parts_full c.self.inside.ledger.live s seat a tested c.self.invariant.lives free (c.in-Ok.ensures.reply (next s)) full)
+    ∙ inside_refused s seat a Full sound (parts_full c.self.inside.ledger.live s seat a tested c.self.invariant.lives free (c.in_default-recorded_line.ensures.reply (next s)) full)
 
 pub enter_addition-requires-clause-unheld : goal.enter_addition-requires-clause-unheld
 enter_addition-requires-clause-unheld c =
@@ -46,9 +46,9 @@ enter_addition-requires-clause-unheld c =
     let sound = IsSound-reached s c.self.invariant.reached in
     let step = c.new-step.result in
     let joint : c.next-joint.result ≡ next s = c.next-joint.ensures ∙ ap next (sym c.self.view_is) in
-    let lent : step ≡ addition_of_parts (next s) a.lemma (c.recorded_line.new.hints, c.in-Ok.groups) = c.new-step.ensures ∙ (λ i. addition_of_parts (joint i) a.lemma (c.recorded_line.new.hints, c.in-Ok.groups)) in
+    let lent : step ≡ addition_of_parts (next s) a.lemma (c.recorded_line.new.hints, c.recorded_line.new.joints) = c.new-step.ensures ∙ (λ i. addition_of_parts (joint i) a.lemma (c.recorded_line.new.hints, c.recorded_line.new.joints)) in
     let room : addition_count s.history < s.max_steps = let counted = c.self.invariant.additions in omega arith in
-    let passed : inside_line s seat a ≡ Ok step = parts_passed c.self.inside.ledger.live s seat a step c.self.invariant.lives free (c.in-Ok.ensures.reply (next s) ∙ ap Ok (sym lent)) room in
+    let passed : inside_line s seat a ≡ Ok step = parts_passed c.self.inside.ledger.live s seat a step c.self.invariant.lives free (c.in_default-recorded_line.ensures.reply (next s) ∙ ap Ok (sym lent)) room in
     (line_can s seat a step sound passed).1
 
 pub invariant_of-self-2 : goal.invariant_of-self-2
@@ -60,13 +60,13 @@ invariant_of-self-2 c =
     let sound = IsSound-reached s c.self.invariant.reached in
     let step = c.new-step.result in
     let joint : c.next-joint.result ≡ next s = c.next-joint.ensures ∙ ap next (sym c.self.view_is) in
-    let lent : step ≡ addition_of_parts (next s) a.lemma (c.recorded_line.new.hints, c.in-Ok.groups) = c.new-step.ensures ∙ (λ i. addition_of_parts (joint i) a.lemma (c.recorded_line.new.hints, c.in-Ok.groups)) in
+    let lent : step ≡ addition_of_parts (next s) a.lemma (c.recorded_line.new.hints, c.recorded_line.new.joints) = c.new-step.ensures ∙ (λ i. addition_of_parts (joint i) a.lemma (c.recorded_line.new.hints, c.recorded_line.new.joints)) in
     let room : addition_count s.history < s.max_steps = let counted = c.self.invariant.additions in omega arith in
-    let passed : inside_line s seat a ≡ Ok step = parts_passed c.self.inside.ledger.live s seat a step c.self.invariant.lives free (c.in-Ok.ensures.reply (next s) ∙ ap Ok (sym lent)) room in
-    let place : c.len-place.result ≡ length s.history = c.len-place.ensures.len ∙ ap (λ h. length h.entries) c.history.ensures ∙ (λ i. length (c.in-Ok.ensures.same i).history.entries) in
+    let passed : inside_line s seat a ≡ Ok step = parts_passed c.self.inside.ledger.live s seat a step c.self.invariant.lives free (c.in_default-recorded_line.ensures.reply (next s) ∙ ap Ok (sym lent)) room in
+    let place : c.len-place.result ≡ length s.history = c.len-place.ensures.len ∙ ap (λ h. length h.entries) c.history.ensures ∙ (λ i. length (c.in_default-recorded_line.ensures.same i).history.entries) in
     let pivot : IsPivot a.lemma = record { literal = c.has_pivot.ensures.literal; there = c.has_pivot.ensures.there } in
-    let pushed : c.enter_addition.new.ledger.history.entries ≡ s.history ++ line_entry seat a.number step ∷ [] = c.in_ok-enter_addition.ensures.entries ∙ (λ i. (c.in-Ok.ensures.same i).history.entries ++ line_entry seat a.number step ∷ []) in
-    let lives : c.enter_addition.new.ledger.live ≡ fin.insert c.self.inside.ledger.live step.number step.lemma.clause = c.in_ok-enter_addition.ensures.live ∙ (λ i. fin.insert (c.in-Ok.ensures.same i).live step.number step.lemma.clause) in
+    let pushed : c.enter_addition.new.ledger.history.entries ≡ s.history ++ line_entry seat a.number step ∷ [] = c.in_ok-enter_addition.ensures.entries ∙ (λ i. (c.in_default-recorded_line.ensures.same i).history.entries ++ line_entry seat a.number step ∷ []) in
+    let lives : c.enter_addition.new.ledger.live ≡ fin.insert c.self.inside.ledger.live step.number step.lemma.clause = c.in_ok-enter_addition.ensures.live ∙ (λ i. fin.insert (c.in_default-recorded_line.ensures.same i).live step.number step.lemma.clause) in
     let clause : c.step.inside.clause ≡ step.lemma.clause = c.step.invariant ∙ ap (λ (x : Addition). x.lemma.clause) c.step.view_is in
     let refuted = c.refuted_at-self-inside.ensures ∙ (λ i. refuted_after c.self.inside.refuted (place i) (clause i)) in
     let made = line_made s seat a step c.self.inside.ledger.live c.enter_addition.new.ledger.live c.self.inside.added c.self.inside.refuted c.refuted_at-self-inside.result c.enter_addition.new.tables c.enter_addition.new.ledger.history.entries c.self.invariant pivot passed c.in_ok-enter_addition.ensures.tables pushed lives refuted in
@@ -81,10 +81,10 @@ returns-clause-reply c =
     let sound = IsSound-reached s c.self.invariant.reached in
     let step = c.new-step.result in
     let joint : c.next-joint.result ≡ next s = c.next-joint.ensures ∙ ap next (sym c.self.view_is) in
-    let lent : step ≡ addition_of_parts (next s) a.lemma (c.recorded_line.new.hints, c.in-Ok.groups) = c.new-step.ensures ∙ (λ i. addition_of_parts (joint i) a.lemma (c.recorded_line.new.hints, c.in-Ok.groups)) in
+    let lent : step ≡ addition_of_parts (next s) a.lemma (c.recorded_line.new.hints, c.recorded_line.new.joints) = c.new-step.ensures ∙ (λ i. addition_of_parts (joint i) a.lemma (c.recorded_line.new.hints, c.recorded_line.new.joints)) in
     let room : addition_count s.history < s.max_steps = let counted = c.self.invariant.additions in omega arith in
-    let passed : inside_line s seat a ≡ Ok step = parts_passed c.self.inside.ledger.live s seat a step c.self.invariant.lives free (c.in-Ok.ensures.reply (next s) ∙ ap Ok (sym lent)) room in
-    let place : c.len-place.result ≡ length s.history = c.len-place.ensures.len ∙ ap (λ h. length h.entries) c.history.ensures ∙ (λ i. length (c.in-Ok.ensures.same i).history.entries) in
+    let passed : inside_line s seat a ≡ Ok step = parts_passed c.self.inside.ledger.live s seat a step c.self.invariant.lives free (c.in_default-recorded_line.ensures.reply (next s) ∙ ap Ok (sym lent)) room in
+    let place : c.len-place.result ≡ length s.history = c.len-place.ensures.len ∙ ap (λ h. length h.entries) c.history.ensures ∙ (λ i. length (c.in_default-recorded_line.ensures.same i).history.entries) in
     let told : ℕ → ℕ → Added = λ p j. record { place = p; joint = j } in
     ap (λ (t : State). inside_reply t seat a) (sym c.self.view_is)
     ∙ line_replied s seat a step sound passed
@@ -99,13 +99,13 @@ returns-clause-ok c =
     let sound = IsSound-reached s c.self.invariant.reached in
     let step = c.new-step.result in
     let joint : c.next-joint.result ≡ next s = c.next-joint.ensures ∙ ap next (sym c.self.view_is) in
-    let lent : step ≡ addition_of_parts (next s) a.lemma (c.recorded_line.new.hints, c.in-Ok.groups) = c.new-step.ensures ∙ (λ i. addition_of_parts (joint i) a.lemma (c.recorded_line.new.hints, c.in-Ok.groups)) in
+    let lent : step ≡ addition_of_parts (next s) a.lemma (c.recorded_line.new.hints, c.recorded_line.new.joints) = c.new-step.ensures ∙ (λ i. addition_of_parts (joint i) a.lemma (c.recorded_line.new.hints, c.recorded_line.new.joints)) in
     let room : addition_count s.history < s.max_steps = let counted = c.self.invariant.additions in omega arith in
-    let passed : inside_line s seat a ≡ Ok step = parts_passed c.self.inside.ledger.live s seat a step c.self.invariant.lives free (c.in-Ok.ensures.reply (next s) ∙ ap Ok (sym lent)) room in
-    let place : c.len-place.result ≡ length s.history = c.len-place.ensures.len ∙ ap (λ h. length h.entries) c.history.ensures ∙ (λ i. length (c.in-Ok.ensures.same i).history.entries) in
+    let passed : inside_line s seat a ≡ Ok step = parts_passed c.self.inside.ledger.live s seat a step c.self.invariant.lives free (c.in_default-recorded_line.ensures.reply (next s) ∙ ap Ok (sym lent)) room in
+    let place : c.len-place.result ≡ length s.history = c.len-place.ensures.len ∙ ap (λ h. length h.entries) c.history.ensures ∙ (λ i. length (c.in_default-recorded_line.ensures.same i).history.entries) in
     let pivot : IsPivot a.lemma = record { literal = c.has_pivot.ensures.literal; there = c.has_pivot.ensures.there } in
-    let pushed : c.enter_addition.new.ledger.history.entries ≡ s.history ++ line_entry seat a.number step ∷ [] = c.in_ok-enter_addition.ensures.entries ∙ (λ i. (c.in-Ok.ensures.same i).history.entries ++ line_entry seat a.number step ∷ []) in
-    let lives : c.enter_addition.new.ledger.live ≡ fin.insert c.self.inside.ledger.live step.number step.lemma.clause = c.in_ok-enter_addition.ensures.live ∙ (λ i. fin.insert (c.in-Ok.ensures.same i).live step.number step.lemma.clause) in
+    let pushed : c.enter_addition.new.ledger.history.entries ≡ s.history ++ line_entry seat a.number step ∷ [] = c.in_ok-enter_addition.ensures.entries ∙ (λ i. (c.in_default-recorded_line.ensures.same i).history.entries ++ line_entry seat a.number step ∷ []) in
+    let lives : c.enter_addition.new.ledger.live ≡ fin.insert c.self.inside.ledger.live step.number step.lemma.clause = c.in_ok-enter_addition.ensures.live ∙ (λ i. fin.insert (c.in_default-recorded_line.ensures.same i).live step.number step.lemma.clause) in
     let clause : c.step.inside.clause ≡ step.lemma.clause = c.step.invariant ∙ ap (λ (x : Addition). x.lemma.clause) c.step.view_is in
     let refuted = c.refuted_at-self-inside.ensures ∙ (λ i. refuted_after c.self.inside.refuted (place i) (clause i)) in
     let made = line_made s seat a step c.self.inside.ledger.live c.enter_addition.new.ledger.live c.self.inside.added c.self.inside.refuted c.refuted_at-self-inside.result c.enter_addition.new.tables c.enter_addition.new.ledger.history.entries c.self.invariant pivot passed c.in_ok-enter_addition.ensures.tables pushed lives refuted in

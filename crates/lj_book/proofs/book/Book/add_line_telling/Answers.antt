@@ -18,8 +18,8 @@ returns-in-Err-clause-reply c =
 pub returns-in-Ok-enter_line-clause-reply : goal.returns-in-Ok-enter_line-clause-reply
 returns-in-Ok-enter_line-clause-reply c =
     let s : State = c.args.self.now in
-    let told = c.in-Ok.ensures in
-    let step = addition_of_parts (next s) c.args.addition.now.lemma (c.inside_line.new.hints, c.in-Ok.groups) in
+    let told = c.in_default.ensures in
+    let step = addition_of_parts (next s) c.args.addition.now.lemma (c.inside_line.new.hints, c.inside_line.new.groups) in
     let e = entered s c.args.seat c.args.addition.now step told.reply in
     entered_reply s c.args.seat c.args.addition.now step e.0 (IsSound-reached s told.reached) e.1
     ∙ ap (λ (t : State). Ok (commit_told t)) (sym told.same)
@@ -28,18 +28,18 @@ returns-in-Ok-enter_line-clause-reply c =
 pub returns-in-Ok-enter_line-clause-told : goal.returns-in-Ok-enter_line-clause-told
 returns-in-Ok-enter_line-clause-told c =
     let s : State = c.args.self.now in
-    let told = c.in-Ok.ensures in
-    let step = addition_of_parts (next s) c.args.addition.now.lemma (c.inside_line.new.hints, c.in-Ok.groups) in
-    let lent : c.new-step.result ≡ step = c.new-step.ensures ∙ (λ i. addition_of_parts ((c.next.ensures ∙ ap next told.same) i) c.args.addition.now.lemma (c.inside_line.new.hints, c.in-Ok.groups)) in
+    let told = c.in_default.ensures in
+    let step = addition_of_parts (next s) c.args.addition.now.lemma (c.inside_line.new.hints, c.inside_line.new.groups) in
+    let lent : c.new-step.result ≡ step = c.new-step.ensures ∙ (λ i. addition_of_parts ((c.next.ensures ∙ ap next told.same) i) c.args.addition.now.lemma (c.inside_line.new.hints, c.inside_line.new.groups)) in
     let e = entered s c.args.seat c.args.addition.now step told.reply in
-    c.in-Ok-entry_of_line.ensures ∙ ap (λ (a : Addition). line_entry c.args.seat c.args.addition.now.number a) lent ∙ sym (entered_entry s c.args.seat c.args.addition.now step e.0 (IsSound-reached s told.reached) e.1)
+    c.in-Ok.ensures ∙ ap (λ (a : Addition). line_entry c.args.seat c.args.addition.now.number a) lent ∙ sym (entered_entry s c.args.seat c.args.addition.now step e.0 (IsSound-reached s told.reached) e.1)
 
 pub returns-in-Ok-enter_line-clause-ok : goal.returns-in-Ok-enter_line-clause-ok
 returns-in-Ok-enter_line-clause-ok c =
     let s : State = c.args.self.now in
-    let told = c.in-Ok.ensures in
-    let step = addition_of_parts (next s) c.args.addition.now.lemma (c.inside_line.new.hints, c.in-Ok.groups) in
-    let lent : c.new-step.result ≡ step = c.new-step.ensures ∙ (λ i. addition_of_parts ((c.next.ensures ∙ ap next told.same) i) c.args.addition.now.lemma (c.inside_line.new.hints, c.in-Ok.groups)) in
+    let told = c.in_default.ensures in
+    let step = addition_of_parts (next s) c.args.addition.now.lemma (c.inside_line.new.hints, c.inside_line.new.groups) in
+    let lent : c.new-step.result ≡ step = c.new-step.ensures ∙ (λ i. addition_of_parts ((c.next.ensures ∙ ap next told.same) i) c.args.addition.now.lemma (c.inside_line.new.hints, c.inside_line.new.groups)) in
     let e = entered s c.args.seat c.args.addition.now step told.reply in
     c.in-Ok-enter_line.ensures.ok
     ∙ ap (λ (t : State). after_entry t (line_entry c.args.seat c.args.addition.now.number c.new-step.result)) told.same
