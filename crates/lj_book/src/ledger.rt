@@ -32,7 +32,7 @@ pub(crate) struct Ledger {
     history: History,
     /// Where the literals of each live clause stand.
     places: PlaceMap,
-    /// `None` where nobody asked yet, or a growth was refused: then all clauses are looked through.
+    /// `None` where they aren't made yet, or a growth was refused: then all clauses are looked through.
     lists: Option<OccurrenceLists>,
     /// The literal whose candidates were looked up, where its list wasn't tended since.
     asked: Option<Lit>,

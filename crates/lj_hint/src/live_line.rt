@@ -116,7 +116,8 @@ fn test_open<L: Live>(
     held: &mut TrueLits,
 ) -> Result<Option<Groups>, RatRefusal>
     requires { is_contradictory (from_literals held.old) ≡ false }
-    ensures { IsCovering groups.now result (rat_reply (L.live live.now) (from_literals held.old) pivot
+    ensures { IsCovering groups.now result
+        (rat_reply (L.live live.now) (from_literals held.old) pivot
         (groups_in (L.live live.now) groups.now)) }
 {
     let Some(pivot) = pivot else {

@@ -31,8 +31,8 @@ impl Book {
     /// Takes O(log n) time for each number of the line and each hint that is read, and constant time for each literal
     /// of the lemma and of these hints. Where the first list stays open, takes constant time for each literal of the
     /// candidates too and for each clause that held the pivot's negation and died since one asked for it, and O(log c) for
-    /// each group, with c candidates; and the first two times that one stays open, time linear in all joint numbers that
-    /// were given and in the literals of the live clauses.
+    /// each group, with c candidates. The first addition whose first list stays open, and the next one that is tested, take
+    /// time linear in all joint numbers that were given and in the literals of the live clauses.
     ///
     /// # Errors
     /// The first that holds of [`Refusal::SeatGone`], [`Refusal::NumberTaken`], [`Refusal::UnknownNumber`],
