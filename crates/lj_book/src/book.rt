@@ -115,8 +115,8 @@ impl Book {
     }
 
     /// The numbers of the live clauses that hold a literal, rising. Once an import has asked for clauses by their literals, or
-    /// an addition was tested behind one that had asked, takes time linear in them and in those that died since one asked for
-    /// this literal; before, in all joint numbers that were given, and O(log n) for each live clause.
+    /// [`Book::add_inside`] has tested an addition behind one that had asked, takes time linear in them and in those that died
+    /// since one asked for this literal; before, in all joint numbers that were given, and O(log n) for each live clause.
     ///
     /// # Errors
     /// [`NoMemory`] where a growth was refused.
