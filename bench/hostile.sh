@@ -132,11 +132,12 @@ both 'additions under numbers far apart' few.cnf 300000 \
 both 'imports' few.cnf 600000 'BEGIN { for (i = 2; i < n; i++) print i " i 1 0" }'
 both 'lemmas of nine literals, behind an import' few.cnf 300000 \
     'BEGIN { print "2 i 1 0"; for (i = 3; i < n; i++) print i " 1 2 3 4 5 6 7 8 9 0 1 0" }'
+# (A stamp takes longer for a variable beyond the first 524,287, so the half has such variables too.)
 both 'a walk over many clauses' 'BEGIN {
     print "p cnf " n " " n + 1
     for (i = 1; i <= n; i++) print i " 0"
     for (i = 1; i <= n; i++) printf "-%d ", i
-    print "0" }' 1000000 'BEGIN { printf "%d -%d 0", n + 2, n; for (i = 1; i <= n + 1; i++) printf " %d", i; print " 0" }'
+    print "0" }' 2000000 'BEGIN { printf "%d -%d 0", n + 2, n; for (i = 1; i <= n + 1; i++) printf " %d", i; print " 0" }'
 both 'an accepted line of one group of many hints' \
     'BEGIN { print "p cnf 2 3"; print "-1 2 0"; print "-2 0"; print "1 0" }' 4000000 \
     'BEGIN { printf "4 1 0 -1"; for (i = 0; i < n; i++) printf " 2"; print " 3 0" }'
