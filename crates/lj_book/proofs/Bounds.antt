@@ -1,5 +1,5 @@
 -- Maps whose numbers are below an end, and what is found in them number by number.
-use Rattle.std.proofs.Common.{◌≡◌, ap, refl, sym, ◌∙◌, ℕ, Bool, cond, arith, suc, zero, ◌+◌, ◌<◌, ◌≤◌, true, false}
+use Rattle.std.proofs.Common.{◌≡◌, ap, refl, sym, ◌∙◌, ℕ, Bool, cond, arith, add-one, suc, zero, ◌+◌, ◌<◌, ◌≤◌, true, false}
 use Rattle.std.specs.Prelude.{List, [], ◌∷◌, drop, length, Option, Some, None, slice_index_or, slice_set, nat_lt}
 use Rattle.std.proofs.lemmas.Bool.Decides.{nat_tests}
 use Rattle.std.specs.Ordering.{nat_cmp, eq_by_cmp}
@@ -95,3 +95,26 @@ from-end test m end k h = numbers-end test (slots_from m 0 end) k (let length_is
 -- from 0 on they are all
 pub from-first : {V : Type 0} (test : V → Bool) (m : Numbered V) (end : ℕ) → AreBefore end m → numbers_from test m end 0 ≡ numbers_in test (fin.entries m)
 from-first test m end before = slot_numbers_are test (slots_from m 0 end) ∙ ap (λ n. numbers_in test (fin.entries n)) (same_slots m end before)
+
+-- and so they are from any number on before which none passes
+pub from_skipped : {V : Type 0} (test : V → Bool) (m : Numbered V) (end from k : ℕ) → k ≤ from → ((n : ℕ) (v : V) → fin.get m n ≡ Some v → test v ≡ true → from ≤ n) → numbers_from test m end k ≡ numbers_from test m end 0
+from_skipped test m end from zero le none = refl
+from_skipped {V} test m end from (suc k) le none = ap (numbers_from test m end) (sym (add-one k)) ∙ step (nat_lt k end) refl ∙ from_skipped test m end from k (omega (arith, le)) none
+  where
+    is_below : (a b : ℕ) → nat_lt a b ≡ true → a < b
+    is_below a b e = grind (arith, nat_tests)
+
+    is_past : (a b : ℕ) → nat_lt a b ≡ false → b ≤ a
+    is_past a b e = grind (arith, nat_tests)
+
+    by_test : (v : V) (b : Bool) → k < end → fin.get m k ≡ Some v → test v ≡ b → numbers_from test m end (k + 1) ≡ numbers_from test m end k
+    by_test v true lt at t = absurd (let at_least = none k v at t in let no : ⊥ = omega (arith, at_least, le) in no)
+    by_test v false lt at t = from-passed test m end k v lt at t
+
+    by : (o : Option V) → k < end → fin.get m k ≡ o → numbers_from test m end (k + 1) ≡ numbers_from test m end k
+    by None lt at = from-empty test m end k lt at
+    by (Some v) lt at = by_test v (test v) lt at refl
+
+    step : (b : Bool) → nat_lt k end ≡ b → numbers_from test m end (k + 1) ≡ numbers_from test m end k
+    step true e = by (fin.get m k) (is_below k end e) refl
+    step false e = from-end test m end (k + 1) (let past = is_past k end e in omega (arith, past)) ∙ sym (from-end test m end k (is_past k end e))

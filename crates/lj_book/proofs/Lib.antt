@@ -28,6 +28,7 @@ mod OpenedLaws
 mod Bounds
 mod OccurrenceLaws
 mod Chains
+mod FirstUseLaws
 pub mod InsideLaws
 pub mod LineLaws
 pub mod WordLaws

@@ -382,7 +382,7 @@ Indexed-insert before lists p after last next n c are is listed le new = record 
   listed = if_some lists _ _ (λ m at. fewer_clauses m (fin.get (fin.insert p n c)) (fin.get after) (n + 1) (next + 1) at (omega arith) (λ q d e. ap (λ (x : ClauseMap). fin.get x q) (sym is) ∙ e)) listed;
 }
 
-removed_get : (p : ClauseMap) (n q : ℕ) (d : LiteralSet) → fin.get (fin.remove p n) q ≡ Some d → fin.get p q ≡ Some d
+pub removed_get : (p : ClauseMap) (n q : ℕ) (d : LiteralSet) → fin.get (fin.remove p n) q ≡ Some d → fin.get p q ≡ Some d
 removed_get p n q d h = inside (eq_by_cmp nat_cmp q n) (fin.get p q) d (sym (fin.get-remove nat_cmp_total p n q) ∙ h)
   where
     inside : (b : Bool) (o : Option LiteralSet) (d : LiteralSet) → cond b None o ≡ Some d → o ≡ Some d

@@ -16,11 +16,14 @@ use Rattle.std.specs.FinMap.Entries.{is_sorted, below_all}
 use Rattle.lj_clause.specs.Literal.{lit_cmp}
 use Rattle.lj_clause.specs.LiteralSet.{LiteralSet, literals, from_literals}
 use Rattle.lj_clause.specs.Lemma.{LemmaValue}
-use Rattle.lj_clause.specs.ClauseMap.{ClauseMap, FormulaValue, formula_map}
+use Rattle.lj_clause.specs.ClauseMap.{ClauseMap, FormulaValue, formula_map, IsFormula}
 use Rattle.lj_book.specs.declared.place.Place.{Place}
 use Rattle.lj_book.specs.inner.Records.{some_lits, lemma_lits, pivot_before}
 use Rattle.lj_book.specs.inner.Slots.{AreBefore}
 use Rattle.lj_book.specs.inner.Occurrences.{Lists, AreListed, AreIndexed}
+use Rattle.lj_book.specs.declared.first_uses.FirstUses.{FirstUses}
+use Rattle.lj_book.specs.inner.FirstUses.{AreFirstUses}
+use Rattle.lj_book.proofs.FirstUseLaws.{uses_opening}
 use Rattle.lj_book.specs.inner.Places.{Places, clause_in, placed, IsPlace, ArePlaces, pivots, AreRecorded}
 use Rattle.lj_book.proofs.NumberMaps.{same_map}
 use Rattle.lj_book.proofs.Mapped.{get_mapped, mapped_empty, mapped_insert, mapped_remove}
@@ -211,9 +214,10 @@ places_clause lits m c k p are start count = places_lemma lits m (alone c) k p a
 
 -- ---- all that a ledger keeps
 
-pub Recorded-stays : (lits more : List ℤ) (m : Places) (lists : Option Lists) (last : ℕ) → AreRecorded lits m lists last → AreRecorded (lits ++ more) m lists last
-Recorded-stays lits more m lists last are = record {
+pub Recorded-stays : (lits more : List ℤ) (m : Places) (lists : Option Lists) (uses : FirstUses) (last : ℕ) → AreRecorded lits m lists uses last → AreRecorded (lits ++ more) m lists uses last
+Recorded-stays lits more m lists uses last are = record {
   places_are = places_stay lits more m are.places_are;
+  used = subst (λ (p : ClauseMap). AreFirstUses p last uses) (sym (placed_stays lits more m are.places_are)) are.used;
   indexed = subst (λ (p : ClauseMap). AreIndexed lists p last) (sym (placed_stays lits more m are.places_are)) are.indexed;
 }
 
@@ -231,9 +235,10 @@ formula_key f q there = by (nat_le q (length f.clauses)) refl
     by false e = absurd (false≢true (ap is_some (sym (past_the_end f q (beyond q (length f.clauses) e))) ∙ there))
 
 -- at first there are the clauses of the formula
-pub Recorded-opening : (lits : List ℤ) (m : Places) (f : FormulaValue) (last : ℕ) → ArePlaces lits m → placed lits m ≡ formula_map f → last ≡ length f.clauses → AreRecorded lits m None last
-Recorded-opening lits m f last are is n = record {
+pub Recorded-opening : (lits : List ℤ) (m : Places) (f : FormulaValue) (uses : FirstUses) (last : ℕ) → ArePlaces lits m → placed lits m ≡ formula_map f → last ≡ length f.clauses → IsFormula f → uses.top ≡ f.variables → uses.list.items ≡ [] → AreRecorded lits m None uses last
+Recorded-opening lits m f uses last are is n formula top none = record {
   places_are = are;
+  used = subst (λ (p : ClauseMap). AreFirstUses p last uses) (sym is) (uses_opening f last uses formula top none);
   indexed = record {
     given = λ q there. let le : q ≤ length f.clauses = formula_key f q (ap (λ (p : ClauseMap). fin.contains_key p q) (sym is) ∙ there) in omega (arith, le, n);
     listed = tt;
@@ -241,8 +246,9 @@ Recorded-opening lits m f last are is n = record {
 }
 
 -- a lemma is put behind the others, and has its place and its number in the lists
-pub Recorded-add : (lits : List ℤ) (m : Places) (before after : Option Lists) (lemma : LemmaValue) (k last next : ℕ) (p : Place) → AreRecorded lits m before last → p.start ≡ length lits + pivots lemma.pivot → p.count ≡ length (literals lemma.clause) → AreListed after (fin.insert (placed lits m) k lemma.clause) (k + 1) → last ≤ next → k ≤ next → AreRecorded (lits ++ lemma_lits lemma) (fin.insert m k p) after next
-Recorded-add lits m before after lemma k last next p are start count listed le ke = record {
+pub Recorded-add : (lits : List ℤ) (m : Places) (before after : Option Lists) (old uses : FirstUses) (lemma : LemmaValue) (k last next : ℕ) (p : Place) → AreRecorded lits m before old last → AreFirstUses (fin.insert (placed lits m) k lemma.clause) next uses → p.start ≡ length lits + pivots lemma.pivot → p.count ≡ length (literals lemma.clause) → AreListed after (fin.insert (placed lits m) k lemma.clause) (k + 1) → last ≤ next → k ≤ next → AreRecorded (lits ++ lemma_lits lemma) (fin.insert m k p) after uses next
+Recorded-add lits m before after old uses lemma k last next p are used start count listed le ke = record {
   places_are = places_lemma lits m lemma k p are.places_are start count;
+  used = subst (λ (q : ClauseMap). AreFirstUses q next uses) (sym (placed_lemma lits m lemma k p are.places_are start count)) used;
   indexed = Indexed-insert before after (placed lits m) _ last next k lemma.clause are.indexed (placed_lemma lits m lemma k p are.places_are start count) listed le ke;
 }

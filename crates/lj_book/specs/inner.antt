@@ -6,6 +6,7 @@ pub mod Codes
 pub mod Tables
 pub mod Holders
 pub mod JointLines
+pub mod FirstUses
 pub mod Places
 pub mod Ready
 pub mod Kept

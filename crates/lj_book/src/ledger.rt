@@ -10,9 +10,11 @@ ghost use Rattle.lj_book.specs.declared.entry.Call.TheVariants as calls;
 ghost use Rattle.lj_book.specs.Lookup.{numbers_holding, least_number};
 ghost use Rattle.lj_book.specs.inner.Records.{binding_call, entry_of};
 ghost use Rattle.lj_book.specs.inner.Occurrences.{AreOccurrences, AreListed};
+ghost use Rattle.lj_book.specs.inner.FirstUses.{IsSince};
 ghost use Rattle.lj_book.specs.inner.Places.{pivots};
 
 use crate::entry::Entry;
+use crate::first_uses::FirstUses;
 use crate::history::History;
 use crate::lent_addition::LentAddition;
 use crate::lent_clauses::LentClauses;
@@ -25,6 +27,9 @@ use lj_text::Numbers;
 use std::alloc::Global;
 use std::marker::Model;
 
+/// So many numbers are looked through for clauses that hold a literal, without its list.
+const FEW: u64 = 64;
+
 /// A history, and the clauses that live, whose literals stand in it once: those of the formula before all entries, those
 /// of an addition with its entry.
 #[derive(Drop)]
@@ -36,6 +41,7 @@ pub(crate) struct Ledger {
     lists: Option<OccurrenceLists>,
     /// The literal whose candidates were looked up, where its list wasn't tended since.
     asked: Option<Lit>,
+    uses: FirstUses,
     /// The greatest number that a clause was ever given.
     last: u64,
 }
@@ -50,7 +56,7 @@ impl Model for Ledger {
 
     ghost view = { λ l. record { history = l.history; live = placed l.history.lits l.places } };
 
-    ghost invariant = { λ l. AreRecorded l.history.lits l.places l.lists l.last };
+    ghost invariant = { λ l. AreRecorded l.history.lits l.places l.lists l.uses l.last };
 }
 
 impl Ledger {
@@ -68,6 +74,7 @@ impl Ledger {
             places,
             lists: None,
             asked: None,
+            uses: FirstUses::new(alloc, formula.variables()),
             last: formula.len() as u64,
         })
     }
@@ -131,13 +138,28 @@ impl Ledger {
         }
     }
 
-    /// Keeps in mind that the candidates of the lemma's pivot were looked up.
+    /// Keeps in mind that the candidates of the lemma's pivot were looked up, unless they are found without its list.
     pub(crate) fn keep_in_mind(&mut self, lemma: &Lemma)
         ensures { self.new ≡ self.old }
     {
         if let Some(pivot) = lemma.pivot() {
-            self.asked = Some(pivot.negated());
+            let lit = pivot.negated();
+            if self.recent(lit).is_none() {
+                self.asked = Some(lit);
+            }
         }
+    }
+
+    /// A number from which on alone clauses hold the literal, where so few numbers follow it that they are soon looked through.
+    fn recent(&self, lit: Lit) -> Option<u64>
+        ensures { IfSome result (IsSince self.now.live lit) }
+    {
+        let end = self.places.end();
+        let from = self.uses.since(lit, end)?;
+        if end.saturating_sub(from) > FEW {
+            return None;
+        }
+        Some(from)
     }
 
     /// Makes the lists as [`Ledger::make_lists`] does, where candidates were looked up since it was last called, and sweeps the one
@@ -170,17 +192,28 @@ impl Ledger {
         sweep_one(&mut self.lists, place, &clauses);
     }
 
-    /// The numbers of the live clauses that hold the literal, rising. Takes time linear in the numbers of its list, dead ones
-    /// among them, where the lists are made, and otherwise in all clauses.
+    /// The numbers of the live clauses that hold the literal, rising. Where its variable is one of the last that came in, takes
+    /// time linear in the numbers since then, at most 64; else in the numbers of its list, dead ones among them, where the lists are
+    /// made, and otherwise in all clauses.
     ///
     /// # Errors
     /// [`NoMemory`] where a growth was refused.
     pub(crate) fn numbers_holding(&self, alloc: Global, lit: Lit) -> Result<Vec<u64>, NoMemory>
         ensures { IfOk result (λ numbers. numbers.items ≡ numbers_holding self.now.live lit) }
     {
+        match self.recent(lit) {
+            Some(from) => self.lent().numbers_holding(alloc, lit, from),
+            None => self.listed_holding(alloc, lit),
+        }
+    }
+
+    /// The same, where the literal's variable may have come in at any time.
+    fn listed_holding(&self, alloc: Global, lit: Lit) -> Result<Vec<u64>, NoMemory>
+        ensures { IfOk result (λ numbers. numbers.items ≡ numbers_holding self.now.live lit) }
+    {
         match &self.lists {
             Some(lists) => lists.living(alloc, lit.place() as u64, &self.lent()),
-            None => self.lent().numbers_holding(alloc, lit),
+            None => self.lent().numbers_holding(alloc, lit, 0),
         }
     }
 
@@ -225,6 +258,8 @@ impl Ledger {
             return Err(refused);
         }
         self.history.push_addition(seat, own, step);
+        self.uses
+            .add_clause(step.number, self.last, &step.clause);
         if step.number > self.last {
             self.last = step.number;
         }

@@ -2,6 +2,7 @@
 ghost use Rattle.std.specs.Prelude.{◌≡◌, IfOk};
 ghost use Rattle.std.specs.FinMap as fin;
 ghost use Rattle.lj_book.specs.Lookup.{numbers_holding, least_number};
+ghost use Rattle.lj_book.specs.inner.FirstUses.{IsSince};
 ghost use Rattle.lj_book.specs.inner.Places.{placed, ArePlaces};
 
 use crate::place::clause_at;
@@ -60,17 +61,23 @@ impl<'a> LentClauses<'a> {
         self.places.contains_key(number)
     }
 
-    /// The numbers whose clause holds the literal, rising. Takes time linear in the slots, and O(log n) time for each
-    /// clause.
+    /// The numbers whose clause holds the literal, rising, where none does before a number. Takes time linear in the slots from
+    /// that on, and O(log n) time for each clause.
     ///
     /// # Errors
     /// [`NoMemory`] where a growth was refused.
-    pub(crate) fn numbers_holding(&self, alloc: Global, lit: Lit) -> Result<Vec<u64>, NoMemory>
+    pub(crate) fn numbers_holding(
+        &self,
+        alloc: Global,
+        lit: Lit,
+        from: u64,
+    ) -> Result<Vec<u64>, NoMemory>
+        requires { IsSince self.now lit from }
         ensures { IfOk result (λ numbers. numbers.items ≡ numbers_holding self.now lit) }
     {
         let mut numbers = Vec::new(alloc);
         let end = self.places.end();
-        for number in 0..end {
+        for number in from..end {
             if let Some(clause) = self.get(number) {
                 if clause.holds(lit) {
                     numbers.push(number)?;

@@ -13,6 +13,7 @@ mod entry;
 mod entry_log;
 mod event;
 mod far_numbers;
+mod first_uses;
 mod history;
 mod joint_line;
 mod ledger;

@@ -8,6 +8,8 @@ use Rattle.lj_clause.specs.LiteralSet.{LiteralSet, from_literals}
 use Rattle.lj_clause.specs.ClauseMap.{ClauseMap}
 use Rattle.lj_book.specs.declared.place.Place.{Place}
 use Rattle.lj_book.specs.inner.Records.{some_lits, Entries}
+use Rattle.lj_book.specs.declared.first_uses.FirstUses.{FirstUses}
+use Rattle.lj_book.specs.inner.FirstUses.{AreFirstUses}
 use Rattle.lj_book.specs.inner.Occurrences.{Lists, AreIndexed}
 
 -- places under numbers
@@ -45,7 +47,9 @@ pub record Recorded : Type 0 where
   pub history : Entries
   pub live : ClauseMap
 
--- The literals of each clause stand where its place says, and the lists, if they are made, are those of the clauses.
-pub record AreRecorded (lits : List ℤ) (places : Places) (lists : Option Lists) (last : ℕ) : Type 0 where
+-- The literals of each clause stand where its place says; the lists, if they are made, are those of the clauses, and so are the
+-- first uses.
+pub record AreRecorded (lits : List ℤ) (places : Places) (lists : Option Lists) (uses : FirstUses) (last : ℕ) : Type 0 where
   pub places_are : ArePlaces lits places
   pub indexed : AreIndexed lists (placed lits places) last
+  pub used : AreFirstUses (placed lits places) last uses

@@ -6,8 +6,8 @@ use Rattle.lj_book.proofs.ledger.Ledger.push_binding.Goals as goal
 
 pub invariant_of-self : goal.invariant_of-self
 invariant_of-self c =
-    subst (λ (ls : List ℤ). AreRecorded ls c.self.inside.places c.self.inside.lists c.self.inside.last) (sym c.push_binding.ensures.lits)
-    (Recorded-stays c.self.inside.history.lits _ c.self.inside.places c.self.inside.lists c.self.inside.last c.self.invariant)
+    subst (λ (ls : List ℤ). AreRecorded ls c.self.inside.places c.self.inside.lists c.self.inside.uses c.self.inside.last) (sym c.push_binding.ensures.lits)
+    (Recorded-stays c.self.inside.history.lits _ c.self.inside.places c.self.inside.lists c.self.inside.uses c.self.inside.last c.self.invariant)
 
 pub returns-clause-lives : goal.returns-clause-lives
 returns-clause-lives c =

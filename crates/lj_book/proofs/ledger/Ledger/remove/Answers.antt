@@ -3,7 +3,9 @@ use Rattle.std.specs.FinMap as fin
 use Rattle.lj_clause.specs.ClauseMap.{ClauseMap}
 use Rattle.lj_book.specs.inner.Occurrences.{AreListed}
 use Rattle.lj_book.specs.inner.Places.{placed, ArePlaces}
-use Rattle.lj_book.proofs.OccurrenceLaws.{listed_without, Indexed-remove}
+use Rattle.lj_book.specs.inner.FirstUses.{AreFirstUses}
+use Rattle.lj_book.proofs.FirstUseLaws.{uses_fewer}
+use Rattle.lj_book.proofs.OccurrenceLaws.{removed_get, listed_without, Indexed-remove}
 use Rattle.lj_book.proofs.PlaceLaws.{placed_remove, places_remove}
 use Rattle.lj_book.proofs.ledger.Ledger.remove.Goals as goal
 
@@ -15,6 +17,7 @@ invariant_of-self c =
     let after : placed ls c.remove.new.self ≡ fin.remove (placed ls m) c.args.number = ap (placed ls) c.remove.ensures.removed ∙ placed_remove ls m c.args.number in
     record {
       places_are = subst (ArePlaces ls) (sym c.remove.ensures.removed) (places_remove ls m c.args.number c.self.invariant.places_are);
+      used = subst (λ (q : ClauseMap). AreFirstUses q last c.self.inside.uses) (sym after) (uses_fewer (placed ls m) (fin.remove (placed ls m) c.args.number) last c.self.inside.uses (λ n d e. removed_get (placed ls m) c.args.number n d e) c.self.invariant.used);
       indexed = Indexed-remove c.self.inside.lists c.self.inside.lists (placed ls m) (placed ls c.remove.new.self) last c.args.number c.self.invariant.indexed after
           (subst (λ (q : ClauseMap). AreListed c.self.inside.lists q (last + 1)) (sym after) (listed_without c.self.inside.lists (placed ls m) last c.args.number c.self.invariant.indexed));
     }

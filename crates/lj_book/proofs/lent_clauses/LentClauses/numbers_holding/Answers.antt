@@ -3,7 +3,7 @@ use Rattle.std.specs.Prelude.{[], ◌∷◌}
 use Rattle.std.proofs.lemmas.List.{append-nil, append_assoc}
 use Rattle.lj_clause.specs.LiteralSet.{LiteralSet, holds}
 use Rattle.lj_book.specs.inner.Slots.{AreBefore}
-use Rattle.lj_book.proofs.Bounds.{numbers_from, from-first, from-empty, from-taken, from-passed, from-end}
+use Rattle.lj_book.proofs.Bounds.{numbers_from, from-first, from-empty, from-taken, from-passed, from-end, from_skipped}
 use Rattle.lj_book.proofs.PlaceLaws.{before-placed}
 use Rattle.lj_book.proofs.lent_clauses.LentClauses.numbers_holding.Goals as goal
 use Rattle.lj_book.proofs.lent_clauses.LentClauses.numbers_holding.Goals.{in-Some+then-holds+in_ok-push, in-Some+else-holds, in_default}
@@ -14,7 +14,9 @@ loop-number-init c =
     let end = c.end-end.result in
     let test = λ (d : LiteralSet). holds d c.args.lit in
     let before = subst (AreBefore end) c.self.view_is (before-placed c.self.inside.lits.now c.self.inside.places.now end c.end-end.ensures) in
-    ap (λ ns. ns ++ numbers_from test p end 0) c.new-numbers.ensures.items ∙ from-first test p end before
+    ap (λ ns. ns ++ numbers_from test p end c.args.from) c.new-numbers.ensures.items
+    ∙ from_skipped test p end c.args.from c.args.from (omega arith) (λ n d at is. c.requires n d at is)
+    ∙ from-first test p end before
 
 pub loop-number-preserved : goal.loop-number-preserved
 loop-number-preserved c =

@@ -6,7 +6,7 @@ use Rattle.lj_book.specs.inner.Occurrences.{Lists, AreListed, list_at}
 use Rattle.lj_book.specs.inner.Places.{placed}
 use Rattle.lj_book.proofs.Slots.{if_ok_then}
 use Rattle.lj_book.proofs.OccurrenceLaws.{living_are}
-use Rattle.lj_book.proofs.ledger.Ledger.numbers_holding.Goals as goal
+use Rattle.lj_book.proofs.ledger.Ledger.listed_holding.Goals as goal
 
 pub returns-in-Some : goal.returns-in-Some
 returns-in-Some c =
