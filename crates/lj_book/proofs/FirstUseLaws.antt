@@ -59,7 +59,6 @@ one_more p k n c d is = by (eq_by_cmp nat_cmp n k) refl (sym (fin.get-insert nat
 
 -- ---- first uses
 
-
 -- of a map with fewer clauses
 pub since_fewer : (p q : ClauseMap) (l : ℤ) (from : ℕ) → ((n : ℕ) (c : LiteralSet) → fin.get q n ≡ Some c → fin.get p n ≡ Some c) → IsSince p l from → IsSince q l from
 since_fewer p q l from fewer is n c at has = is n c (fewer n c at) has

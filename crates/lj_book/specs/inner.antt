@@ -1,6 +1,8 @@
 -- What invariants, private functions and proofs say. No public contract names any of it.
 pub mod Words
+pub mod Rows
 pub mod Records
+pub mod Packing
 pub mod StepLines
 pub mod Codes
 pub mod Tables

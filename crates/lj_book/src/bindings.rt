@@ -21,7 +21,7 @@ const FIRST_SLOTS: u64 = 1024;
 /// elsewhere. So memory is linear in how many were bound, whatever numbers they are.
 ///
 /// A call takes constant time for an own number that has a slot, amortized, and O(log n) time for others.
-#[derive(Drop)]
+#[derive(Debug, Drop)]
 pub(crate) struct Bindings {
     short: ShortMap<ShortSlot>,
     long: FarNumbers,

@@ -13,7 +13,7 @@ use std::marker::Model;
 /// bytes at most where both its key and its number are below 4,294,967,296, and 39 at most elsewhere.
 ///
 /// A call takes O(log n) time, and constant time where there is no entry.
-#[derive(Drop)]
+#[derive(Debug, Drop)]
 pub(crate) struct FarNumbers {
     short: ShortTree,
     long: TreeMap<u64>,

@@ -258,8 +258,7 @@ impl Ledger {
             return Err(refused);
         }
         self.history.push_addition(seat, own, step);
-        self.uses
-            .add_clause(step.number, self.last, &step.clause);
+        self.uses.add_clause(step.number, self.last, &step.clause);
         if step.number > self.last {
             self.last = step.number;
         }

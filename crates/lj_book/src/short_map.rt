@@ -13,7 +13,7 @@ use std::marker::Model;
 /// A map from numbers that lie close together to those that a slot has room for, seen as a finite map: one slot for each
 /// number up to the greatest that was ever set. Each call takes constant time, but that setting a greater number makes the
 /// slots up to it.
-#[derive(Drop)]
+#[derive(Debug, Drop)]
 pub(crate) struct ShortMap<S: Slot> {
     slots: Vec<S>,
 }

@@ -12,7 +12,7 @@ pub(crate) const TREE_END: u64 = 4_294_967_296;
 
 /// A map from numbers of four bytes, however far apart, to such numbers, seen as a finite map: an entry of a tree for
 /// each, which takes 23 bytes at most. Each call takes O(log n) time.
-#[derive(Drop)]
+#[derive(Debug, Drop)]
 pub(crate) struct ShortTree {
     entries: BTreeMap<u32, u32>,
 }

@@ -32,7 +32,7 @@ pub(crate) trait Slot: Drop {
 }
 
 /// A slot of four bytes.
-#[derive(Drop)]
+#[derive(Debug, Drop)]
 pub(crate) struct ShortSlot {
     /// One more than the number, and 0 where there is none.
     code: u32,

@@ -9,7 +9,7 @@ use std::marker::Model;
 
 /// A map from numbers however far apart, seen as a finite map: one node of a tree for each. Each call takes O(log n)
 /// time.
-#[derive(Drop)]
+#[derive(Debug, Drop)]
 pub(crate) struct TreeMap<V> {
     entries: BTreeMap<u64, V>,
 }

@@ -74,12 +74,7 @@ impl Book {
             return Err(Refusal::Full);
         }
         let _ = has_pivot(&addition.lemma);
-        let step = LentAddition::new(
-            joint,
-            &addition.lemma,
-            &self.joints,
-            &self.joint_groups,
-        );
+        let step = LentAddition::new(joint, &addition.lemma, &self.joints, &self.joint_groups);
         let place = self.ledger.history().len();
         enter_addition(&mut self.ledger, &mut self.tables, seat, own, &step)?;
         self.refuted = refuted_at(self.refuted, place, &step.clause);

@@ -1,6 +1,6 @@
 //! Words that are compared with words.
-ghost use Rattle.std.specs.Prelude.{◌≡◌, ◌↔◌, IsTrue, IfSome, IfNone};
-ghost use Rattle.lj_book.specs.inner.Words.{number_in, list_in, many_in, hint_group_in};
+ghost use Rattle.std.specs.Prelude.{◌≡◌, IfSome, IfNone};
+ghost use Rattle.lj_book.specs.inner.Words.{number_in, list_in, many_in};
 
 use super::reading::number;
 
@@ -49,40 +49,4 @@ pub(crate) fn same_lists<'a, 'b>(
         return None;
     }
     same_numbers(count, rest, other_rest)
-}
-
-/// What stands behind the groups at the front of both words, if they are the same.
-fn same_group<'a, 'b>(words: &'a [u32], others: &'b [u32]) -> Option<(&'a [u32], &'b [u32])>
-    ensures same { IfSome result
-        (λ _. (hint_group_in words.now).0 ≡ (hint_group_in others.now).0) }
-    ensures rest { IfSome result (λ rests. rests.0.now ≡ (hint_group_in words.now).1) }
-    ensures other_rest { IfSome result (λ rests. rests.1.now ≡ (hint_group_in others.now).1) }
-    ensures other { IfNone result
-        ((hint_group_in words.now).0 ≡ (hint_group_in others.now).0 → ⊥) }
-{
-    let (candidate, rest) = number(words);
-    let (other, other_rest) = number(others);
-    if candidate != other {
-        return None;
-    }
-    same_lists(rest, other_rest)
-}
-
-/// Whether so many groups at the front of both words are the same.
-pub(crate) fn same_groups(count: u64, words: &[u32], others: &[u32]) -> bool
-    ensures { IsTrue result ↔ ((many_in hint_group_in count words.now).0
-        ≡ (many_in hint_group_in count others.now).0) }
-{
-    let mut rest = words;
-    let mut other_rest = others;
-    for _ in 0..count {
-        match same_group(rest, other_rest) {
-            Some((after, other_after)) => {
-                rest = after;
-                other_rest = other_after;
-            }
-            None => return false,
-        }
-    }
-    true
 }

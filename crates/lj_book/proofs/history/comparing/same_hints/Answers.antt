@@ -1,5 +1,5 @@
 use Rattle.std.proofs.lemmas.Bool.{false≢true}
-use Rattle.lj_book.specs.inner.Words.{number_in, many_in, hint_group_in}
+use Rattle.lj_book.specs.inner.Words.{number_in}
 use Rattle.lj_book.proofs.WordLaws.{same_count}
 use Rattle.lj_book.proofs.history.comparing.same_hints.Goals as goal
 
@@ -8,11 +8,3 @@ returns-then-sizes-other_sizes c = (
   λ no. absurd (false≢true no),
   λ same. absurd (c.if-sizes-other_sizes.true (same_count number_in c.args.sizes.hints c.args.other_sizes.hints c.args.words.now c.args.others.now same.0)),
 )
-
-pub returns-then-sizes-other_sizes-2 : goal.returns-then-sizes-other_sizes-2
-returns-then-sizes-other_sizes-2 c =
-    let rest = (many_in number_in c.args.sizes.hints c.args.words.now).1 in
-    let other_rest = (many_in number_in c.args.other_sizes.hints c.args.others.now).1 in (
-      λ no. absurd (false≢true no),
-      λ same. absurd (c.if-sizes-other_sizes-2.true (same_count hint_group_in c.args.sizes.groups c.args.other_sizes.groups rest other_rest same.1)),
-    )

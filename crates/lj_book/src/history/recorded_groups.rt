@@ -1,0 +1,279 @@
+//! The groups of an addition as they are read from its words and from the rows of its history.
+ghost use Rattle.std.specs.Prelude.{◌≡◌, ◌↔◌, ◌<◌, ◌-◌, ◌∷◌, [], IfOk, IfSome, IfNone, IsTrue, true};
+ghost use Rattle.lj_clause.specs.Rat.{HintGroup};
+ghost use Rattle.lj_book.specs.inner.Words.{number_in, list_in, many_in, hint_group_in};
+ghost use Rattle.lj_book.specs.inner.Rows.{is_there, row_in, row_named, merged, unpacked, begins_with};
+
+use super::rows::{Member, Rows};
+use crate::words::{are_left, behind_list, number, numbers, same_numbers};
+use lj_clause::NoMemory;
+use lj_text::{Groups, LentGroup};
+use std::alloc::Global;
+use std::marker::Model;
+
+/// A group whose hints, so many, stand at the front of words.
+#[derive(Drop)]
+pub(crate) struct WordGroup<'a> {
+    pub candidate: u64,
+    pub count: u64,
+    pub words: &'a [u32],
+}
+
+impl<'a> Model for WordGroup<'a> {
+    ghost use Rattle.lj_clause.specs.Rat.{HintGroup};
+    ghost use Rattle.lj_clause.specs.inner.Codes.{hint_group_code};
+    ghost use Rattle.lj_book.specs.inner.Words.{number_in, many_in};
+
+    ghost Value = { HintGroup };
+
+    ghost coded = { hint_group_code };
+
+    ghost view = { λ g. record { candidate = g.candidate; hints = (many_in number_in g.count g.words.now).0 } };
+}
+
+/// The groups that are still to come: a group for each member of a row that is there in its epoch, without hints where its group isn't
+/// the next at the front of the words, and then those that are left there.
+#[derive(Drop)]
+pub(crate) struct RecordedGroups<'a> {
+    members: &'a [Member],
+    epoch: u64,
+    /// How many groups stand at the front of the words.
+    count: u64,
+    words: &'a [u32],
+}
+
+impl<'a> Model for RecordedGroups<'a> {
+    ghost use Rattle.std.specs.Prelude.{List};
+    ghost use Rattle.std.specs.Coded.{coded_list};
+    ghost use Rattle.lj_clause.specs.Rat.{HintGroup};
+    ghost use Rattle.lj_clause.specs.inner.Codes.{hint_group_code};
+    ghost use Rattle.lj_book.specs.inner.Words.{many_in, hint_group_in};
+    ghost use Rattle.lj_book.specs.inner.Rows.{row_in, merged};
+
+    ghost Value = { List HintGroup };
+
+    ghost coded = { coded_list hint_group_code };
+
+    ghost view = { λ g. merged (row_in g.members.now g.epoch) (many_in hint_group_in g.count g.words.now).0 };
+}
+
+impl<'a> RecordedGroups<'a> {
+    /// Those of a row and of so many groups at the front of words.
+    pub(super) fn new(
+        members: &'a [Member],
+        epoch: u64,
+        count: u64,
+        words: &'a [u32],
+    ) -> RecordedGroups<'a>
+        ensures { result
+            ≡ merged (row_in members.now epoch) (many_in hint_group_in count words.now).0 }
+    {
+        RecordedGroups {
+            members,
+            epoch,
+            count,
+            words,
+        }
+    }
+}
+
+impl<'a> Iterator for RecordedGroups<'a> {
+    type Item = WordGroup<'a>;
+
+    ghost use Rattle.std.specs.Iterator.{YieldsFirst, item_count};
+
+    ghost next_gives = { YieldsFirst (λ groups. groups) };
+
+    ghost remaining = { item_count (λ groups. groups) };
+
+    fn next(&mut self) -> Option<WordGroup<'a>> {
+        if let Some((number, rest)) = first_there(self.members, self.epoch) {
+            self.members = rest;
+            if !is_front(number, self.count, self.words) {
+                return Some(without_hints(number));
+            }
+        } else {
+            self.members = &[];
+        }
+        let (group, rest) = split_front(self.count, self.words)?;
+        self.words = rest;
+        self.count -= 1;
+        Some(group)
+    }
+}
+
+/// The groups of an addition, of which so many stand at the front of words.
+pub(super) fn recorded_groups<'a>(
+    rows: &'a Rows,
+    count: u64,
+    words: &'a [u32],
+) -> RecordedGroups<'a>
+    ensures { result ≡ unpacked rows.now.families.items (many_in hint_group_in count words.now).0 }
+{
+    if let Some((header, rest)) = split_front(count, words) {
+        if header.candidate == 0 {
+            let (members, epoch) = named_row(rows, header.count, header.words);
+            return RecordedGroups::new(members, epoch, count - 1, rest);
+        }
+    }
+    RecordedGroups::new(&[], 0, count, words)
+}
+
+/// The row that so many numbers at the front of words name: its members and those that are gone, and its epoch.
+fn named_row<'a>(rows: &'a Rows, count: u64, words: &[u32]) -> (&'a [Member], u64)
+    ensures { row_in result.0.now result.1
+        ≡ row_named rows.now.families.items (many_in number_in count words.now).0 }
+{
+    if count < 3 {
+        return (&[], 0);
+    }
+    let (family, rest) = number(words);
+    let (members, rest) = number(rest);
+    let (epoch, _) = number(rest);
+    (rows.members(family, members), epoch)
+}
+
+/// The group of a candidate that has no hints.
+fn without_hints<'a>(candidate: u64) -> WordGroup<'a>
+    ensures { result ≡ record { candidate = candidate; hints = [] } }
+{
+    WordGroup {
+        candidate,
+        count: 0,
+        words: &[],
+    }
+}
+
+/// Whether the first of so many groups at the front of the words is one of this candidate.
+fn is_front(candidate: u64, count: u64, words: &[u32]) -> bool
+    ensures { result ≡ begins_with candidate (many_in hint_group_in count words.now).0 }
+{
+    if count == 0 {
+        return false;
+    }
+    let (front, _) = number(words);
+    front == candidate
+}
+
+/// The first of so many groups at the front of the words, and what stands behind it.
+fn split_front<'a>(count: u64, words: &'a [u32]) -> Option<(WordGroup<'a>, &'a [u32])>
+    ensures none { IfNone result ((many_in hint_group_in count words.now).0 ≡ []) }
+    ensures some { IfSome result (λ found. 0 < count) }
+    ensures front { IfSome result (λ found. (many_in hint_group_in count words.now).0
+        ≡ found.0 ∷ (many_in hint_group_in (count - 1) found.1.now).0) }
+{
+    if count == 0 {
+        return None;
+    }
+    Some(front_group(words))
+}
+
+/// The group at the front of the words, and what stands behind it.
+fn front_group(words: &[u32]) -> (WordGroup<'_>, &[u32])
+    ensures group { result.0 ≡ (hint_group_in words.now).0 }
+    ensures rest { result.1.now ≡ (hint_group_in words.now).1 }
+{
+    let (candidate, list) = number(words);
+    let (count, hints) = number(list);
+    let group = WordGroup {
+        candidate,
+        count,
+        words: hints,
+    };
+    (group, behind_list(list))
+}
+
+/// The number of the first of the members that is there in an epoch, and those behind it.
+fn first_there<'a>(members: &'a [Member], epoch: u64) -> Option<(u64, &'a [Member])>
+    ensures none { IfNone result (row_in members.now epoch ≡ []) }
+    ensures some { IfSome result
+        (λ found. row_in members.now epoch ≡ found.0 ∷ row_in found.1.now epoch) }
+{
+    let mut rest = members;
+    while let [member, others @ ..] = rest {
+        rest = others;
+        if is_there(member, epoch) {
+            return Some((u64::from(member.number), others));
+        }
+    }
+    None
+}
+
+/// Whether a member is there in an epoch.
+fn is_there(member: &Member, epoch: u64) -> bool
+    ensures { result ≡ is_there epoch member.now }
+{
+    member.gone == 0 || epoch < u64::from(member.gone)
+}
+
+/// These groups in a list of their own.
+///
+/// # Errors
+/// [`NoMemory`] where a growth was refused.
+pub(super) fn to_groups(alloc: Global, recorded: RecordedGroups<'_>) -> Result<Groups, NoMemory>
+    ensures { IfOk result (λ groups. groups ≡ recorded.entry) }
+{
+    let mut groups = Groups::new(alloc);
+    for group in recorded {
+        let (hints, _) = numbers(alloc, group.count, group.words)?;
+        groups.push(group.candidate, hints.iter())?;
+    }
+    Ok(groups)
+}
+
+/// Whether these groups are those of a list.
+pub(super) fn are_groups(recorded: RecordedGroups<'_>, groups: &Groups) -> bool
+    ensures { IsTrue result ↔ (recorded.entry ≡ groups.now) }
+{
+    let mut rest = recorded;
+    for wanted in groups.iter() {
+        match rest.next() {
+            Some(group) => {
+                if !is_group(&group, wanted) {
+                    return false;
+                }
+            }
+            None => return false,
+        }
+    }
+    rest.next().is_none()
+}
+
+/// Whether the group is this one.
+fn is_group(group: &WordGroup<'_>, wanted: LentGroup<'_>) -> bool
+    ensures { IsTrue result ↔ (group.now ≡ wanted.entry) }
+{
+    group.candidate == wanted.candidate
+        && are_left(group.words, group.count, wanted.hints).is_some()
+}
+
+/// Whether these groups are the same as others.
+pub(super) fn same_groups(recorded: RecordedGroups<'_>, others: RecordedGroups<'_>) -> bool
+    ensures { IsTrue result ↔ (recorded.entry ≡ others.entry) }
+{
+    let mut rest = others;
+    for group in recorded {
+        match rest.next() {
+            Some(other) => {
+                if !is_same(&group, &other) {
+                    return false;
+                }
+            }
+            None => return false,
+        }
+    }
+    rest.next().is_none()
+}
+
+/// Whether the two groups are the same.
+fn is_same(group: &WordGroup<'_>, other: &WordGroup<'_>) -> bool
+    ensures { IsTrue result ↔ (group.now ≡ other.now) }
+{
+    if group.candidate != other.candidate {
+        return false;
+    }
+    if group.count != other.count {
+        return false;
+    }
+    same_numbers(group.count, group.words, other.words).is_some()
+}
