@@ -1,6 +1,6 @@
 -- The steps of reading a formula.
-use Rattle.std.proofs.Common.{◌≡◌, [], Result, Ok, Err, sym, subst}
-use Rattle.std.specs.Prelude.{IfOk, IfErr}
+use Rattle.std.proofs.Common.{◌≡◌, ℕ, List, [], Result, Ok, Err, sym, subst}
+use Rattle.std.specs.Prelude.{IfOk, IfErr, IsErrAnd}
 use Rattle.lj_clause.specs.ClauseMap.{FormulaValue}
 use Rattle.lj_text.specs.Cnf.{Spells, HasFault}
 use Rattle.lj_text.specs.CnfRead.{CnfRead}
@@ -9,6 +9,8 @@ use Rattle.lj_run.specs.declared.outcome.RunFault.{RunFault}
 use Rattle.lj_run.specs.declared.outcome.RunFault.TheVariants.{Formula, FormulaRead, NoMemory, Unconfirmed}
 use Rattle.lj_run.specs.inner.FormulaReading.{FormulaReadOn, IsFaultAtEnd}
 use Rattle.lj_run.specs.FormulaReading.{IsFormulaFault, GaveAll, GaveFormula}
+use Rattle.lj_run.specs.Joint.{IsJointFault}
+use Rattle.lj_clause.specs.declared.memory.NoMemory.{NoMemory as Want}
 use Rattle.lj_run.proofs.GivenLemmas.{given_none, given_on}
 use Rattle.lj_clause.specs.declared.lit.TheConstants.{MAX_VARIABLE}
 
@@ -37,3 +39,14 @@ fault_told (Err Unconfirmed) reader start after max all told = absurd told
 -- the bytes that were read until the source ended
 pub all_given : (reader : CnfRead) (start after : SourceState) → HasGiven start after reader.fed → HasEnded after → after.failures ≡ 0 → GaveAll start after reader.fed
 all_given reader start after gave ended unfailed = record { gave = gave; ended = ended; unfailed = unfailed }
+
+-- want of memory behind the formula's source, which gave all, is passed up as it is
+pub want_told : {X : Type 0} (r : Result X RunFault) (start after : SourceState) (text : List ℕ) (e : Want) → GaveAll start after text → IsErrAnd r (λ fault. fault ≡ NoMemory e)
+    → IfErr r (IsFormulaFault start after)
+want_told (Ok x) start after text e all is = tt
+want_told (Err fault) start after text e all is = subst (IsFormulaFault start after) (sym is) all.unfailed
+
+pub joint_want_told : {X S : Type 0} (r : Result X RunFault) (start after : SourceState) (seen : S → SourceState) (max : ℕ) (streams : List S) (text : List ℕ) (e : Want)
+    → GaveAll start after text → IsErrAnd r (λ fault. fault ≡ NoMemory e) → IfErr r (IsJointFault start after seen max streams)
+joint_want_told (Ok x) start after seen max streams text e all is = tt
+joint_want_told (Err fault) start after seen max streams text e all is = subst (IsJointFault start after seen max streams) (sym is) all.unfailed

@@ -2,6 +2,7 @@ use Rattle.std.proofs.Common.{rules, ◌≡◌, length, subst, ap, sym, ◌∙�
 use Rattle.std.specs.Prelude.{IfSome}
 use Rattle.std.specs.List.{list_any}
 use Rattle.lj_clause.specs.ClauseMap.{FormulaValue}
+use Rattle.lj_clause.specs.Memory.{no_memory}
 use Rattle.lj_text.specs.Streams.{source_state}
 use Rattle.lj_text.specs.Steps.{adds_empty}
 use Rattle.lj_book.specs.State.{State, live, opening, steps_of}
@@ -11,6 +12,7 @@ use Rattle.lj_run.specs.declared.outcome.Outcome.{Outcome}
 use Rattle.lj_run.specs.declared.outcome.Way.TheVariants.{InTurn}
 use Rattle.lj_run.proofs.InTurnLemmas.{outcome_is, refutes_any}
 use Rattle.lj_run.proofs.WayLemmas.{answer_by}
+use Rattle.lj_run.proofs.FormulaLemmas.{want_told}
 use Rattle.lj_run.proofs.in_turn.run_in_turn.Goals as goal
 
 pub prove-proof-requires-clause-verified : goal.prove-proof-requires-clause-verified
@@ -34,3 +36,11 @@ returns-clause-outcome g c =
     answer_by InTurn _ _ seen (sink_state g.W.Sink.taken g.W.Sink.failures) f max c.args.options.now.trim _ _ _ outcome c.run_all.new.book c.in_ok-formula.ensures.formula
     (subst (λ all. IsOutcome seen f max all outcome) c.in_ok-streams.ensures is) c.history_is_legal.ensures same c.into_steps-steps.ensures
     (c.prove-proof.ensures f c.len-clauses.ensures.len formula)
+
+pub returns-in_err-reports-clause-fault : goal.returns-in_err-reports-clause-fault
+returns-in_err-reports-clause-fault g c =
+    want_told c.from_residual-in_err-reports.result _ _ _ no_memory c.in_ok-formula.ensures.formula.all c.from_residual-in_err-reports.ensures.1
+
+pub returns-in_err-verified-clause-fault : goal.returns-in_err-verified-clause-fault
+returns-in_err-verified-clause-fault g c =
+    want_told c.from_residual-in_err-verified.result _ _ _ c.in_err-verified.field-0.0 c.in_ok-formula.ensures.formula.all c.from_residual-in_err-verified.ensures.1

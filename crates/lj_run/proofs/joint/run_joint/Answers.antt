@@ -8,6 +8,7 @@ use Rattle.lj_run.specs.declared.outcome.Outcome.{Outcome}
 use Rattle.lj_run.specs.declared.outcome.Way.TheVariants.{OnThreads}
 use Rattle.lj_run.proofs.JointRunLemmas.{joint_outcome_is}
 use Rattle.lj_run.proofs.WayLemmas.{answer_by}
+use Rattle.lj_run.proofs.FormulaLemmas.{joint_want_told}
 use Rattle.lj_run.proofs.joint.run_joint.Goals as goal
 
 pub returns-clause-outcome : goal.returns-clause-outcome
@@ -24,3 +25,7 @@ returns-clause-outcome g c =
     answer_by OnThreads _ _ seen sink f max trims streams _ _ outcome c.in_ok-reports.book c.in_ok-formula.ensures.formula is
     c.in_ok-reports.ensures.ran.legal c.in_ok-reports.ensures.ran.opened.formula_is c.into_steps-steps.ensures
     (c.prove-proof.ensures f c.len-clauses.ensures.len formula)
+
+pub returns-in_err-verified-clause-fault : goal.returns-in_err-verified-clause-fault
+returns-in_err-verified-clause-fault g c =
+    joint_want_told c.from_residual-in_err-verified.result _ _ _ _ _ _ c.in_err-verified.field-0.0 c.in_ok-formula.ensures.formula.all c.from_residual-in_err-verified.ensures.1
