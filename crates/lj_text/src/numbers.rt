@@ -12,6 +12,9 @@ use std::mem::replace;
 /// The greatest number that takes four bytes.
 const MAX_SHORT: u64 = u32::MAX as u64;
 
+/// The greatest count of numbers whose room is worth keeping for those of a later line.
+const MANY: usize = 65_536;
+
 /// A list of clause numbers. Two are equal where their contents are.
 ///
 /// Each number takes four bytes where all of them are below 2^32, and eight otherwise. Up to six of four bytes may stand
@@ -145,6 +148,18 @@ impl Numbers {
             Form::Long(numbers) => {
                 self.form = Form::Short(Vec::new(*numbers.allocator()));
             }
+        }
+    }
+
+    /// Lets go of the numbers, and of their room where they are many.
+    pub(crate) fn let_go(&mut self)
+        ensures { self.new ≡ [] }
+    {
+        match &mut self.form {
+            Form::Short(numbers) if numbers.len() > MANY => {
+                self.form = Form::Short(Vec::new(*numbers.allocator()));
+            }
+            _ => self.clear(),
         }
     }
 

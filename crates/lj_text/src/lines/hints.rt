@@ -58,7 +58,10 @@ fn read_groups(
         let next = read_hints(room, ended, rest)?;
         groups.push(candidate, room.iter())?;
         match next {
-            None => return Ok(()),
+            None => {
+                room.let_go();
+                return Ok(());
+            }
             Some((number, after)) => {
                 candidate = number;
                 rest = after;
