@@ -1,8 +1,10 @@
 -- First uses of variables, as clauses come and go.
-use Rattle.std.proofs.Common.{◌≡◌, ap, refl, sym, ◌∙◌, subst, ℕ, zero, suc, ◌+◌, ◌<◌, ◌≤◌, arith, get_or, length}
-use Rattle.std.proofs.lemmas.Bool.{false≢true, or_cases, eqb-true}
+use Rattle.std.proofs.Common.{◌≡◌, ap, refl, sym, ◌∙◌, subst, ℕ, zero, suc, ◌+◌, ◌<◌, ◌≤◌, ◌*◌, ◌-◌, arith, get_or, length}
+use Rattle.std.proofs.lemmas.Bool.{false≢true, or_cases}
 use Rattle.std.proofs.lemmas.Bool.Decides.{nat_tests}
-use Rattle.std.specs.Prelude.{ℤ, Bool, true, false, cond, List, [], ◌∷◌, ◌++◌, Option, None, Some, is_some, slice_get, nat_le, ◌⊎◌, ◌&&◌}
+use Rattle.std.specs.declared.cmp.Ordering.TheVariants.{Less}
+use Rattle.std.specs.List.Sorted.{IsStrictlySortedBy}
+use Rattle.std.specs.Prelude.{ℤ, pos, negsuc, Bool, true, false, cond, List, [], ◌∷◌, ◌++◌, None, Some, is_some, slice_get, nat_le, ◌⊎◌, ◌&&◌}
 use Rattle.std.proofs.Common.{inl, inr}
 use Rattle.std.specs.List.{AllByRecursion, list_any, list_all}
 use Rattle.std.specs.Ordering.{nat_cmp, eq_by_cmp}
@@ -36,13 +38,41 @@ up_to_one v (m ∷ ls) l all is = by (up_to_one v ls l all.1) (or_cases (eq_by_c
 pub up_to_all : (v : ℕ) (c : LiteralSet) (ls : List ℤ) → ls ≡ literals c → AreUpTo v ls → (l : ℤ) → holds c l ≡ true → variable_of l ≤ v
 up_to_all v c ls are all l is = up_to_one v ls l all (ap (list_any (eq_by_cmp lit_cmp l)) are ∙ sym (holds-literals c l) ∙ is)
 
+below : (x y : ℕ) → nat_cmp x y ≡ Less → x < y
+below x y e = grind arith
+
+-- an earlier literal has no greater variable
+earlier_up_to : (m k : ℤ) → lit_cmp m k ≡ Less → variable_of m ≤ variable_of k
+earlier_up_to (pos m) (pos k) e = omega (arith, below (2 * m) (2 * k) e)
+earlier_up_to (pos m) (negsuc k) e = omega (arith, below (2 * m) (2 * k + 3) e)
+earlier_up_to (negsuc m) (pos k) e = omega (arith, below (2 * m + 3) (2 * k) e)
+earlier_up_to (negsuc m) (negsuc k) e = omega (arith, below (2 * m + 3) (2 * k + 3) e)
+
+less_one : (n : ℕ) → suc n - 1 ≡ n
+less_one n = omega arith
+
+-- literals in order have variables up to that of the last
+pub up_to_last : (ls : List ℤ) (l : ℤ) → IsStrictlySortedBy lit_cmp ls → slice_get ls (length ls - 1) ≡ Some l → AreUpTo (variable_of l) ls
+unfolding IsStrictlySortedBy
+up_to_last [] l rise e = tt
+up_to_last (m ∷ []) l rise e = (let it : m ≡ l = cc in subst (λ (k : ℤ). variable_of m ≤ variable_of k) it (omega arith), tt)
+up_to_last (m ∷ k ∷ ls) l rise e =
+    let n : ℕ = length ls in
+    let at : slice_get (m ∷ k ∷ ls) (suc n) ≡ Some l = sym (ap (slice_get (m ∷ k ∷ ls)) (less_one (suc n))) ∙ e in
+    let rest = up_to_last (k ∷ ls) l rise.1 (ap (slice_get (k ∷ ls)) (less_one n) ∙ at) in
+    (omega (arith, earlier_up_to m k rise.0.0, rest.0), rest)
+
+some_last : (m : ℤ) (ls : List ℤ) → is_some (slice_get (m ∷ ls) (length ls)) ≡ true
+some_last m [] = refl
+some_last m (k ∷ ls) = some_last k ls
+
+pub up_to_none : (v : ℕ) (ls : List ℤ) → slice_get ls (length ls - 1) ≡ None → AreUpTo v ls
+up_to_none v [] e = tt
+up_to_none v (m ∷ ls) e = absurd (false≢true (sym (ap is_some e) ∙ ap (λ (i : ℕ). is_some (slice_get (m ∷ ls) i)) (less_one (length ls)) ∙ some_last m ls))
+
 pub up_to_more : (v w : ℕ) (ls : List ℤ) → v ≤ w → AreUpTo v ls → AreUpTo w ls
 up_to_more v w [] le all = tt
 up_to_more v w (l ∷ ls) le all = (omega (arith, all.0), up_to_more v w ls le all.1)
-
-pub up_to_next : (v w : ℕ) (ls : List ℤ) (l : ℤ) → v ≤ w → variable_of l ≤ w → AreUpTo v ls → AreUpTo w (ls ++ l ∷ [])
-up_to_next v w [] l le new all = (new, tt)
-up_to_next v w (m ∷ ls) l le new all = (omega (arith, all.0), up_to_next v w ls l le new all.1)
 
 -- ---- what a map with a clause more or less has
 

@@ -1,9 +1,8 @@
 -- Rows of candidates that stay as families change.
-use Rattle.std.proofs.Common.{◌≡◌, ap, refl, sym, ◌∙◌, subst, ℕ, zero, suc, ◌+◌, ◌<◌, ◌≤◌, arith, get_or, length, take, set}
+use Rattle.std.proofs.Common.{◌≡◌, ap, refl, sym, ◌∙◌, subst, ℕ, zero, suc, ◌<◌, ◌≤◌, arith, get_or, length, take, set}
 use Rattle.std.proofs.lemmas.Bool.Decides.{nat_tests}
-use Rattle.std.proofs.Common.{inl, inr}
-use Rattle.std.proofs.lemmas.Bool.{cases_order, false≢true}
-use Rattle.std.specs.Prelude.{ℤ, drop, map, option_map, Option, Some, None, is_some, slice_get, ◌⊎◌, Bool, true, false, List, [], ◌∷◌, ◌++◌, ◌==◌, ◌||◌, nat_lt, if◌then◌else◌, slice_set}
+use Rattle.std.proofs.lemmas.Bool.{false≢true}
+use Rattle.std.specs.Prelude.{ℤ, drop, map, option_map, Option, Some, is_some, slice_get, Bool, true, false, List, [], ◌∷◌, ◌++◌, ◌==◌, ◌||◌, nat_lt, if◌then◌else◌, slice_set}
 use Rattle.lj_book.specs.declared.history.rows.Member.{Member}
 use Rattle.lj_book.specs.declared.history.rows.Family.{Family}
 use Rattle.lj_clause.specs.Rat.{HintGroup}

@@ -43,7 +43,7 @@ impl FirstUses {
         }
     }
 
-    /// Takes up the clause of a number, where no clause has a number beyond `last`. Takes time linear in its literals, amortized.
+    /// Takes up the clause of a number, where no clause has a number beyond `last`. Takes amortized constant time.
     #[inline]
     pub(crate) fn add_clause(&mut self, number: u64, last: u64, clause: &ClauseView<'_>)
         ensures { (p : ClauseMap) (next : ℕ) → AreFirstUses p last self.old → last ≤ next
@@ -90,14 +90,13 @@ impl FirstUses {
     }
 }
 
-/// The greatest of a variable and those of a clause.
+/// The greatest of a variable and those of a clause, whose literals are in order by their variables. Takes constant time.
 fn greatest_variable(clause: &ClauseView<'_>, top: u32) -> u32
     ensures top { top ≤ result }
     ensures all { (l : ℤ) → holds clause.now l ≡ true → variable_of l ≤ result }
 {
-    let mut greatest = top;
-    for lit in clause.lits() {
-        greatest = greatest.max(lit.variable());
+    match clause.lits().last() {
+        Some(lit) => top.max(lit.variable()),
+        None => top,
     }
-    greatest
 }

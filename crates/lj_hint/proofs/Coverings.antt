@@ -2,7 +2,7 @@
 use Rattle.std.proofs.Common.{◌≡◌, ap, refl, sym, ◌∙◌, ℕ, ◌+◌, ◌<◌, arith, add-one, get_or, length, take}
 use Rattle.std.proofs.lemmas.List.{take_more, take_all, take_min, get_or-map, length-map}
 use Rattle.std.proofs.lemmas.Bool.{false≢true}
-use Rattle.std.specs.Prelude.{false, is_some, min, List, [], ◌∷◌, ◌++◌, Option, None, Some, option_map, slice_get}
+use Rattle.std.specs.Prelude.{false, is_some, min, List, [], ◌∷◌, ◌++◌, Option, None, Some, option_map}
 use Rattle.lj_clause.specs.ClauseMap.{ClauseMap}
 use Rattle.lj_clause.specs.Walk.{Hint, hints_in}
 use Rattle.lj_clause.specs.Rat.{HintGroup, NamedGroup, groups_in}
@@ -30,7 +30,7 @@ pub given_next : (gs : List NamedGroup) (k n read place : ℕ) → k < length gs
     → take (k + 1) (plain_groups gs) ≡ take k (plain_groups gs) ++ read_group n (lent_hints (group_at gs (before place))) read ∷ []
 given_next gs k n read place lt at is all =
     let found : lent_hints (group_at gs (before place)) ≡ (group_in gs k).hints =
-        ap (λ (m : ℕ). lent_hints (group_at gs (before m))) (at ∙ add-one k) ∙ ap (λ (o : Option NamedGroup). lent_hints (option_map (λ h. h.hints) o)) (there gs k lt) in
+    ap (λ (m : ℕ). lent_hints (group_at gs (before m))) (at ∙ add-one k) ∙ ap (λ (o : Option NamedGroup). lent_hints (option_map (λ h. h.hints) o)) (there gs k lt) in
     next_read gs k n read (lent_hints (group_at gs (before place))) lt is found (all ∙ ap length (sym found))
 
 -- and where those before it stand as they are given, so do they with it

@@ -66,7 +66,8 @@ fn same_added(
     requires other_named { lits_at other_kept.lits.now other_sizes.lits (number_in others.now).1
         ≡ lemma_lits (addition_in other_kept.lits.now other_sizes others.now).lemma }
     ensures { IsTrue result
-        ↔ (unpacked_addition kept.entry.rows.now.families.items (addition_in kept.entry.lits.now sizes words.now)
+        ↔ (unpacked_addition kept.entry.rows.now.families.items
+        (addition_in kept.entry.lits.now sizes words.now)
         ≡ unpacked_addition other_kept.entry.rows.now.families.items
         (addition_in other_kept.entry.lits.now other_sizes others.now)) }
 {
@@ -112,8 +113,9 @@ fn same_additions(
         (sizes_in (code_in other_head) others.now))
         × (Some (Add (unpacked_addition kept.entry.rows.now.families.items
         (sized_addition kept.entry.lits.now (code_in head) (sizes_in (code_in head) words.now))))
-        ≡ Some (Add (unpacked_addition other_kept.entry.rows.now.families.items (sized_addition other_kept.entry.lits.now
-        (code_in other_head) (sizes_in (code_in other_head) others.now)))))) }
+        ≡ Some (Add (unpacked_addition other_kept.entry.rows.now.families.items
+        (sized_addition other_kept.entry.lits.now (code_in other_head)
+        (sizes_in (code_in other_head) others.now)))))) }
 {
     let (sizes, rest) = head_sizes(head, words);
     let (own, rest) = head_own(head, rest);
@@ -218,8 +220,9 @@ fn same_of_sort(
         ≡ call_of_sort other_kept.entry.lits.now sort (code_in other_head) others.now)
         × (unpacked_step kept.entry.rows.now.families.items (step_of_sort kept.entry.lits.now sort
         (code_in head) words.now (died_in (kind_in head) words.now))
-        ≡ unpacked_step other_kept.entry.rows.now.families.items (step_of_sort other_kept.entry.lits.now sort
-        (code_in other_head) others.now (died_in (kind_in other_head) others.now)))) }
+        ≡ unpacked_step other_kept.entry.rows.now.families.items
+        (step_of_sort other_kept.entry.lits.now sort (code_in other_head) others.now
+        (died_in (kind_in other_head) others.now)))) }
 {
     match sort {
         ADDITION => same_additions(kept, head, words, other_kept, other_head, others),
@@ -272,7 +275,8 @@ pub(super) fn same_entry(
     requires other_named { (read_in other_kept.lits.now others.now).1
         ≡ call_lits (read_in other_kept.lits.now others.now).0.call }
     ensures { IsTrue result
-        ↔ (unpacked_entry kept.entry.rows.now.families.items (entry_in kept.entry.lits.now words.now)
+        ↔ (unpacked_entry kept.entry.rows.now.families.items
+        (entry_in kept.entry.lits.now words.now)
         ≡ unpacked_entry other_kept.entry.rows.now.families.items
         (entry_in other_kept.entry.lits.now others.now)) }
 {

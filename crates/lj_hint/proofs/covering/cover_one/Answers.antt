@@ -1,4 +1,4 @@
-use Rattle.std.proofs.Common.{◌≡◌, ap, ◌∙◌}
+use Rattle.std.proofs.Common.{ap, ◌∙◌}
 use Rattle.std.specs.Prelude.{not}
 use Rattle.lj_hint.proofs.Coverings.{stays_given}
 use Rattle.lj_hint.proofs.covering.cover_one.Goals as goal

@@ -1,4 +1,4 @@
-use Rattle.std.proofs.Common.{◌≡◌, ap, sym, ◌∙◌, ◌++◌, ◌∷◌, [], List, arith}
+use Rattle.std.proofs.Common.{ap, sym, ◌∙◌, ◌++◌, ◌∷◌, [], List, arith}
 use Rattle.lj_clause.specs.Rat.{HintGroup}
 use Rattle.lj_hint.specs.inner.Groups.{read_group}
 use Rattle.lj_hint.proofs.Coverings.{next_read}

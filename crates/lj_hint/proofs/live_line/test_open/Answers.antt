@@ -1,4 +1,4 @@
-use Rattle.std.proofs.Common.{◌≡◌, sym, subst}
+use Rattle.std.proofs.Common.{sym, subst}
 use Rattle.std.specs.Prelude.{ℤ, List, Option, Result}
 use Rattle.lj_clause.specs.LiteralSet.{from_literals}
 use Rattle.lj_clause.specs.Rat.{HintGroup, groups_in, candidates, rat_over}

@@ -1,4 +1,4 @@
-use Rattle.std.proofs.Common.{◌≡◌, ◌∙◌, ℕ, ◌<◌, arith, length}
+use Rattle.std.proofs.Common.{◌∙◌, arith}
 use Rattle.lj_hint.proofs.RatTests.{group_here}
 use Rattle.lj_hint.proofs.rat.first_place.Goals as goal
 

@@ -1,6 +1,5 @@
 use Rattle.std.proofs.Common.{◌≡◌, ap, sym, subst}
-use Rattle.std.specs.Prelude.{List, Result, Ok}
-use Rattle.lj_clause.specs.Rat.{HintGroup}
+use Rattle.std.specs.Prelude.{Result, Ok}
 use Rattle.lj_text.specs.declared.line.Addition.{Addition}
 use Rattle.lj_book.specs.declared.refusal.Refusal.{Refusal}
 use Rattle.lj_book.specs.Tables.{joint_of}

@@ -1,8 +1,7 @@
 use Rattle.std.proofs.Common.{◌≡◌, ap, sym, ◌∙◌, ℕ, List}
-use Rattle.std.specs.Prelude.{ℤ, drop, Option, Some, None, option_map, option_copied, slice_get}
+use Rattle.std.specs.Prelude.{ℤ, drop, Some, None, option_map, option_copied, slice_get}
 use Rattle.std.proofs.lemmas.Bool.{false≢true}
 use Rattle.std.proofs.lemmas.Option.{none-some}
-use Rattle.lj_book.specs.declared.entry.Entry.{Entry}
 use Rattle.lj_book.specs.inner.Records.{entry_in}
 use Rattle.lj_book.specs.inner.Rows.{unpacked_entry}
 use Rattle.lj_book.proofs.RowLaws.{meant_at, same_of_some}

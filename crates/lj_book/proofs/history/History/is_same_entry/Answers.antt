@@ -1,6 +1,5 @@
 use Rattle.std.proofs.Common.{◌≡◌, ap, sym, ◌∙◌, ℕ, List}
-use Rattle.std.specs.Prelude.{ℤ, drop, Option, Some, option_map, option_copied, is_some, slice_get}
-use Rattle.lj_book.specs.declared.entry.Entry.{Entry}
+use Rattle.std.specs.Prelude.{ℤ, drop, Some, option_map, option_copied, is_some, slice_get}
 use Rattle.lj_book.specs.inner.Records.{entry_in}
 use Rattle.lj_book.specs.inner.Rows.{unpacked_entry}
 use Rattle.lj_book.proofs.RowLaws.{meant_at, same_of_some}

@@ -1,4 +1,4 @@
-use Rattle.std.proofs.Common.{ap, map, ◌∷◌, ◌++◌, List, ℕ, ◌≡◌}
+use Rattle.std.proofs.Common.{ap, map, ◌∷◌, ◌++◌, List, ℕ}
 use Rattle.std.specs.Fmt.{decimal}
 use Rattle.std.specs.Str.{byte}
 use Rattle.lj_clause.specs.Rat.{HintGroup}

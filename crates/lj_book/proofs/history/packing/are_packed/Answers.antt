@@ -1,5 +1,5 @@
-use Rattle.std.proofs.Common.{◌≡◌, ap, sym, ◌∙◌, List, ℕ, length}
-use Rattle.std.specs.Prelude.{true, [], ◌++◌, flat_map}
+use Rattle.std.proofs.Common.{◌≡◌, ap, sym, ◌∙◌, List, ℕ}
+use Rattle.std.specs.Prelude.{[], ◌++◌, flat_map}
 use Rattle.std.proofs.lemmas.List.{append-nil}
 use Rattle.lj_clause.specs.Rat.{HintGroup}
 use Rattle.lj_book.specs.inner.Words.{hint_group_in, hint_group_words, many_in}

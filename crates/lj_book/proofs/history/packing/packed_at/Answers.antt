@@ -1,4 +1,4 @@
-use Rattle.std.proofs.Common.{◌≡◌, ap, ◌∙◌, arith}
+use Rattle.std.proofs.Common.{ap, ◌∙◌}
 use Rattle.lj_text.specs.declared.line.Addition.{Addition}
 use Rattle.lj_book.proofs.RowLaws.{packed_stays}
 use Rattle.lj_book.proofs.history.packing.packed_at.Goals as goal

@@ -1,5 +1,4 @@
-use Rattle.std.proofs.Common.{◌≡◌, ap, ◌∙◌, ℕ, List, take, arith}
-use Rattle.std.specs.Prelude.{slice_get}
+use Rattle.std.proofs.Common.{◌≡◌, ap, ◌∙◌, ℕ, List}
 use Rattle.lj_book.specs.declared.history.rows.Member.{Member}
 use Rattle.lj_book.specs.inner.Words.{number_in}
 use Rattle.lj_book.specs.inner.Rows.{row_in, row_of}

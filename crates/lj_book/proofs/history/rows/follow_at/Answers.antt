@@ -1,4 +1,3 @@
-use Rattle.std.proofs.Common.{◌≡◌}
 use Rattle.lj_book.proofs.RowLaws.{later_set, family_at}
 use Rattle.lj_book.proofs.history.rows.follow_at.Goals as goal
 

@@ -1,4 +1,4 @@
-use Rattle.std.proofs.Common.{◌≡◌, ◌∙◌, ap, sym, ◌<◌, ℕ, List, length, take, get_or, set, arith}
+use Rattle.std.proofs.Common.{◌∙◌, ap, sym, ◌<◌, ℕ, List, length, take, arith}
 use Rattle.std.proofs.lemmas.List.{length-set}
 use Rattle.lj_book.specs.inner.Rows.{row_in}
 use Rattle.lj_book.specs.declared.history.rows.Member.{Member}

@@ -1,4 +1,4 @@
-use Rattle.std.proofs.Common.{◌≡◌, arith}
+use Rattle.std.proofs.Common.{arith}
 use Rattle.lj_book.proofs.RowLaws.{numbers_cover}
 use Rattle.lj_book.proofs.history.writing.put_addition.Goals as goal
 

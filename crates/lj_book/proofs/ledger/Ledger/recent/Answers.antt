@@ -1,4 +1,4 @@
-use Rattle.std.proofs.Common.{◌≡◌, subst}
+use Rattle.std.proofs.Common.{subst}
 use Rattle.lj_book.specs.inner.FirstUses.{IsSince}
 use Rattle.lj_book.specs.inner.Places.{Recorded, placed}
 use Rattle.lj_book.proofs.ledger.Ledger.recent.Goals as goal

@@ -1,4 +1,4 @@
-use Rattle.std.proofs.Common.{◌≡◌, arith}
+use Rattle.std.proofs.Common.{arith}
 use Rattle.lj_book.proofs.RowLaws.{later_then, family_at}
 use Rattle.lj_book.proofs.history.rows.Rows.follow.Goals as goal
 
