@@ -168,10 +168,15 @@ stream 'a list of candidates most of whose clauses are dead' 'BEGIN { print "p c
     for (i = 4; i < n / 2; i++) print i " -1 2 0 1 0"
     printf "3 d"; for (i = 4; i < n / 2; i++) printf " %d", i; print " 0"
     for (; i < n; i++) print i " 1 -2 0 0" }'
-# (Its record has a group for each candidate, of eight bytes: 800 for each line of 13 bytes or so.)
-stream 'RAT lines of 100 candidates that close before any hint' \
+both 'RAT lines of 100 candidates that close before any hint' \
     'BEGIN { print "p cnf 2 100"; for (i = 1; i <= 100; i++) print "-1 2 0" }' 100000 \
-    'BEGIN { for (i = 1; i <= n; i++) print i + 100 " 1 -2 0 0" }' '' 70
+    'BEGIN { for (i = 1; i <= n; i++) print i + 100 " 1 -2 0 0" }'
+both 'RAT lines of 100 candidates, of which one comes and one goes before each' \
+    'BEGIN { print "p cnf 3 100"; for (i = 1; i <= 100; i++) print "-1 2 0" }' 30000 'BEGIN {
+    for (i = 1; i <= n; i++) {
+        print 99 + 2 * i " -1 2 3 0 1 0"
+        print 100 + 2 * i " 1 -2 0 0"
+        print 100 + 2 * i " d " (i < 100 ? i + 1 : 2 * i - 99) " 0" } }'
 
 # A row of a formula, with an empty stream: its name, a count and its text.
 formula() {

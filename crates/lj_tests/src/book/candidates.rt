@@ -1,7 +1,7 @@
 //! Additions by candidates, in lists of events.
 use crate::book::{Example, Listed, Row};
 use crate::tables::{BINARY, Line, ListedStep};
-use lj_book::{Added, Refusal, Reply};
+use lj_book::{Added, Dropped, Refusal, Reply};
 
 /// The lemma of the table of two candidates.
 const LEMMA: &[i32] = &[1, 3];
@@ -166,7 +166,35 @@ const OUT_OF_ORDER: [Row; 2] = [
     ),
 ];
 
-pub const EXAMPLES: [Example; 5] = [
+/// The clauses 1 to 5 are candidates, of which the last alone needs a hint. Clause 3 dies between the second and the third of these
+/// lines, and clause 9 comes.
+const SHARED: [Row; 5] = [
+    (
+        Listed::Inside(0, Line(7, &[1, -2], &[], &[&[5, 6]])),
+        Reply::Added(Added { place: 0, joint: 7 }),
+    ),
+    (
+        Listed::Inside(0, Line(8, &[1, -2], &[], &[&[5, 6]])),
+        Reply::Added(Added { place: 1, joint: 8 }),
+    ),
+    (
+        Listed::Drop(0, &[3]),
+        Reply::Dropped(Dropped { place: 2, count: 1 }),
+    ),
+    (
+        Listed::Inside(0, Line(9, &[-1, 2, 4], &[1], &[])),
+        Reply::Added(Added { place: 3, joint: 9 }),
+    ),
+    (
+        Listed::Inside(0, Line(10, &[1, -2], &[], &[&[5, 6]])),
+        Reply::Added(Added {
+            place: 4,
+            joint: 10,
+        }),
+    ),
+];
+
+pub const EXAMPLES: [Example; 6] = [
     Example {
         name: "A neighbour's clause adopted",
         clauses: &[&[1, 2], &[1, -2]],
@@ -253,5 +281,28 @@ pub const EXAMPLES: [Example; 5] = [
                 ],
             ),
         )],
+    },
+    Example {
+        name: "Lines that share their candidates",
+        clauses: &[&[-1, 2], &[-1, 2], &[-1, 2], &[-1, 2], &[-1, 3], &[3, -2]],
+        seats: 1,
+        max_steps: 9,
+        script: &SHARED,
+        entries: &[
+            (
+                0,
+                ListedStep::Add(7, 2, &[], &[&[1], &[2], &[3], &[4], &[5, 6]]),
+            ),
+            (
+                0,
+                ListedStep::Add(8, 2, &[], &[&[1], &[2], &[3], &[4], &[5, 6]]),
+            ),
+            (0, ListedStep::Delete(&[3])),
+            (0, ListedStep::Add(9, 3, &[1], &[])),
+            (
+                0,
+                ListedStep::Add(10, 2, &[], &[&[1], &[2], &[4], &[5, 6], &[9]]),
+            ),
+        ],
     },
 ];

@@ -15,6 +15,17 @@ const LINES: [Line; 3] = [
     Line(9, &[2], &[1, 2], &[]),
 ];
 
+/// Clauses of which the first five are candidates of the lines below, and the last is the hint of the fifth.
+const CANDIDATES: [&[i32]; 6] = [&[-1, 2], &[-1, 2], &[-1, 2], &[-1, 2], &[-1, 3], &[3, -2]];
+
+/// Lines with the same candidates, but that the third is one more for the fourth.
+const SHARED: [Line; 4] = [
+    Line(7, &[1, -2], &[], &[&[5, 6]]),
+    Line(8, &[1, -2], &[], &[&[5, 6]]),
+    Line(9, &[-1, 2, 4], &[1], &[]),
+    Line(10, &[1, -2], &[], &[&[5, 6]]),
+];
+
 /// The numbers of deletions: those of one's own lemmas, and clauses of the formula in two orders.
 const DROPS: [[u64; 2]; 3] = [[5, 6], [3, 4], [4, 3]];
 
@@ -95,6 +106,18 @@ fn a_log_has_the_entries_of_its_history(rt: HostRuntime) -> Result<(), Fail> {
     let mut log = EntryLog::new(alloc);
     assert!(&rt; log.is_empty());
     enter_all(alloc, &mut book, &mut log)?;
+    assert_same(&rt, &book, &log);
+    Ok(())
+}
+
+#[test]
+fn a_log_keeps_candidates_that_its_history_shares(rt: HostRuntime) -> Result<(), Fail> {
+    let alloc = rt.alloc();
+    let mut book = opened(&rt, alloc, &CANDIDATES, 1, 9)?;
+    let mut log = EntryLog::new(alloc);
+    for line in &SHARED {
+        enter_line(alloc, &mut book, &mut log, line)?;
+    }
     assert_same(&rt, &book, &log);
     Ok(())
 }
