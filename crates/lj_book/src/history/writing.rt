@@ -58,6 +58,7 @@ fn put_lits(lits: &mut Vec<Lit>, more: &[Lit])
 
 /// Puts the words and the literals of a seat's addition behind the others, which have room for them: with one group of nothing before
 /// its own, where that is asked for.
+#[inline(always)]
 pub(super) fn put_addition(
     words: &mut Vec<u32>,
     lits: &mut Vec<Lit>,
