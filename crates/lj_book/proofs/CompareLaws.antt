@@ -11,8 +11,7 @@ use Rattle.lj_text.specs.Needed.{if_some}
 use Rattle.lj_book.specs.declared.entry.Call.{Call}
 use Rattle.lj_book.specs.declared.entry.Call.TheVariants as calls
 use Rattle.lj_book.specs.declared.history.sizes.Sizes.{Sizes}
-use Rattle.lj_book.specs.declared.history.rows.Family.{Family}
-use Rattle.lj_book.specs.inner.Rows.{unpacked, unpacked_addition, unpacked_step}
+use Rattle.lj_book.specs.inner.Rows.{RowsByNumber, unpacked, unpacked_addition, unpacked_step}
 use Rattle.lj_book.specs.inner.Words.{number_in, list_in, many_in, hint_group_in}
 use Rattle.lj_book.specs.inner.Records.{lemma_lits, lits_at, lits_in, call_lits, addition_in, sort_in, died_in, call_of_sort, step_of_sort, named_of_sort, call_in, step_in, named_in, sizes_in, sized_call, sized_addition, sized_lits}
 
@@ -68,14 +67,14 @@ same_added a b e = ap (addition_or a) e
 
 -- ---- additions and imports
 
-pub same_additions_in : (fs gs : List Family) (lits others : List ℤ) (s t : Sizes) (ws us : List ℕ) → (number_in ws).0 ≡ (number_in us).0 → lits_at lits s.lits (number_in ws).1 ≡ lits_at others t.lits (number_in us).1
+pub same_additions_in : (fs gs : RowsByNumber) (lits others : List ℤ) (s t : Sizes) (ws us : List ℕ) → (number_in ws).0 ≡ (number_in us).0 → lits_at lits s.lits (number_in ws).1 ≡ lits_at others t.lits (number_in us).1
     → (many_in number_in s.hints (number_in (number_in ws).1).1).0 ≡ (many_in number_in t.hints (number_in (number_in us).1).1).0
     → unpacked fs (many_in hint_group_in s.groups (many_in number_in s.hints (number_in (number_in ws).1).1).1).0 ≡ unpacked gs (many_in hint_group_in t.groups (many_in number_in t.hints (number_in (number_in us).1).1).1).0
     → unpacked_addition fs (addition_in lits s ws) ≡ unpacked_addition gs (addition_in others t us)
 same_additions_in fs gs lits others s t ws us number literals hints groups =
     λ i. record { number = number i; lemma = lemma_of (literals i); hints = hints i; groups = groups i }
 
-pub same_lits_in : (fs gs : List Family) (lits others : List ℤ) (s t : Sizes) (ws us : List ℕ) → lits_at lits s.lits (number_in ws).1 ≡ lemma_lits (addition_in lits s ws).lemma → lits_at others t.lits (number_in us).1 ≡ lemma_lits (addition_in others t us).lemma
+pub same_lits_in : (fs gs : RowsByNumber) (lits others : List ℤ) (s t : Sizes) (ws us : List ℕ) → lits_at lits s.lits (number_in ws).1 ≡ lemma_lits (addition_in lits s ws).lemma → lits_at others t.lits (number_in us).1 ≡ lemma_lits (addition_in others t us).lemma
     → unpacked_addition fs (addition_in lits s ws) ≡ unpacked_addition gs (addition_in others t us) → lits_at lits s.lits (number_in ws).1 ≡ lits_at others t.lits (number_in us).1
 same_lits_in fs gs lits others s t ws us named other_named e = named ∙ ap (λ (a : Addition). lemma_lits a.lemma) e ∙ sym other_named
 
@@ -187,7 +186,7 @@ other_sorts lits others kind code other other_code ws us differ e =
     differ (sym (sort_is lits kind code ws) ∙ ap sort_of_call e ∙ sort_is others other other_code us)
 
 -- what is the same by its sort is the same by its kind
-pub same_sorted : {T : Type 0} (fs gs : List Family) (lits others : List ℤ) (kind code other other_code sort : ℕ) (ws us : List ℕ) → sort ≡ sort_in kind → sort ≡ sort_in other
+pub same_sorted : {T : Type 0} (fs gs : RowsByNumber) (lits others : List ℤ) (kind code other other_code sort : ℕ) (ws us : List ℕ) → sort ≡ sort_in kind → sort ≡ sort_in other
     → T ↔ ((call_of_sort lits sort code ws ≡ call_of_sort others sort other_code us) × (unpacked_step fs (step_of_sort lits sort code ws (died_in kind ws)) ≡ unpacked_step gs (step_of_sort others sort other_code us (died_in other us))))
     → T ↔ ((call_in lits kind code ws ≡ call_in others other other_code us) × (unpacked_step fs (step_in lits kind code ws) ≡ unpacked_step gs (step_in others other other_code us)))
 same_sorted fs gs lits others kind code other other_code sort ws us here there h =
@@ -201,6 +200,6 @@ same_sorted fs gs lits others kind code other other_code sort ws us here there h
 
 -- ---- steps that are no additions
 
-pub unpacked_deaths : (fs : List Family) (ns : List ℕ) → unpacked_step fs (if_some ns) ≡ if_some ns
+pub unpacked_deaths : (fs : RowsByNumber) (ns : List ℕ) → unpacked_step fs (if_some ns) ≡ if_some ns
 unpacked_deaths fs [] = refl
 unpacked_deaths fs (n ∷ ns) = refl

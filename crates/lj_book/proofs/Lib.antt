@@ -29,6 +29,7 @@ mod Bounds
 mod OccurrenceLaws
 mod Chains
 mod FirstUseLaws
+mod FamilyLaws
 mod RowLaws
 pub mod InsideLaws
 pub mod LineLaws

@@ -2,10 +2,10 @@
 use Rattle.std.proofs.Common.{◌≡◌, ap, refl, sym, ◌∙◌, ◌+◌, ◌*◌, ◌%◌, ◌/◌, ◌<◌, arith, append_assoc, subst}
 use Rattle.std.specs.Prelude.{ℕ, zero, suc, true, false, List, [], ◌∷◌, ◌++◌, length, flat_map, drop, nat_lt, get_or, ◌==◌, if◌then◌else◌}
 use Rattle.std.specs.List.{list_any}
-use Rattle.std.proofs.lemmas.Bool.{or_parts}
+use Rattle.std.proofs.lemmas.Bool.{and_parts, or_parts}
 use Rattle.std.proofs.lemmas.Bool.Decides.{nat_tests}
 use Rattle.lj_clause.specs.Rat.{HintGroup}
-use Rattle.lj_book.specs.inner.Words.{long_mark, number_words, number_in, list_words, list_in, many_in, hint_group_words, grouped, hint_group_in, with_first, read_behind, long_in, Matches, Agree}
+use Rattle.lj_book.specs.inner.Words.{long_mark, number_words, number_in, list_words, list_in, many_in, is_name, hint_group_words, grouped, group_behind, hint_group_in, with_first, read_behind, long_in, Matches, Agree}
 
 whole_of_halves : (n : ℕ) → n % 4294967296 + 4294967296 * (n / 4294967296) ≡ n
 whole_of_halves n = omega arith
@@ -33,14 +33,33 @@ counted_back one words back xs ws =
 pub list_back : (ns : List ℕ) (ws : List ℕ) → list_in (list_words ns ++ ws) ≡ (ns, ws)
 list_back = counted_back number_in number_words number_back
 
-pub group_back : (g : HintGroup) (ws : List ℕ) → hint_group_in (hint_group_words g ++ ws) ≡ (g, ws)
-group_back g ws =
-    ap hint_group_in (append_assoc (number_words g.candidate) (list_words g.hints) ws)
-    ∙ ap (λ (p : ℕ × List ℕ). grouped p.0 (list_in p.1)) (number_back g.candidate (list_words g.hints ++ ws))
-    ∙ ap (grouped g.candidate) (list_back g.hints ws)
-
 pub numbers_back : (ns : List ℕ) (ws : List ℕ) → many_in number_in (length ns) (flat_map number_words ns ++ ws) ≡ (ns, ws)
 numbers_back = many_back number_in number_words number_back
+
+is_equal : (m n : ℕ) → (m == n) ≡ true → n ≡ m
+is_equal m n e = grind (arith, nat_tests)
+
+name_parts : (g : HintGroup) → is_name g ≡ true → (0 ≡ g.candidate) × (1 ≡ length g.hints)
+name_parts g e =
+    let both = and_parts (g.candidate == 0) (length g.hints == 1) e in
+    (is_equal g.candidate 0 both.0, is_equal (length g.hints) 1 both.1)
+
+pub group_back : (g : HintGroup) (ws : List ℕ) → hint_group_in (hint_group_words g ++ ws) ≡ (g, ws)
+group_back g ws =
+    let hints_on : List ℕ = flat_map number_words g.hints in
+    let long : List ℕ = number_words (suc (length g.hints)) ++ (number_words g.candidate ++ hints_on) in
+    elim (is_name g) as (λ b. is_name g ≡ b → hint_group_in ((if b then 0 ∷ hints_on else long) ++ ws) ≡ (g, ws)) [
+      | true ↦ λ e.
+          ap (λ n. grouped 0 (many_in number_in n (hints_on ++ ws))) (name_parts g e).1
+          ∙ ap (grouped 0) (numbers_back g.hints ws)
+          ∙ ap (λ n. grouped n (g.hints, ws)) (name_parts g e).0
+      | false ↦ λ e.
+          ap hint_group_in (append_assoc (number_words (suc (length g.hints))) (number_words g.candidate ++ hints_on) ws)
+          ∙ ap (λ (p : ℕ × List ℕ). group_behind p.0 p.1) (number_back (suc (length g.hints)) ((number_words g.candidate ++ hints_on) ++ ws))
+          ∙ ap (λ us. grouped (number_in us).0 (many_in number_in (length g.hints) (number_in us).1)) (append_assoc (number_words g.candidate) hints_on ws)
+          ∙ ap (λ (p : ℕ × List ℕ). grouped p.0 (many_in number_in (length g.hints) p.1)) (number_back g.candidate (hints_on ++ ws))
+          ∙ ap (grouped g.candidate) (numbers_back g.hints ws)
+    ] refl
 
 pub groups_back : (gs : List HintGroup) (ws : List ℕ) → many_in hint_group_in (length gs) (flat_map hint_group_words gs ++ ws) ≡ (gs, ws)
 groups_back = many_back hint_group_in hint_group_words group_back

@@ -1,5 +1,6 @@
 -- What invariants, private functions and proofs say. No public contract names any of it.
 pub mod Words
+pub mod Families
 pub mod Rows
 pub mod Records
 pub mod Packing

@@ -76,7 +76,7 @@ impl Model for History {
     ghost coded = { entries_code };
 
     ghost view = { λ h. record {
-      entries = map (unpacked_entry h.rows.families.items)
+      entries = map (unpacked_entry h.rows)
           (entries_in h.lits.items h.words.items h.starts.items);
       lits = h.lits.items;
       word_room = vec_capacity h.words - vec_len h.words;
@@ -85,7 +85,7 @@ impl Model for History {
     } };
 
     ghost invariant = { λ h. (AreWritten h.lits.items h.words.items h.starts.items)
-        × AreStable h.rows.families.items
+        × AreStable h.rows
         (entries_in h.lits.items h.words.items h.starts.items) };
 }
 

@@ -35,9 +35,9 @@ fn same_hints(
 ) -> bool
     ensures { IsTrue result ↔ (((many_in number_in sizes.hints words.now).0
         ≡ (many_in number_in other_sizes.hints others.now).0)
-        × (unpacked rows.now.families.items
+        × (unpacked rows.now
         (many_in hint_group_in sizes.groups (many_in number_in sizes.hints words.now).1).0
-        ≡ unpacked other_rows.now.families.items (many_in hint_group_in other_sizes.groups
+        ≡ unpacked other_rows.now (many_in hint_group_in other_sizes.groups
         (many_in number_in other_sizes.hints others.now).1).0)) }
 {
     if sizes.hints != other_sizes.hints {
@@ -66,9 +66,9 @@ fn same_added(
     requires other_named { lits_at other_kept.lits.now other_sizes.lits (number_in others.now).1
         ≡ lemma_lits (addition_in other_kept.lits.now other_sizes others.now).lemma }
     ensures { IsTrue result
-        ↔ (unpacked_addition kept.entry.rows.now.families.items
+        ↔ (unpacked_addition kept.entry.rows.now
         (addition_in kept.entry.lits.now sizes words.now)
-        ≡ unpacked_addition other_kept.entry.rows.now.families.items
+        ≡ unpacked_addition other_kept.entry.rows.now
         (addition_in other_kept.entry.lits.now other_sizes others.now)) }
 {
     let (joint, rest) = number(words);
@@ -111,9 +111,9 @@ fn same_additions(
         ↔ ((sized_call kept.entry.lits.now (code_in head) (sizes_in (code_in head) words.now)
         ≡ sized_call other_kept.entry.lits.now (code_in other_head)
         (sizes_in (code_in other_head) others.now))
-        × (Some (Add (unpacked_addition kept.entry.rows.now.families.items
+        × (Some (Add (unpacked_addition kept.entry.rows.now
         (sized_addition kept.entry.lits.now (code_in head) (sizes_in (code_in head) words.now))))
-        ≡ Some (Add (unpacked_addition other_kept.entry.rows.now.families.items
+        ≡ Some (Add (unpacked_addition other_kept.entry.rows.now
         (sized_addition other_kept.entry.lits.now (code_in other_head)
         (sizes_in (code_in other_head) others.now)))))) }
 {
@@ -218,9 +218,9 @@ fn same_of_sort(
         ≡ call_lits (call_of_sort other_kept.lits.now sort (code_in other_head) others.now) }
     ensures { IsTrue result ↔ ((call_of_sort kept.entry.lits.now sort (code_in head) words.now
         ≡ call_of_sort other_kept.entry.lits.now sort (code_in other_head) others.now)
-        × (unpacked_step kept.entry.rows.now.families.items (step_of_sort kept.entry.lits.now sort
+        × (unpacked_step kept.entry.rows.now (step_of_sort kept.entry.lits.now sort
         (code_in head) words.now (died_in (kind_in head) words.now))
-        ≡ unpacked_step other_kept.entry.rows.now.families.items
+        ≡ unpacked_step other_kept.entry.rows.now
         (step_of_sort other_kept.entry.lits.now sort (code_in other_head) others.now
         (died_in (kind_in other_head) others.now)))) }
 {
@@ -251,9 +251,9 @@ fn same_behind(
     ensures { IsTrue result
         ↔ ((call_in kept.entry.lits.now (kind_in head) (code_in head) words.now
         ≡ call_in other_kept.entry.lits.now (kind_in other_head) (code_in other_head) others.now)
-        × (unpacked_step kept.entry.rows.now.families.items
+        × (unpacked_step kept.entry.rows.now
         (step_in kept.entry.lits.now (kind_in head) (code_in head) words.now)
-        ≡ unpacked_step other_kept.entry.rows.now.families.items
+        ≡ unpacked_step other_kept.entry.rows.now
         (step_in other_kept.entry.lits.now (kind_in other_head) (code_in other_head) others.now))) }
 {
     let sort_here = sort(head);
@@ -275,9 +275,9 @@ pub(super) fn same_entry(
     requires other_named { (read_in other_kept.lits.now others.now).1
         ≡ call_lits (read_in other_kept.lits.now others.now).0.call }
     ensures { IsTrue result
-        ↔ (unpacked_entry kept.entry.rows.now.families.items
+        ↔ (unpacked_entry kept.entry.rows.now
         (entry_in kept.entry.lits.now words.now)
-        ≡ unpacked_entry other_kept.entry.rows.now.families.items
+        ≡ unpacked_entry other_kept.entry.rows.now
         (entry_in other_kept.entry.lits.now others.now)) }
 {
     let (head, rest) = number(words);

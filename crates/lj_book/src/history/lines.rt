@@ -129,7 +129,7 @@ fn write_addition<W: Sink>(
 
     ensures given { WasGiven (word_state (W.taken sink.old) (W.failures sink.old) writer.old)
         (addition_text
-        (unpacked_addition rows.now.families.items (addition_in lits.now sizes words.now)))
+        (unpacked_addition rows.now (addition_in lits.now sizes words.now)))
         (word_state (W.taken sink.new) (W.failures sink.new) writer.new) }
     ensures number { result ≡ (addition_in lits.now sizes words.now).number }
 {
@@ -180,7 +180,7 @@ fn write_step<W: Sink>(
         ≡ call_lits (call_in lits.now (kind_in head) (code_in head) words.now) }
 
     ensures given { WasGiven (word_state (W.taken sink.old) (W.failures sink.old) writer.old)
-        (entry_text greatest (unpacked_step rows.now.families.items
+        (entry_text greatest (unpacked_step rows.now
         (step_in lits.now (kind_in head) (code_in head) words.now)))
         (word_state (W.taken sink.new) (W.failures sink.new) writer.new) }
     ensures greatest { result
@@ -232,7 +232,7 @@ pub(super) fn write_entries<W: Sink>(
 
     ensures given { WasGiven (word_state (W.taken sink.old) (W.failures sink.old) writer.old)
         (text_after clauses (up_to_empty
-        (filter_map (λ e. e.step) (map (unpacked_entry rows.now.families.items)
+        (filter_map (λ e. e.step) (map (unpacked_entry rows.now)
         (entries_in lits.now words.now starts.now.items)))))
         (word_state (W.taken sink.new) (W.failures sink.new) writer.new) }
 {

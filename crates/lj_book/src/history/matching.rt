@@ -41,7 +41,7 @@ pub(super) fn same_lits(lits: &[Lit], others: &[Lit]) -> bool
 fn are_hints_of(rows: &Rows, sizes: Sizes, words: &[u32], addition: &Addition) -> bool
     ensures { IsTrue result
         ↔ (((many_in number_in sizes.hints words.now).0 ≡ addition.now.hints)
-        × (unpacked rows.now.families.items
+        × (unpacked rows.now
         (many_in hint_group_in sizes.groups (many_in number_in sizes.hints words.now).1).0
         ≡ addition.now.groups)) }
 {
@@ -59,7 +59,7 @@ fn is_added(lits: &[Lit], rows: &Rows, sizes: Sizes, words: &[u32], addition: &A
     requires { lits_at lits.now sizes.lits (number_in words.now).1
         ≡ lemma_lits (addition_in lits.now sizes words.now).lemma }
     ensures { IsTrue result
-        ↔ (unpacked_addition rows.now.families.items (addition_in lits.now sizes words.now)
+        ↔ (unpacked_addition rows.now (addition_in lits.now sizes words.now)
         ≡ addition.now) }
 {
     let (joint, rest) = number(words);
@@ -87,7 +87,7 @@ fn is_addition(
         ≡ lemma_lits
         (sized_addition lits.now (code_in head) (sizes_in (code_in head) words.now)).lemma }
     ensures { IsTrue result ↔ ((call_in lits.now 0 (code_in head) words.now ≡ call.now)
-        × (unpacked_step rows.now.families.items (step_in lits.now 0 (code_in head) words.now)
+        × (unpacked_step rows.now (step_in lits.now 0 (code_in head) words.now)
         ≡ step.now)) }
 {
     let (sizes, rest) = head_sizes(head, words);
@@ -190,7 +190,7 @@ fn is_behind(
         ≡ call_lits (call_in lits.now (kind_in head) (code_in head) words.now) }
     ensures { IsTrue result
         ↔ ((call_in lits.now (kind_in head) (code_in head) words.now ≡ call.now)
-        × (unpacked_step rows.now.families.items
+        × (unpacked_step rows.now
         (step_in lits.now (kind_in head) (code_in head) words.now) ≡ step.now)) }
 {
     match head % KINDS {
@@ -209,7 +209,7 @@ pub(super) fn is_entry(lits: &[Lit], rows: &Rows, words: &[u32], entry: &Entry) 
         ≡ call_lits (read_in lits.now words.now).0.call }
     requires seated { (entry_in lits.now words.now).seat < 4294967296 }
     ensures { IsTrue result
-        ↔ (unpacked_entry rows.now.families.items (entry_in lits.now words.now) ≡ entry.now) }
+        ↔ (unpacked_entry rows.now (entry_in lits.now words.now) ≡ entry.now) }
 {
     let (head, rest) = number(words);
     head / SEATS == u64::from(entry.seat)

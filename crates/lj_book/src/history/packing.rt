@@ -4,11 +4,11 @@ ghost use Rattle.lj_clause.specs.Rat.{HintGroup};
 ghost use Rattle.lj_text.specs.declared.line.Addition.{Addition};
 ghost use Rattle.lj_book.specs.inner.Words.{groups_numbers};
 ghost use Rattle.lj_book.specs.inner.Records.{lemma_lits, add_words, addition_numbers};
-ghost use Rattle.lj_book.specs.inner.Rows.{unpacked, unpacked_addition, begins_with, IsLater, IsRowPlace, IsPacked, row_header};
+ghost use Rattle.lj_book.specs.inner.Rows.{unpacked, unpacked_addition, begins_with, IsLater, IsPacked, row_header};
 ghost use Rattle.lj_book.specs.inner.Packing.{IsWrittenFor};
 
 use super::recorded_groups::{are_groups, recorded_groups};
-use super::rows::{RowPlace, Rows};
+use super::rows::Rows;
 use super::writing::put_addition;
 use crate::lent_addition::LentAddition;
 use crate::words::put_groups;
@@ -31,9 +31,9 @@ pub(super) fn put_recorded(
     requires words { vec_len words.old + 3 * addition_numbers step.now ≤ vec_capacity words.old }
     requires lits { vec_len lits.old + length (lemma_lits step.now.lemma) ≤ vec_capacity lits.old }
     ensures words { IsWrittenFor words.old.items words.new.items (length lits.old.items) seat own
-        rows.new.families.items step.now }
+        rows.new step.now }
     ensures lits { lits.new.items ≡ lits.old.items ++ lemma_lits step.now.lemma }
-    ensures later { IsLater rows.old.families.items rows.new.families.items }
+    ensures later { IsLater rows.old rows.new }
 {
     let alloc = *words.allocator();
     let room = words.capacity() - words.len();
@@ -62,9 +62,9 @@ fn begins_with_zero(groups: &Groups) -> bool
 /// The groups of an addition that stand for its own, with the row of its candidates, where that saves room: none where the row
 /// can't be taken up as it is, or a growth was refused.
 fn pack(alloc: Global, rows: &mut Rows, step: &LentAddition<'_>, room: usize) -> Option<Groups>
-    ensures later { IsLater rows.old.families.items rows.new.families.items }
+    ensures later { IsLater rows.old rows.new }
     ensures packed { IfSome result
-        (λ packed. IsPacked rows.new.families.items packed step.now.groups) }
+        (λ packed. IsPacked rows.new packed step.now.groups) }
     ensures room { IfSome result
         (λ packed. 3 * (9 + length step.now.hints + groups_numbers packed) ≤ room) }
 {
@@ -72,8 +72,8 @@ fn pack(alloc: Global, rows: &mut Rows, step: &LentAddition<'_>, room: usize) ->
         return None;
     }
     let pivot = step.lemma.pivot()?;
-    let place = rows.follow(pivot.negated().place() as u64, step.groups)?;
-    packed_at(alloc, rows, place, step, room)
+    let row = rows.follow(pivot.negated().place() as u64, step.groups)?;
+    packed_at(alloc, rows, row, step, room)
 }
 
 /// Whether more than half of the groups have hints, so that they are written as they are.
@@ -87,21 +87,21 @@ fn have_many_hints(groups: &Groups) -> bool {
     count > groups.len() / 2
 }
 
-/// The same, where the row stands at this place.
+/// The same, with the row of this number.
 fn packed_at(
     alloc: Global,
     rows: &Rows,
-    place: RowPlace,
+    row: u64,
     step: &LentAddition<'_>,
     room: usize,
 ) -> Option<Groups>
-    requires { IsRowPlace rows.now.families.items place }
+    requires { row < length rows.now }
     ensures packed { IfSome result
-        (λ packed. IsPacked rows.now.families.items packed step.now.groups) }
+        (λ packed. IsPacked rows.now packed step.now.groups) }
     ensures room { IfSome result
         (λ packed. 3 * (9 + length step.now.hints + groups_numbers packed) ≤ room) }
 {
-    let Ok(packed) = with_hints(alloc, place, step.groups) else {
+    let Ok(packed) = with_hints(alloc, row, step.groups) else {
         return None;
     };
     let numbers = numbers_of(&packed);
@@ -118,11 +118,11 @@ fn packed_at(
 ///
 /// # Errors
 /// [`AllocError`] where a growth was refused.
-fn with_hints(alloc: Global, place: RowPlace, groups: &Groups) -> Result<Groups, AllocError>
+fn with_hints(alloc: Global, row: u64, groups: &Groups) -> Result<Groups, AllocError>
     ensures { IfOk result
-        (λ packed. (rest : List HintGroup) × (packed ≡ row_header place ∷ rest)) }
+        (λ packed. (rest : List HintGroup) × (packed ≡ row_header row ∷ rest)) }
 {
-    let mut packed = named(alloc, place)?;
+    let mut packed = named(alloc, row)?;
     for group in groups.iter() {
         if group.hints.len() > 0 {
             packed.push(group.candidate, group.hints)?;
@@ -135,13 +135,11 @@ fn with_hints(alloc: Global, place: RowPlace, groups: &Groups) -> Result<Groups,
 ///
 /// # Errors
 /// [`AllocError`] where a growth was refused.
-fn named(alloc: Global, place: RowPlace) -> Result<Groups, AllocError>
-    ensures { IfOk result (λ packed. packed ≡ row_header place ∷ []) }
+fn named(alloc: Global, row: u64) -> Result<Groups, AllocError>
+    ensures { IfOk result (λ packed. packed ≡ row_header row ∷ []) }
 {
-    let mut numbers = Numbers::with_capacity(alloc, 3)?;
-    numbers.push(place.family)?;
-    numbers.push(place.count)?;
-    numbers.push(place.epoch)?;
+    let mut numbers = Numbers::with_capacity(alloc, 1)?;
+    numbers.push(row)?;
     let mut packed = Groups::new(alloc);
     packed.push(0, numbers.iter())?;
     Ok(packed)
@@ -161,7 +159,7 @@ pub(super) fn numbers_of(groups: &Groups) -> usize
 /// Whether groups stand for others, as they are read from words. These are so many numbers.
 fn are_packed(alloc: Global, rows: &Rows, packed: &Groups, numbers: usize, groups: &Groups) -> bool
     requires { numbers < 2 ^ 63 → groups_numbers packed.now ≤ numbers }
-    ensures { result ≡ true → unpacked rows.now.families.items packed.now ≡ groups.now }
+    ensures { result ≡ true → unpacked rows.now packed.now ≡ groups.now }
 {
     let Ok(mut words) = Vec::with_capacity(alloc, numbers.saturating_mul(3)) else {
         return false;

@@ -90,7 +90,7 @@ fn addition(
     words: &[u32],
 ) -> Result<Addition, NoMemory>
     ensures { IfOk result (λ addition. addition
-        ≡ unpacked_addition rows.now.families.items (addition_in lits.now sizes words.now)) }
+        ≡ unpacked_addition rows.now (addition_in lits.now sizes words.now)) }
 {
     let (joint, rest) = number(words);
     let (literals, rest) = placed(lits, sizes.lits, rest);
@@ -129,7 +129,7 @@ pub(super) fn step(
     head: u64,
     words: &[u32],
 ) -> Result<Option<Step>, NoMemory>
-    ensures same { IfOk result (λ step. step ≡ unpacked_step rows.now.families.items
+    ensures same { IfOk result (λ step. step ≡ unpacked_step rows.now
         (step_in lits.now (kind_in head) (code_in head) words.now)) }
     ensures some { OnErr result
         (step_in lits.now (kind_in head) (code_in head) words.now ≢ None) }
@@ -215,7 +215,7 @@ pub(super) fn entry(
 ) -> Result<Entry, NoMemory>
     requires { (entry_in lits.now words.now).seat < 4294967296 }
     ensures { IfOk result
-        (λ entry. entry ≡ unpacked_entry rows.now.families.items (entry_in lits.now words.now)) }
+        (λ entry. entry ≡ unpacked_entry rows.now (entry_in lits.now words.now)) }
 {
     let (head, rest) = number(words);
     Ok(Entry {
@@ -236,7 +236,7 @@ pub(super) fn entry_step(
     words: &[u32],
 ) -> Result<Option<Step>, NoMemory>
     ensures same { IfOk result (λ step. step
-        ≡ unpacked_step rows.now.families.items (entry_in lits.now words.now).step) }
+        ≡ unpacked_step rows.now (entry_in lits.now words.now).step) }
     ensures some { OnErr result ((entry_in lits.now words.now).step ≢ None) }
 {
     let (head, rest) = number(words);

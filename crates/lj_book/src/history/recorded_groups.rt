@@ -1,11 +1,12 @@
 //! The groups of an addition as they are read from its words and from the rows of its history.
 ghost use Rattle.std.specs.Prelude.{◌≡◌, ◌↔◌, ◌<◌, ◌-◌, ◌∷◌, [], IfOk, IfSome, IfNone, IsTrue, true};
 ghost use Rattle.lj_clause.specs.Rat.{HintGroup};
-ghost use Rattle.lj_book.specs.inner.Words.{number_in, list_in, many_in, hint_group_in};
-ghost use Rattle.lj_book.specs.inner.Rows.{is_there, row_in, row_named, merged, unpacked, begins_with};
+ghost use Rattle.lj_book.specs.inner.Words.{number_in, many_in, grouped, hint_group_in};
+ghost use Rattle.lj_book.specs.inner.Families.{is_there, row_in};
+ghost use Rattle.lj_book.specs.inner.Rows.{row_named, merged, unpacked, begins_with};
 
 use super::rows::{Member, Rows};
-use crate::words::{are_left, behind_list, number, numbers, same_numbers};
+use crate::words::{are_left, behind_numbers, number, numbers, same_numbers};
 use lj_clause::NoMemory;
 use lj_text::{Groups, LentGroup};
 use std::alloc::Global;
@@ -48,7 +49,8 @@ impl<'a> Model for RecordedGroups<'a> {
     ghost use Rattle.lj_clause.specs.Rat.{HintGroup};
     ghost use Rattle.lj_clause.specs.inner.Codes.{hint_group_code};
     ghost use Rattle.lj_book.specs.inner.Words.{many_in, hint_group_in};
-    ghost use Rattle.lj_book.specs.inner.Rows.{row_in, merged};
+    ghost use Rattle.lj_book.specs.inner.Families.{row_in};
+    ghost use Rattle.lj_book.specs.inner.Rows.{merged};
 
     ghost Value = { List HintGroup };
 
@@ -108,7 +110,7 @@ pub(super) fn recorded_groups<'a>(
     count: u64,
     words: &'a [u32],
 ) -> RecordedGroups<'a>
-    ensures { result ≡ unpacked rows.now.families.items (many_in hint_group_in count words.now).0 }
+    ensures { result ≡ unpacked rows.now (many_in hint_group_in count words.now).0 }
 {
     if let Some((header, rest)) = split_front(count, words) {
         if header.candidate == 0 {
@@ -119,18 +121,16 @@ pub(super) fn recorded_groups<'a>(
     RecordedGroups::new(&[], 0, count, words)
 }
 
-/// The row that so many numbers at the front of words name: its members and those that are gone, and its epoch.
+/// The row that the first of so many numbers at the front of words names: its members and those that are gone, and its epoch.
 fn named_row<'a>(rows: &'a Rows, count: u64, words: &[u32]) -> (&'a [Member], u64)
     ensures { row_in result.0.now result.1
-        ≡ row_named rows.now.families.items (many_in number_in count words.now).0 }
+        ≡ row_named rows.now (many_in number_in count words.now).0 }
 {
-    if count < 3 {
+    if count == 0 {
         return (&[], 0);
     }
-    let (family, rest) = number(words);
-    let (members, rest) = number(rest);
-    let (epoch, _) = number(rest);
-    (rows.members(family, members), epoch)
+    let (row, _) = number(words);
+    rows.members(row)
 }
 
 /// The group of a candidate that has no hints.
@@ -151,7 +151,7 @@ fn is_front(candidate: u64, count: u64, words: &[u32]) -> bool
     if count == 0 {
         return false;
     }
-    let (front, _) = number(words);
+    let (front, _, _) = group_header(words);
     front == candidate
 }
 
@@ -173,14 +173,28 @@ fn front_group(words: &[u32]) -> (WordGroup<'_>, &[u32])
     ensures group { result.0 ≡ (hint_group_in words.now).0 }
     ensures rest { result.1.now ≡ (hint_group_in words.now).1 }
 {
-    let (candidate, list) = number(words);
-    let (count, hints) = number(list);
+    let (candidate, count, hints) = group_header(words);
     let group = WordGroup {
         candidate,
         count,
         words: hints,
     };
-    (group, behind_list(list))
+    (group, behind_numbers(count, hints))
+}
+
+/// The candidate of the group at the front of the words, how many hints it has, and the words that these begin.
+fn group_header(words: &[u32]) -> (u64, u64, &[u32])
+    ensures { grouped result.0 (many_in number_in result.1 result.2.now)
+        ≡ hint_group_in words.now }
+{
+    let (first, rest) = number(words);
+    match first.checked_sub(1) {
+        Some(count) => {
+            let (candidate, hints) = number(rest);
+            (candidate, count, hints)
+        }
+        None => (0, 1, rest),
+    }
 }
 
 /// The number of the first of the members that is there in an epoch, and those behind it.

@@ -94,7 +94,7 @@ fn put_groups_apart(words: &mut Vec<u32>, apart: bool, groups: &Groups)
         ≡ words.old.items ++ flat_map hint_group_words (apart_groups apart groups.now) }
 {
     if apart {
-        put_number(words, 0);
+        put_number(words, 1);
         put_number(words, 0);
     }
     put_groups(words, groups);

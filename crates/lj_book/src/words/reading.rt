@@ -36,7 +36,15 @@ fn long_number(words: &[u32]) -> (u64, &[u32])
 pub(crate) fn behind_list(words: &[u32]) -> &[u32]
     ensures { result.now ≡ (list_in words.now).1 }
 {
-    let (count, mut rest) = number(words);
+    let (count, rest) = number(words);
+    behind_numbers(count, rest)
+}
+
+/// What stands behind so many numbers at the front of the words.
+pub(crate) fn behind_numbers(count: u64, words: &[u32]) -> &[u32]
+    ensures { result.now ≡ (many_in number_in count words.now).1 }
+{
+    let mut rest = words;
     for _ in 0..count {
         let (_, after) = number(rest);
         rest = after;

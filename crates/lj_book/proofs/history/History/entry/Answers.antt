@@ -7,7 +7,7 @@ use Rattle.lj_book.proofs.history.History.entry.Goals as goal
 
 pub returns-in_ok-entry-in-Some : goal.returns-in_ok-entry-in-Some
 returns-in_ok-entry-in-Some c =
-    let fs = c.self.inside.rows.families.items in
+    let fs = c.self.inside.rows in
     let ls : List ℤ = c.self.inside.lits.items in
     let ws : List ℕ = c.self.inside.words.items in
     let ss : List ℕ = c.self.inside.starts.items in
@@ -20,7 +20,7 @@ returns-in_ok-entry-in-Some c =
 
 pub returns-in-None : goal.returns-in-None
 returns-in-None c =
-    let fs = c.self.inside.rows.families.items in
+    let fs = c.self.inside.rows in
     let ls : List ℤ = c.self.inside.lits.items in
     let ws : List ℕ = c.self.inside.words.items in
     let ss : List ℕ = c.self.inside.starts.items in

@@ -7,11 +7,11 @@ use Rattle.lj_book.proofs.history.History.is_same_entry.Goals as goal
 
 pub returns : goal.returns
 returns c =
-    let fs = c.self.inside.rows.families.items in
+    let fs = c.self.inside.rows in
     let ls : List ℤ = c.self.inside.lits.items in
     let ws : List ℕ = c.self.inside.words.items in
     let ss : List ℕ = c.self.inside.starts.items in
-    let gs = c.other.inside.rows.families.items in
+    let gs = c.other.inside.rows in
     let ks : List ℤ = c.other.inside.lits.items in
     let us : List ℕ = c.other.inside.words.items in
     let ts : List ℕ = c.other.inside.starts.items in

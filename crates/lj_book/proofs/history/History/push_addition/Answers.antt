@@ -12,8 +12,8 @@ use Rattle.lj_book.proofs.history.History.push_addition.Goals as goal
 
 pub invariant_of-self : goal.invariant_of-self
 invariant_of-self c =
-    let fs = c.self.inside.rows.families.items in
-    let gs = c.put_recorded.new.rows.families.items in
+    let fs = c.self.inside.rows in
+    let gs = c.put_recorded.new.rows in
     let ls : List ℤ = c.self.inside.lits.items in
     let ws : List ℕ = c.self.inside.words.items in
     let ss : List ℕ = c.self.inside.starts.items in
@@ -37,8 +37,8 @@ invariant_of-self c =
 
 pub returns-clause-entries : goal.returns-clause-entries
 returns-clause-entries c =
-    let fs = c.self.inside.rows.families.items in
-    let gs = c.put_recorded.new.rows.families.items in
+    let fs = c.self.inside.rows in
+    let gs = c.put_recorded.new.rows in
     let ls : List ℤ = c.self.inside.lits.items in
     let ws : List ℕ = c.self.inside.words.items in
     let ss : List ℕ = c.self.inside.starts.items in

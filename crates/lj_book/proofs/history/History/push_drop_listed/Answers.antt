@@ -10,7 +10,7 @@ use Rattle.lj_book.proofs.history.History.push_drop_listed.Goals as goal
 
 pub invariant_of-self : goal.invariant_of-self
 invariant_of-self c =
-    let fs = c.self.inside.rows.families.items in
+    let fs = c.self.inside.rows in
     let ls : List ℤ = c.self.inside.lits.items in
     let ws : List ℕ = c.self.inside.words.items in
     let ss : List ℕ = c.self.inside.starts.items in
@@ -29,7 +29,7 @@ invariant_of-self c =
 
 pub returns : goal.returns
 returns c =
-    let fs = c.self.inside.rows.families.items in
+    let fs = c.self.inside.rows in
     let ls : List ℤ = c.self.inside.lits.items in
     let ws : List ℕ = c.self.inside.words.items in
     let ss : List ℕ = c.self.inside.starts.items in

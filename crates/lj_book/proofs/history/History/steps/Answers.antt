@@ -12,7 +12,7 @@ use Rattle.lj_book.proofs.history.History.steps.Goals.{in-Some+in_ok-push, in_de
 
 pub returns-clause-same : goal.returns-clause-same
 returns-clause-same c =
-    let fs = c.self.inside.rows.families.items in
+    let fs = c.self.inside.rows in
     let ls : List ℤ = c.self.inside.lits.items in
     let ws : List ℕ = c.self.inside.words.items in
     let ss : List ℕ = c.self.inside.starts.items in
@@ -22,7 +22,7 @@ returns-clause-same c =
 
 pub loop-index-preserved : goal.loop-index-preserved
 loop-index-preserved c =
-    let fs = c.self.inside.rows.families.items in
+    let fs = c.self.inside.rows in
     let ls : List ℤ = c.self.inside.lits.items in
     let ws : List ℕ = c.self.inside.words.items in
     let ss : List ℕ = c.self.inside.starts.items in
@@ -37,7 +37,7 @@ loop-index-preserved c =
 
 pub returns-in_err-step-clause-some : goal.returns-in_err-step-clause-some
 returns-in_err-step-clause-some c =
-    let fs = c.self.inside.rows.families.items in
+    let fs = c.self.inside.rows in
     let ls : List ℤ = c.self.inside.lits.items in
     let ws : List ℕ = c.self.inside.words.items in
     let ss : List ℕ = c.self.inside.starts.items in
@@ -51,7 +51,7 @@ returns-in_err-step-clause-some c =
 
 pub returns-in_err-push-clause-some : goal.returns-in_err-push-clause-some
 returns-in_err-push-clause-some c =
-    let fs = c.self.inside.rows.families.items in
+    let fs = c.self.inside.rows in
     let ls : List ℤ = c.self.inside.lits.items in
     let ws : List ℕ = c.self.inside.words.items in
     let ss : List ℕ = c.self.inside.starts.items in

@@ -29,7 +29,7 @@ returns-clause-given g c =
     ap kept_as_written (c.placed.ensures.lits ∙ ap (lits_at ls s.lits) c.number-joint.ensures.rest)
     ∙ kept_written (lits_at ls s.lits (number_in ws).1) c.requires.named in
     let hints : c.placed.result.1.now ≡ (number_in (number_in ws).1).1 = c.placed.ensures.rest ∙ ap (λ us. (number_in us).1) c.number-joint.ensures.rest in
-    let fs = c.args.rows.now.families.items in
+    let fs = c.args.rows.now in
     let rest : c.write_numbers-rest.result.now ≡ (many_in number_in s.hints (number_in (number_in ws).1).1).1 = c.write_numbers-rest.ensures.rest ∙ ap (λ us. (many_in number_in s.hints us).1) hints in
     let groups : c.recorded_groups.result ≡ (unpacked_addition fs a).groups = c.recorded_groups.ensures ∙ ap (λ us. unpacked fs (many_in hint_group_in s.groups us).0) rest in
     given_as _ _ _ _

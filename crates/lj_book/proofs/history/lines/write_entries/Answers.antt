@@ -13,7 +13,7 @@ use Rattle.lj_book.proofs.history.lines.write_entries.Goals as goal
 
 pub returns-then-ends_proof : goal.returns-then-ends_proof
 returns-then-ends_proof g c =
-    let fs = c.args.rows.now.families.items in
+    let fs = c.args.rows.now in
     let ls : List ℤ = c.args.lits.now in
     let ws : List ℕ = c.args.words.now in
     let ss : List ℕ = c.args.starts.now.items in
@@ -34,7 +34,7 @@ returns-then-ends_proof g c =
 
 pub loop-index-preserved : goal.loop-index-preserved
 loop-index-preserved g c =
-    let fs = c.args.rows.now.families.items in
+    let fs = c.args.rows.now in
     let ls : List ℤ = c.args.lits.now in
     let ws : List ℕ = c.args.words.now in
     let ss : List ℕ = c.args.starts.now.items in
@@ -55,7 +55,7 @@ loop-index-preserved g c =
 
 pub returns : goal.returns
 returns g c =
-    let fs = c.args.rows.now.families.items in
+    let fs = c.args.rows.now in
     let ls : List ℤ = c.args.lits.now in
     let ws : List ℕ = c.args.words.now in
     let ss : List ℕ = c.args.starts.now.items in

@@ -10,7 +10,7 @@ use Rattle.lj_book.proofs.history.matching.is_added.Goals as goal
 
 pub returns : goal.returns
 returns c =
-    let fs = c.args.rows.now.families.items in
+    let fs = c.args.rows.now in
     let ls : List ℤ = c.args.lits.now in
     let ws : List ℕ = c.args.words.now in
     let s : Sizes = c.args.sizes in

@@ -9,7 +9,7 @@ use Rattle.lj_book.proofs.history.packing.are_packed.Goals as goal
 
 pub returns : goal.returns
 returns c = λ yes.
-    let fs = c.args.rows.now.families.items in
+    let fs = c.args.rows.now in
     let packed : List HintGroup = c.args.packed.now in
     let words : List ℕ = c.deref.result.now in
     let are : words ≡ flat_map hint_group_words packed = c.deref.ensures.value ∙ c.put_groups.ensures.words ∙ ap (λ us. us ++ flat_map hint_group_words packed) c.in-Ok.ensures.items in

@@ -1,5 +1,5 @@
 use Rattle.std.proofs.Common.{◌≡◌, length}
-use Rattle.lj_book.specs.inner.Rows.{row_in}
+use Rattle.lj_book.specs.inner.Families.{row_in}
 use Rattle.lj_book.proofs.history.recorded_groups.first_there.Given as goal
 
 abbrev pub invariant-loop-rest : goal.invariant-loop-rest

@@ -1,8 +1,8 @@
 use Rattle.std.proofs.Common.{◌∙◌, ap, sym, ◌<◌, ℕ, List, length, take, arith}
 use Rattle.std.proofs.lemmas.List.{length-set}
-use Rattle.lj_book.specs.inner.Rows.{row_in}
+use Rattle.lj_book.specs.inner.Families.{row_in}
 use Rattle.lj_book.specs.declared.history.rows.Member.{Member}
-use Rattle.lj_book.proofs.RowLaws.{row_marked}
+use Rattle.lj_book.proofs.FamilyLaws.{row_marked}
 use Rattle.lj_book.proofs.history.rows.mark_gone.Goals as goal
 use Rattle.lj_book.proofs.history.rows.mark_gone.Goals.{then-eq, else-eq}
 

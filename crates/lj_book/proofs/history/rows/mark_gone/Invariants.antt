@@ -1,5 +1,5 @@
 use Rattle.std.proofs.Common.{◌≡◌, ◌<◌, ℕ, length, take}
-use Rattle.lj_book.specs.inner.Rows.{row_in}
+use Rattle.lj_book.specs.inner.Families.{row_in}
 use Rattle.lj_book.proofs.history.rows.mark_gone.Given as goal
 
 abbrev pub invariant-loop-index : goal.invariant-loop-index

@@ -1,0 +1,131 @@
+-- Families of candidates that keep their rows.
+use Rattle.std.proofs.Common.{◌≡◌, ap, refl, sym, ◌∙◌, subst, ℕ, zero, suc, ◌<◌, ◌≤◌, arith, get_or, length, take, set, inl, inr}
+use Rattle.std.proofs.lemmas.Bool.Decides.{nat_tests}
+use Rattle.std.proofs.lemmas.Bool.{false≢true}
+use Rattle.std.specs.Prelude.{map, ◌⊎◌, IfSome, Option, Some, None, is_some, slice_get, true, List, [], ◌∷◌, ◌++◌, ◌==◌, ◌||◌, nat_lt, if◌then◌else◌, slice_set}
+use Rattle.std.specs.List.{AllByRecursion}
+use Rattle.lj_book.specs.declared.history.rows.Member.{Member}
+use Rattle.lj_book.specs.declared.history.rows.Family.{Family}
+use Rattle.lj_book.specs.declared.history.rows.Row.{Row}
+use Rattle.std.proofs.lemmas.List.{map_push, append-nil}
+use Rattle.lj_book.specs.inner.Rows.{IsLater}
+use Rattle.lj_book.specs.inner.Families.{is_there, row_in, members_of, row_at, IsLaterFamily, AreLater, IsFamilyRow}
+
+still_there : (m : Member) (before epoch : ℕ) → m.gone ≡ 0 → before < epoch → is_there before (record { number = m.number; gone = epoch }) ≡ is_there before m
+still_there m before epoch here lt = new before epoch lt ∙ sym (ap (λ (g : ℕ). g == 0 || nat_lt before g) here)
+  where
+    new : (b e : ℕ) → b < e → (e == 0 || nat_lt b e) ≡ true
+    new b e lt = grind (arith, nat_tests)
+
+-- a member that goes in an epoch is in the rows before
+pub row_marked : (ms : List Member) (i count before epoch : ℕ) (m : Member) → i < length ms → get_or ms i m ≡ m → m.gone ≡ 0 → before < epoch
+    → row_in (take count (set ms i (record { number = m.number; gone = epoch }))) before ≡ row_in (take count ms) before
+row_marked [] i count before epoch m lt is here le = absurd (let no : ⊥ = omega (arith, lt) in no)
+row_marked (x ∷ ms) i zero before epoch m lt is here le = at_none i
+  where
+    at_none : (i : ℕ) → row_in (take zero (set (x ∷ ms) i (record { number = m.number; gone = epoch }))) before ≡ row_in (take zero (x ∷ ms)) before
+    at_none zero = refl
+    at_none (suc i) = refl
+row_marked (x ∷ ms) zero (suc count) before epoch m lt is here le =
+    let still : is_there before (record { number = m.number; gone = epoch }) ≡ is_there before x = still_there m before epoch here le ∙ ap (is_there before) (sym is) in
+    λ j. if still j then (sym is j).number ∷ row_in (take count ms) before else row_in (take count ms) before
+row_marked (x ∷ ms) (suc i) (suc count) before epoch m lt is here le =
+    ap (λ (r : List ℕ). if is_there before x then x.number ∷ r else r) (row_marked ms i count before epoch m (omega (arith, lt)) is here le)
+
+-- ---- later families
+
+pub later_family_same : (f : Family) → IsLaterFamily f f
+later_family_same f = record { more = omega arith; later = omega arith; rows = λ count epoch le before. refl }
+
+pub later_family_then : (f g h : Family) → IsLaterFamily f g → IsLaterFamily g h → IsLaterFamily f h
+later_family_then f g h a b = record {
+  more = omega (arith, a.more, b.more);
+  later = omega (arith, a.later, b.later);
+  rows = λ count epoch le before. b.rows count epoch (omega (arith, le, a.more)) (omega (arith, before, a.later)) ∙ a.rows count epoch le before;
+}
+
+pub families_same : (fs : List Family) → AreLater fs fs
+families_same fs = record { each = λ i f at. (f, at, later_family_same f) }
+
+pub families_then : (fs gs hs : List Family) → AreLater fs gs → AreLater gs hs → AreLater fs hs
+families_then fs gs hs a b = record {
+  each = λ i f at.
+      let one = a.each i f at in
+      let two = b.each i one.0 one.1 in
+      (two.0, two.1, later_family_then f one.0 two.0 one.2 two.2);
+}
+
+stays_at : (fs : List Family) (g f : Family) (i : ℕ) → slice_get fs i ≡ Some f → slice_get (fs ++ g ∷ []) i ≡ Some f
+stays_at [] g f i at = absurd (false≢true (ap is_some at))
+stays_at (x ∷ fs) g f zero at = at
+stays_at (x ∷ fs) g f (suc i) at = stays_at fs g f i at
+
+-- with a family more
+pub families_push : (fs : List Family) (g : Family) → AreLater fs (fs ++ g ∷ [])
+families_push fs g = record { each = λ i f at. (f, stays_at fs g f i at, later_family_same f) }
+
+set_at : (fs : List Family) (k : ℕ) (f g : Family) → slice_get fs k ≡ Some f → IsLaterFamily f g → (i : ℕ) (h : Family) → slice_get fs i ≡ Some h → (j : Family) × (slice_get (slice_set fs k g) i ≡ Some j) × IsLaterFamily h j
+set_at [] k f g here later i h at = absurd (false≢true (ap is_some at))
+set_at (x ∷ fs) zero f g here later zero h at =
+    let same : h ≡ f = cc in
+    (g, refl, subst (λ (y : Family). IsLaterFamily y g) (sym same) later)
+set_at (x ∷ fs) zero f g here later (suc i) h at = (h, at, later_family_same h)
+set_at (x ∷ fs) (suc k) f g here later zero h at = (h, at, later_family_same h)
+set_at (x ∷ fs) (suc k) f g here later (suc i) h at = set_at fs k f g here later i h at
+
+-- with a later one in place of one
+pub families_set : (fs : List Family) (k : ℕ) (f g : Family) → slice_get fs k ≡ Some f → IsLaterFamily f g → AreLater fs (slice_set fs k g)
+families_set fs k f g here later = record { each = set_at fs k f g here later }
+
+-- one of the families
+pub family_at : (fs : List Family) (i : ℕ) (f : Family) → i < length fs → f ≡ get_or fs i f → slice_get fs i ≡ Some f
+family_at [] i f lt at = absurd (let no : ⊥ = omega (arith, lt) in no)
+family_at (x ∷ fs) zero f lt at = ap Some (sym at)
+family_at (x ∷ fs) (suc i) f lt at = family_at fs i f (omega (arith, lt)) at
+
+-- ---- their rows
+
+pub row_stays : (fs gs : List Family) (r : Row) → IsFamilyRow fs r → AreLater fs gs → row_at gs r ≡ row_at fs r
+row_stays fs gs r is later =
+    let f = is.there.0 in
+    let now = later.each r.family f is.there.1 in
+    ap (λ (o : Option Family). row_in (take r.count (members_of o)) r.epoch) now.1
+    ∙ now.2.rows r.count r.epoch is.there.2 is.there.3
+    ∙ sym (ap (λ (o : Option Family). row_in (take r.count (members_of o)) r.epoch) is.there.1)
+
+row_is_there : (fs gs : List Family) (r : Row) → IsFamilyRow fs r → AreLater fs gs → IsFamilyRow gs r
+row_is_there fs gs r is later =
+    let now = later.each r.family is.there.0 is.there.1 in
+    record { there = (now.0, now.1, omega (arith, is.there.2, now.2.more), omega (arith, is.there.3, now.2.later)) }
+
+pub rows_stay : (fs gs : List Family) (rs : List Row) → AllByRecursion (IsFamilyRow fs) rs → AreLater fs gs → map (row_at gs) rs ≡ map (row_at fs) rs
+rows_stay fs gs [] are later = refl
+rows_stay fs gs (r ∷ rs) are later = λ i. row_stays fs gs r are.0 later i ∷ rows_stay fs gs rs are.1 later i
+
+pub rows_are_there : (fs gs : List Family) (rs : List Row) → AllByRecursion (IsFamilyRow fs) rs → AreLater fs gs → AllByRecursion (IsFamilyRow gs) rs
+rows_are_there fs gs [] are later = tt
+rows_are_there fs gs (r ∷ rs) are later = (row_is_there fs gs r are.0 later, rows_are_there fs gs rs are.1 later)
+
+-- with a row behind, or none
+pub rows_with : (fs : List Family) (rs : List Row) (r : Row) → AllByRecursion (IsFamilyRow fs) rs → IsFamilyRow fs r → AllByRecursion (IsFamilyRow fs) (rs ++ r ∷ [])
+rows_with fs [] r are is = (is, tt)
+rows_with fs (s ∷ rs) r are is = (are.0, rows_with fs rs r are.1 is)
+
+pub rows_then : (fs : List Family) (rs all : List Row) (r : Row) → AllByRecursion (IsFamilyRow fs) rs → IsFamilyRow fs r → (all ≡ rs) ⊎ (all ≡ rs ++ r ∷ []) → AllByRecursion (IsFamilyRow fs) all
+rows_then fs rs all r are is (inl same) = subst (AllByRecursion (IsFamilyRow fs)) (sym same) are
+rows_then fs rs all r are is (inr more) = subst (AllByRecursion (IsFamilyRow fs)) (sym more) (rows_with fs rs r are is)
+
+pub later_rows : (fs gs : List Family) (rs all : List Row) (r : Row) → AllByRecursion (IsFamilyRow fs) rs → AreLater fs gs → (all ≡ rs) ⊎ (all ≡ rs ++ r ∷ []) → IsLater (map (row_at fs) rs) (map (row_at gs) all)
+later_rows fs gs rs all r are later (inl same) = record {
+  more = [];
+  is = ap (map (row_at gs)) same ∙ rows_stay fs gs rs are later ∙ sym (append-nil (map (row_at fs) rs));
+}
+later_rows fs gs rs all r are later (inr more) = record {
+  more = row_at gs r ∷ [];
+  is = ap (map (row_at gs)) more ∙ map_push (row_at gs) rs r ∙ ap (λ (ns : List (List ℕ)). ns ++ row_at gs r ∷ []) (rows_stay fs gs rs are later);
+}
+
+-- the row that a family has now, if it is told
+pub row_there : (fs : List Family) (f : Family) (i : ℕ) (o : Option Row) → slice_get fs i ≡ Some f → IfSome o (λ r. r.family ≡ i) → IfSome o (λ r. r.count ≡ length f.members.items) → IfSome o (λ r. r.epoch ≡ f.epoch) → IfSome o (IsFamilyRow fs)
+row_there fs f i None at family count epoch = tt
+row_there fs f i (Some r) at family count epoch = record { there = (f, ap (slice_get fs) family ∙ at, omega (arith, count), omega (arith, epoch)) }

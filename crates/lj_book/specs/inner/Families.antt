@@ -1,0 +1,38 @@
+-- Families of candidates, of which the rows of a history are taken.
+use Rattle.std.specs.Prelude.{◌≡◌, ℕ, ◌≤◌, ◌==◌, ◌||◌, nat_lt, Bool, List, [], ◌∷◌, length, take, slice_get, Option, Some, None, if◌then◌else◌}
+use Rattle.lj_book.specs.declared.history.rows.Member.{Member}
+use Rattle.lj_book.specs.declared.history.rows.Family.{Family}
+use Rattle.lj_book.specs.declared.history.rows.Row.{Row}
+
+-- whether a member is a candidate in an epoch
+abbrev pub is_there : ℕ → Member → Bool
+is_there epoch m = m.gone == 0 || nat_lt epoch m.gone
+
+-- the numbers of those members that are candidates in an epoch
+abbrev pub row_in : List Member → ℕ → List ℕ
+row_in [] epoch = []
+row_in (m ∷ ms) epoch = if is_there epoch m then m.number ∷ row_in ms epoch else row_in ms epoch
+
+abbrev pub members_of : Option Family → List Member
+members_of None = []
+members_of (Some f) = f.members.items
+
+-- the row of a family, by how many members it had, and the epoch
+abbrev pub row_at : List Family → Row → List ℕ
+row_at fs r = row_in (take r.count (members_of (slice_get fs r.family))) r.epoch
+
+-- A family has the rows that it had.
+pub record IsLaterFamily (f g : Family) : Type 0 where
+  pub more : length f.members.items ≤ length g.members.items
+  pub later : f.epoch ≤ g.epoch
+  pub rows : (count epoch : ℕ) → count ≤ length f.members.items → epoch ≤ f.epoch
+      → row_in (take count g.members.items) epoch ≡ row_in (take count f.members.items) epoch
+
+-- Families have the rows that they had.
+pub record AreLater (fs gs : List Family) : Type 0 where
+  pub each : (i : ℕ) (f : Family) → slice_get fs i ≡ Some f
+      → (g : Family) × (slice_get gs i ≡ Some g) × IsLaterFamily f g
+
+-- The row is one of the families.
+pub record IsFamilyRow (fs : List Family) (r : Row) : Type 0 where
+  pub there : (f : Family) × (slice_get fs r.family ≡ Some f) × (r.count ≤ length f.members.items) × (r.epoch ≤ f.epoch)
