@@ -15,8 +15,22 @@ const SHORT: usize = 16;
 /// longer list is read where the book has its clauses.
 const MOST_HINTS: usize = 65_536;
 
+/// How many bytes the clauses of lemmas may take for each hint of the seat's additions, which is two bytes of text at least. A
+/// real proof says more hints than that for each lemma; one that says fewer has most of its lemmas in the book alone.
+const FOR_A_HINT: u64 = 8;
+
+/// How many bytes a number takes with a clause of up to [`INSIDE`] literals.
+const SLOT: u64 = 32;
+
+/// The greatest number of literals that stand in the slot.
+const INSIDE: u64 = 3;
+
+/// How many bytes more a longer clause takes, beside four for each literal.
+const BLOCK: u64 = 64;
+
 /// What a seat's own numbers are bound to, by joint numbers with their clauses. The clauses of the formula come in where
-/// they are asked for. Where a growth is refused the seat gives all of it up, so it tells what the book's table does.
+/// they are asked for, those of lemmas as far as there is room for them. Where a growth is refused the seat gives all of it up,
+/// so it tells what the book's table does.
 ///
 /// A call takes constant time for each number up to a bound that follows how many there are, and O(log n) for others.
 #[derive(Drop)]
@@ -26,6 +40,8 @@ pub(crate) struct OwnClauses {
     held: OwnMap<Pair>,
     /// The numbers of clauses of the formula that were given up.
     given_up: OwnMap<()>,
+    /// How many bytes more the clauses of lemmas may take.
+    room: u64,
 }
 
 impl OwnClauses {
@@ -35,6 +51,7 @@ impl OwnClauses {
             alloc,
             held: OwnMap::new(alloc),
             given_up: OwnMap::new(alloc),
+            room: 0,
         }
     }
 
@@ -147,11 +164,17 @@ impl OwnClauses {
         self.held.insert(own, Pair { joint, clause })
     }
 
-    /// Takes up the number of a step with a share of its clause, which an own number was bound to.
+    /// Takes up the number of a step with a share of its clause, which an own number was bound to, if there is room for it.
     ///
     /// # Errors
     /// [`NoMemory`] where a growth was refused: the number is then bound, and not here.
     fn share(&mut self, own: u64, step: &Addition) -> Result<(), NoMemory> {
+        let hints = step.hints.len() as u64;
+        self.room = self.room.saturating_add(hints.saturating_mul(FOR_A_HINT));
+        let Some(left) = self.room.checked_sub(bytes_of(step.lemma.clause())) else {
+            return Ok(());
+        };
+        self.room = left;
         let joint = step.number;
         let clause = step.lemma.clause().copy()?;
         self.held.insert(own, Pair { joint, clause })
@@ -170,6 +193,15 @@ impl OwnClauses {
         }
         Ok(())
     }
+}
+
+/// How many bytes a number takes with this clause.
+fn bytes_of(clause: &Clause) -> u64 {
+    let lits = clause.lits().len() as u64;
+    if lits <= INSIDE {
+        return SLOT;
+    }
+    lits.saturating_mul(4).saturating_add(SLOT + BLOCK)
 }
 
 /// The same pair, which shares its clause.
