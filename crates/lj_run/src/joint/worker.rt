@@ -43,6 +43,8 @@ pub(crate) fn run_worker<L: Opening, R: Wait, S: Source, G: Gate>(
     let (mut seat, mut source) = job;
     let mut told = Tokens::new(alloc);
     let tally = run_lines(rt, alloc, shared, gate, &mut seat, &mut source, &mut told);
+    // The last token takes less as words; where they are refused, it stays as it was told.
+    let _ = told.reserve();
     let report = Report {
         added: tally.added,
         deleted: tally.deleted,
