@@ -3,8 +3,8 @@
 # bytes beyond those of empty streams it takes at most for each byte of the streams' text, and how many times as long as for
 # half as many of what its lines are made of.
 #   hostile.sh PATH-OF-LRATJOIN
-# Each stream is made of lines of one kind, and none adds the empty clause: first one stream in turn, and where a row says so
-# the same stream twice on threads. Then come formulas of one kind of clause, with an empty stream, and last 64 streams of a
+# Each stream is made of lines of one kind, and none adds the empty clause: first one stream in turn, and then the same stream
+# twice on threads. Then come formulas of one kind of clause, with an empty stream, and last 64 streams of a
 # line or none over one formula. In these the bytes are for each byte of the formula's text.
 # A stream's row is wrong above 8 bytes for a byte, or above the limit that it is given with its reason. A formula's row has
 # no such limit. Each row is wrong above 2.6 times as long as its half: a time is that of a whole process, the least of three,
@@ -87,8 +87,9 @@ make() {
     awk -v n="$count" "$text" > "$part"
 }
 
-# A row of a stream: its name, its formula, a count and its text. The fifth word, where there is one, is how many lines are
-# done before one is refused, and the sixth how many bytes for a byte it may take where more than 8 can't be helped.
+# Two rows of a stream, in turn and twice on threads: its name, its formula, a count and its text. The fifth word, where there
+# is one, is how many lines are done before one is refused, and the sixth how many bytes for a byte it may take where more than
+# 8 can't be helped.
 stream() {
     local name=$1 formula=$2 count=$3 text=$4 limit=${6:-8} done_half done_whole
     make half "$((count / 2))" "$formula" "$text"
@@ -99,46 +100,38 @@ stream() {
     half() { run "$done_half" half.cnf half --in-turn; }
     whole() { run "$done_whole" whole.cnf whole --in-turn; }
     row "$name" "$limit" "$(wc -c < whole)"
-}
-
-# The same, and then a row of that stream twice, on threads.
-both() {
-    local name=$1 limit=${6:-8} done_half done_whole
-    stream "$@"
-    done_half=${5:-$(wc -l < half)}
-    done_whole=${5:-$(wc -l < whole)}
     empty() { run 0 whole.cnf nothing nothing; }
     half() { run "$done_half" half.cnf half half; }
     whole() { run "$done_whole" whole.cnf whole whole; }
     row "$name, twice on threads" "$limit" "$((2 * $(wc -c < whole)))"
 }
 
-both 'one line of hints' few.cnf 4000000 'BEGIN { printf "2 3 0"; for (i = 0; i < n; i++) printf " 1"; print " 0" }'
-both 'one line of deletions' few.cnf 4000000 'BEGIN { printf "2 d"; for (i = 0; i < n; i++) printf " 2"; print " 0" }'
-both 'one line of deletions of one clause' few.cnf 4000000 \
+stream 'one line of hints' few.cnf 4000000 'BEGIN { printf "2 3 0"; for (i = 0; i < n; i++) printf " 1"; print " 0" }'
+stream 'one line of deletions' few.cnf 4000000 'BEGIN { printf "2 d"; for (i = 0; i < n; i++) printf " 2"; print " 0" }'
+stream 'one line of deletions of one clause' few.cnf 4000000 \
     'BEGIN { printf "2 d"; for (i = 0; i < n; i++) printf " 1"; print " 0" }'
-both 'one line of deletions of one clause, the last a great number' few.cnf 4000000 \
+stream 'one line of deletions of one clause, the last a great number' few.cnf 4000000 \
     'BEGIN { printf "2 d"; for (i = 0; i < n; i++) printf " 1"; print " 9999999999 0" }'
-both 'one line of hints, the last a great number' few.cnf 4000000 \
+stream 'one line of hints, the last a great number' few.cnf 4000000 \
     'BEGIN { printf "2 3 0"; for (i = 0; i < n; i++) printf " 1"; print " 9999999999 0" }' 0
-both 'one line of groups without hints' few.cnf 2700000 \
+stream 'one line of groups without hints' few.cnf 2700000 \
     'BEGIN { printf "2 1 0"; for (i = 0; i < n; i++) printf " -1"; print " 0" }' 0
-both 'one line of groups of a hint each' few.cnf 1600000 \
+stream 'one line of groups of a hint each' few.cnf 1600000 \
     'BEGIN { printf "2 1 0"; for (i = 0; i < n; i++) printf " -1 1"; print " 0" }' 0
-both 'deletions that delete nothing' few.cnf 1300000 'BEGIN { for (i = 0; i < n; i++) print "1 d 0" }'
-both 'additions under numbers near one another' few.cnf 600000 'BEGIN { for (i = 2; i < n; i++) print i " 1 0 1 0" }'
-both 'additions under numbers far apart' few.cnf 300000 \
+stream 'deletions that delete nothing' few.cnf 1300000 'BEGIN { for (i = 0; i < n; i++) print "1 d 0" }'
+stream 'additions under numbers near one another' few.cnf 600000 'BEGIN { for (i = 2; i < n; i++) print i " 1 0 1 0" }'
+stream 'additions under numbers far apart' few.cnf 300000 \
     'BEGIN { for (i = 0; i < n; i++) printf "9223372036854%06d 1 0 1 0\n", 775807 - i }'
-both 'imports' few.cnf 600000 'BEGIN { for (i = 2; i < n; i++) print i " i 1 0" }'
-both 'lemmas of nine literals, behind an import' few.cnf 300000 \
+stream 'imports' few.cnf 600000 'BEGIN { for (i = 2; i < n; i++) print i " i 1 0" }'
+stream 'lemmas of nine literals, behind an import' few.cnf 300000 \
     'BEGIN { print "2 i 1 0"; for (i = 3; i < n; i++) print i " 1 2 3 4 5 6 7 8 9 0 1 0" }'
 # (A stamp takes longer for a variable beyond the first 524,287, so the half has such variables too.)
-both 'a walk over many clauses' 'BEGIN {
+stream 'a walk over many clauses' 'BEGIN {
     print "p cnf " n " " n + 1
     for (i = 1; i <= n; i++) print i " 0"
     for (i = 1; i <= n; i++) printf "-%d ", i
     print "0" }' 2000000 'BEGIN { printf "%d -%d 0", n + 2, n; for (i = 1; i <= n + 1; i++) printf " %d", i; print " 0" }'
-both 'an accepted line of one group of many hints' \
+stream 'an accepted line of one group of many hints' \
     'BEGIN { print "p cnf 2 3"; print "-1 2 0"; print "-2 0"; print "1 0" }' 4000000 \
     'BEGIN { printf "4 1 0 -1"; for (i = 0; i < n; i++) printf " 2"; print " 3 0" }'
 stream 'definitions, each of a variable of its own' many.cnf 1000000 'BEGIN { for (i = 2; i < n; i++) print i " " i " 0 0" }'
@@ -168,10 +161,10 @@ stream 'a list of candidates most of whose clauses are dead' 'BEGIN { print "p c
     for (i = 4; i < n / 2; i++) print i " -1 2 0 1 0"
     printf "3 d"; for (i = 4; i < n / 2; i++) printf " %d", i; print " 0"
     for (; i < n; i++) print i " 1 -2 0 0" }'
-both 'RAT lines of 100 candidates that close before any hint' \
+stream 'RAT lines of 100 candidates that close before any hint' \
     'BEGIN { print "p cnf 2 100"; for (i = 1; i <= 100; i++) print "-1 2 0" }' 100000 \
     'BEGIN { for (i = 1; i <= n; i++) print i + 100 " 1 -2 0 0" }'
-both 'RAT lines of 100 candidates, of which one comes and one goes before each' \
+stream 'RAT lines of 100 candidates, of which one comes and one goes before each' \
     'BEGIN { print "p cnf 3 100"; for (i = 1; i <= 100; i++) print "-1 2 0" }' 30000 'BEGIN {
     for (i = 1; i <= n; i++) {
         print 99 + 2 * i " -1 2 3 0 1 0"

@@ -7,8 +7,10 @@ ghost use Rattle.lj_share.specs.Entries.{IsEntryOf};
 ghost use Rattle.lj_share.specs.Refusals.{CanMeet};
 
 use crate::opening::Opening;
+use crate::refutation::Refutation;
 use crate::seat::Seat;
 use crate::told::Told;
+use lj_book::laws::refuted_is_unsatisfiable;
 use lj_book::{Book, Entry, Ready, Refusal};
 use lj_clause::Clause;
 use lj_hint::Receipt;
@@ -52,6 +54,13 @@ impl<L: Opening> Desk<L> {
     /// The book.
     pub(crate) fn book(&self) -> &Book {
         &self.book
+    }
+
+    /// That no assignment satisfies the formula, if the history adds the empty clause.
+    pub(crate) fn refutation(&self) -> Option<Refutation<L>> {
+        let place = self.book.verdict()?;
+        refuted_is_unsatisfiable(&self.book);
+        Some(Refutation::new(place))
     }
 
     /// The book, the ledger, and what no seat has of it.

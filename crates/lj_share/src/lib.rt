@@ -8,6 +8,7 @@ mod desk;
 mod gate;
 mod opening;
 mod own_clauses;
+mod refutation;
 mod seat;
 mod shared;
 mod tokens;

@@ -1,5 +1,6 @@
 //! The shared book.
-ghost use Rattle.std.specs.Prelude.{◌≡◌, ◌==◌, ◌+◌, ◌<◌, length, is_ok, OnOk, OnErr, IfOk, IfErr, IfSome, None, Ok, Err};
+ghost use Rattle.std.specs.Prelude.{◌≡◌, ◌==◌, ◌+◌, ◌<◌, length, is_ok, OnOk, OnErr, OnSome, IfOk, IfErr, IfSome, None, Ok, Err};
+ghost use Rattle.lj_clause.specs.Truth.{IsUnsatisfiable};
 ghost use Rattle.lj_book.specs.declared.entry.Call.TheVariants as calls;
 ghost use Rattle.lj_book.specs.History.{IsReached};
 ghost use Rattle.lj_share.specs.Seats.{new_seats, counting_one, entries_made};
@@ -10,6 +11,7 @@ use crate::closed::Closed;
 use crate::desk::Desk;
 use crate::gate::{Gate, NoGate};
 use crate::opening::Opening;
+use crate::refutation::Refutation;
 use crate::seat::Seat;
 use crate::told::Told;
 use lj_book::laws::history_is_legal;
@@ -18,9 +20,8 @@ use lj_clause::{Formula, NoMemory};
 use lj_hint::{Case, Receipt, Tested};
 use lj_text::{Addition, Line, Numbers};
 use std::alloc::Global;
-use std::sync::atomic::{AtomicU64, Ordering};
 use std::sync::ledger::{Blank, Share};
-use std::sync::{Mutex, MutexGuard, Wait};
+use std::sync::{Mutex, MutexGuard, OnceLock, Wait};
 
 /// How often the lock is tried before a thread sleeps for it.
 const TRIES: u32 = 64;
@@ -33,8 +34,8 @@ const LOOKS: u32 = 64;
 #[derive(Drop)]
 pub struct Shared<L: Opening> {
     desk: Mutex<Desk<L>>,
-    /// One more than the place of the first entry that adds the empty clause, and 0 while there is none.
-    refuted: AtomicU64,
+    /// That no assignment satisfies the formula, once an entry has added the empty clause.
+    refutation: OnceLock<Refutation<L>>,
     seats: u32,
     /// The formula once more, so that its clauses are read without the lock.
     formula: Formula,
@@ -76,7 +77,7 @@ impl<L: Opening> Shared<L> {
         let out = seats_of(alloc, &mut rest, seats)?;
         let shared = Shared {
             desk: Mutex::new(Desk::new(book, entries, rest)),
-            refuted: AtomicU64::new(0),
+            refutation: OnceLock::new(),
             seats,
             formula: shown,
             alloc,
@@ -254,7 +255,7 @@ impl<L: Opening> Shared<L> {
     {
         let mut desk = self.desk(rt);
         let told = desk.add_inside(seat, addition);
-        self.publish(desk.book());
+        self.publish(&desk);
         told
     }
 
@@ -314,7 +315,7 @@ impl<L: Opening> Shared<L> {
     {
         let mut desk = self.desk.lock(rt);
         let told = desk.commit(seat, receipt);
-        self.publish(desk.book());
+        self.publish(&desk);
         told
     }
 
@@ -333,7 +334,7 @@ impl<L: Opening> Shared<L> {
     {
         let mut desk = self.desk(rt);
         let told = desk.commit_ready(seat, ready);
-        self.publish(desk.book());
+        self.publish(&desk);
         told
     }
 
@@ -381,10 +382,14 @@ impl<L: Opening> Shared<L> {
         &told.entry
     }
 
-    /// The place of the first entry that adds the empty clause, if there is one by now. Waits for nobody. It has no clause:
-    /// nothing learnt of what lies under a plain lock outlives the guard. What it told is seen once the book is closed.
-    pub fn verdict_now(&self) -> Option<u64> {
-        self.refuted.load(Ordering::Acquire).checked_sub(1)
+    /// The place of the first entry that adds the empty clause, if there is one by now: then no assignment satisfies the formula
+    /// that the book was opened with. Waits for nobody. That the place is that of such an entry has no clause: of what lies
+    /// under a plain lock only what stays true of the opening outlives the guard. It is seen once the book is closed.
+    pub fn verdict_now(&self) -> Option<u64>
+        ensures { OnSome result (IsUnsatisfiable L.formula) }
+    {
+        let refutation = self.refutation.get()?;
+        Some(refutation.place())
     }
 
     /// What lies under the lock. It is held for about a microsecond, so it is tried for a while before a thread sleeps for it.
@@ -401,15 +406,14 @@ impl<L: Opening> Shared<L> {
     /// Lets a few hundred cycles pass, in which nothing is written that others read.
     fn pause(&self) {
         for _ in 0..LOOKS {
-            let _ = self.refuted.load(Ordering::Acquire);
+            let _ = self.refutation.get();
         }
     }
 
     /// Lets all see the verdict of the book, if it has one.
-    fn publish(&self, book: &Book) {
-        if let Some(place) = book.verdict() {
-            self.refuted
-                .store(place.saturating_add(1), Ordering::Release);
+    fn publish(&self, desk: &Desk<L>) {
+        if let Some(refutation) = desk.refutation() {
+            let _ = self.refutation.try_set(refutation);
         }
     }
 

@@ -1,9 +1,9 @@
 //! What is true of every book, whatever was called on it.
-ghost use Rattle.std.specs.Prelude.{◌≡◌, Some};
+ghost use Rattle.std.specs.Prelude.{◌≡◌, Some, IsSome};
 ghost use Rattle.lj_clause.specs.ClauseMap.{formula_map};
-ghost use Rattle.lj_clause.specs.Truth.{IsSatisfiable};
+ghost use Rattle.lj_clause.specs.Truth.{IsSatisfiable, IsUnsatisfiable};
 ghost use Rattle.lj_text.specs.Steps.{replay};
-ghost use Rattle.lj_book.specs.State.{live, steps_of};
+ghost use Rattle.lj_book.specs.State.{live, steps_of, verdict};
 ghost use Rattle.lj_book.specs.History.{IsReached};
 
 use super::Book;
@@ -26,6 +26,13 @@ pub fn live_is_the_replay(book: &Book)
 /// Some assignment satisfies the live clauses, if one satisfies the formula.
 pub fn live_is_satisfiable(book: &Book)
     ensures { IsSatisfiable (formula_map book.now.formula) → IsSatisfiable (live book.now) }
+{
+    let _ = &book.formula;
+}
+
+/// No assignment satisfies the formula, if the history has an empty clause.
+pub fn refuted_is_unsatisfiable(book: &Book)
+    ensures { IsSome (verdict book.now.history) → IsUnsatisfiable book.now.formula }
 {
     let _ = &book.formula;
 }
