@@ -6,7 +6,6 @@ mod CutLemmas
 mod DigitLemmas
 mod GroupRows
 mod HeldLemmas
-mod MixedLaws
 mod JudgeLemmas
 mod PassLemmas
 mod ReaderLemmas

@@ -8,7 +8,6 @@ pub mod ShortNumbers
 pub mod CnfReading
 pub mod CnfResuming
 pub mod CnfHeld
-pub mod MixedNumbers
 pub mod Numbers
 pub mod Groups
 pub mod StepText

@@ -14,7 +14,6 @@ mod groups;
 pub mod laws;
 mod line;
 mod lines;
-mod mixed_numbers;
 mod numbers;
 mod sink;
 mod source;

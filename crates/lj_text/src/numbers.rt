@@ -5,7 +5,6 @@ ghost use Rattle.lj_text.specs.inner.LineReading.{IsReadOn};
 
 use crate::bytes::short_number;
 use crate::few_numbers::{FEW, FewNumbers};
-use crate::mixed_numbers::{LentMixed, MixedNumbers};
 use std::alloc::{AllocError, Global};
 use std::marker::Model;
 use std::mem::replace;
@@ -18,20 +17,18 @@ const MANY: usize = 65_536;
 
 /// A list of clause numbers. Two are equal where their contents are.
 ///
-/// Each number takes four bytes where all of them are below 2^32, and otherwise eight more where it is 2^31 or greater, but for a
-/// list that was made of numbers of eight bytes. Up to six of four bytes may stand in the list itself, and take no memory of their
-/// own.
+/// Each number takes four bytes where all of them are below 2^32, and eight otherwise. Up to six of four bytes may stand
+/// in the list itself, and take no memory of their own.
 #[derive(Debug, Drop)]
 pub struct Numbers {
     form: Form,
 }
 
-/// Numbers by their widths.
+/// Numbers of one width.
 #[derive(Debug, Drop)]
 enum Form {
     Few(FewNumbers),
     Short(Vec<u32>),
-    Mixed(MixedNumbers),
     Long(Vec<u64>),
 }
 
@@ -101,7 +98,7 @@ impl Numbers {
         }
     }
 
-    /// The same, where the numbers stand in the list itself, or some take more than four bytes.
+    /// The same, where the numbers stand in the list itself, or the number takes eight bytes.
     #[inline(never)]
     fn push_other(&mut self, number: u64) -> Result<(), AllocError>
         ensures ok { OnOk result (self.new ≡ self.old ++ number ∷ []) }
@@ -116,7 +113,7 @@ impl Numbers {
         }
     }
 
-    /// The same, where some take more than four bytes, or the number has no room among the few.
+    /// The same, where the number takes eight bytes, or has no room among the few.
     #[cold]
     fn push_long(&mut self, number: u64) -> Result<(), AllocError>
         ensures ok { OnOk result (self.new ≡ self.old ++ number ∷ []) }
@@ -128,13 +125,9 @@ impl Numbers {
                 Ok(())
             }
             Form::Short(numbers) => {
-                self.form = with_short(*numbers.allocator(), numbers, number)?;
-                Ok(())
-            }
-            Form::Mixed(numbers) => {
-                if !numbers.push(number)? {
-                    self.form = with_mixed(numbers, number)?;
-                }
+                let mut long = lengthened(*numbers.allocator(), numbers)?;
+                long.push(number)?;
+                self.form = Form::Long(long);
                 Ok(())
             }
             Form::Long(numbers) => {
@@ -152,9 +145,6 @@ impl Numbers {
         match &mut self.form {
             Form::Short(numbers) => numbers.clear(),
             Form::Few(numbers) => numbers.truncate(0),
-            Form::Mixed(numbers) => {
-                self.form = Form::Short(Vec::new(numbers.allocator()));
-            }
             Form::Long(numbers) => {
                 self.form = Form::Short(Vec::new(*numbers.allocator()));
             }
@@ -215,7 +205,6 @@ impl Numbers {
         match &mut self.form {
             Form::Few(numbers) => numbers.truncate(count),
             Form::Short(numbers) => numbers.truncate(count),
-            Form::Mixed(numbers) => numbers.truncate(count),
             Form::Long(numbers) => numbers.truncate(count),
         }
     }
@@ -241,7 +230,6 @@ impl Numbers {
         match &self.form {
             Form::Few(numbers) => numbers.as_slice().len(),
             Form::Short(numbers) => numbers.len(),
-            Form::Mixed(numbers) => numbers.lent().len(),
             Form::Long(numbers) => numbers.len(),
         }
     }
@@ -260,7 +248,6 @@ impl Numbers {
         match &self.form {
             Form::Few(numbers) => short_at(numbers.as_slice(), index),
             Form::Short(numbers) => short_at(numbers, index),
-            Form::Mixed(numbers) => numbers.lent().get(index),
             Form::Long(numbers) => numbers.get(index).copied(),
         }
     }
@@ -277,9 +264,6 @@ impl Numbers {
             Form::Short(numbers) => NumbersIter {
                 rest: Rest::Short(numbers),
             },
-            Form::Mixed(numbers) => NumbersIter {
-                rest: Rest::Mixed(numbers.lent()),
-            },
             Form::Long(numbers) => NumbersIter {
                 rest: Rest::Long(numbers),
             },
@@ -294,7 +278,7 @@ impl Numbers {
         match &self.form {
             Form::Few(numbers) => Some(numbers.as_slice()),
             Form::Short(numbers) => Some(numbers),
-            Form::Mixed(_) | Form::Long(_) => None,
+            Form::Long(_) => None,
         }
     }
 
@@ -323,7 +307,6 @@ impl Numbers {
         let form = match &self.form {
             Form::Few(numbers) => Form::Few(numbers.copy()),
             Form::Short(numbers) => form_of(*numbers.allocator(), numbers)?,
-            Form::Mixed(numbers) => Form::Mixed(numbers.copy()?),
             Form::Long(numbers) => Form::Long(Vec::from_slice(*numbers.allocator(), numbers)?),
         };
         Ok(Numbers { form })
@@ -339,7 +322,6 @@ impl Numbers {
         match &self.form {
             Form::Few(numbers) => lengthened(numbers.allocator(), numbers.as_slice()),
             Form::Short(numbers) => lengthened(*numbers.allocator(), numbers),
-            Form::Mixed(numbers) => numbers.lent().to_vec(numbers.allocator()),
             Form::Long(numbers) => Vec::from_slice(*numbers.allocator(), numbers),
         }
     }
@@ -385,34 +367,7 @@ fn with_few(numbers: &FewNumbers, number: u64) -> Result<Form, AllocError>
         short.push(number as u32)?;
         return Ok(Form::Short(short));
     }
-    with_short(alloc, numbers.as_slice(), number)
-}
-
-/// A list of numbers of four bytes each, and of one more.
-///
-/// # Errors
-/// [`AllocError`] where a growth was refused.
-fn with_short(alloc: Global, numbers: &[u32], number: u64) -> Result<Form, AllocError>
-    ensures { IfOk result (λ form. numbers_in form ≡ numbers.now ++ number ∷ []) }
-{
-    if let Some(mut mixed) = MixedNumbers::from_short(alloc, numbers)? {
-        if mixed.push(number)? {
-            return Ok(Form::Mixed(mixed));
-        }
-    }
-    let mut long = lengthened(alloc, numbers)?;
-    long.push(number)?;
-    Ok(Form::Long(long))
-}
-
-/// The same of numbers most of which take four bytes, where a great one has no room behind them.
-///
-/// # Errors
-/// [`AllocError`] where a growth was refused.
-fn with_mixed(numbers: &MixedNumbers, number: u64) -> Result<Form, AllocError>
-    ensures { IfOk result (λ form. numbers_in form ≡ numbers.now ++ number ∷ []) }
-{
-    let mut long = numbers.lent().to_vec(numbers.allocator())?;
+    let mut long = lengthened(alloc, numbers.as_slice())?;
     long.push(number)?;
     Ok(Form::Long(long))
 }
@@ -462,11 +417,10 @@ pub struct NumbersIter<'a> {
     rest: Rest<'a>,
 }
 
-/// Numbers by their widths that are still to come.
+/// Numbers of one width that are still to come.
 #[derive(Clone, Copy, Debug)]
 enum Rest<'a> {
     Short(&'a [u32]),
-    Mixed(LentMixed<'a>),
     Long(&'a [u64]),
 }
 
@@ -498,7 +452,6 @@ impl<'a> NumbersIter<'a> {
     {
         match self.rest {
             Rest::Short(rest) => rest.len(),
-            Rest::Mixed(rest) => rest.len(),
             Rest::Long(rest) => rest.len(),
         }
     }
@@ -510,7 +463,6 @@ impl<'a> NumbersIter<'a> {
     {
         match self.rest {
             Rest::Short(rest) => short_at(rest, index),
-            Rest::Mixed(rest) => rest.get(index),
             Rest::Long(rest) => rest.get(index).copied(),
         }
     }
@@ -522,7 +474,6 @@ impl<'a> NumbersIter<'a> {
     {
         let rest = match self.rest {
             Rest::Short(rest) => Rest::Short(&rest[..rest.len().min(count)]),
-            Rest::Mixed(rest) => Rest::Mixed(rest.split_at(rest.len().min(count)).0),
             Rest::Long(rest) => Rest::Long(&rest[..rest.len().min(count)]),
         };
         NumbersIter { rest }
@@ -535,7 +486,6 @@ impl<'a> NumbersIter<'a> {
     {
         let rest = match self.rest {
             Rest::Short(rest) => Rest::Short(rest.split_at(rest.len().min(count)).1),
-            Rest::Mixed(rest) => Rest::Mixed(rest.split_at(rest.len().min(count)).1),
             Rest::Long(rest) => Rest::Long(rest.split_at(rest.len().min(count)).1),
         };
         NumbersIter { rest }
@@ -554,13 +504,6 @@ impl<'a> NumbersIter<'a> {
                 self.rest = Rest::Short(behind);
                 NumbersIter {
                     rest: Rest::Short(front),
-                }
-            }
-            Rest::Mixed(rest) => {
-                let (front, behind) = rest.split_at(count);
-                self.rest = Rest::Mixed(behind);
-                NumbersIter {
-                    rest: Rest::Mixed(front),
                 }
             }
             Rest::Long(rest) => {
@@ -590,11 +533,6 @@ impl<'a> Iterator for NumbersIter<'a> {
                 let (first, others) = rest.split_first()?;
                 self.rest = Rest::Short(others);
                 Some(u64::from(*first))
-            }
-            Rest::Mixed(rest) => {
-                let (first, others) = rest.split_first()?;
-                self.rest = Rest::Mixed(others);
-                Some(first)
             }
             Rest::Long(rest) => {
                 let (first, others) = rest.split_first()?;

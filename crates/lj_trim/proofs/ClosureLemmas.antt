@@ -7,7 +7,7 @@ use Rattle.lj_text.specs.declared.step.Step.{Step}
 use Rattle.lj_text.specs.Needed.{has, with_numbers, additions, empty_numbers}
 use Rattle.lj_text.proofs.NeededLaws.{Closes, closes, has_all-with_numbers, all_in_part, with_numbers_where, closure_where, no_numbers}
 use Rattle.lj_trim.specs.declared.marks.Marks.{Marks}
-use Rattle.lj_trim.specs.inner.Marks.{is_marked, AreMarked, MarksOnly, HasAll, IsCovered, Covers}
+use Rattle.lj_trim.specs.inner.Marks.{is_marked, AreMarked, IsWithin, HasAll, IsCovered, Covers}
 use Rattle.lj_trim.specs.inner.Front.{needed_in}
 
 needed-closes : (steps : List Step) → Closes (with_numbers fin.empty (empty_numbers steps)) (needed_in steps) (additions steps)
@@ -22,7 +22,7 @@ pub needed-covers : (steps : List Step) → AllByRecursion (Covers (needed_in st
 needed-covers steps = (needed-closes steps).covers
 
 -- marks within the needed numbers that hold those of the empty clause and cover each addition are the needed numbers
-pub marked-needed : (steps : List Step) (m : Marks) → AreMarked m (empty_numbers steps) → MarksOnly m (needed_in steps) → AllByRecursion (IsCovered m) (additions steps) → (n : ℕ) → is_marked m n ≡ has (needed_in steps) n
+pub marked-needed : (steps : List Step) (m : Marks) → AreMarked m (empty_numbers steps) → IsWithin m (needed_in steps) → AllByRecursion (IsCovered m) (additions steps) → (n : ℕ) → is_marked m n ≡ has (needed_in steps) n
 marked-needed steps m first within cover n =
     let adds = additions steps in
     both_ways (is_marked m n) (has (needed_in steps) n) (within n)

@@ -19,8 +19,8 @@ abbrev pub Grows : Marks → Marks → Type 0
 Grows m k = (n : ℕ) → is_marked m n ≡ true → is_marked k n ≡ true
 
 -- what is marked is in the set
-abbrev pub MarksOnly : Marks → NumberSet → Type 0
-MarksOnly m s = (n : ℕ) → is_marked m n ≡ true → has s n ≡ true
+abbrev pub IsWithin : Marks → NumberSet → Type 0
+IsWithin m s = (n : ℕ) → is_marked m n ≡ true → has s n ≡ true
 
 abbrev pub HasAll : NumberSet → List ℕ → Type 0
 HasAll s ns = AllByRecursion (λ n. has s n ≡ true) ns
@@ -29,7 +29,7 @@ HasAll s ns = AllByRecursion (λ n. has s n ≡ true) ns
 pub record Marked (before after : Marks) (ns : List ℕ) : Type 0 where
   pub grows : Grows before after
   pub all : AreMarked after ns
-  pub only : (s : NumberSet) → MarksOnly before s → HasAll s ns → MarksOnly after s
+  pub only : (s : NumberSet) → IsWithin before s → HasAll s ns → IsWithin after s
 
 -- with the number of an addition all its hints are marked, or in the set
 abbrev pub IsCovered : Marks → Addition → Type 0
@@ -41,8 +41,8 @@ Covers s a = has s a.number ≡ true → HasAll s (all_hints a)
 -- The hints of the additions with a marked number were marked, and the other additions are still open.
 pub record Passed (before after : Marks) (begun still : List Addition) : Type 0 where
   pub grows : Grows before after
-  pub only : (s : NumberSet) → MarksOnly before s → AllByRecursion (Covers s) begun
-      → MarksOnly after s
+  pub only : (s : NumberSet) → IsWithin before s → AllByRecursion (Covers s) begun
+      → IsWithin after s
   pub closes : (m : Marks) → Grows after m → AllByRecursion (IsCovered m) still
       → AllByRecursion (IsCovered m) begun
   pub stays : (s : NumberSet) → AllByRecursion (Covers s) begun → AllByRecursion (Covers s) still
