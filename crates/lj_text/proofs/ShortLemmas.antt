@@ -1,18 +1,26 @@
 -- Numbers of few digits at the front of a line.
-use Rattle.std.proofs.Common.{◌≡◌, ℕ, zero, suc, ◌+◌, ◌-◌, ◌*◌, ◌^◌, ◌<◌, ◌≤◌, ◌≢◌, true, ◌&&◌, List, [], ◌∷◌, ◌++◌, length, get_or, take, drop, take-take, map, refl, sym, ap, ◌∙◌, subst, inl, inr, arith}
+use Rattle.std.proofs.Common.{◌≡◌, Bool, ℕ, zero, suc, ◌+◌, ◌-◌, ◌*◌, ◌^◌, ◌<◌, ◌≤◌, ◌≢◌, ◌==◌, true, false, cond, ◌&&◌, List, [], ◌∷◌, ◌++◌, length, get_or, take, drop, take-take, map, refl, sym, ap, ◌∙◌, subst, append_assoc, arith}
 use Rattle.std.proofs.lemmas.Bool.{and_parts}
-use Rattle.std.proofs.lemmas.List.{take-append-drop, take_all, drop_all, get_or-take}
+use Rattle.std.proofs.lemmas.Bool.Decides.{nat_tests}
+use Rattle.std.proofs.lemmas.List.{take-append-drop, get_or-take}
+use Rattle.std.proofs.lemmas.List.Elements.{All-append, All-cons}
 use Rattle.std.proofs.lemmas.List.Folds.{list_all-append}
 use Rattle.std.proofs.Math.Nat.{pow-succ', pow-le-pow_right}
 use Rattle.std.proofs.Math.Seq.{take-suc, drop-cons}
 use Rattle.std.specs.List.{list_all}
 use Rattle.std.specs.Char.{is_ascii_digit}
-use Rattle.std.specs.Prelude.{Option, Some, ℤ, pos, neg_ℤ}
-use Rattle.lj_text.specs.Bytes.{is_filled, tokens_of, decimal_value, negative, number_of}
-use Rattle.lj_text.specs.inner.HeldNumbers.{EndsToken, IsNumberAhead}
-use Rattle.lj_text.specs.inner.LineReading.{words_of}
-use Rattle.lj_text.specs.inner.ShortNumbers.{IsShortNumber}
-use Rattle.lj_text.proofs.WordLemmas.{decimal_value-push, unsigned-ahead, negative-ahead}
+use mir.Val.{bool_byte}
+use Rattle.std.specs.Prelude.{Option, Some, Result, Ok, Err, ℤ, pos, neg_ℤ, unsigned_abs}
+use Rattle.lj_clause.specs.Literal.{literal_on}
+use Rattle.lj_clause.specs.Rat.{HintGroup}
+use Rattle.lj_text.specs.declared.lines.fault.LineFaultKind.{LineFaultKind}
+use Rattle.lj_text.specs.Bytes.{is_blank, is_filled, is_line_end, tokens_of, decimal_value, negative, number_of}
+use Rattle.lj_text.specs.Lines.{greatest, hints_of, literals_then, numbers_of, with_read}
+use Rattle.lj_text.specs.LinesRead.{HasNoLineEnd}
+use Rattle.lj_text.specs.inner.LineReading.{IsReadOn, behind_hints, behind_literals, behind_numbers, words_of}
+use Rattle.lj_text.specs.inner.ShortNumbers.{AreLiteralsAhead, AreNumbersAhead, IsShortNumber, IsTokenAhead}
+use Rattle.lj_text.proofs.TokenLemmas.{tokens-blank, tokens-first}
+use Rattle.lj_text.proofs.WordLemmas.{decimal_value-push, digits-all, digits_no_blanks, number-negative, number-unsigned}
 
 -- The first i bytes are digits of a value.
 pub record ShortRead (bytes : List ℕ) (i value : ℕ) : Type 0 where
@@ -64,7 +72,7 @@ ended-by bytes i value some few lt space so_far =
       are_digits = so_far.are_digits;
       value_is = so_far.value_is;
       small = omega (arith, short-small bytes i value few so_far);
-      ended = inr (32, refl, sym (take-append-drop i bytes) ∙ ap (λ r. take i bytes ++ r) (drop-cons bytes i 0 lt) ∙ ap (λ b. take i bytes ++ b ∷ drop (suc i) bytes) space);
+      bytes_is = sym (take-append-drop i bytes) ∙ ap (λ r. take i bytes ++ r) (drop-cons bytes i 0 lt) ∙ ap (λ b. take i bytes ++ b ∷ drop (suc i) bytes) space;
     }
 
 pub short-end : (bytes front : List ℕ) (i value : ℕ) → 9 ≤ length bytes → front ≡ take 9 bytes → i ≢ 0 → i < 9 → get_or front i 0 ≡ 32 → ShortRead front i value → IsShortNumber bytes value (drop (i + 1) bytes)
@@ -74,88 +82,162 @@ short-end bytes front i value room is some few space so_far =
     let Q : ℕ → Type 0 = λ k. IsShortNumber bytes value (drop k bytes) in
     subst Q {x = suc i} (omega arith) (ended-by bytes i value (omega (arith, some)) few (omega arith) at (of-front bytes i value few (subst P is so_far)))
 
--- digits to the end
-pub short-last : (bytes : List ℕ) (i value : ℕ) → 0 < length bytes → length bytes < 9 → i ≡ length bytes → ShortRead bytes i value → IsShortNumber bytes value (drop (length bytes) bytes)
-short-last bytes i value some few end until =
-    let P : ℕ → Type 0 = λ k. ShortRead bytes k value in
-    let so_far : ShortRead bytes (length bytes) value = subst P end until in
-    let whole : take (length bytes) bytes ≡ bytes = take_all (length bytes) bytes (omega arith) in
-    record {
-      digits = take (length bytes) bytes;
-      some = filled-front bytes (length bytes) some some;
-      are_digits = so_far.are_digits;
-      value_is = so_far.value_is;
-      small = omega (arith, short-small bytes (length bytes) value few so_far);
-      ended = inl (sym whole, drop_all (length bytes) bytes (omega arith));
-    }
-
--- the same of a byte behind them
-pub short-before : (bytes : List ℕ) (i value : ℕ) → length bytes < 9 → i ≢ 0 → i < length bytes → get_or bytes i 0 ≡ 32 → ShortRead bytes i value → IsShortNumber bytes value (drop (i + 1) bytes)
-short-before bytes i value room some lt space so_far =
-    let Q : ℕ → Type 0 = λ k. IsShortNumber bytes value (drop k bytes) in
-    subst Q {x = suc i} (omega arith) (ended-by bytes i value (omega (arith, some)) (omega arith) lt space so_far)
-
--- the first digit, and what stands behind it
-record Ahead (bytes : List ℕ) (value : ℕ) (after : List ℕ) : Type 0 where
-  first : ℕ
-  rest : List ℕ
-  bytes_is : bytes ≡ first ∷ rest
-  is_digit : is_ascii_digit first ≡ true
-  ahead : IsNumberAhead (first - 48) rest value after
-
 both-left : (d : ℕ) (ds : List ℕ) → list_all is_ascii_digit (d ∷ ds) ≡ true → (is_ascii_digit d ≡ true) × (list_all is_ascii_digit ds ≡ true)
 both-left d ds h = and_parts (is_ascii_digit d) (list_all is_ascii_digit ds) h
 
-by-digits : (bytes : List ℕ) (value : ℕ) (after ds : List ℕ) → is_filled ds ≡ true → list_all is_ascii_digit ds ≡ true → value ≡ decimal_value ds → value < 10 ^ 9 → EndsToken bytes ds after → Ahead bytes value after
-by-digits bytes value after [] some all is small ended = cc
-by-digits bytes value after (d ∷ ds) some all is small ended =
+digit_no_line_end : (b : ℕ) → is_ascii_digit b ≡ true → is_line_end b ≡ false
+digit_no_line_end b d = grind (arith, nat_tests)
+
+none-ends : HasNoLineEnd []
+none-ends = λ k d lt. absurd (omega arith)
+
+pub before-more : (b : ℕ) (bytes : List ℕ) → is_line_end b ≡ false → HasNoLineEnd bytes → HasNoLineEnd (b ∷ bytes)
+before-more b bytes one rest = All-cons (λ b. is_line_end b ≡ false) b bytes one rest
+
+pub none-in-both : (front back : List ℕ) → HasNoLineEnd front → HasNoLineEnd back → HasNoLineEnd (front ++ back)
+none-in-both front back f b = All-append (λ b. is_line_end b ≡ false) front back f b
+
+-- digits and a space
+spaced-ends : (ds : List ℕ) → list_all is_ascii_digit ds ≡ true → HasNoLineEnd (ds ++ 32 ∷ [])
+spaced-ends ds all = none-in-both ds (32 ∷ []) (digits-all is_line_end digit_no_line_end ds all) (before-more 32 [] refl none-ends)
+
+spaced-tokens : (ds tail : List ℕ) → is_filled ds ≡ true → list_all is_ascii_digit ds ≡ true → tokens_of ((ds ++ 32 ∷ []) ++ tail) ≡ ds ∷ tokens_of tail
+spaced-tokens ds tail some all =
+    ap tokens_of (append_assoc ds (32 ∷ []) tail) ∙ tokens-first ds 32 tail some (digits_no_blanks ds all) refl ∙ ap (λ ts. ds ∷ ts) (tokens-blank 32 tail refl)
+
+unsigned-number : (ds : List ℕ) (value : ℕ) → is_filled ds ≡ true → list_all is_ascii_digit ds ≡ true → value ≡ decimal_value ds → number_of ds ≡ Some (pos value)
+unsigned-number [] value some all is = cc
+unsigned-number (d ∷ ds) value some all is =
     let both = both-left d ds all in
-    elim ended [
-      | inl end ↦ record {
-        first = d;
-        rest = ds;
-        bytes_is = end.0;
-        is_digit = both.0;
-        ahead = record { digits = ds; are_digits = both.1; value_is = is; small = omega (arith, small); ends = inl (refl, end.1) };
-      }
-      | inr cut ↦ record {
-        first = d;
-        rest = ds ++ cut.0 ∷ after;
-        bytes_is = cut.2;
-        is_digit = both.0;
-        ahead = record { digits = ds; are_digits = both.1; value_is = is; small = omega (arith, small); ends = inr (cut.0, cut.1, refl) };
-      }
-    ]
+    number-unsigned d ds both.0 both.1 ∙ ap (λ v. Some (pos v)) (sym is)
 
-short-ahead : (bytes : List ℕ) (value : ℕ) (after : List ℕ) → IsShortNumber bytes value after → Ahead bytes value after
-short-ahead bytes value after n = by-digits bytes value after n.digits n.some n.are_digits n.value_is n.small n.ended
-
-words-at : (bytes after : List ℕ) (number : Option ℤ) → (token : List ℕ) × (tokens_of bytes ≡ token ∷ tokens_of after) × (number_of token ≡ number) → words_of bytes ≡ number ∷ words_of after
-words-at bytes after number t = ap (λ ts. map number_of ts) t.1 ∙ ap (λ n. n ∷ words_of after) t.2
-
-pub short-token : (bytes : List ℕ) (value : ℕ) (after : List ℕ) → IsShortNumber bytes value after → (token : List ℕ) × (tokens_of bytes ≡ token ∷ tokens_of after) × (number_of token ≡ Some (pos value))
-short-token bytes value after n =
-    let a = short-ahead bytes value after n in
-    let t = unsigned-ahead a.first a.rest value after a.is_digit a.ahead in
-    (t.0, ap tokens_of a.bytes_is ∙ t.1, t.2)
-
-pub short-word : (bytes : List ℕ) (value : ℕ) (after : List ℕ) → IsShortNumber bytes value after → words_of bytes ≡ Some (pos value) ∷ words_of after
-short-word bytes value after n = words-at bytes after (Some (pos value)) (short-token bytes value after n)
+pub short-ahead : (bytes : List ℕ) (value : ℕ) (after : List ℕ) → IsShortNumber bytes value after → IsTokenAhead bytes (pos value) after
+short-ahead bytes value after n = record {
+  front = n.digits ++ 32 ∷ [];
+  token = n.digits;
+  bytes_is = n.bytes_is ∙ sym (append_assoc n.digits (32 ∷ []) after);
+  none_within = spaced-ends n.digits n.are_digits;
+  tokens_are = λ tail. spaced-tokens n.digits tail n.some n.are_digits;
+  number_is = unsigned-number n.digits value n.some n.are_digits n.value_is;
+}
 
 negative-of : (value : ℕ) → 0 < value → negative value ≡ Some (neg_ℤ (pos value))
 negative-of zero some = absurd (omega arith)
 negative-of (suc k) some = refl
 
-pub short-negative : (bytes : List ℕ) (value : ℕ) (after : List ℕ) → 0 < value → IsShortNumber bytes value after → words_of (45 ∷ bytes) ≡ Some (neg_ℤ (pos value)) ∷ words_of after
-short-negative bytes value after some n =
-    let a = short-ahead bytes value after n in
-    ap (λ bs. words_of (45 ∷ bs)) a.bytes_is ∙ words-at (45 ∷ a.first ∷ a.rest) after (negative value) (negative-ahead a.first a.rest value after a.is_digit a.ahead)
-    ∙ ap (λ w. w ∷ words_of after) (negative-of value some)
+signed-number : (ds : List ℕ) (value : ℕ) → 0 < value → is_filled ds ≡ true → list_all is_ascii_digit ds ≡ true → value ≡ decimal_value ds → number_of (45 ∷ ds) ≡ Some (neg_ℤ (pos value))
+signed-number [] value more some all is = cc
+signed-number (d ∷ ds) value more some all is =
+    let both = both-left d ds all in
+    number-negative d ds both.0 both.1 ∙ ap negative (sym is) ∙ negative-of value more
 
--- the same of a slice behind a `-`
-pub short-cut : (bytes : List ℕ) (value : ℕ) (after : List ℕ) → 1 ≤ length bytes → get_or bytes 0 0 ≡ 45 → 0 < value → IsShortNumber (take (length bytes - 1) (drop 1 bytes)) value after
-    → words_of bytes ≡ Some (neg_ℤ (pos value)) ∷ words_of after
-short-cut [] value after one minus some n = absurd (omega arith)
-short-cut (b ∷ bytes) value after one minus some n =
-    let P : List ℕ → Type 0 = λ r. IsShortNumber r value after in
-    ap (λ x. words_of (x ∷ bytes)) minus ∙ short-negative bytes value after some (subst P (take_all _ bytes (omega arith)) n)
+signed-tokens : (ds tail : List ℕ) → list_all is_ascii_digit ds ≡ true → tokens_of ((45 ∷ (ds ++ 32 ∷ [])) ++ tail) ≡ (45 ∷ ds) ∷ tokens_of tail
+signed-tokens ds tail all =
+    ap (λ t. tokens_of (45 ∷ t)) (append_assoc ds (32 ∷ []) tail)
+    ∙ tokens-first (45 ∷ ds) 32 tail refl (All-cons (λ b. is_blank b ≡ false) 45 ds refl (digits_no_blanks ds all)) refl
+    ∙ ap (λ ts. (45 ∷ ds) ∷ ts) (tokens-blank 32 tail refl)
+
+signed-ahead : (bytes : List ℕ) (value : ℕ) (after : List ℕ) → 0 < value → IsShortNumber bytes value after → IsTokenAhead (45 ∷ bytes) (neg_ℤ (pos value)) after
+signed-ahead bytes value after more n = record {
+  front = 45 ∷ (n.digits ++ 32 ∷ []);
+  token = 45 ∷ n.digits;
+  bytes_is = ap (λ bs. 45 ∷ bs) (n.bytes_is ∙ sym (append_assoc n.digits (32 ∷ []) after));
+  none_within = before-more 45 (n.digits ++ 32 ∷ []) refl (spaced-ends n.digits n.are_digits);
+  tokens_are = λ tail. signed-tokens n.digits tail n.are_digits;
+  number_is = signed-number n.digits value more n.some n.are_digits n.value_is;
+}
+
+-- a sign, where there is one, and digits
+pub integer-ahead : (bytes digits : List ℕ) (sign : Bool) (value : ℕ) (after : List ℕ) → 0 < length bytes → sign ≡ (get_or bytes 0 0 == 45) → digits ≡ drop (bool_byte sign) bytes → 0 < value
+    → IsShortNumber digits value after → IsTokenAhead bytes (literal_on value sign) after
+integer-ahead [] digits sign value after some is cut more n = absurd (omega arith)
+integer-ahead (b ∷ bytes) digits false value after some is cut more n =
+    let P : List ℕ → Type 0 = λ ds. IsShortNumber ds value after in
+    short-ahead (b ∷ bytes) value after (subst P cut n)
+integer-ahead (b ∷ bytes) digits true value after some is cut more n =
+    let P : List ℕ → Type 0 = λ ds. IsShortNumber ds value after in
+    let Q : ℕ → Type 0 = λ c. IsTokenAhead (c ∷ bytes) (literal_on value true) after in
+    let minus : 45 ≡ b = grind (arith, nat_tests) in
+    subst Q minus (signed-ahead bytes value after more (subst P cut n))
+
+-- the word that a token ahead is
+pub token-word : (bytes : List ℕ) (number : ℤ) (after : List ℕ) (t : IsTokenAhead bytes number after) (tail : List ℕ) → words_of (t.front ++ tail) ≡ Some number ∷ words_of tail
+token-word bytes number after t tail = ap (λ ts. map number_of ts) (t.tokens_are tail) ∙ ap (λ n. n ∷ words_of tail) t.number_is
+
+-- Numbers behind others.
+hints-one : (front : List ℕ) (value : ℕ) (read : Result (List ℕ × List HintGroup) LineFaultKind) → behind_hints front (with_read (λ r. (value ∷ r.0, r.1)) read) ≡ behind_hints (front ++ value ∷ []) read
+hints-one front value (Ok r) = ap (λ hs. Ok (hs, r.1)) (sym (append_assoc front (value ∷ []) r.0))
+hints-one front value (Err kind) = refl
+
+numbers-one : (front : List ℕ) (value : ℕ) (read : Result (List ℕ) LineFaultKind) → behind_numbers front (with_read (λ ns. value ∷ ns) read) ≡ behind_numbers (front ++ value ∷ []) read
+numbers-one front value (Ok ns) = ap (λ hs. Ok hs) (sym (append_assoc front (value ∷ []) ns))
+numbers-one front value (Err kind) = refl
+
+hints-word : (ended : Bool) (value : ℕ) (words : List (Option ℤ)) → 0 < value → value ≤ greatest → hints_of ended (Some (pos value) ∷ words) ≡ with_read (λ r. (value ∷ r.0, r.1)) (hints_of ended words)
+hints-word ended zero words some few = absurd (omega arith)
+hints-word ended (suc n) words some few = grind (arith, nat_tests)
+
+numbers-word : (ended : Bool) (value : ℕ) (words : List (Option ℤ)) → 0 < value → value ≤ greatest → numbers_of ended (Some (pos value) ∷ words) ≡ with_read (λ ns. value ∷ ns) (numbers_of ended words)
+numbers-word ended zero words some few = absurd (omega arith)
+numbers-word ended (suc n) words some few = grind (arith, nat_tests)
+
+read-one : (old bytes new : List ℕ) (value : ℕ) (middle rest : List ℕ) → words_of middle ≡ Some (pos value) ∷ words_of rest → 0 < value → value ≤ greatest → IsReadOn old bytes new middle → IsReadOn old bytes (new ++ value ∷ []) rest
+read-one old bytes new value middle rest word some few r = record {
+  hints = λ ended. sym (hints-one new value (hints_of ended (words_of rest))) ∙ sym (ap (behind_hints new) (ap (hints_of ended) word ∙ hints-word ended value (words_of rest) some few)) ∙ r.hints ended;
+  numbers = λ ended. sym (numbers-one new value (numbers_of ended (words_of rest))) ∙ sym (ap (behind_numbers new) (ap (numbers_of ended) word ∙ numbers-word ended value (words_of rest) some few)) ∙ r.numbers ended;
+}
+
+pub numbers-none : (old bytes : List ℕ) → AreNumbersAhead old bytes old bytes
+numbers-none old bytes = record { front = []; bytes_is = refl; none_within = none-ends; read = λ tail. record { hints = λ ended. refl; numbers = λ ended. refl } }
+
+pub numbers-more : (old bytes new : List ℕ) (rest : List ℕ) (value : ℕ) (after : List ℕ) → value ≢ 0 → value ≤ greatest → IsTokenAhead rest (pos value) after → AreNumbersAhead old bytes new rest → AreNumbersAhead old bytes (new ++ value ∷ []) after
+numbers-more old bytes new rest value after some few t so_far =
+    record {
+      front = so_far.front ++ t.front;
+      bytes_is = so_far.bytes_is ∙ ap (λ r. so_far.front ++ r) t.bytes_is ∙ sym (append_assoc so_far.front t.front after);
+      none_within = none-in-both so_far.front t.front so_far.none_within t.none_within;
+      read = λ tail.
+          let P : List ℕ → Type 0 = λ bs. IsReadOn old bs (new ++ value ∷ []) tail in
+          subst P (sym (append_assoc so_far.front t.front tail))
+          (read-one old (so_far.front ++ (t.front ++ tail)) new value (t.front ++ tail) tail (token-word rest (pos value) after t tail) (omega (arith, some)) few (so_far.read (t.front ++ tail)));
+    }
+
+pub numbers-read : (old bytes new rest : List ℕ) → AreNumbersAhead old bytes new rest → IsReadOn old bytes new rest
+numbers-read old bytes new rest n = let P : List ℕ → Type 0 = λ bs. IsReadOn old bs new rest in subst P (sym n.bytes_is) (n.read rest)
+
+-- Literals behind others.
+literals-one : (front : List ℤ) (lit : ℤ) (read : Result (List ℤ × List (Option ℤ)) LineFaultKind) → behind_literals front (with_read (λ r. (lit ∷ r.0, r.1)) read) ≡ behind_literals (front ++ lit ∷ []) read
+literals-one front lit (Ok r) = ap (λ ls. Ok (ls, r.1)) (sym (append_assoc front (lit ∷ []) r.0))
+literals-one front lit (Err kind) = refl
+
+literals-word : (max : ℕ) (ended : Bool) (lit : ℤ) (words : List (Option ℤ)) → 0 < unsigned_abs lit → unsigned_abs lit ≤ max → literals_then max ended (Some lit ∷ words) ≡ with_read (λ r. (lit ∷ r.0, r.1)) (literals_then max ended words)
+literals-word max ended lit words some few = grind (arith, nat_tests)
+
+abs-of : (variable : ℕ) (sign : Bool) → unsigned_abs (literal_on variable sign) ≡ variable
+abs-of variable false = refl
+abs-of zero true = refl
+abs-of (suc n) true = refl
+
+pub literals-none : (max : ℕ) (old : List ℤ) (bytes : List ℕ) → AreLiteralsAhead max old bytes old bytes
+literals-none max old bytes = record { front = []; bytes_is = refl; none_within = none-ends; read = λ ended tail. refl }
+
+pub literals-more : (max : ℕ) (old : List ℤ) (bytes : List ℕ) (new : List ℤ) (rest : List ℕ) (variable : ℕ) (sign : Bool) (after : List ℕ) → variable ≢ 0 → variable ≤ max
+    → (0 < variable → IsTokenAhead rest (literal_on variable sign) after) → AreLiteralsAhead max old bytes new rest → AreLiteralsAhead max old bytes (new ++ literal_on variable sign ∷ []) after
+literals-more max old bytes new rest variable sign after some few ahead so_far =
+    let lit : ℤ = literal_on variable sign in
+    let abs : unsigned_abs lit ≡ variable = abs-of variable sign in
+    let t : IsTokenAhead rest lit after = ahead (omega (arith, some)) in
+    record {
+      front = so_far.front ++ t.front;
+      bytes_is = so_far.bytes_is ∙ ap (λ r. so_far.front ++ r) t.bytes_is ∙ sym (append_assoc so_far.front t.front after);
+      none_within = none-in-both so_far.front t.front so_far.none_within t.none_within;
+      read = λ ended tail.
+          sym (literals-one new lit (literals_then max ended (words_of tail)))
+          ∙ sym (ap (behind_literals new) (ap (literals_then max ended) (token-word rest lit after t tail) ∙ literals-word max ended lit (words_of tail) (omega (arith, abs, some)) (omega (arith, abs, few))))
+          ∙ so_far.read ended (t.front ++ tail)
+          ∙ ap (λ bs. behind_literals old (literals_then max ended (words_of bs))) (sym (append_assoc so_far.front t.front tail));
+    }
+
+pub literals-read : (max : ℕ) (old : List ℤ) (bytes : List ℕ) (new : List ℤ) (rest : List ℕ) → AreLiteralsAhead max old bytes new rest → (ended : Bool)
+    → behind_literals new (literals_then max ended (words_of rest)) ≡ behind_literals old (literals_then max ended (words_of bytes))
+literals-read max old bytes new rest n ended = n.read ended rest ∙ ap (λ bs. behind_literals old (literals_then max ended (words_of bs))) (sym n.bytes_is)

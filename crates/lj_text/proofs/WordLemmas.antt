@@ -97,7 +97,7 @@ digits-all p none (b ∷ ds) h =
       | false ↦ λ e. absurd (let wrong : false ≡ true = ap (λ t. t && list_all is_ascii_digit ds) (sym e) ∙ h in cc)
     ] refl
 
-digits_no_blanks : (ds : List ℕ) → list_all is_ascii_digit ds ≡ true → All (λ b. is_blank b ≡ false) ds
+pub digits_no_blanks : (ds : List ℕ) → list_all is_ascii_digit ds ≡ true → All (λ b. is_blank b ≡ false) ds
 digits_no_blanks ds h = digits-all is_blank digit_no_blank ds h
 
 filled-front : (b : ℕ) (front ds : List ℕ) → is_filled ((b ∷ front) ++ ds) ≡ true

@@ -9,6 +9,7 @@ mod hints;
 mod judge;
 mod literals;
 mod look;
+mod one_pass;
 mod parse;
 mod reader;
 mod room;

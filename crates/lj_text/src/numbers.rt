@@ -2,6 +2,7 @@
 ghost use Rattle.std.specs.Prelude.{◌≡◌, ◌==◌, ◌≤◌, ◌∷◌, ◌++◌, ◌↔◌, IsTrue, [], length, take, drop, slice_get, vec_capacity, IfOk, IfSome, OnOk, OnErr};
 ghost use Rattle.lj_text.specs.inner.Numbers.{numbers_in, numbers_left};
 ghost use Rattle.lj_text.specs.inner.LineReading.{IsReadOn};
+ghost use Rattle.lj_text.specs.inner.ShortNumbers.{AreNumbersAhead};
 
 use crate::bytes::short_number;
 use crate::few_numbers::{FEW, FewNumbers};
@@ -186,9 +187,10 @@ impl Numbers {
     }
 
     /// Takes the short numbers at the front of a line's bytes behind the others, where they go behind them at no cost, and
-    /// answers the bytes that follow.
+    /// answers the bytes that follow. Takes time linear in the bytes that it passes.
     #[inline]
     pub(crate) fn read_short<'a>(&mut self, bytes: &'a [u8]) -> &'a [u8]
+        ensures ahead { AreNumbersAhead self.old bytes.now self.new result.now }
         ensures read { IsReadOn self.old bytes.now self.new result.now }
         ensures within { length result.now ≤ length bytes.now }
     {
@@ -328,7 +330,9 @@ impl Numbers {
 }
 
 /// Takes the short numbers at the front of a line's bytes behind the others, up to a 0, and answers the bytes that follow.
+#[inline(never)]
 fn short_numbers<'a>(numbers: &mut Vec<u32>, bytes: &'a [u8]) -> &'a [u8]
+    ensures ahead { AreNumbersAhead numbers.old.items bytes.now numbers.new.items result.now }
     ensures read { IsReadOn numbers.old.items bytes.now numbers.new.items result.now }
     ensures within { length result.now ≤ length bytes.now }
 {

@@ -1,6 +1,6 @@
 //! Lists of numbers.
 ghost use Rattle.lj_text.specs.Lines.{numbers_of};
-ghost use Rattle.lj_text.specs.inner.LineReading.{Gives, words_of};
+ghost use Rattle.lj_text.specs.inner.LineReading.{Gives, behind_numbers, words_of};
 
 use super::closing::{check_closed, cut_short};
 use super::fault::LineFaultKind;
@@ -16,6 +16,18 @@ pub(super) fn read_numbers(
     ensures { Gives (λ _. numbers.new) result (numbers_of ended (words_of bytes.now)) }
 {
     numbers.clear();
+    read_rest(numbers, ended, bytes)
+}
+
+/// The same, behind the numbers that were read.
+pub(super) fn read_rest(
+    numbers: &mut Numbers,
+    ended: bool,
+    bytes: &[u8],
+) -> Result<(), LineFaultKind>
+    ensures { Gives (λ _. numbers.new) result
+        (behind_numbers numbers.old (numbers_of ended (words_of bytes.now))) }
+{
     let mut rest = numbers.read_short(bytes);
     loop {
         let Some((word, after)) = next_word(rest) else {

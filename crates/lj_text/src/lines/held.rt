@@ -73,7 +73,15 @@ impl Held {
         self.count
     }
 
-    /// What is held.
+    /// The bytes at the front, as many as stand in one piece of memory. Takes constant time.
+    #[inline(always)]
+    pub fn front(&self) -> &[u8]
+        ensures { (after : List ℕ) × (self.now ≡ result.now ++ after) }
+    {
+        self.ahead().front
+    }
+
+    /// What is held. Takes constant time.
     pub fn ahead(&self) -> Ahead<'_>
         ensures { result ≡ self.now }
     {
@@ -110,21 +118,6 @@ impl Held {
     {
         let (_, last) = self.rest.split_at(self.rest.len() - count);
         last
-    }
-
-    /// The first line; no line ends among the first `searched` bytes. Takes time linear in the bytes behind those, up to
-    /// its end.
-    #[inline(always)]
-    pub fn first_line(&self, searched: usize) -> Option<&[u8]>
-        requires within { searched ≤ length self.now }
-        requires none_before { HasNoLineEnd (take searched self.now) }
-        ensures none { IfNone result (HasNoLineEnd self.now) }
-        ensures some { IfSome result
-            (λ line. (after : List ℕ) × (self.now ≡ line.now ++ byte "\n" ∷ after)) }
-        ensures line { IfSome result (λ line. HasNoLineEnd line.now) }
-    {
-        let (line, _) = self.ahead().first_line(searched)?;
-        Some(line)
     }
 
     /// Lets go of the first bytes, which end a line. Takes constant time, but for the runs that it lets go of.

@@ -71,7 +71,7 @@ fn read_groups(
 }
 
 /// The hints behind those that were read, and the groups, up to the closing 0.
-fn read_rest(
+pub(super) fn read_rest(
     hints: &mut Numbers,
     groups: &mut Groups,
     room: &mut Numbers,
@@ -89,7 +89,6 @@ fn read_rest(
 }
 
 /// Reads the hints and the groups up to the closing 0.
-#[inline(always)]
 pub(super) fn read_proof(
     hints: &mut Numbers,
     groups: &mut Groups,

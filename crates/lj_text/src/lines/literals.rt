@@ -2,6 +2,7 @@
 ghost use Rattle.std.specs.Prelude.{◌≡◌, ◌≤◌, Bool, length};
 ghost use Rattle.lj_text.specs.Lines.{literals_then};
 ghost use Rattle.lj_text.specs.inner.LineReading.{Gives, behind_literals, words_of};
+ghost use Rattle.lj_text.specs.inner.ShortNumbers.{AreLiteralsAhead};
 ghost use Rattle.lj_clause.specs.declared.lit.TheConstants.{MAX_VARIABLE};
 
 use super::closing::cut_short;
@@ -9,9 +10,13 @@ use super::fault::LineFaultKind;
 use crate::bytes::{Word, next_word, short_integer};
 use lj_clause::Lit;
 
-/// Takes the short literals at the front behind the others, and answers what follows them.
-fn short_literals<'a>(literals: &mut Vec<Lit>, max: u32, bytes: &'a [u8]) -> &'a [u8]
+/// Takes the short literals at the front behind the others, and answers what follows them. Takes time linear in the bytes
+/// that it passes.
+#[inline(never)]
+pub(super) fn short_literals<'a>(literals: &mut Vec<Lit>, max: u32, bytes: &'a [u8]) -> &'a [u8]
     requires { max ≤ MAX_VARIABLE }
+    ensures ahead { AreLiteralsAhead max literals.old.items bytes.now
+        literals.new.items result.now }
     ensures read { (ended : Bool)
         → behind_literals literals.new.items (literals_then max ended (words_of result.now))
         ≡ behind_literals literals.old.items (literals_then max ended (words_of bytes.now)) }
@@ -31,7 +36,6 @@ fn short_literals<'a>(literals: &mut Vec<Lit>, max: u32, bytes: &'a [u8]) -> &'a
 }
 
 /// The literals up to a 0, and what follows it.
-#[inline(always)]
 pub(super) fn read_literals<'a>(
     literals: &mut Vec<Lit>,
     max: u32,

@@ -29,8 +29,7 @@ pub(super) struct Found {
 }
 
 /// What the bytes of the line with this number say.
-#[inline(always)]
-pub(super) fn parse_at(
+fn parse_at(
     room: &mut Room,
     max: u32,
     ended: bool,

@@ -20,7 +20,6 @@ use crate::line::{Addition, Line};
 use lj_clause::{Clause, Lemma};
 
 /// The literals, hints and groups of an addition.
-#[inline(always)]
 fn addition(
     room: &mut Room,
     max: u32,
@@ -37,7 +36,6 @@ fn addition(
 }
 
 /// Writes the literals, hints and groups of an addition into a place.
-#[inline(always)]
 fn write_addition(
     place: &mut Addition,
     room: &mut Room,
@@ -112,7 +110,6 @@ pub(super) fn after_zero(max: u32, token: &[u8]) -> LineFaultKind
 }
 
 /// What follows a line's first number.
-#[inline(always)]
 fn after_number(
     room: &mut Room,
     max: u32,
@@ -155,7 +152,6 @@ fn after_any_number(
 }
 
 /// The line's first number, and what follows it.
-#[inline(always)]
 fn first_number(ended: bool, bytes: &[u8]) -> Result<(u64, &[u8]), LineFaultKind>
     ensures ok { IfOk result (λ found. (token : List ℕ)
         × (tokens_of bytes.now ≡ token ∷ tokens_of found.1.now)
@@ -177,7 +173,6 @@ fn first_number(ended: bool, bytes: &[u8]) -> Result<(u64, &[u8]), LineFaultKind
 }
 
 /// The line that isn't silent.
-#[inline(always)]
 fn line(room: &mut Room, max: u32, ended: bool, bytes: &[u8]) -> Result<Line, LineFaultKind>
     requires { max ≤ MAX_VARIABLE }
     ensures { Gives (λ line. line) result (line_of max ended (tokens_of bytes.now)) }
@@ -187,7 +182,6 @@ fn line(room: &mut Room, max: u32, ended: bool, bytes: &[u8]) -> Result<Line, Li
 }
 
 /// The same, where want of memory is told only of a line that is right: another line's fault comes before it.
-#[inline(always)]
 fn line_or_fault(
     room: &mut Room,
     max: u32,
@@ -209,7 +203,6 @@ fn line_or_fault(
 }
 
 /// What the bytes of a line say: nothing where it is silent. Takes time linear in the bytes, but for a lemma's sorting.
-#[inline(always)]
 pub(super) fn parse(
     room: &mut Room,
     max: u32,

@@ -9,7 +9,8 @@ ghost use Rattle.lj_clause.specs.declared.lit.TheConstants.{MAX_VARIABLE};
 
 use super::fault::{LineFault, LineFaultKind};
 use super::held::Held;
-use super::look::{Found, look, look_to_end, parse_at};
+use super::look::{Found, look, look_to_end};
+use super::one_pass::line_at_front;
 use super::room::Room;
 use crate::line::Line;
 use std::alloc::Global;
@@ -237,20 +238,21 @@ impl LineReader {
         self.held.room()
     }
 
-    /// Takes the first line, where it is whole, says something and is right: the usual one, for which nothing else is
-    /// made. Where memory was refused for it, whoever looks on tries it again.
+    /// Takes the first line, where it is whole and in the usual form: whoever looks on reads any other, also one for which
+    /// memory was refused. The beginning of a line that was searched isn't read again, so that the pieces of a long line
+    /// take linear time.
     #[inline(always)]
     fn take_first(&mut self) -> Option<Line>
         ensures some { IfSome result (λ line. IsTaken self.old self.new (Some line)) }
         ensures none { IfNone result (self.new ≡ self.old) }
     {
-        let bytes = self.held.first_line(self.searched)?;
-        let count = bytes.len() + 1;
-        let Ok(Some(line)) = parse_at(&mut self.room, self.max, true, bytes, self.line) else {
+        if self.searched != 0 {
             return None;
-        };
+        }
+        let bytes = self.held.front();
+        let (line, after) = line_at_front(&mut self.room, self.max, bytes)?;
+        let count = bytes.len() - after.len();
         self.held.pass_line(count);
-        self.searched = 0;
         self.at = self.line;
         self.line = self.line.saturating_add(1);
         Some(line)

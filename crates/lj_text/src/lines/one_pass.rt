@@ -1,0 +1,173 @@
+//! The usual line, in one pass over its bytes: its end is found where its numbers end.
+ghost use Rattle.std.specs.Prelude.{◌≡◌, ◌<◌, ◌≤◌, Ok, Some, length, true, IfSome};
+ghost use Rattle.lj_text.specs.Bytes.{tokens_of};
+ghost use Rattle.lj_text.specs.Lines.{addition_of, deletion_of, hints_of, numbers_of};
+ghost use Rattle.lj_text.specs.declared.line.Line.TheVariants.{Add};
+ghost use Rattle.lj_text.specs.inner.LineReading.{line_said, words_of};
+ghost use Rattle.lj_text.specs.inner.ShortNumbers.{BeginsByLine, BeginsNumber};
+ghost use Rattle.lj_clause.specs.declared.lit.TheConstants.{MAX_VARIABLE};
+
+use super::cut::first_line;
+use super::literals::short_literals;
+use super::room::Room;
+use super::{deletion, hints};
+use crate::boxed::Boxed;
+use crate::bytes::short_number;
+use crate::groups::Groups;
+use crate::line::{Addition, Line};
+use crate::numbers::Numbers;
+use lj_clause::Lemma;
+
+/// Reads the hints and groups at the front up to their line's end, and answers what follows it: none where they are at
+/// fault, or no line feed follows, or memory was refused.
+#[inline(always)]
+fn proof_at_front<'a>(
+    hints: &mut Numbers,
+    groups: &mut Groups,
+    room: &mut Numbers,
+    bytes: &'a [u8],
+) -> Option<&'a [u8]>
+    ensures read { IfSome result (λ after. BeginsByLine
+        (λ line. hints_of true (words_of line) ≡ Ok (hints.new, groups.new))
+        bytes.now after.now) }
+    ensures shorter { IfSome result (λ after. length after.now < length bytes.now) }
+{
+    hints.clear();
+    groups.clear();
+    let rest = hints.read_short(bytes);
+    if let [b'0', b'\n', after @ ..] = rest {
+        return Some(after);
+    }
+    let (line, after) = first_line(rest, 0)?;
+    match hints::read_rest(hints, groups, room, true, line) {
+        Ok(()) => Some(after),
+        Err(_) => None,
+    }
+}
+
+/// Reads the numbers of a deletion at the front up to their line's end, and answers what follows it: none as above.
+#[inline(always)]
+fn numbers_at_front<'a>(numbers: &mut Numbers, bytes: &'a [u8]) -> Option<&'a [u8]>
+    ensures read { IfSome result (λ after. BeginsByLine
+        (λ line. numbers_of true (words_of line) ≡ Ok numbers.new) bytes.now after.now) }
+    ensures shorter { IfSome result (λ after. length after.now < length bytes.now) }
+{
+    numbers.clear();
+    let rest = numbers.read_short(bytes);
+    if let [b'0', b'\n', after @ ..] = rest {
+        return Some(after);
+    }
+    let (line, after) = first_line(rest, 0)?;
+    match deletion::read_rest(numbers, true, line) {
+        Ok(()) => Some(after),
+        Err(_) => None,
+    }
+}
+
+/// Writes the literals, hints and groups at the front into a place, up to their line's end, and answers what follows it:
+/// none as above.
+#[inline(always)]
+fn write_at_front<'a>(
+    place: &mut Addition,
+    room: &mut Room,
+    max: u32,
+    number: u64,
+    bytes: &'a [u8],
+) -> Option<&'a [u8]>
+    requires { max ≤ MAX_VARIABLE }
+    ensures read { IfSome result (λ after. BeginsByLine
+        (λ line. addition_of max true number (words_of line) ≡ Ok (Add place.new))
+        bytes.now after.now) }
+    ensures shorter { IfSome result (λ after. length after.now < length bytes.now) }
+{
+    room.literals.clear();
+    let rest = short_literals(&mut room.literals, max, bytes);
+    let [b'0', b' ', proof @ ..] = rest else {
+        return None;
+    };
+    let after = proof_at_front(&mut place.hints, &mut place.groups, &mut room.hints, proof)?;
+    let Ok(lemma) = Lemma::from_room(room.alloc, &mut room.literals) else {
+        return None;
+    };
+    place.number = number;
+    place.lemma = lemma;
+    Some(after)
+}
+
+/// The addition at the front, behind its number, and what follows its line: none as above.
+#[inline(always)]
+fn addition_at_front<'a>(
+    room: &mut Room,
+    max: u32,
+    number: u64,
+    bytes: &'a [u8],
+) -> Option<(Line, &'a [u8])>
+    requires { max ≤ MAX_VARIABLE }
+    ensures read { IfSome result (λ found. BeginsByLine
+        (λ line. addition_of max true number (words_of line) ≡ Ok found.0)
+        bytes.now found.1.now) }
+    ensures shorter { IfSome result (λ found. length found.1.now < length bytes.now) }
+{
+    let Ok(mut place) = room.addition() else {
+        return None;
+    };
+    match write_at_front(&mut place, room, max, number, bytes) {
+        Some(after) => Some((Line::Add(Boxed::from_box(place)), after)),
+        None => {
+            room.addition = Some(place);
+            None
+        }
+    }
+}
+
+/// The deletion at the front, behind its `d`, and what follows its line: none as above.
+#[inline(always)]
+fn deletion_at_front<'a>(room: &mut Room, bytes: &'a [u8]) -> Option<(Line, &'a [u8])>
+    ensures read { IfSome result (λ found. BeginsByLine
+        (λ line. deletion_of true (words_of line) ≡ Ok found.0) bytes.now found.1.now) }
+    ensures shorter { IfSome result (λ found. length found.1.now < length bytes.now) }
+{
+    let Ok(mut place) = room.deletion() else {
+        return None;
+    };
+    match numbers_at_front(&mut place, bytes) {
+        Some(after) => Some((Line::Delete(Boxed::from_box(place)), after)),
+        None => {
+            room.deletion = Some(place);
+            None
+        }
+    }
+}
+
+/// Whether a byte is the first of a number.
+#[inline(always)]
+fn begins_number(byte: u8) -> bool
+    ensures { result ≡ true → BeginsNumber byte }
+{
+    byte == b'-' || byte.is_ascii_digit()
+}
+
+/// The line at the front, where it is an addition or a deletion in the usual form, which a line feed ends, and what
+/// follows it: none for any other line, for one at fault, and where memory was refused. Takes time linear in the line,
+/// and O(n log n) time for literals that stand in no order.
+#[inline(always)]
+pub(super) fn line_at_front<'a>(
+    room: &mut Room,
+    max: u32,
+    bytes: &'a [u8],
+) -> Option<(Line, &'a [u8])>
+    requires { max ≤ MAX_VARIABLE }
+    ensures read { IfSome result (λ found. BeginsByLine
+        (λ line. line_said max true (tokens_of line) ≡ Ok (Some found.0))
+        bytes.now found.1.now) }
+    ensures shorter { IfSome result (λ found. length found.1.now < length bytes.now) }
+{
+    let (number, rest) = short_number(bytes)?;
+    match rest {
+        [b'd', b' ', numbers @ ..] => deletion_at_front(room, numbers),
+        [first, ..] if number != 0 && begins_number(*first) => {
+            addition_at_front(room, max, u64::from(number), rest)
+        }
+        _ => None,
+    }
+}
