@@ -1,7 +1,8 @@
 #!/usr/bin/env bash
 # Measures the readers of lj_text, and prints what it measures: their speed over 50 MB of LRAT lines beside that of
-# `wc -l` and of a plain reader in C, the time that one line of a million tokens takes, the speed and the memory for lines
-# of 100 MB that are meant to be slow or to take much, and the memory that a formula's header takes.
+# `wc -l` and of a plain reader in C, the time that one line of a million tokens takes, in pieces of one byte too, the speed
+# and the memory for lines of 100 MB that are meant to be slow or to take much, and the memory that a formula's header
+# takes. Given the word `gigabyte`, it also reads a line of a gigabyte, which takes 6 GB of memory.
 #
 # The program is read_lines.txt. It is no .rt file, since the gate refuses one that belongs to no crate of crates.txt.
 # It is proved and built in a scratch folder, by LLVM, over a copy of the library, and nothing is written here.
@@ -87,14 +88,16 @@ long_line() {
 long_lines() {
     for what in hints literals; do
         for millions in 1 2; do long_line "$what" "${millions}000000" > "$scratch/$millions"; done
-        for _ in 1 2 3 4 5; do
-            for millions in 1 2; do
-                timed "$millions" read_lines lines "$scratch/$millions" 4096
-                handed_out "$scratch/$millions"
-            done
-        done | least | awk -v what="$what" '
-            { ms[$1] = $2 / 1000 }
-            END { printf "one line of %s: %.0f ms at a million, %.0f ms at two, %.2f times as long\n", what, ms[1], ms[2], ms[2] / ms[1] }'
+        for size in 1 4096; do
+            for _ in 1 2 3 4 5; do
+                for millions in 1 2; do
+                    timed "$millions" read_lines lines "$scratch/$millions" "$size"
+                    handed_out "$scratch/$millions"
+                done
+            done | least | awk -v what="$what" -v size="$size" '
+                { ms[$1] = $2 / 1000 }
+                END { printf "one line of %s, pieces of %d bytes: %.0f ms at a million, %.0f ms at two, %.2f times as long\n", what, size, ms[1], ms[2], ms[2] / ms[1] }'
+        done
     done
 }
 
@@ -131,6 +134,15 @@ hostile() {
     done
 }
 
+gigabyte() {
+    for megabytes in 100 1000; do
+        repeated hints "${megabytes}000000" > "$scratch/$megabytes"
+        timed "$megabytes" read_lines lines "$scratch/$megabytes" 65536
+        handed_out "$scratch/$megabytes"
+    done | awk '{ took[$1] = $2 } END { printf "one line of hints of a gigabyte: %.1f s, %.1f times as long as a tenth of it\n", took[1000] / 1e6, took[1000] / took[100] }'
+    awk '$1 == "VmHWM:" { printf "one line of hints of a gigabyte: %.1f bytes of memory for each byte\n", $2 * 1024 / 1e9 }' "$scratch/printed"
+}
+
 headers() {
     echo 'p cnf 134217727 4294967295' > "$scratch/header"
     for _ in 1 2 3 4 5; do
@@ -148,4 +160,5 @@ echo "load of the machine: $(cut -d ' ' -f 1-3 /proc/loadavg), processors: $(npr
 speed
 long_lines
 hostile
+if [ "${1:-}" = gigabyte ]; then gigabyte; fi
 headers

@@ -20,7 +20,7 @@ impl<T> Model for Boxed<T> {
 }
 
 impl<T> Boxed<T> {
-    /// The value, in memory of its own.
+    /// The value, in memory of its own. Takes constant time.
     ///
     /// # Errors
     /// [`AllocFailed`] with the value, where the memory was refused.
@@ -32,7 +32,7 @@ impl<T> Boxed<T> {
         })
     }
 
-    /// The value, whose memory is given back.
+    /// The value, whose memory is given back. Takes constant time.
     pub fn into_inner(self) -> T
         ensures { result ≡ self }
     {

@@ -93,7 +93,7 @@ impl Model for Row {
 }
 
 impl Groups {
-    /// A list of no groups. Takes no memory.
+    /// A list of no groups. Takes no memory. Takes constant time.
     pub fn new(alloc: Global) -> Groups
         ensures { result ≡ [] }
     {
@@ -119,7 +119,7 @@ impl Groups {
         }
     }
 
-    /// How many groups there are.
+    /// How many groups there are. Takes constant time.
     #[inline]
     pub fn len(&self) -> usize
         ensures { result ≡ length self.now }
@@ -130,7 +130,7 @@ impl Groups {
         }
     }
 
-    /// Whether there is none.
+    /// Whether there is none. Takes constant time.
     #[inline]
     pub fn is_empty(&self) -> bool
         ensures { result ≡ (length self.now == 0) }
@@ -138,7 +138,7 @@ impl Groups {
         self.len() == 0
     }
 
-    /// The groups, in order.
+    /// The groups, in order. Takes constant time.
     #[inline]
     pub fn iter(&self) -> GroupsIter<'_>
         ensures { result ≡ self.now }
@@ -192,7 +192,7 @@ impl Groups {
         }
     }
 
-    /// Lets go of the groups, and of their room where it is for more than a few numbers.
+    /// Lets go of the groups, and of their room where it is for more than a few numbers. Takes constant time.
     #[inline]
     pub fn let_go(&mut self)
         ensures { self.new ≡ [] }
@@ -381,7 +381,7 @@ impl<'a> IndexedGroups<'a> {
         Ok(IndexedGroups { row, starts })
     }
 
-    /// How many groups there are.
+    /// How many groups there are. Takes constant time.
     #[inline]
     pub fn len(&self) -> usize
         ensures { result ≡ length self.now }

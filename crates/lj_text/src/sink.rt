@@ -26,7 +26,7 @@ pub trait Sink {
     ghost failures: { Self → ℕ };
 
     /// Takes bytes from the front of the piece and answers how many: one at least, where the piece
-    /// has any. One that has failed is given no more.
+    /// has any. One that has failed is given no more. Takes one write's time: a caller counts it as linear in the piece.
     fn put(&mut self, piece: &[u8]) -> Result<usize, SinkFault>
         requires { failures self.old ≡ 0 }
 
@@ -95,7 +95,7 @@ impl Model for MemorySink {
 }
 
 impl MemorySink {
-    /// Nothing is taken yet, and it has not failed.
+    /// Nothing is taken yet, and it has not failed. Takes constant time.
     pub fn new(alloc: Global) -> Self
         ensures { result ≡ ([], 0) }
     {
@@ -105,14 +105,14 @@ impl MemorySink {
         }
     }
 
-    /// The bytes taken so far.
+    /// The bytes taken so far. Takes constant time.
     pub fn bytes(&self) -> &[u8]
         ensures { result.now ≡ self.now.0 }
     {
         &self.bytes
     }
 
-    /// The bytes taken so far, by value.
+    /// The bytes taken so far, by value. Takes constant time.
     pub fn into_bytes(self) -> Vec<u8>
         ensures { result.items ≡ self.0 }
     {
@@ -162,7 +162,7 @@ impl<W> Model for WriterSink<W> {
 }
 
 impl<W> WriterSink<W> {
-    /// The writer takes the bytes. It has taken none yet, and has not failed.
+    /// The writer takes the bytes. It has taken none yet, and has not failed. Takes constant time.
     pub fn new(writer: W) -> Self
         ensures { result ≡ record { writer = writer; taken = []; failures = 0 } }
     {
@@ -173,7 +173,7 @@ impl<W> WriterSink<W> {
         }
     }
 
-    /// The writer.
+    /// The writer. Takes constant time.
     pub fn into_writer(self) -> W
         ensures { result ≡ self.writer }
     {

@@ -28,7 +28,8 @@ pub trait Source {
     ghost failures: { Self → ℕ };
 
     /// Puts the next bytes at the front of the buffer and answers how many, 0 exactly where the source has ended.
-    /// It stays ended. What the buffer holds behind them is left open. One that has failed isn't pulled again.
+    /// It stays ended. What the buffer holds behind them is left open. One that has failed isn't pulled again. Takes one
+    /// read's time: a caller counts it as linear in the buffer.
     fn pull(&mut self, buffer: &mut [u8]) -> Result<usize, SourceFault>
         requires room { 0 < length buffer.old }
         requires unfailed { failures self.old ≡ 0 }
@@ -97,7 +98,7 @@ impl Model for MemorySource {
 }
 
 impl MemorySource {
-    /// All of these bytes are still to come.
+    /// All of these bytes are still to come. Takes constant time.
     pub fn new(bytes: Vec<u8>) -> Self
         ensures { result ≡ record { given = []; rest = bytes.items; ended = false } }
     {
@@ -108,7 +109,7 @@ impl MemorySource {
         }
     }
 
-    /// The bytes still to come.
+    /// The bytes still to come. Takes constant time.
     pub fn rest(&self) -> &[u8]
         ensures { result.now ≡ self.now.rest }
     {
@@ -162,7 +163,7 @@ impl<R: Read> Model for ReaderSource<R> {
 }
 
 impl<R: Read> ReaderSource<R> {
-    /// The reader's bytes. It has given none, and has neither ended nor failed.
+    /// The reader's bytes. It has given none, and has neither ended nor failed. Takes constant time.
     pub fn new(reader: R) -> Self
         ensures { result ≡ record { reader = reader; given = []; ended = false; failures = 0 } }
     {

@@ -92,7 +92,7 @@ impl<W: Sink> Model for ProofWriter<W> {
 }
 
 impl<W: Sink> ProofWriter<W> {
-    /// Nothing is written yet behind what the sink has taken. The formula has so many clauses.
+    /// Nothing is written yet behind what the sink has taken. The formula has so many clauses. Takes constant time.
     pub fn new(sink: W, clauses: u64) -> Self
         requires { W.failures sink ≡ 0 }
         ensures { result
@@ -178,7 +178,7 @@ impl<W: Sink> ProofWriter<W> {
         }
     }
 
-    /// The sink, as it is: what is held back is lost.
+    /// The sink, as it is: what is held back is lost. Takes constant time.
     pub fn into_sink(self) -> W
         ensures { result ≡ self.sink }
     {

@@ -45,7 +45,7 @@ impl Model for CnfReader {
 }
 
 impl CnfReader {
-    /// A reader at the beginning of a text, for formulas of variables up to `max`.
+    /// A reader at the beginning of a text, for formulas of variables up to `max`. Takes constant time.
     pub fn new(alloc: Global, max: u32) -> CnfReader
         requires { max ≤ MAX_VARIABLE }
         ensures { result ≡ record { max = max; fed = []; fault = None } }

@@ -39,7 +39,7 @@ impl Model for Held {
 }
 
 impl Held {
-    /// Nothing.
+    /// Nothing. Takes constant time.
     pub fn new(alloc: Global) -> Held
         ensures { result ≡ [] }
     {
@@ -65,7 +65,7 @@ impl Held {
         Ok(())
     }
 
-    /// How many bytes are there, with those that are done.
+    /// How many bytes are there, with those that are done. Takes constant time.
     pub fn room(&self) -> u128
         ensures all { length self.now ≤ result }
         ensures few { result ≤ length self.now + 65536 }
@@ -110,7 +110,7 @@ impl Held {
         }
     }
 
-    /// The last bytes, where no line ends among them.
+    /// The last bytes, where no line ends among them. Takes constant time.
     pub fn last(&self, count: usize) -> &[u8]
         requires within { count ≤ length self.now }
         requires none { HasNoLineEnd (drop (length self.now - count) self.now) }
@@ -189,13 +189,14 @@ impl<'a> Model for Ahead<'a> {
 }
 
 impl<'a> Ahead<'a> {
+    /// How many bytes there are. Takes constant time.
     pub fn count(&self) -> u128
         ensures { result ≡ length self.now }
     {
         self.count
     }
 
-    /// How many bytes there are, where no line ends among them.
+    /// How many bytes there are, where no line ends among them. Takes constant time.
     pub fn open_count(&self) -> usize
         requires { HasNoLineEnd self.now }
         ensures { result ≡ length self.now }

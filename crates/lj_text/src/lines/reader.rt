@@ -52,7 +52,7 @@ impl Model for LineReader {
 }
 
 impl LineReader {
-    /// A reader at the beginning of an input, for literals of variables up to `max`.
+    /// A reader at the beginning of an input, for literals of variables up to `max`. Takes constant time.
     pub fn new(alloc: Global, max: u32) -> LineReader
         requires { max ≤ MAX_VARIABLE }
         ensures max { result.max ≡ max }
@@ -211,6 +211,7 @@ impl LineReader {
     }
 
     /// Takes a line back that is done, so that a line to come is written where it stood.
+    /// Takes constant time, but for what stood there before.
     #[inline(always)]
     pub fn reuse(&mut self, line: Line)
         ensures { self.new ≡ self.old }
@@ -223,6 +224,7 @@ impl LineReader {
     }
 
     /// The number of the line that was handed out last; after an answer without a line, of the line being read.
+    /// Takes constant time.
     pub fn at(&self) -> u64
         ensures { result ≡ self.now.at }
     {

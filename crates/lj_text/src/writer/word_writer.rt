@@ -68,7 +68,7 @@ impl Model for WordWriter {
 }
 
 impl WordWriter {
-    /// Nothing is written yet.
+    /// Nothing is written yet. Takes constant time.
     pub fn new() -> WordWriter
         ensures { result ≡ record { text = []; failed = false } }
     {
@@ -108,6 +108,7 @@ impl WordWriter {
     }
 
     /// Writes the line feed at the end of a line.
+    /// Takes constant time, but for what the sink takes where its piece is full.
     pub fn end_line<W: Sink>(&mut self, sink: &mut W)
         requires { MayBeGiven (word_state (W.taken sink.old) (W.failures sink.old) self.old) }
 
