@@ -1,7 +1,7 @@
 //! Hint groups, and lists of them.
-ghost use Rattle.std.specs.Prelude.{◌≡◌, ◌==◌, ◌↔◌, ℕ, List, IsTrue, [], ◌∷◌, ◌++◌, length, slice_get, IfOk, OnOk, OnErr};
+ghost use Rattle.std.specs.Prelude.{◌≡◌, ◌==◌, ◌↔◌, ℕ, List, ◌⊎◌, IsTrue, [], ◌∷◌, ◌++◌, length, slice_get, IfOk, OnOk, OnErr};
 
-use crate::numbers::{Numbers, NumbersIter};
+use crate::numbers::{MANY, Numbers, NumbersIter};
 use std::alloc::{AllocError, Global};
 use std::marker::Model;
 
@@ -189,6 +189,18 @@ impl Groups {
     {
         if let Some(row) = &mut self.row {
             row.clear();
+        }
+    }
+
+    /// Lets go of the groups and of their room, where they have many numbers. Takes constant time.
+    #[inline(always)]
+    pub(crate) fn let_go_of_many(&mut self)
+        ensures { (self.new ≡ self.old) ⊎ (self.new ≡ []) }
+    {
+        if let Some(row) = &self.row {
+            if row.numbers.len() > MANY {
+                self.row = None;
+            }
         }
     }
 

@@ -1,5 +1,5 @@
 //! Lists of clause numbers.
-ghost use Rattle.std.specs.Prelude.{◌≡◌, ◌==◌, ◌≤◌, ◌∷◌, ◌++◌, ◌↔◌, IsTrue, [], length, take, drop, slice_get, vec_capacity, IfOk, IfSome, OnOk, OnErr};
+ghost use Rattle.std.specs.Prelude.{◌≡◌, ◌==◌, ◌≤◌, ◌∷◌, ◌++◌, ◌↔◌, ◌⊎◌, IsTrue, [], length, take, drop, slice_get, vec_capacity, IfOk, IfSome, OnOk, OnErr};
 ghost use Rattle.lj_text.specs.inner.Numbers.{numbers_in, numbers_left};
 ghost use Rattle.lj_text.specs.inner.LineReading.{IsReadOn};
 ghost use Rattle.lj_text.specs.inner.ShortNumbers.{AreNumbersAhead};
@@ -14,7 +14,7 @@ use std::mem::replace;
 const MAX_SHORT: u64 = u32::MAX as u64;
 
 /// The greatest count of numbers whose room is worth keeping for those of a later line.
-const MANY: usize = 65_536;
+pub(crate) const MANY: usize = 65_536;
 
 /// A list of clause numbers. Two are equal where their contents are.
 ///
@@ -152,7 +152,8 @@ impl Numbers {
         }
     }
 
-    /// Lets go of the numbers, and of their room where they are many.
+    /// Lets go of the numbers, and of their room where they are many. Takes constant time.
+    #[cold]
     pub(crate) fn let_go(&mut self)
         ensures { self.new ≡ [] }
     {
@@ -161,6 +162,16 @@ impl Numbers {
                 self.form = Form::Short(Vec::new(*numbers.allocator()));
             }
             _ => self.clear(),
+        }
+    }
+
+    /// Lets go of the numbers and of their room, where they are many. Takes constant time.
+    #[inline(always)]
+    pub(crate) fn let_go_of_many(&mut self)
+        ensures { (self.new ≡ self.old) ⊎ (self.new ≡ []) }
+    {
+        if self.len() > MANY {
+            self.let_go();
         }
     }
 

@@ -210,15 +210,24 @@ impl LineReader {
         }
     }
 
-    /// Takes a line back that is done, so that a line to come is written where it stood.
-    /// Takes constant time, but for what stood there before.
+    /// Takes a line back that is done, so that a line to come is written where it stood. Lets go of the room of a long one.
+    /// Takes constant time.
     #[inline(always)]
     pub fn reuse(&mut self, line: Line)
         ensures { self.new ≡ self.old }
     {
         match line {
-            Line::Add(addition) => self.room.addition = Some(addition.into_box()),
-            Line::Delete(numbers) => self.room.deletion = Some(numbers.into_box()),
+            Line::Add(addition) => {
+                let mut place = addition.into_box();
+                place.hints.let_go_of_many();
+                place.groups.let_go_of_many();
+                self.room.addition = Some(place);
+            }
+            Line::Delete(numbers) => {
+                let mut place = numbers.into_box();
+                place.let_go_of_many();
+                self.room.deletion = Some(place);
+            }
             Line::Import { .. } => {}
         }
     }
