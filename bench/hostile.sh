@@ -6,10 +6,10 @@
 # Each stream is made of lines of one kind, and none adds the empty clause: first one stream in turn, and then the same stream
 # twice on threads. Then come formulas of one kind of clause, with an empty stream, and last 64 streams of a
 # line or none over one formula. In these the bytes are for each byte of the formula's text.
-# A stream's row is wrong above 8 bytes for a byte, or above the limit that it is given with its reason. A formula's row has
-# no such limit. Each row is wrong above 2.6 times as long as its half: a time is that of a whole process, the least of three,
-# each in turn, and of nine where it is wrong after three; none is told where the whole takes less than 0.2 s. The rows that
-# are wrong are named in the last line, and the status is 1 then.
+# A stream's row is wrong above 8 bytes for a byte; a formula's row has no such limit. Each row is wrong above 2.6 times as
+# long as its half: a time is that of a whole process, the least of three, each in turn, and of nine where it is wrong after
+# three; none is told where the whole takes less than 0.2 s. The rows that are wrong are named in the last line, and the status
+# is 1 then.
 set -euo pipefail
 
 program=$(realpath "${1:?usage: hostile.sh PATH-OF-LRATJOIN}")
@@ -88,10 +88,9 @@ make() {
 }
 
 # Two rows of a stream, in turn and twice on threads: its name, its formula, a count and its text. The fifth word, where there
-# is one, is how many lines are done before one is refused, and the sixth how many bytes for a byte it may take where more than
-# 8 can't be helped.
+# is one, is how many lines are done before one is refused.
 stream() {
-    local name=$1 formula=$2 count=$3 text=$4 limit=${6:-8} done_half done_whole
+    local name=$1 formula=$2 count=$3 text=$4 done_half done_whole
     make half "$((count / 2))" "$formula" "$text"
     make whole "$count" "$formula" "$text"
     done_half=${5:-$(wc -l < half)}
@@ -99,11 +98,11 @@ stream() {
     empty() { run 0 whole.cnf nothing --in-turn; }
     half() { run "$done_half" half.cnf half --in-turn; }
     whole() { run "$done_whole" whole.cnf whole --in-turn; }
-    row "$name" "$limit" "$(wc -c < whole)"
+    row "$name" 8 "$(wc -c < whole)"
     empty() { run 0 whole.cnf nothing nothing; }
     half() { run "$done_half" half.cnf half half; }
     whole() { run "$done_whole" whole.cnf whole whole; }
-    row "$name, twice on threads" "$limit" "$((2 * $(wc -c < whole)))"
+    row "$name, twice on threads" 8 "$((2 * $(wc -c < whole)))"
 }
 
 stream 'one line of hints' few.cnf 4000000 'BEGIN { printf "2 3 0"; for (i = 0; i < n; i++) printf " 1"; print " 0" }'
@@ -123,6 +122,7 @@ stream 'additions under numbers near one another' few.cnf 600000 'BEGIN { for (i
 stream 'additions under numbers far apart' few.cnf 300000 \
     'BEGIN { for (i = 0; i < n; i++) printf "9223372036854%06d 1 0 1 0\n", 775807 - i }'
 stream 'imports' few.cnf 600000 'BEGIN { for (i = 2; i < n; i++) print i " i 1 0" }'
+stream 'imports under every second number' few.cnf 600000 'BEGIN { for (i = 2; i < n; i += 2) print i " i 1 0" }'
 stream 'lemmas of nine literals, behind an import' few.cnf 300000 \
     'BEGIN { print "2 i 1 0"; for (i = 3; i < n; i++) print i " 1 2 3 4 5 6 7 8 9 0 1 0" }'
 # (A stamp takes longer for a variable beyond the first 524,287, so the half has such variables too.)
@@ -131,6 +131,12 @@ stream 'a walk over many clauses' 'BEGIN {
     for (i = 1; i <= n; i++) print i " 0"
     for (i = 1; i <= n; i++) printf "-%d ", i
     print "0" }' 2000000 'BEGIN { printf "%d -%d 0", n + 2, n; for (i = 1; i <= n + 1; i++) printf " %d", i; print " 0" }'
+stream 'lines of a closing hint and twenty clauses behind it' \
+    'BEGIN { print "p cnf " n + 4 " " n; print "1 0"; for (i = 2; i <= n; i++) print i, i + 1, i + 2, i + 3, 0 }' 400000 'BEGIN {
+    for (i = 2; i + 20 <= n; i += 20) {
+        printf "%d 1 2 3 4 0 1", n + i / 20 + 1
+        for (j = i; j < i + 20; j++) printf " %d", j
+        print " 0" } }'
 stream 'an accepted line of one group of many hints' \
     'BEGIN { print "p cnf 2 3"; print "-1 2 0"; print "-2 0"; print "1 0" }' 4000000 \
     'BEGIN { printf "4 1 0 -1"; for (i = 0; i < n; i++) printf " 2"; print " 3 0" }'

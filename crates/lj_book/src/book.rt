@@ -107,7 +107,7 @@ impl Book {
         })
     }
 
-    /// The formula that the book was opened with.
+    /// The formula that the book was opened with. Takes constant time.
     pub fn formula(&self) -> &Formula
         ensures { result.now ≡ self.now.formula }
     {
@@ -134,7 +134,7 @@ impl Book {
         self.ledger.clause(joint)
     }
 
-    /// The number of entries in the history.
+    /// The number of entries in the history. Takes constant time.
     pub fn history_len(&self) -> u64
         ensures { result ≡ length self.now.history }
     {
@@ -151,7 +151,7 @@ impl Book {
         self.ledger.history().entry(place)
     }
 
-    /// The seat of the entry at a place of the history, counted from 0.
+    /// The seat of the entry at a place of the history, counted from 0. Takes constant time.
     pub fn seat_at(&self, place: u64) -> Option<u32>
         ensures { result ≡ option_map (λ e. e.seat) (slice_get self.now.history place) }
     {
@@ -175,7 +175,7 @@ impl Book {
         log.is_entry_of(at, self.ledger.history(), place)
     }
 
-    /// The place of the first entry that adds the empty clause.
+    /// The place of the first entry that adds the empty clause. Takes constant time.
     pub fn verdict(&self) -> Option<u64>
         ensures { result ≡ verdict self.now.history }
     {

@@ -18,7 +18,8 @@ use lj_hint::{Pair, Receipt};
 use lj_text::{Addition, Groups, Numbers};
 use std::alloc::Global;
 
-/// The number of the first pair that doesn't live with that very clause.
+/// The number of the first pair that doesn't live with that very clause. Takes O(log n) time for each pair, and time linear
+/// in their literals.
 pub(crate) fn first_stale(ledger: &Ledger, listed: &[Pair]) -> Option<u64>
     ensures { result ≡ first_stale ledger.now.live listed.now }
 {

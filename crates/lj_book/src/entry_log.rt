@@ -29,7 +29,7 @@ impl Model for EntryLog {
 }
 
 impl EntryLog {
-    /// A log of no entries. Takes no memory.
+    /// A log of no entries. Takes no memory, and constant time.
     pub fn new(alloc: Global) -> EntryLog
         ensures { result ≡ [] }
     {
@@ -54,14 +54,14 @@ impl EntryLog {
         Ok(())
     }
 
-    /// How many entries there are.
+    /// How many entries there are. Takes constant time.
     pub fn len(&self) -> u64
         ensures { result ≡ length self.now }
     {
         self.written.len() + self.others.len() as u64
     }
 
-    /// Whether there is none.
+    /// Whether there is none. Takes constant time.
     pub fn is_empty(&self) -> bool
         ensures { result ≡ (length self.now == 0) }
     {

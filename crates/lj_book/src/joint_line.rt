@@ -15,8 +15,9 @@ use std::alloc::Global;
 /// Where a line has more groups, they are looked through before room is made for their joint numbers.
 const MANY_GROUPS: usize = 1024;
 
-/// The hints of a seat's addition in joint numbers, and its groups, in lists that were used before. Each own number is
-/// looked up once.
+/// The hints of a seat's addition in joint numbers, and its groups, in lists that were used before. Looks each own number up
+/// at most four times: hints anew where one of them lies far, those of many groups first to see that all are held, and their
+/// candidates once more where they may repeat.
 ///
 /// # Errors
 /// [`Refusal::UnknownNumber`], [`Refusal::GroupRepeated`], and [`Refusal::NoMemory`] where a growth was refused.

@@ -122,7 +122,8 @@ impl OccurrenceLists {
         living_before(alloc, &self.links, last_of(&self.lasts, place), clauses)
     }
 
-    /// The first number under a place whose clause is this one.
+    /// The first number under a place whose clause is this one. Takes time linear in the list, and in the literals of the
+    /// clause for each of its numbers.
     pub(crate) fn first_same(
         &self,
         place: u64,
@@ -188,7 +189,8 @@ impl OccurrenceLists {
         true
     }
 
-    /// Puts these numbers into a list, in place of what it has. Answers whether a growth was granted.
+    /// Puts these numbers into a list, in place of what it has. Answers whether a growth was granted. Takes time linear in
+    /// the numbers.
     fn relink(&mut self, place: u64, numbers: &[u64]) -> bool
         ensures { result ≡ true → (k : ℕ)
             → list_at self.new k ≡ with_list self.old place numbers.now k }
@@ -217,7 +219,8 @@ fn last_of(lasts: &Bindings, place: u64) -> u64
     }
 }
 
-/// The numbers with a clause among those of this link and of all before it, the oldest first.
+/// The numbers with a clause among those of this link and of all before it, the oldest first. Takes time linear in the links
+/// that it passes by.
 ///
 /// # Errors
 /// [`NoMemory`] where a growth was refused.
@@ -246,7 +249,8 @@ fn living_before(
     Ok(living)
 }
 
-/// The oldest number whose clause is this one among those of this link and of all before it.
+/// The oldest number whose clause is this one among those of this link and of all before it. Takes time linear in the links
+/// that it passes by, and in the literals of the clause for each that has one.
 fn first_before(
     links: &[Link],
     last: u64,

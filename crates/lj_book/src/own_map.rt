@@ -40,7 +40,7 @@ impl<V> Model for OwnMap<V> {
 }
 
 impl<V: Drop> OwnMap<V> {
-    /// The map without an entry.
+    /// The map without an entry. Takes constant time.
     pub fn new(alloc: Global) -> Self
         ensures { result ≡ fin.empty }
     {
@@ -51,7 +51,7 @@ impl<V: Drop> OwnMap<V> {
         }
     }
 
-    /// The value at the key.
+    /// The value at the key. Takes constant time for a number that has a slot, and O(log n) time for others.
     pub fn get(&self, key: u64) -> Option<&V>
         ensures { option_copied result ≡ fin.get self.now key }
     {
@@ -61,14 +61,15 @@ impl<V: Drop> OwnMap<V> {
         }
     }
 
-    /// Whether there is a value at the key.
+    /// Whether there is a value at the key. Takes the time of [`OwnMap::get`].
     pub fn contains_key(&self, key: u64) -> bool
         ensures { result ≡ fin.contains_key self.now key }
     {
         self.get(key).is_some()
     }
 
-    /// Sets the value at the key. Takes no memory where the key is there already.
+    /// Sets the value at the key. Takes no memory where the key is there already. Takes the time of [`OwnMap::get`],
+    /// amortized, and time linear in the slots where they grow.
     ///
     /// # Errors
     /// [`NoMemory`] where a growth was refused.
@@ -97,7 +98,7 @@ impl<V: Drop> OwnMap<V> {
         self.near.insert(key, value)
     }
 
-    /// Takes the key out, and gives back the value that was there.
+    /// Takes the key out, and gives back the value that was there. Takes the time of [`OwnMap::get`].
     pub fn remove(&mut self, key: u64) -> Option<V>
         ensures before { result ≡ fin.get self.old key }
         ensures removed { self.new ≡ fin.remove self.old key }

@@ -57,7 +57,7 @@ impl Ready {
         }
     }
 
-    /// The receipt.
+    /// The receipt. Takes constant time.
     pub fn receipt(&self) -> &Receipt
         ensures { result.now ≡ self.now }
     {

@@ -118,7 +118,8 @@ fn group_pairs_of(
     Ok(pairs)
 }
 
-/// The own number of the first group whose joint clause has an earlier group.
+/// The own number of the first group whose joint clause has an earlier group. Takes O(log n) time for each group, and memory
+/// for each.
 ///
 /// # Errors
 /// [`NoMemory`] where a growth was refused.

@@ -26,7 +26,7 @@ impl Model for Verified {
 }
 
 impl Verified {
-    /// The formula.
+    /// The formula. Takes constant time.
     pub fn formula(&self) -> &Formula
         ensures formula { result.now ≡ self.now }
         ensures unsatisfiable { IsUnsatisfiable self.now }

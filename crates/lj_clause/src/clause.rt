@@ -96,7 +96,7 @@ impl Clause {
         are_same(self.lits.as_slice(), other.lits.as_slice())
     }
 
-    /// The literals, each once, in their order.
+    /// The literals, each once, in their order. Takes constant time.
     #[inline]
     pub fn lits(&self) -> &[Lit]
         ensures { result.now ≡ literals self.now }

@@ -42,7 +42,7 @@ impl<'a> ClauseView<'a> {
         ClauseView { lits }
     }
 
-    /// The literals, each once, in their order.
+    /// The literals, each once, in their order. Takes constant time.
     #[inline]
     pub fn lits(&self) -> &[Lit]
         ensures { result.now ≡ literals self.now }

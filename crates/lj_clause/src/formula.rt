@@ -49,7 +49,7 @@ impl Formula {
         }
     }
 
-    /// The number of variables.
+    /// The number of variables. Takes constant time.
     pub fn variables(&self) -> u32
         ensures variables { result ≡ self.now.variables }
         ensures formula { IsFormula self.now }
@@ -57,7 +57,7 @@ impl Formula {
         self.variables
     }
 
-    /// The clause of a number from 1 to [`Formula::len`], and `None` for other numbers.
+    /// The clause of a number from 1 to [`Formula::len`], and `None` for other numbers. Takes constant time.
     pub fn clause(&self, number: u64) -> Option<&Clause>
         ensures { option_copied result ≡ map.get (formula_map self.now) number }
     {
@@ -65,7 +65,7 @@ impl Formula {
         self.clauses.get(place as usize)
     }
 
-    /// The number of clauses.
+    /// The number of clauses. Takes constant time.
     pub fn len(&self) -> usize
         ensures len { result ≡ length self.now.clauses }
         ensures formula { IsFormula self.now }
@@ -73,7 +73,7 @@ impl Formula {
         self.clauses.len()
     }
 
-    /// Whether there is no clause.
+    /// Whether there is no clause. Takes constant time.
     pub fn is_empty(&self) -> bool
         ensures { IsTrue result ↔ (length self.now.clauses ≡ 0) }
     {

@@ -3,24 +3,25 @@
 ghost use Rattle.lj_clause.specs.Laws.{ClosedWalkImplies, UsedPartCloses, RatKeepsSatisfiable, CoveredIsRecorded};
 
 /// An assignment that satisfies every clause of a map satisfies each clause whose negations have a closed walk there
-/// (reverse unit propagation).
+/// (reverse unit propagation). Takes constant time.
 pub fn closed_walk_implies()
     ensures { ClosedWalkImplies }
 {}
 
-/// The hints that a closed walk read are the first of those given, and they close it by themselves.
+/// The hints that a closed walk read are the first of those given, and they close it by themselves. Takes constant time.
 pub fn used_part_closes()
     ensures { UsedPartCloses }
 {}
 
 /// A satisfiable map stays satisfiable with a clause more, under any number, where the walk of the clause's negations
-/// ends open and the candidates of a pivot from the clause are covered (resolution asymmetric tautology).
+/// ends open and the candidates of a pivot from the clause are covered (resolution asymmetric tautology). Takes constant
+/// time.
 pub fn rat_keeps_satisfiable()
     ensures { RatKeepsSatisfiable }
 {}
 
 /// The groups that cover a pivot's candidates are one for each, by rising number, with a first part of the hints given
-/// for it, and they cover the candidates by themselves.
+/// for it, and they cover the candidates by themselves. Takes constant time.
 pub fn covered_is_recorded()
     ensures { CoveredIsRecorded }
 {}

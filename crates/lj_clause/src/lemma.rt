@@ -57,7 +57,7 @@ impl Lemma {
         Ok(Lemma { clause, pivot })
     }
 
-    /// The set of its literals.
+    /// The set of its literals. Takes constant time.
     pub fn clause(&self) -> &Clause
         ensures clause { result.now ≡ self.now.clause }
         ensures lemma { IsLemma self.now }
@@ -65,7 +65,7 @@ impl Lemma {
         &self.clause
     }
 
-    /// The literal that was written first.
+    /// The literal that was written first. Takes constant time.
     pub fn pivot(&self) -> Option<Lit>
         ensures pivot { result ≡ self.now.pivot }
         ensures lemma { IsLemma self.now }

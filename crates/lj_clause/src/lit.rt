@@ -39,7 +39,7 @@ impl Model for Lit {
 }
 
 impl Lit {
-    /// The literal of a number: `None` for 0 and for a variable beyond [`MAX_VARIABLE`].
+    /// The literal of a number: `None` for 0 and for a variable beyond [`MAX_VARIABLE`]. Takes constant time.
     pub fn new(number: i32) -> Option<Lit>
         ensures { SomeIff result (IsLiteral number) number }
     {
@@ -53,7 +53,7 @@ impl Lit {
         })
     }
 
-    /// The literal of a variable, or its negation.
+    /// The literal of a variable, or its negation. Takes constant time.
     #[inline]
     pub fn of(variable: u32, negative: bool) -> Lit
         requires { (0 < variable) × (variable ≤ MAX_VARIABLE) }
@@ -64,7 +64,7 @@ impl Lit {
         }
     }
 
-    /// The number of the literal.
+    /// The number of the literal. Takes constant time.
     pub fn get(self) -> i32
         ensures number { result ≡ self }
         ensures literal { IsLiteral result }
@@ -77,7 +77,7 @@ impl Lit {
         }
     }
 
-    /// The variable that the literal speaks of.
+    /// The variable that the literal speaks of. Takes constant time.
     pub fn variable(self) -> u32
         ensures variable { result ≡ variable_of self }
         ensures in_range { (0 < result) × (result ≤ MAX_VARIABLE) }
@@ -86,7 +86,7 @@ impl Lit {
     }
 
     /// The place of the literal in the order of literals, so that it can index an array: twice the variable, and one
-    /// more for its negation.
+    /// more for its negation. Takes constant time.
     #[inline]
     pub fn place(self) -> usize
         ensures place { result ≡ place_of self }
@@ -95,7 +95,7 @@ impl Lit {
         self.code as usize
     }
 
-    /// The literal of the same variable that is true where this one isn't.
+    /// The literal of the same variable that is true where this one isn't. Takes constant time.
     pub fn negated(self) -> Lit
         ensures { result ≡ neg_ℤ self }
     {

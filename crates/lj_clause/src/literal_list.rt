@@ -25,7 +25,7 @@ pub enum LiteralList {
 
 impl LiteralList {
     /// The literals, each once, in strict order, if they are so few that they stand in the list itself. None also where
-    /// one stands twice.
+    /// one stands twice. Takes constant time.
     #[inline(always)]
     pub fn few(lits: &[Lit]) -> Option<LiteralList>
         ensures rising { IfSome result (λ list. IsStrictlySortedBy lit_cmp (literals_in list)) }
@@ -73,7 +73,7 @@ impl LiteralList {
         }
     }
 
-    /// The literals, in order.
+    /// The literals, in order. Takes constant time.
     #[inline]
     pub fn as_slice(&self) -> &[Lit]
         ensures { result.now ≡ literals_in self.now }

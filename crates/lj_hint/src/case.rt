@@ -37,7 +37,7 @@ impl Case {
     ghost use Rattle.lj_hint.specs.Tested.{tested_of, IfAnswered, IfNoMemory};
 
     /// The case of a seat's addition under its own number: the first list of hints, and the groups, each a
-    /// candidate and its hints. Takes no memory.
+    /// candidate and its hints. Takes no memory, and constant time.
     pub fn new(
         seat: u32,
         own: u64,
@@ -56,35 +56,35 @@ impl Case {
         }
     }
 
-    /// The seat whose addition it is.
+    /// The seat whose addition it is. Takes constant time.
     pub fn seat(&self) -> u32
         ensures { result ≡ self.now.seat }
     {
         self.seat
     }
 
-    /// The own number of the addition.
+    /// The own number of the addition. Takes constant time.
     pub fn own(&self) -> u64
         ensures { result ≡ self.now.own }
     {
         self.own
     }
 
-    /// The lemma of the addition.
+    /// The lemma of the addition. Takes constant time.
     pub fn lemma(&self) -> &Lemma
         ensures { result.now ≡ self.now.lemma }
     {
         &self.lemma
     }
 
-    /// The first list of hints.
+    /// The first list of hints. Takes constant time.
     pub fn hints(&self) -> &[Pair]
         ensures { result.now ≡ self.now.hints }
     {
         self.hints.as_slice()
     }
 
-    /// The groups, each a candidate and its hints.
+    /// The groups, each a candidate and its hints. Takes constant time.
     pub fn groups(&self) -> &[(Pair, Vec<Pair>)]
         ensures { groups_of result.now ≡ self.now.groups }
     {

@@ -14,16 +14,16 @@ pub(crate) trait GroupList {
 
     ghost groups: { Self → List NamedGroup };
 
-    /// The number of groups.
+    /// The number of groups. Takes constant time.
     fn count(&self) -> usize
         ensures { result ≡ length (groups self.now) };
 
-    /// The candidate of the group at an index.
+    /// The candidate of the group at an index. Takes constant time.
     fn candidate(&self, index: usize) -> u64
         requires { index < length (groups self.now) }
         ensures { result ≡ (group_in (groups self.now) index).candidate };
 
-    /// The hints of the group at an index.
+    /// The hints of the group at an index. Takes constant time.
     fn hints(&self, index: usize) -> Self::Hints
         requires { index < length (groups self.now) }
         ensures { Self.Hints.hints result ≡ (group_in (groups self.now) index).hints };

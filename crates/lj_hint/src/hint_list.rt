@@ -14,15 +14,15 @@ use std::alloc::Global;
 pub(crate) trait HintList {
     ghost hints: { Self → List Hint };
 
-    /// The number of hints.
+    /// The number of hints. Takes constant time.
     fn count(&self) -> usize
         ensures { result ≡ length (hints self.now) };
 
-    /// The number of the hint at an index, and 0 where there is none.
+    /// The number of the hint at an index, and 0 where there is none. Takes constant time.
     fn number(&self, index: usize) -> u64
         ensures { result ≡ hint_number (hints self.now) index };
 
-    /// The clause that the hint at an index names.
+    /// The clause that the hint at an index names. Takes the time of [`Live::clause`], where a hint is but a number.
     fn clause(&self, index: usize) -> Option<ClauseView<'_>>
         requires { index < length (hints self.now) }
         ensures { result ≡ clause_at (hints self.now) index };
@@ -30,7 +30,7 @@ pub(crate) trait HintList {
 
 /// A list of hints of a group.
 pub(crate) trait GroupHints: HintList {
-    /// Puts a candidate with the first hints, so many, behind the groups.
+    /// Puts a candidate with the first hints, so many, behind the groups. Takes time linear in these.
     ///
     /// # Errors
     /// [`NoMemory`] where a growth was refused.

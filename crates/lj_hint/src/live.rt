@@ -16,11 +16,12 @@ use std::alloc::Global;
 pub trait Live {
     ghost live: { Self → ClauseMap };
 
-    /// The live clause of a joint number.
+    /// The live clause of a joint number. A test asks for one for each hint, and takes that time too: in a book O(log n).
     fn clause(&self, joint: u64) -> Option<ClauseView<'_>>
         ensures { result ≡ fin.get (live self.now) joint };
 
-    /// The joint numbers of the live clauses that hold the literal, rising.
+    /// The joint numbers of the live clauses that hold the literal, rising. A test asks for them once, where the first hints
+    /// leave it open, and takes that time too: in a book that of its own call of this name.
     ///
     /// # Errors
     /// [`NoMemory`] where a growth was refused.

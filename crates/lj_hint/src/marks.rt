@@ -16,12 +16,13 @@ impl Model for Marks {
 }
 
 impl Marks {
-    /// Room without a literal. Takes no memory.
+    /// Room without a literal. Takes no memory, and constant time.
     pub fn new(alloc: Global) -> Marks {
         Marks::after(alloc, 0)
     }
 
-    /// Room that has served so many walks, so that a test reaches the last walk that is counted. Takes no memory.
+    /// Room that has served so many walks, so that a test reaches the last walk that is counted. Takes no memory, and
+    /// constant time.
     pub fn after(alloc: Global, walks: u32) -> Marks {
         Marks {
             lits: TrueLits::starting_at(alloc, walks % u32::MAX + 1),

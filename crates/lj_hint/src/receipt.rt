@@ -45,21 +45,21 @@ impl Receipt {
         }
     }
 
-    /// The seat whose addition it is.
+    /// The seat whose addition it is. Takes constant time.
     pub fn seat(&self) -> u32
         ensures { result ≡ self.now.seat }
     {
         self.seat
     }
 
-    /// The own number of the addition.
+    /// The own number of the addition. Takes constant time.
     pub fn own(&self) -> u64
         ensures { result ≡ self.now.own }
     {
         self.own
     }
 
-    /// The lemma of the addition.
+    /// The lemma of the addition. Takes constant time.
     pub fn lemma(&self) -> &Lemma
         ensures lemma { result.now ≡ self.now.lemma }
         ensures receipt { IsReceipt self.now }
@@ -67,7 +67,7 @@ impl Receipt {
         &self.lemma
     }
 
-    /// The hints that the walk read, in their order: none where it closed before the first.
+    /// The hints that the walk read, in their order: none where it closed before the first. Takes constant time.
     pub fn listed(&self) -> &[Pair]
         ensures listed { result.now ≡ self.now.listed }
         ensures receipt { IsReceipt self.now }

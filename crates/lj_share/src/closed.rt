@@ -42,7 +42,7 @@ impl<L: Opening> Closed<L> {
         }
     }
 
-    /// The book.
+    /// The book. Takes constant time.
     pub fn book(&self) -> &Book
         ensures book { result.now ≡ self.now }
         ensures opened { IsOpenedAs L.formula L.seats L.max_steps self.now }
@@ -50,7 +50,7 @@ impl<L: Opening> Closed<L> {
         &self.book
     }
 
-    /// The book, by value.
+    /// The book, by value. Takes constant time.
     pub fn into_book(self) -> Book
         ensures book { result ≡ self }
         ensures opened { IsOpenedAs L.formula L.seats L.max_steps self }
@@ -79,7 +79,7 @@ impl<L: Opening> Closed<L> {
         rest.is_empty()
     }
 
-    /// As [`Closed::confirm`], of kept tokens.
+    /// As [`Closed::confirm`], of kept tokens. Takes the same time, and no memory.
     pub fn confirm_tokens(&self, seat: u32, tokens: &Tokens) -> bool
         ensures { IsTrue result ↔ (entries_of seat self.now.history ≡ tokens.now.entries) }
     {

@@ -2,10 +2,11 @@
 
 /// What is called round each line that reaches the book, outside the lock. Tests hold lines up by it.
 pub trait Gate {
-    /// The line, whose number is the second, is about to be handed to the book: its test is over.
+    /// The line, whose number is the second, is about to be handed to the book: its test is over. Takes what time the gate
+    /// wants.
     fn pass(&self, seat: u32, line: u64);
 
-    /// The answer to the line stands.
+    /// The answer to the line stands. Takes what time the gate wants.
     fn answered(&self, seat: u32, line: u64);
 }
 

@@ -1,8 +1,8 @@
 //! The clauses that a seat holds, as it knows by itself.
-ghost use Rattle.std.specs.Prelude.{◌≡◌, IfOk, IfSome};
+ghost use Rattle.std.specs.Prelude.{◌≡◌, ◌≤◌, ◌+◌, IfOk, IfSome, OnOk, OnErr};
 
 use lj_book::{Call, Entry, OwnMap};
-use lj_clause::{Clause, ClauseView, Formula, NoMemory};
+use lj_clause::{Clause, ClauseView, Formula, Lit, NoMemory};
 use lj_hint::{Case, Pair};
 use lj_text::{Addition, Numbers, Step};
 use std::alloc::Global;
@@ -15,22 +15,21 @@ const SHORT: usize = 16;
 /// longer list is read where the book has its clauses.
 const MOST_HINTS: usize = 65_536;
 
-/// How many bytes the clauses of lemmas may take for each hint of the seat's additions, which is two bytes of text at least. A
-/// real proof says more hints than that for each lemma; one that says fewer has most of its lemmas in the book alone.
-const FOR_A_HINT: u64 = 8;
+/// How many bytes what a seat keeps may take for each byte of text that its hints were told in.
+const FOR_A_BYTE: u64 = 4;
 
-/// How many bytes a number takes with a clause of up to [`INSIDE`] literals.
-const SLOT: u64 = 32;
+/// How many bytes a number takes: up to two slots of 32, or else its part of a tree whose nodes are half empty.
+const NUMBER: u64 = 72;
 
 /// The greatest number of literals that stand in the slot.
-const INSIDE: u64 = 3;
+const INSIDE: usize = 3;
 
 /// How many bytes more a longer clause takes, beside four for each literal.
 const BLOCK: u64 = 64;
 
-/// What a seat's own numbers are bound to, by joint numbers with their clauses. The clauses of the formula come in where
-/// they are asked for, those of lemmas as far as there is room for them. Where a growth is refused the seat gives all of it up,
-/// so it tells what the book's table does.
+/// What a seat's own numbers are bound to, by joint numbers with their clauses, as far as there is room for them. The clauses of
+/// the formula come in where they are asked for; those that don't are read in the formula. Where a growth is refused the seat
+/// gives all of it up, so it tells what the book's table does.
 ///
 /// A call takes constant time for each number up to a bound that follows how many there are, and O(log n) for others.
 #[derive(Drop)]
@@ -40,7 +39,7 @@ pub(crate) struct OwnClauses {
     held: OwnMap<Pair>,
     /// The numbers of clauses of the formula that were given up.
     given_up: OwnMap<()>,
-    /// How many bytes more the clauses of lemmas may take.
+    /// How many bytes more may be kept.
     room: u64,
 }
 
@@ -70,6 +69,7 @@ impl OwnClauses {
         ensures own { IfOk result (λ case. IfSome case (λ c. c.own ≡ addition.now.number)) }
         ensures lemma { IfOk result (λ case. IfSome case (λ c. c.lemma ≡ addition.now.lemma)) }
     {
+        self.room = self.room.saturating_add(room_for(&addition.hints));
         let own = addition.number;
         if !addition.groups.is_empty() || addition.hints.len() > MOST_HINTS {
             return Ok(None);
@@ -122,15 +122,37 @@ impl OwnClauses {
         }
         match formula.clause(own) {
             Some(clause) if !self.given_up.contains_key(own) => {
-                let pair = Pair {
-                    joint: own,
-                    clause: clause_for_seat(self.alloc, clause)?,
-                };
-                self.held.insert(own, copy_of(&pair)?)?;
-                Ok(Some(pair))
+                let clause = self.clause_of_formula(own, clause)?;
+                Ok(Some(Pair { joint: own, clause }))
             }
             _ => Ok(None),
         }
+    }
+
+    /// A clause of the formula, which is kept if that takes no more than half of the room, so that there is some for lemmas: one
+    /// of the seat's own where it is short, and else a share. One that isn't kept is a share too, and takes no memory.
+    ///
+    /// # Errors
+    /// [`NoMemory`] where a growth was refused.
+    fn clause_of_formula(&mut self, own: u64, clause: &Clause) -> Result<Clause, NoMemory> {
+        let lits = clause.lits();
+        let is_short = lits.len() <= SHORT;
+        let bytes = if is_short { bytes_of(lits) } else { NUMBER };
+        if bytes > self.room / 2 {
+            return clause.copy();
+        }
+        let kept = if is_short {
+            Clause::from_lits(self.alloc, lits)?
+        } else {
+            clause.copy()?
+        };
+        let shared = kept.copy()?;
+        let pair = Pair {
+            joint: own,
+            clause: kept,
+        };
+        self.keep(own, pair, bytes)?;
+        Ok(shared)
     }
 
     /// Takes up what an entry of the seat has bound and given up; of an adoption and an import it doesn't say what was bound.
@@ -150,7 +172,7 @@ impl OwnClauses {
         }
     }
 
-    /// Takes up the joint number with its clause, which is lent, that an own number was bound to.
+    /// Takes up the joint number with its clause, which is lent, that an own number was bound to, if there is room for it.
     ///
     /// # Errors
     /// [`NoMemory`] where a growth was refused: the number is then bound, and not here.
@@ -160,8 +182,12 @@ impl OwnClauses {
         joint: u64,
         clause: &ClauseView<'_>,
     ) -> Result<(), NoMemory> {
+        let bytes = bytes_of(clause.lits());
+        if bytes > self.room {
+            return Ok(());
+        }
         let clause = clause.to_clause(self.alloc)?;
-        self.held.insert(own, Pair { joint, clause })
+        self.keep(own, Pair { joint, clause }, bytes)
     }
 
     /// Takes up the number of a step with a share of its clause, which an own number was bound to, if there is room for it.
@@ -169,15 +195,28 @@ impl OwnClauses {
     /// # Errors
     /// [`NoMemory`] where a growth was refused: the number is then bound, and not here.
     fn share(&mut self, own: u64, step: &Addition) -> Result<(), NoMemory> {
-        let hints = step.hints.len() as u64;
-        self.room = self.room.saturating_add(hints.saturating_mul(FOR_A_HINT));
-        let Some(left) = self.room.checked_sub(bytes_of(step.lemma.clause())) else {
+        let lemma = step.lemma.clause();
+        let bytes = bytes_of(lemma.lits());
+        if bytes > self.room {
             return Ok(());
-        };
-        self.room = left;
+        }
         let joint = step.number;
-        let clause = step.lemma.clause().copy()?;
-        self.held.insert(own, Pair { joint, clause })
+        let clause = lemma.copy()?;
+        self.keep(own, Pair { joint, clause }, bytes)
+    }
+
+    /// Keeps what an own number is bound to, which takes so many bytes of the room.
+    ///
+    /// # Errors
+    /// [`NoMemory`] where a growth was refused.
+    fn keep(&mut self, own: u64, pair: Pair, bytes: u64) -> Result<(), NoMemory>
+        requires { bytes ≤ self.old.room }
+        ensures paid { OnOk result (self.new.room + bytes ≡ self.old.room) }
+        ensures err { OnErr result (self.new.room ≡ self.old.room) }
+    {
+        self.held.insert(own, pair)?;
+        self.room -= bytes;
+        Ok(())
     }
 
     /// Gives own numbers up.
@@ -195,13 +234,36 @@ impl OwnClauses {
     }
 }
 
-/// How many bytes a number takes with this clause.
-fn bytes_of(clause: &Clause) -> u64 {
-    let lits = clause.lits().len() as u64;
-    if lits <= INSIDE {
-        return SLOT;
+/// How many bytes may be kept for these hints.
+fn room_for(hints: &Numbers) -> u64 {
+    let mut room: u64 = 0;
+    for own in hints.iter() {
+        room = room.saturating_add(FOR_A_BYTE * text_of(own));
     }
-    lits.saturating_mul(4).saturating_add(SLOT + BLOCK)
+    room
+}
+
+/// How many bytes of text a hint takes at least, with what stands before it.
+fn text_of(own: u64) -> u64
+    ensures { result ≤ 6 }
+{
+    if own < 100 {
+        2
+    } else if own < 10_000 {
+        4
+    } else {
+        6
+    }
+}
+
+/// How many bytes a number takes with a clause of these literals.
+fn bytes_of(lits: &[Lit]) -> u64 {
+    if lits.len() <= INSIDE {
+        return NUMBER;
+    }
+    (lits.len() as u64)
+        .saturating_mul(4)
+        .saturating_add(NUMBER + BLOCK)
 }
 
 /// The same pair, which shares its clause.
@@ -212,15 +274,4 @@ fn copy_of(pair: &Pair) -> Result<Pair, NoMemory> {
     let joint = pair.joint;
     let clause = pair.clause.copy()?;
     Ok(Pair { joint, clause })
-}
-
-/// A clause of the formula for the use of one seat: one of its own where it is short, and else a share.
-///
-/// # Errors
-/// [`NoMemory`] where a growth was refused.
-fn clause_for_seat(alloc: Global, clause: &Clause) -> Result<Clause, NoMemory> {
-    if clause.lits().len() > SHORT {
-        return clause.copy();
-    }
-    Clause::from_lits(alloc, clause.lits())
 }

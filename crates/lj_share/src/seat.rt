@@ -54,14 +54,14 @@ impl<L: Opening> Seat<L> {
         }
     }
 
-    /// The seat's number in the book, from 0.
+    /// The seat's number in the book, from 0. Takes constant time.
     pub fn number(&self) -> u32
         ensures { result ≡ self.now.number }
     {
         self.number
     }
 
-    /// How many entries were made through it.
+    /// How many entries were made through it. Takes constant time.
     pub fn count(&self) -> u64
         ensures { result ≡ self.now.count }
     {

@@ -101,7 +101,8 @@ impl<L: Opening> Shared<L> {
         self.submit_at(rt, seat, line, 0, &NoGate)
     }
 
-    /// The same for the line of this number, with a gate round it.
+    /// The same for the line of this number, with a gate round it. Takes the time of [`Shared::submit`], and that of the
+    /// gate.
     ///
     /// # Errors
     /// As [`Shared::submit`].
@@ -186,7 +187,7 @@ impl<L: Opening> Shared<L> {
     }
 
     /// Tests an addition over the clauses that the seat holds as it knows by itself, and enters it; or answers nothing, where
-    /// it has to be taken from the book.
+    /// it has to be tested under the lock.
     fn submit_alone<R: Wait, G: Gate>(
         &self,
         rt: &R,
@@ -216,8 +217,7 @@ impl<L: Opening> Shared<L> {
         Some(answer)
     }
 
-    /// Tests an addition over the clauses that the seat holds as it knows by itself, or else over those of the book, and
-    /// enters it.
+    /// Tests an addition over the clauses that the seat holds as it knows by itself, or else under the lock, and enters it.
     fn submit_addition<R: Wait, G: Gate>(
         &self,
         rt: &R,
@@ -375,7 +375,7 @@ impl<L: Opening> Shared<L> {
         Ok(told)
     }
 
-    /// The entry that a token of this book stands for, the same one for good. Waits for nobody.
+    /// The entry that a token of this book stands for, the same one for good. Waits for nobody. Takes constant time.
     pub fn told<'a>(&'a self, told: &'a Told) -> &'a Entry
         ensures { result.now ≡ told.now }
     {
@@ -384,7 +384,8 @@ impl<L: Opening> Shared<L> {
 
     /// The place of the first entry that adds the empty clause, if there is one by now: then no assignment satisfies the formula
     /// that the book was opened with. Waits for nobody. That the place is that of such an entry has no clause: of what lies
-    /// under a plain lock only what stays true of the opening outlives the guard. It is seen once the book is closed.
+    /// under a plain lock only what stays true of the opening outlives the guard. It is seen once the book is closed. Takes
+    /// constant time.
     pub fn verdict_now(&self) -> Option<u64>
         ensures { OnSome result (IsUnsatisfiable L.formula) }
     {

@@ -33,7 +33,7 @@ impl Model for Tokens {
 }
 
 impl Tokens {
-    /// No tokens. Takes no memory.
+    /// No tokens. Takes no memory, and constant time.
     pub fn new(alloc: Global) -> Tokens
         ensures { result.entries ≡ [] }
     {
@@ -60,7 +60,7 @@ impl Tokens {
         Ok(())
     }
 
-    /// Takes a token behind the others. Where there is room it takes no memory.
+    /// Takes a token behind the others. Where there is room it takes no memory. Takes the time of [`Tokens::reserve`].
     ///
     /// # Errors
     /// [`NoMemory`] where there was no room and a growth was refused, and then nothing has changed.

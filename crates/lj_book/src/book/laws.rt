@@ -8,14 +8,15 @@ ghost use Rattle.lj_book.specs.History.{IsReached};
 
 use super::Book;
 
-/// The history is legal: its entries, each of them legal where it stands, lead from a new book to this one.
+/// The history is legal: its entries, each of them legal where it stands, lead from a new book to this one. Takes constant
+/// time.
 pub fn history_is_legal(book: &Book)
     ensures { IsReached book.now }
 {
     let _ = &book.formula;
 }
 
-/// The live clauses are what the steps of the history make of the formula.
+/// The live clauses are what the steps of the history make of the formula. Takes constant time.
 pub fn live_is_the_replay(book: &Book)
     ensures { replay (formula_map book.now.formula) (steps_of book.now.history)
         ≡ Some (live book.now) }
@@ -23,14 +24,14 @@ pub fn live_is_the_replay(book: &Book)
     let _ = &book.formula;
 }
 
-/// Some assignment satisfies the live clauses, if one satisfies the formula.
+/// Some assignment satisfies the live clauses, if one satisfies the formula. Takes constant time.
 pub fn live_is_satisfiable(book: &Book)
     ensures { IsSatisfiable (formula_map book.now.formula) → IsSatisfiable (live book.now) }
 {
     let _ = &book.formula;
 }
 
-/// No assignment satisfies the formula, if the history has an empty clause.
+/// No assignment satisfies the formula, if the history has an empty clause. Takes constant time.
 pub fn refuted_is_unsatisfiable(book: &Book)
     ensures { IsSome (verdict book.now.history) → IsUnsatisfiable book.now.formula }
 {

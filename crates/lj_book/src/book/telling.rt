@@ -45,7 +45,8 @@ impl Book {
         }
     }
 
-    /// As [`Book::commit_telling`], of a receipt with what its entry takes. The receipt comes back on an answer too.
+    /// As [`Book::commit_telling`], of a receipt with what its entry takes. The receipt comes back on an answer too. Takes
+    /// the time of [`Book::commit`].
     ///
     /// # Errors
     /// As [`Book::commit`].

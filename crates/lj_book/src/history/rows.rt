@@ -271,7 +271,8 @@ fn next_candidate(groups: &mut GroupsIter<'_>) -> Option<u64> {
 }
 
 /// Marks those of the members as gone in an epoch that aren't among the candidates of these groups, which rise as they do.
-/// Answers the first candidate that is no member, where the groups behind it are left, and whether some member goes.
+/// Answers the first candidate that is no member, where the groups behind it are left, and whether some member goes. Takes
+/// time linear in the members.
 fn mark_gone(
     members: &mut Vec<Member>,
     epoch: u32,
