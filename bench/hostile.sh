@@ -177,6 +177,20 @@ stream 'RAT lines of 100 candidates, of which one comes and one goes before each
         print 100 + 2 * i " 1 -2 0 0"
         print 100 + 2 * i " d " (i < 100 ? i + 1 : 2 * i - 99) " 0" } }'
 
+# A row of a stream that 64 seats have, on threads: its name, its formula, a count and its text.
+crowd() {
+    local name=$1 formula=$2 count=$3 text=$4 lines
+    make half "$((count / 2))" "$formula" "$text"
+    make whole "$count" "$formula" "$text"
+    lines=$(wc -l < whole)
+    empty() { run 0 whole.cnf $(printf 'nothing %.0s' {1..64}); }
+    half() { run "$lines" half.cnf $(printf 'half %.0s' {1..64}); }
+    whole() { run "$lines" whole.cnf $(printf 'whole %.0s' {1..64}); }
+    row "$name" 8 "$((64 * $(wc -c < whole)))"
+}
+
+crowd '64 streams of a line of 65,536 hints' few.cnf 65536 'BEGIN { printf "2 3 0"; for (i = 0; i < n; i++) printf " 1"; print " 0" }'
+
 # A row of a formula, with an empty stream: its name, a count and its text.
 formula() {
     local name=$1 count=$2 text=$3

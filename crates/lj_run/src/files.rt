@@ -51,6 +51,7 @@ pub trait Files {
     ghost content: { Self → List ℕ → Option (List ℕ) };
 
     /// The bytes of the file at a path, from their front on. A file whose bytes are told can be opened. The files stay as they are.
+    /// Takes the time of the system's call; in memory O(log n) time for n files, and time linear in the bytes.
     fn open(&mut self, path: &str) -> Result<Self::Input, FileFault>
         ensures unfailed { IfOk result (λ input. Self.Input.failures input ≡ 0) }
         ensures fresh { IfOk result (λ input. Self.Input.given input ≡ []) }
@@ -59,7 +60,8 @@ pub trait Files {
         ensures there { IsSome (content self.old path.now) → result ≢ Err file_faults.CannotOpen }
         ensures same { AllStay (content self.old) (content self.new) };
 
-    /// An empty file at a path, in place of one that stood there. The others stay as they are.
+    /// An empty file at a path, in place of one that stood there. The others stay as they are. Takes the time of the
+    /// system's call; in memory O(log n) time for n files.
     fn create(&mut self, path: &str) -> Result<Self::Output, FileFault>
         ensures unfailed { IfOk result (λ output. Self.Output.failures output ≡ 0) }
         ensures fresh { IfOk result (λ output. Self.Output.taken output ≡ []) }
@@ -143,7 +145,7 @@ impl MemoryFiles {
     ghost use Rattle.std.specs.Prelude.{Some};
     ghost use Rattle.lj_run.specs.Files.{bytes_at, is_file};
 
-    /// No file at all.
+    /// No file at all. Takes constant time.
     pub fn new(alloc: Global) -> Self
         ensures { (path : List ℕ) → is_file result path ≡ false }
     {

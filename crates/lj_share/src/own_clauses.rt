@@ -11,9 +11,11 @@ use std::alloc::Global;
 /// clause counts its holders up and down, which is slow where many threads do so.
 const SHORT: usize = 16;
 
-/// The greatest number of hints of an addition that a seat tests by itself. A pair takes six times what its hint does, so a
-/// longer list is read where the book has its clauses.
-const MOST_HINTS: usize = 65_536;
+/// The greatest number of hints of an addition that a seat tests by itself whatever room there is.
+const FEW_HINTS: usize = 256;
+
+/// How many bytes a hint takes while its addition is tested by the seat itself: 24 for its pair, and what is read and entered.
+const PAIR: u64 = 32;
 
 /// How many bytes what a seat keeps may take for each byte of text that its hints were told in.
 const FOR_A_BYTE: u64 = 4;
@@ -31,7 +33,8 @@ const BLOCK: u64 = 64;
 /// the formula come in where they are asked for; those that don't are read in the formula. Where a growth is refused the seat
 /// gives all of it up, so it tells what the book's table does.
 ///
-/// A call takes constant time for each number up to a bound that follows how many there are, and O(log n) for others.
+/// A call takes constant time for each number up to a bound that follows how many there are, O(log n) for others, and time
+/// linear in the literals of a clause that it copies.
 #[derive(Drop)]
 pub(crate) struct OwnClauses {
     alloc: Global,
@@ -54,8 +57,8 @@ impl OwnClauses {
         }
     }
 
-    /// The case of an addition of the seat, if it has no groups and not too many hints, its number isn't here, and those of
-    /// its hints are.
+    /// The case of an addition of the seat, if it has no groups and few hints or room for all of them, its number isn't here,
+    /// and those of its hints are.
     ///
     /// # Errors
     /// [`NoMemory`] where a growth was refused.
@@ -71,7 +74,7 @@ impl OwnClauses {
     {
         self.room = self.room.saturating_add(room_for(&addition.hints));
         let own = addition.number;
-        if !addition.groups.is_empty() || addition.hints.len() > MOST_HINTS {
+        if !addition.groups.is_empty() || !self.is_room_for_pairs(&addition.hints) {
             return Ok(None);
         }
         if self.is_bound(formula, own) {
@@ -93,11 +96,32 @@ impl OwnClauses {
         formula.clause(own).is_some() && !self.given_up.contains_key(own)
     }
 
-    /// The pairs of these own numbers, if all are known to be bound.
+    /// Whether pairs are made of these hints: they are few, or there is room for them.
+    fn is_room_for_pairs(&self, hints: &Numbers) -> bool {
+        hints.len() <= FEW_HINTS || bytes_of_pairs(hints) <= self.room
+    }
+
+    /// The pairs of these own numbers, if all are known to be bound. The room that they take is lent to them meanwhile.
     ///
     /// # Errors
     /// [`NoMemory`] where a growth was refused.
     fn pairs(
+        &mut self,
+        formula: &Formula,
+        numbers: &Numbers,
+    ) -> Result<Option<Vec<Pair>>, NoMemory> {
+        let lent = bytes_of_pairs(numbers).min(self.room);
+        self.room -= lent;
+        let pairs = self.pairs_of(formula, numbers);
+        self.room = self.room.saturating_add(lent);
+        pairs
+    }
+
+    /// The pairs of these own numbers, if all are known to be bound.
+    ///
+    /// # Errors
+    /// [`NoMemory`] where a growth was refused.
+    fn pairs_of(
         &mut self,
         formula: &Formula,
         numbers: &Numbers,
@@ -241,6 +265,11 @@ fn room_for(hints: &Numbers) -> u64 {
         room = room.saturating_add(FOR_A_BYTE * text_of(own));
     }
     room
+}
+
+/// How many bytes the pairs of these numbers take.
+fn bytes_of_pairs(numbers: &Numbers) -> u64 {
+    (numbers.len() as u64).saturating_mul(PAIR)
 }
 
 /// How many bytes of text a hint takes at least, with what stands before it.

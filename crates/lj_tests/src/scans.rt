@@ -1,5 +1,5 @@
 //! Lists of events by a fixed generator, each reply beside that of plain scans over a plain list of clauses.
-ghost use Rattle.std.specs.Prelude.{◌<◌};
+ghost use Rattle.std.specs.Prelude.{◌<◌, ◌≤◌};
 
 use crate::tables::{Line, addition, assert_candidates, clause};
 use lj_book::{Added, Book, Dropped, Event, Imported, Refusal, Reply};
@@ -9,7 +9,10 @@ use std::alloc::Global;
 use std::process::Abort;
 use std::test::Fail;
 
-/// The literals that clauses are made of.
+/// The variables that clauses are made of, of which a formula has one or more.
+const VARIABLES: u64 = 4;
+
+/// Their literals.
 const LITERALS: [i32; 8] = [1, -1, 2, -2, 3, -3, 4, -4];
 
 /// How many events most lists have.
@@ -42,6 +45,7 @@ struct Random(u64);
 impl Random {
     fn below(&mut self, bound: u64) -> u64
         requires { 0 < bound }
+        ensures { result < bound }
     {
         let Random(state) = self;
         *state = state
@@ -51,7 +55,15 @@ impl Random {
     }
 
     fn literal(&mut self) -> i32 {
-        let at = self.below(8) as usize;
+        self.literal_up_to(VARIABLES)
+    }
+
+    /// A literal of one of the first variables, so many.
+    fn literal_up_to(&mut self, variables: u64) -> i32
+        requires positive { 0 < variables }
+        requires few { variables ≤ 4 }
+    {
+        let at = self.below(2 * variables) as usize;
         LITERALS.get(at).copied().unwrap_or(1)
     }
 
@@ -65,9 +77,17 @@ impl Random {
 
     /// Three literals at most.
     fn literals(&mut self, alloc: Global) -> Result<Vec<i32>, NoMemory> {
+        self.literals_up_to(alloc, VARIABLES)
+    }
+
+    /// Three literals at most, of the first variables, so many.
+    fn literals_up_to(&mut self, alloc: Global, variables: u64) -> Result<Vec<i32>, NoMemory>
+        requires positive { 0 < variables }
+        requires few { variables ≤ 4 }
+    {
         let mut lits = Vec::new(alloc);
         for _ in 0..self.below(4) {
-            lits.push(self.literal())?;
+            lits.push(self.literal_up_to(variables))?;
         }
         Ok(lits)
     }
@@ -206,12 +226,14 @@ impl Plain {
     }
 }
 
-/// A book over clauses by the generator, and its plain list. Each of two seats holds the clauses under their numbers.
+/// A book over clauses by the generator, and its plain list. Each of two seats holds the clauses under their numbers. Variables
+/// that the formula hasn't come in with later lines.
 fn opened(rt: &impl Abort, alloc: Global, random: &mut Random) -> Result<(Book, Plain), Fail> {
     let mut made = Vec::new(alloc);
     let mut given = Vec::new(alloc);
+    let variables = 1 + random.below(VARIABLES);
     for number in 1..6u64 {
-        let lits = random.literals(alloc)?;
+        let lits = random.literals_up_to(alloc, variables)?;
         made.push(clause(alloc, &lits)?)?;
         let mut holders = Vec::new(alloc);
         holders.push((0, number))?;
@@ -222,7 +244,7 @@ fn opened(rt: &impl Abort, alloc: Global, random: &mut Random) -> Result<(Book, 
             holders,
         })?;
     }
-    let Some(formula) = Formula::new(9, made) else {
+    let Some(formula) = Formula::new(variables as u32, made) else {
         panic!(rt; "no formula");
     };
     let plain = Plain {
