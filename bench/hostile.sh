@@ -89,21 +89,24 @@ make() {
 
 # Two rows of a stream, in turn and twice on threads: its name, its formula, a count and its text. The fifth word, where there
 # is one, is how many lines are done before one is refused, and the sixth how many bytes for a byte it may take where more than
-# 8 can't be helped.
+# 8 can't be helped. The seventh is the formula of the empty streams where it is another: then what the row's own formula takes
+# is counted too, and its text.
 stream() {
-    local name=$1 formula=$2 count=$3 text=$4 limit=${6:-8} done_half done_whole
+    local name=$1 formula=$2 count=$3 text=$4 limit=${6:-8} other=${7:-} bytes=0 done_half done_whole
     make half "$((count / 2))" "$formula" "$text"
     make whole "$count" "$formula" "$text"
+    if [ "$other" ]; then bytes=$(wc -c < whole.cnf); fi
+    other=${other:-whole.cnf}
     done_half=${5:-$(wc -l < half)}
     done_whole=${5:-$(wc -l < whole)}
-    empty() { run 0 whole.cnf nothing --in-turn; }
+    empty() { run 0 "$other" nothing --in-turn; }
     half() { run "$done_half" half.cnf half --in-turn; }
     whole() { run "$done_whole" whole.cnf whole --in-turn; }
-    row "$name" "$limit" "$(wc -c < whole)"
-    empty() { run 0 whole.cnf nothing nothing; }
+    row "$name" "$limit" "$((bytes + $(wc -c < whole)))"
+    empty() { run 0 "$other" nothing nothing; }
     half() { run "$done_half" half.cnf half half; }
     whole() { run "$done_whole" whole.cnf whole whole; }
-    row "$name, twice on threads" "$limit" "$((2 * $(wc -c < whole)))"
+    row "$name, twice on threads" "$limit" "$((bytes + 2 * $(wc -c < whole)))"
 }
 
 stream 'one line of hints' few.cnf 4000000 'BEGIN { printf "2 3 0"; for (i = 0; i < n; i++) printf " 1"; print " 0" }'
@@ -170,6 +173,31 @@ stream 'RAT lines of 100 candidates, of which one comes and one goes before each
         print 99 + 2 * i " -1 2 3 0 1 0"
         print 100 + 2 * i " 1 -2 0 0"
         print 100 + 2 * i " d " (i < 100 ? i + 1 : 2 * i - 99) " 0" } }'
+for few in 2 3 4; do
+    stream "RAT lines of $few candidates that close before any hint" \
+        "BEGIN { print \"p cnf 2 $few\"; for (i = 1; i <= $few; i++) print \"-1 2 -2 0\" }" 300000 \
+        "BEGIN { for (i = 1; i <= n; i++) print i + $few \" 1 0 0\" }"
+done
+
+# Two rows of RAT lines, each for a pivot of its own, whose candidates, so many, are the clauses that stand for a hundred pivots:
+# the lines are so many for each pivot. What the formula takes is counted, and its text.
+pivots() {
+    local candidates=$1 count=$2 times=$3
+    stream "RAT lines for pivots of $candidates candidates, $times for each, with the formula" "BEGIN {
+        print \"p cnf \" n + 1, $candidates * n / 100
+        for (block = 0; block < n / 100; block++)
+            for (i = 0; i < $candidates; i++) {
+                printf \"1 -1\"
+                for (j = 2; j < 102; j++) printf \" -%d\", 100 * block + j
+                print \" 0\" } }" "$count" \
+        "BEGIN { m = $candidates * n / 100; for (t = 0; t < $times; t++) for (i = 2; i < n + 2; i++) print ++m, i, \"0 0\" }" \
+        '' 8 few.cnf
+}
+
+pivots 4 100000 1
+pivots 5 100000 1
+pivots 5 60000 2
+pivots 100 10000 1
 
 # A row of a formula, with an empty stream: its name, a count and its text.
 formula() {
