@@ -179,25 +179,31 @@ for few in 2 3 4; do
         "BEGIN { for (i = 1; i <= n; i++) print i + $few \" 1 0 0\" }"
 done
 
-# Two rows of RAT lines, each for a pivot of its own, whose candidates, so many, are the clauses that stand for a hundred pivots:
-# the lines are so many for each pivot. What the formula takes is counted, and its text.
+# Two rows of RAT lines for pivots whose candidates, so many, are clauses that stand for a hundred pivots: so many lines for each
+# pivot, the second behind one more such clause where a word more asks for it. What the formula takes is counted, and its text.
 pivots() {
-    local candidates=$1 count=$2 times=$3
-    stream "RAT lines for pivots of $candidates candidates, $times for each, with the formula" "BEGIN {
+    local candidates=$1 count=$2 times=$3 more=${4:-} name clause
+    name="RAT lines for pivots of $candidates candidates, $times for each"
+    if [ "$more" ]; then name="$name, a clause more between"; fi
+    clause='function clause(block, head) { printf "%s1 -1", head; for (j = 2; j < 102; j++) printf " -%d", 100 * block + j }'
+    stream "$name, with the formula" "BEGIN {
         print \"p cnf \" n + 1, $candidates * n / 100
         for (block = 0; block < n / 100; block++)
-            for (i = 0; i < $candidates; i++) {
-                printf \"1 -1\"
-                for (j = 2; j < 102; j++) printf \" -%d\", 100 * block + j
-                print \" 0\" } }" "$count" \
-        "BEGIN { m = $candidates * n / 100; for (t = 0; t < $times; t++) for (i = 2; i < n + 2; i++) print ++m, i, \"0 0\" }" \
-        '' 8 few.cnf
+            for (i = 0; i < $candidates; i++) { clause(block, \"\"); print \" 0\" } }
+        $clause" "$count" \
+        "BEGIN {
+        m = $candidates * n / 100
+        for (time = 0; time < $times; time++) {
+            if (time && \"$more\") for (block = 0; block < n / 100; block++) { clause(block, ++m \" \"); print \" 0 0\" }
+            for (i = 2; i < n + 2; i++) print ++m, i, \"0 0\" } }
+        $clause" '' 8 few.cnf
 }
 
 pivots 4 100000 1
 pivots 5 100000 1
 pivots 5 60000 2
 pivots 100 10000 1
+pivots 20 20000 2 more
 
 # A row of a formula, with an empty stream: its name, a count and its text.
 formula() {

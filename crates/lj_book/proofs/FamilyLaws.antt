@@ -12,7 +12,7 @@ use Rattle.lj_book.specs.declared.history.rows.Row.{Row}
 use Rattle.lj_book.specs.declared.history.rows.Row.TheVariants as rows
 use Rattle.std.proofs.lemmas.List.{map_push, append-nil, append_assoc, length-append}
 use Rattle.lj_book.specs.inner.Rows.{IsLater}
-use Rattle.lj_book.specs.inner.Families.{is_there, row_in, members_of, family_row, alone_row, row_at, IsLaterFamily, AreLater, AreMore, IsFamilyRow, IsAloneRow, IsSharedRow}
+use Rattle.lj_book.specs.inner.Families.{is_there, row_in, members_of, base_of, family_row, alone_row, row_at, IsLaterFamily, AreLater, AreMore, IsFamilyRow, IsAloneRow, IsSharedRow}
 
 still_there : (m : Member) (before epoch : ℕ) → m.gone ≡ 0 → before < epoch → is_there before (record { number = m.number; gone = epoch }) ≡ is_there before m
 still_there m before epoch here lt = new before epoch lt ∙ sym (ap (λ (g : ℕ). g == 0 || nat_lt before g) here)
@@ -38,10 +38,11 @@ row_marked (x ∷ ms) (suc i) (suc count) before epoch m lt is here le =
 -- ---- later families
 
 pub later_family_same : (f : Family) → IsLaterFamily f f
-later_family_same f = record { more = omega arith; later = omega arith; rows = λ count epoch le before. refl }
+later_family_same f = record { base = refl; more = omega arith; later = omega arith; rows = λ count epoch le before. refl }
 
 pub later_family_then : (f g h : Family) → IsLaterFamily f g → IsLaterFamily g h → IsLaterFamily f h
 later_family_then f g h a b = record {
+  base = b.base ∙ a.base;
   more = omega (arith, a.more, b.more);
   later = omega (arith, a.later, b.later);
   rows = λ count epoch le before. b.rows count epoch (omega (arith, le, a.more)) (omega (arith, before, a.later)) ∙ a.rows count epoch le before;
@@ -86,6 +87,11 @@ family_at [] i f lt at = absurd (let no : ⊥ = omega (arith, lt) in no)
 family_at (x ∷ fs) zero f lt at = ap Some (sym at)
 family_at (x ∷ fs) (suc i) f lt at = family_at fs i f (omega (arith, lt)) at
 
+there_at : (fs : List Family) (i : ℕ) → i < length fs → (f : Family) × (slice_get fs i ≡ Some f)
+there_at [] i lt = absurd (let no : ⊥ = omega (arith, lt) in no)
+there_at (f ∷ fs) zero lt = (f, refl)
+there_at (f ∷ fs) (suc i) lt = there_at fs i (omega (arith, lt))
+
 -- ---- more candidates
 
 pub more_same : (ns : List ℕ) → AreMore ns ns
@@ -119,13 +125,30 @@ alone_is_there ns ms r is more =
 
 -- ---- their rows
 
-family_row_stays : (fs gs : List Family) (r : FamilyRow) → IsFamilyRow fs r → AreLater fs gs → family_row gs r ≡ family_row fs r
-family_row_stays fs gs r is later =
+-- families have the first rows that they had
+base_stays : (fs gs : List Family) (i : ℕ) (f : Family) → slice_get fs i ≡ Some f → AreLater fs gs → base_of (slice_get gs i) ≡ base_of (slice_get fs i)
+base_stays fs gs i f at later =
+    let now = later.each i f at in
+    ap base_of now.1 ∙ now.2.base ∙ sym (ap base_of at)
+
+pub base_kept : (fs gs : List Family) (i : ℕ) → i < length fs → AreLater fs gs → base_of (slice_get gs i) ≡ base_of (slice_get fs i)
+base_kept fs gs i lt later = let f = there_at fs i lt in base_stays fs gs i f.0 f.1 later
+
+pub base_pushed : (fs : List Family) (g : Family) → base_of (slice_get (fs ++ g ∷ []) (length fs)) ≡ g.base
+base_pushed [] g = refl
+base_pushed (f ∷ fs) g = base_pushed fs g
+
+family_row_stays : (fs gs : List Family) (ns ms : List ℕ) (r : FamilyRow) → IsFamilyRow fs r → IsAloneRow ns (base_of (slice_get fs r.family)) → AreLater fs gs → AreMore ns ms → family_row gs ms r ≡ family_row fs ns r
+family_row_stays fs gs ns ms r is base later more =
     let f = is.there.0 in
     let now = later.each r.family f is.there.1 in
+    let first : alone_row ms (base_of (slice_get gs r.family)) ≡ alone_row ns (base_of (slice_get fs r.family)) =
+    ap (alone_row ms) (base_stays fs gs r.family f is.there.1 later) ∙ alone_stays ns ms (base_of (slice_get fs r.family)) base more in
+    let others : row_in (take r.count (members_of (slice_get gs r.family))) r.epoch ≡ row_in (take r.count (members_of (slice_get fs r.family))) r.epoch =
     ap (λ (o : Option Family). row_in (take r.count (members_of o)) r.epoch) now.1
     ∙ now.2.rows r.count r.epoch is.there.2 is.there.3
-    ∙ sym (ap (λ (o : Option Family). row_in (take r.count (members_of o)) r.epoch) is.there.1)
+    ∙ sym (ap (λ (o : Option Family). row_in (take r.count (members_of o)) r.epoch) is.there.1) in
+    λ i. first i ++ others i
 
 family_row_is_there : (fs gs : List Family) (r : FamilyRow) → IsFamilyRow fs r → AreLater fs gs → IsFamilyRow gs r
 family_row_is_there fs gs r is later =
@@ -134,11 +157,14 @@ family_row_is_there fs gs r is later =
 
 row_stays : (fs gs : List Family) (ns ms : List ℕ) (r : Row) → IsSharedRow fs ns r → AreLater fs gs → AreMore ns ms → row_at gs ms r ≡ row_at fs ns r
 row_stays fs gs ns ms (rows.Alone r) is later more = alone_stays ns ms r is more
-row_stays fs gs ns ms (rows.OfFamily r) is later more = family_row_stays fs gs r is later
+row_stays fs gs ns ms (rows.OfFamily r) is later more = family_row_stays fs gs ns ms r is.0 is.1 later more
 
 row_is_there : (fs gs : List Family) (ns ms : List ℕ) (r : Row) → IsSharedRow fs ns r → AreLater fs gs → AreMore ns ms → IsSharedRow gs ms r
 row_is_there fs gs ns ms (rows.Alone r) is later more = alone_is_there ns ms r is more
-row_is_there fs gs ns ms (rows.OfFamily r) is later more = family_row_is_there fs gs r is later
+row_is_there fs gs ns ms (rows.OfFamily r) is later more = (
+  family_row_is_there fs gs r is.0 later,
+  subst (IsAloneRow ms) (sym (base_stays fs gs r.family is.0.there.0 is.0.there.1 later)) (alone_is_there ns ms (base_of (slice_get fs r.family)) is.1 more),
+)
 
 pub rows_stay : (fs gs : List Family) (ns ms : List ℕ) (rs : List Row) → AllByRecursion (IsSharedRow fs ns) rs → AreLater fs gs → AreMore ns ms → map (row_at gs ms) rs ≡ map (row_at fs ns) rs
 rows_stay fs gs ns ms [] are later more = refl

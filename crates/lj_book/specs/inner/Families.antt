@@ -20,20 +20,26 @@ abbrev pub members_of : Option Family → List Member
 members_of None = []
 members_of (Some f) = f.members.items
 
--- the row of a family, by how many members it had, and the epoch
-abbrev pub family_row : List Family → FamilyRow → List ℕ
-family_row fs r = row_in (take r.count (members_of (slice_get fs r.family))) r.epoch
-
 -- the row that stands by itself among the candidates of all such rows
 abbrev pub alone_row : List ℕ → AloneRow → List ℕ
 alone_row ns r = take r.count (drop r.start ns)
 
+-- the row before the members of a family
+abbrev pub base_of : Option Family → AloneRow
+base_of None = record { start = 0; count = 0 }
+base_of (Some f) = f.base
+
+-- the row of a family, by how many members it had, and the epoch
+abbrev pub family_row : List Family → List ℕ → FamilyRow → List ℕ
+family_row fs ns r = alone_row ns (base_of (slice_get fs r.family)) ++ row_in (take r.count (members_of (slice_get fs r.family))) r.epoch
+
 abbrev pub row_at : List Family → List ℕ → Row → List ℕ
 row_at fs ns (rows.Alone r) = alone_row ns r
-row_at fs ns (rows.OfFamily r) = family_row fs r
+row_at fs ns (rows.OfFamily r) = family_row fs ns r
 
 -- A family has the rows that it had.
 pub record IsLaterFamily (f g : Family) : Type 0 where
+  pub base : g.base ≡ f.base
   pub more : length f.members.items ≤ length g.members.items
   pub later : f.epoch ≤ g.epoch
   pub rows : (count epoch : ℕ) → count ≤ length f.members.items → epoch ≤ f.epoch
@@ -57,7 +63,7 @@ pub record IsFamilyRow (fs : List Family) (r : FamilyRow) : Type 0 where
 pub record IsAloneRow (ns : List ℕ) (r : AloneRow) : Type 0 where
   pub within : r.start + r.count ≤ length ns
 
--- The row is a family's or stands among these candidates.
+-- The row stands among these candidates, or is one of the families, whose first row does.
 abbrev pub IsSharedRow : List Family → List ℕ → Row → Type 0
 IsSharedRow fs ns (rows.Alone r) = IsAloneRow ns r
-IsSharedRow fs ns (rows.OfFamily r) = IsFamilyRow fs r
+IsSharedRow fs ns (rows.OfFamily r) = IsFamilyRow fs r × IsAloneRow ns (base_of (slice_get fs r.family))

@@ -1,6 +1,6 @@
 //! Rows of candidates, which the entries of a history share.
-ghost use Rattle.std.specs.Prelude.{◌≡◌, ◌<◌, ◌≤◌, ◌+◌, ◌⊎◌, ◌++◌, ◌∷◌, ℕ, [], length, take, drop, slice_get, true, IfSome, IfNone};
-ghost use Rattle.lj_book.specs.inner.Families.{is_there, row_in, members_of, alone_row, IsLaterFamily, AreLater, AreMore, IsFamilyRow, IsAloneRow, IsSharedRow};
+ghost use Rattle.std.specs.Prelude.{◌≡◌, ◌<◌, ◌≤◌, ◌+◌, ◌⊎◌, ◌++◌, ◌∷◌, ℕ, [], length, take, drop, slice_get, true, IfOk, IfSome, IfNone};
+ghost use Rattle.lj_book.specs.inner.Families.{is_there, row_in, members_of, base_of, alone_row, IsLaterFamily, AreLater, AreMore, IsFamilyRow, IsAloneRow, IsSharedRow};
 ghost use Rattle.lj_book.specs.inner.Rows.{row_numbered, IsLater};
 
 use crate::bindings::Bindings;
@@ -13,6 +13,9 @@ const FEW: usize = 4;
 
 /// So many members that are gone stay in a family, and as many as there are candidates.
 const MANY_GONE: usize = 8;
+
+/// No candidates.
+const NOTHING: AloneRow = AloneRow { start: 0, count: 0 };
 
 /// Stands for the number of a row where there was one line with a literal, or two, and no row.
 const ONCE: u64 = u32::MAX as u64 - 1;
@@ -31,6 +34,8 @@ pub(crate) struct Member {
 /// were, and the epoch.
 #[derive(Debug, Drop)]
 pub(crate) struct Family {
+    /// The row that stands by itself before the members.
+    base: AloneRow,
     members: Vec<Member>,
     epoch: u32,
 }
@@ -40,8 +45,11 @@ impl Family {
     ///
     /// # Errors
     /// [`AllocError`] where a growth was refused.
-    fn new(alloc: Global, count: usize) -> Result<Family, AllocError> {
+    fn new(alloc: Global, base: AloneRow, count: usize) -> Result<Family, AllocError>
+        ensures { IfOk result (λ family. family.base ≡ base) }
+    {
         Ok(Family {
+            base,
             members: Vec::with_capacity(alloc, count)?,
             epoch: 0,
         })
@@ -49,13 +57,13 @@ impl Family {
 
     /// Takes up the candidates of these groups as a new row, in a new epoch where some are gone. Answers whether they were taken up,
     /// as far as their numbers have room and no growth was refused.
-    fn follow(&mut self, groups: &Groups) -> bool
+    fn follow(&mut self, groups: GroupsIter<'_>) -> bool
         ensures { IsLaterFamily self.old self.new }
     {
         let Some(next) = self.epoch.checked_add(1) else {
             return false;
         };
-        let mut rest = groups.iter();
+        let mut rest = groups;
         let (left, some_gone) = mark_gone(&mut self.members, next, &mut rest);
         if some_gone {
             self.epoch = next;
@@ -220,7 +228,7 @@ impl Rows {
                 epoch: 0,
             },
             Some(Row::OfFamily(row)) => LentRow {
-                alone: &[],
+                alone: alone_at(&self.alone, &base_of(&self.families, row.family as usize)),
                 members: members_at(&self.families, row),
                 epoch: u64::from(row.epoch),
             },
@@ -304,13 +312,54 @@ fn next_row(
     ensures later { AreLater families.old.items families.new.items }
     ensures row { IfSome result (IsSharedRow families.new.items alone.new.items) }
 {
-    let family = match before {
+    let (base, family) = match before {
         None => return Some(Row::Alone(add_alone(alone, groups)?)),
-        Some(Row::Alone(row)) if are_alone(alone, row, groups) => return Some(Row::Alone(row)),
-        Some(Row::Alone(_)) => None,
-        Some(Row::OfFamily(row)) => Some(row.family as usize),
+        Some(Row::Alone(row)) => (row, None),
+        Some(Row::OfFamily(row)) => {
+            let index = row.family as usize;
+            (base_of(families, index), Some(index))
+        }
     };
-    Some(Row::OfFamily(follow_in(families, family, groups)?))
+    let row = match behind(alone, base, groups) {
+        Some(rest) => {
+            let count = groups.len().saturating_sub(base.count as usize);
+            if family.is_none() && count == 0 {
+                return Some(Row::Alone(base));
+            }
+            follow_in(families, family, base, rest, count)?
+        }
+        None => follow_in(families, None, NOTHING, groups.iter(), groups.len())?,
+    };
+    Some(Row::OfFamily(row))
+}
+
+/// The row before the members of a family, if there is one at an index.
+fn base_of(families: &[Family], index: usize) -> AloneRow
+    ensures { result ≡ base_of (slice_get families.now index) }
+{
+    match families.get(index) {
+        Some(family) => family.base,
+        None => NOTHING,
+    }
+}
+
+/// The groups behind those of a row that stands by itself, if they begin with that.
+fn behind<'a>(alone: &[u32], row: AloneRow, groups: &'a Groups) -> Option<GroupsIter<'a>>
+    ensures { IfSome result (λ rest. row.start + row.count ≤ length alone.now) }
+{
+    let start = row.start as usize;
+    let end = start + row.count as usize;
+    if alone.len() < end {
+        return None;
+    }
+    let mut rest = groups.iter();
+    for index in start..end {
+        match rest.next() {
+            Some(group) if group.candidate == u64::from(alone[index]) => {}
+            _ => return None,
+        }
+    }
+    Some(rest)
 }
 
 /// Takes up the candidates of these groups as a row that stands by itself.
@@ -347,35 +396,20 @@ fn alone_row(start: usize, count: usize) -> Option<AloneRow>
     Some(AloneRow { start, count })
 }
 
-/// Whether the candidates of these groups are those of a row that stands by itself.
-fn are_alone(alone: &[u32], row: AloneRow, groups: &Groups) -> bool
-    ensures { result ≡ true → row.start + row.count ≤ length alone.now }
-{
-    let start = row.start as usize;
-    let end = start + row.count as usize;
-    if alone.len() < end || groups.len() != row.count as usize {
-        return false;
-    }
-    let mut index = start;
-    for group in groups.iter() {
-        if index >= end || u64::from(alone[index]) != group.candidate {
-            return false;
-        }
-        index += 1;
-    }
-    true
-}
-
 /// Takes up the candidates of these groups as a row of a family, of that at an index if there is one.
 fn follow_in(
     families: &mut Vec<Family>,
     before: Option<usize>,
-    groups: &Groups,
+    base: AloneRow,
+    groups: GroupsIter<'_>,
+    count: usize,
 ) -> Option<FamilyRow>
     ensures later { AreLater families.old.items families.new.items }
     ensures row { IfSome result (IsFamilyRow families.new.items) }
+    ensures base { IfSome result
+        (λ row. base_of (slice_get families.new.items row.family) ≡ base) }
 {
-    let index = family_for(families, before, groups.len())?;
+    let index = family_for(families, before, base, count)?;
     if !follow_at(families, index, groups) {
         return None;
     }
@@ -427,20 +461,33 @@ fn is_row_at(rows: &[Row], number: u64, row: Row) -> bool
 
 /// Which family a row of so many candidates belongs to: a new one, where there was none, or where that has too many members that
 /// are gone.
-fn family_for(families: &mut Vec<Family>, before: Option<usize>, count: usize) -> Option<usize>
+fn family_for(
+    families: &mut Vec<Family>,
+    before: Option<usize>,
+    base: AloneRow,
+    count: usize,
+) -> Option<usize>
     ensures later { AreLater families.old.items families.new.items }
     ensures within { IfSome result (λ index. index < length families.new.items) }
+    ensures base { IfSome result (λ index. base_of (slice_get families.new.items index) ≡ base) }
 {
     if let Some(index) = before {
-        if has_few_gone(families, index, count) {
+        if is_family_of(families, index, base) && has_few_gone(families, index, count) {
             return Some(index);
         }
     }
     let index = families.len();
-    if !add_family(families, count) {
+    if !add_family(families, base, count) {
         return None;
     }
     Some(index)
+}
+
+/// Whether the row before the members of the family at an index is this one.
+fn is_family_of(families: &[Family], index: usize, base: AloneRow) -> bool
+    ensures { result ≡ true → base_of (slice_get families.now index) ≡ base }
+{
+    base_of(families, index) == base
 }
 
 /// Whether there is a family at an index, and not too many of its members are gone, for a row of so many candidates.
@@ -454,20 +501,22 @@ fn has_few_gone(families: &[Family], index: usize, count: usize) -> bool
 }
 
 /// Takes a new family behind the others, with room for so many members. Answers whether a growth was granted.
-#[tactic(auto, using(crate::proofs::FamilyLaws::families_push, crate::proofs::FamilyLaws::families_same))]
-fn add_family(families: &mut Vec<Family>, count: usize) -> bool
+#[tactic(auto, using(crate::proofs::FamilyLaws::families_push, crate::proofs::FamilyLaws::families_same, crate::proofs::FamilyLaws::base_pushed))]
+fn add_family(families: &mut Vec<Family>, base: AloneRow, count: usize) -> bool
     ensures later { AreLater families.old.items families.new.items }
     ensures more { result ≡ true → length families.new.items ≡ length families.old.items + 1 }
+    ensures base { result ≡ true
+        → base_of (slice_get families.new.items (length families.old.items)) ≡ base }
 {
     let alloc = *families.allocator();
-    let Ok(family) = Family::new(alloc, count) else {
+    let Ok(family) = Family::new(alloc, base, count) else {
         return false;
     };
     families.push(family).is_ok()
 }
 
 /// Takes up the candidates of these groups in the family at an index, as [`Family::follow`] does.
-fn follow_at(families: &mut Vec<Family>, index: usize, groups: &Groups) -> bool
+fn follow_at(families: &mut Vec<Family>, index: usize, groups: GroupsIter<'_>) -> bool
     requires { index < length families.old.items }
     ensures later { AreLater families.old.items families.new.items }
     ensures len { length families.new.items ≡ length families.old.items }
