@@ -88,21 +88,24 @@ make() {
 }
 
 # Two rows of a stream, in turn and twice on threads: its name, its formula, a count and its text. The fifth word, where there
-# is one, is how many lines are done before one is refused.
+# is one, is how many lines are done before one is refused. The sixth is the formula of the empty streams where it is another:
+# then what the row's own formula takes is counted too, and its text.
 stream() {
-    local name=$1 formula=$2 count=$3 text=$4 done_half done_whole
+    local name=$1 formula=$2 count=$3 text=$4 other=${6:-} bytes=0 done_half done_whole
     make half "$((count / 2))" "$formula" "$text"
     make whole "$count" "$formula" "$text"
+    if [ "$other" ]; then bytes=$(wc -c < whole.cnf); fi
+    other=${other:-whole.cnf}
     done_half=${5:-$(wc -l < half)}
     done_whole=${5:-$(wc -l < whole)}
-    empty() { run 0 whole.cnf nothing --in-turn; }
+    empty() { run 0 "$other" nothing --in-turn; }
     half() { run "$done_half" half.cnf half --in-turn; }
     whole() { run "$done_whole" whole.cnf whole --in-turn; }
-    row "$name" 8 "$(wc -c < whole)"
-    empty() { run 0 whole.cnf nothing nothing; }
+    row "$name" 8 "$((bytes + $(wc -c < whole)))"
+    empty() { run 0 "$other" nothing nothing; }
     half() { run "$done_half" half.cnf half half; }
     whole() { run "$done_whole" whole.cnf whole whole; }
-    row "$name, twice on threads" 8 "$((2 * $(wc -c < whole)))"
+    row "$name, twice on threads" 8 "$((bytes + 2 * $(wc -c < whole)))"
 }
 
 stream 'one line of hints' few.cnf 4000000 'BEGIN { printf "2 3 0"; for (i = 0; i < n; i++) printf " 1"; print " 0" }'
@@ -176,6 +179,37 @@ stream 'RAT lines of 100 candidates, of which one comes and one goes before each
         print 99 + 2 * i " -1 2 3 0 1 0"
         print 100 + 2 * i " 1 -2 0 0"
         print 100 + 2 * i " d " (i < 100 ? i + 1 : 2 * i - 99) " 0" } }'
+for few in 2 3 4; do
+    stream "RAT lines of $few candidates that close before any hint" \
+        "BEGIN { print \"p cnf 2 $few\"; for (i = 1; i <= $few; i++) print \"-1 2 -2 0\" }" 300000 \
+        "BEGIN { for (i = 1; i <= n; i++) print i + $few \" 1 0 0\" }"
+done
+
+# Two rows of RAT lines for pivots whose candidates, so many, are clauses that stand for a hundred pivots: so many lines for each
+# pivot, the second behind one more such clause where a word more asks for it. What the formula takes is counted, and its text.
+pivots() {
+    local candidates=$1 count=$2 times=$3 more=${4:-} name clause
+    name="RAT lines for pivots of $candidates candidates, $times for each"
+    if [ "$more" ]; then name="$name, a clause more between"; fi
+    clause='function clause(block, head) { printf "%s1 -1", head; for (j = 2; j < 102; j++) printf " -%d", 100 * block + j }'
+    stream "$name, with the formula" "BEGIN {
+        print \"p cnf \" n + 1, $candidates * n / 100
+        for (block = 0; block < n / 100; block++)
+            for (i = 0; i < $candidates; i++) { clause(block, \"\"); print \" 0\" } }
+        $clause" "$count" \
+        "BEGIN {
+        m = $candidates * n / 100
+        for (time = 0; time < $times; time++) {
+            if (time && \"$more\") for (block = 0; block < n / 100; block++) { clause(block, ++m \" \"); print \" 0 0\" }
+            for (i = 2; i < n + 2; i++) print ++m, i, \"0 0\" } }
+        $clause" '' few.cnf
+}
+
+pivots 4 100000 1
+pivots 5 100000 1
+pivots 5 60000 2
+pivots 100 10000 1
+pivots 20 20000 2 more
 
 # A row of a stream that 64 seats have, on threads: its name, its formula, a count and its text.
 crowd() {

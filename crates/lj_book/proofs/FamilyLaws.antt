@@ -1,15 +1,18 @@
 -- Families of candidates that keep their rows.
-use Rattle.std.proofs.Common.{◌≡◌, ap, refl, sym, ◌∙◌, subst, ℕ, zero, suc, ◌<◌, ◌≤◌, arith, get_or, length, take, set, inl, inr}
+use Rattle.std.proofs.Common.{◌≡◌, ap, refl, sym, ◌∙◌, subst, ℕ, zero, suc, ◌+◌, ◌<◌, ◌≤◌, arith, get_or, length, take, drop, set, inl, inr}
 use Rattle.std.proofs.lemmas.Bool.Decides.{nat_tests}
 use Rattle.std.proofs.lemmas.Bool.{false≢true}
 use Rattle.std.specs.Prelude.{map, ◌⊎◌, IfSome, Option, Some, None, is_some, slice_get, true, List, [], ◌∷◌, ◌++◌, ◌==◌, ◌||◌, nat_lt, if◌then◌else◌, slice_set}
 use Rattle.std.specs.List.{AllByRecursion}
 use Rattle.lj_book.specs.declared.history.rows.Member.{Member}
 use Rattle.lj_book.specs.declared.history.rows.Family.{Family}
+use Rattle.lj_book.specs.declared.history.rows.AloneRow.{AloneRow}
+use Rattle.lj_book.specs.declared.history.rows.FamilyRow.{FamilyRow}
 use Rattle.lj_book.specs.declared.history.rows.Row.{Row}
-use Rattle.std.proofs.lemmas.List.{map_push, append-nil}
+use Rattle.lj_book.specs.declared.history.rows.Row.TheVariants as rows
+use Rattle.std.proofs.lemmas.List.{map_push, append-nil, append_assoc, length-append}
 use Rattle.lj_book.specs.inner.Rows.{IsLater}
-use Rattle.lj_book.specs.inner.Families.{is_there, row_in, members_of, row_at, IsLaterFamily, AreLater, IsFamilyRow}
+use Rattle.lj_book.specs.inner.Families.{is_there, row_in, members_of, base_of, family_row, alone_row, row_at, IsLaterFamily, AreLater, AreMore, IsFamilyRow, IsAloneRow, IsSharedRow}
 
 still_there : (m : Member) (before epoch : ℕ) → m.gone ≡ 0 → before < epoch → is_there before (record { number = m.number; gone = epoch }) ≡ is_there before m
 still_there m before epoch here lt = new before epoch lt ∙ sym (ap (λ (g : ℕ). g == 0 || nat_lt before g) here)
@@ -35,10 +38,11 @@ row_marked (x ∷ ms) (suc i) (suc count) before epoch m lt is here le =
 -- ---- later families
 
 pub later_family_same : (f : Family) → IsLaterFamily f f
-later_family_same f = record { more = omega arith; later = omega arith; rows = λ count epoch le before. refl }
+later_family_same f = record { base = refl; more = omega arith; later = omega arith; rows = λ count epoch le before. refl }
 
 pub later_family_then : (f g h : Family) → IsLaterFamily f g → IsLaterFamily g h → IsLaterFamily f h
 later_family_then f g h a b = record {
+  base = b.base ∙ a.base;
   more = omega (arith, a.more, b.more);
   later = omega (arith, a.later, b.later);
   rows = λ count epoch le before. b.rows count epoch (omega (arith, le, a.more)) (omega (arith, before, a.later)) ∙ a.rows count epoch le before;
@@ -83,49 +87,117 @@ family_at [] i f lt at = absurd (let no : ⊥ = omega (arith, lt) in no)
 family_at (x ∷ fs) zero f lt at = ap Some (sym at)
 family_at (x ∷ fs) (suc i) f lt at = family_at fs i f (omega (arith, lt)) at
 
+there_at : (fs : List Family) (i : ℕ) → i < length fs → (f : Family) × (slice_get fs i ≡ Some f)
+there_at [] i lt = absurd (let no : ⊥ = omega (arith, lt) in no)
+there_at (f ∷ fs) zero lt = (f, refl)
+there_at (f ∷ fs) (suc i) lt = there_at fs i (omega (arith, lt))
+
+-- ---- more candidates
+
+pub more_same : (ns : List ℕ) → AreMore ns ns
+more_same ns = record { more = []; is = sym (append-nil ns) }
+
+pub more_then : (ns ms ls : List ℕ) → AreMore ns ms → AreMore ms ls → AreMore ns ls
+more_then ns ms ls a b = record { more = a.more ++ b.more; is = b.is ∙ ap (λ (us : List ℕ). us ++ b.more) a.is ∙ append_assoc ns a.more b.more }
+
+pub more_longer : (ns ms : List ℕ) → AreMore ns ms → length ns ≤ length ms
+more_longer ns ms more =
+    let longer : length ms ≡ length ns + length more.more = ap length more.is ∙ length-append ns more.more in
+    omega (arith, longer)
+
+front_kept : (ns more : List ℕ) (count : ℕ) → count ≤ length ns → take count (ns ++ more) ≡ take count ns
+front_kept ns more zero le = refl
+front_kept [] more (suc count) le = absurd (let no : ⊥ = omega (arith, le) in no)
+front_kept (n ∷ ns) more (suc count) le = ap (λ (ms : List ℕ). n ∷ ms) (front_kept ns more count (omega (arith, le)))
+
+part_kept : (ns more : List ℕ) (start count : ℕ) → start + count ≤ length ns → take count (drop start (ns ++ more)) ≡ take count (drop start ns)
+part_kept ns more zero count le = front_kept ns more count (omega (arith, le))
+part_kept [] more (suc start) count le = absurd (let no : ⊥ = omega (arith, le) in no)
+part_kept (n ∷ ns) more (suc start) count le = part_kept ns more start count (omega (arith, le))
+
+alone_stays : (ns ms : List ℕ) (r : AloneRow) → IsAloneRow ns r → AreMore ns ms → alone_row ms r ≡ alone_row ns r
+alone_stays ns ms r is more = ap (λ (all : List ℕ). alone_row all r) more.is ∙ part_kept ns more.more r.start r.count is.within
+
+alone_is_there : (ns ms : List ℕ) (r : AloneRow) → IsAloneRow ns r → AreMore ns ms → IsAloneRow ms r
+alone_is_there ns ms r is more =
+    let longer : length ns ≤ length ms = more_longer ns ms more in
+    record { within = omega (arith, is.within, longer) }
+
 -- ---- their rows
 
-pub row_stays : (fs gs : List Family) (r : Row) → IsFamilyRow fs r → AreLater fs gs → row_at gs r ≡ row_at fs r
-row_stays fs gs r is later =
+-- families have the first rows that they had
+base_stays : (fs gs : List Family) (i : ℕ) (f : Family) → slice_get fs i ≡ Some f → AreLater fs gs → base_of (slice_get gs i) ≡ base_of (slice_get fs i)
+base_stays fs gs i f at later =
+    let now = later.each i f at in
+    ap base_of now.1 ∙ now.2.base ∙ sym (ap base_of at)
+
+pub base_kept : (fs gs : List Family) (i : ℕ) → i < length fs → AreLater fs gs → base_of (slice_get gs i) ≡ base_of (slice_get fs i)
+base_kept fs gs i lt later = let f = there_at fs i lt in base_stays fs gs i f.0 f.1 later
+
+pub base_pushed : (fs : List Family) (g : Family) → base_of (slice_get (fs ++ g ∷ []) (length fs)) ≡ g.base
+base_pushed [] g = refl
+base_pushed (f ∷ fs) g = base_pushed fs g
+
+family_row_stays : (fs gs : List Family) (ns ms : List ℕ) (r : FamilyRow) → IsFamilyRow fs r → IsAloneRow ns (base_of (slice_get fs r.family)) → AreLater fs gs → AreMore ns ms → family_row gs ms r ≡ family_row fs ns r
+family_row_stays fs gs ns ms r is base later more =
     let f = is.there.0 in
     let now = later.each r.family f is.there.1 in
+    let first : alone_row ms (base_of (slice_get gs r.family)) ≡ alone_row ns (base_of (slice_get fs r.family)) =
+    ap (alone_row ms) (base_stays fs gs r.family f is.there.1 later) ∙ alone_stays ns ms (base_of (slice_get fs r.family)) base more in
+    let others : row_in (take r.count (members_of (slice_get gs r.family))) r.epoch ≡ row_in (take r.count (members_of (slice_get fs r.family))) r.epoch =
     ap (λ (o : Option Family). row_in (take r.count (members_of o)) r.epoch) now.1
     ∙ now.2.rows r.count r.epoch is.there.2 is.there.3
-    ∙ sym (ap (λ (o : Option Family). row_in (take r.count (members_of o)) r.epoch) is.there.1)
+    ∙ sym (ap (λ (o : Option Family). row_in (take r.count (members_of o)) r.epoch) is.there.1) in
+    λ i. first i ++ others i
 
-row_is_there : (fs gs : List Family) (r : Row) → IsFamilyRow fs r → AreLater fs gs → IsFamilyRow gs r
-row_is_there fs gs r is later =
+family_row_is_there : (fs gs : List Family) (r : FamilyRow) → IsFamilyRow fs r → AreLater fs gs → IsFamilyRow gs r
+family_row_is_there fs gs r is later =
     let now = later.each r.family is.there.0 is.there.1 in
     record { there = (now.0, now.1, omega (arith, is.there.2, now.2.more), omega (arith, is.there.3, now.2.later)) }
 
-pub rows_stay : (fs gs : List Family) (rs : List Row) → AllByRecursion (IsFamilyRow fs) rs → AreLater fs gs → map (row_at gs) rs ≡ map (row_at fs) rs
-rows_stay fs gs [] are later = refl
-rows_stay fs gs (r ∷ rs) are later = λ i. row_stays fs gs r are.0 later i ∷ rows_stay fs gs rs are.1 later i
+row_stays : (fs gs : List Family) (ns ms : List ℕ) (r : Row) → IsSharedRow fs ns r → AreLater fs gs → AreMore ns ms → row_at gs ms r ≡ row_at fs ns r
+row_stays fs gs ns ms (rows.Alone r) is later more = alone_stays ns ms r is more
+row_stays fs gs ns ms (rows.OfFamily r) is later more = family_row_stays fs gs ns ms r is.0 is.1 later more
 
-pub rows_are_there : (fs gs : List Family) (rs : List Row) → AllByRecursion (IsFamilyRow fs) rs → AreLater fs gs → AllByRecursion (IsFamilyRow gs) rs
-rows_are_there fs gs [] are later = tt
-rows_are_there fs gs (r ∷ rs) are later = (row_is_there fs gs r are.0 later, rows_are_there fs gs rs are.1 later)
+row_is_there : (fs gs : List Family) (ns ms : List ℕ) (r : Row) → IsSharedRow fs ns r → AreLater fs gs → AreMore ns ms → IsSharedRow gs ms r
+row_is_there fs gs ns ms (rows.Alone r) is later more = alone_is_there ns ms r is more
+row_is_there fs gs ns ms (rows.OfFamily r) is later more = (
+  family_row_is_there fs gs r is.0 later,
+  subst (IsAloneRow ms) (sym (base_stays fs gs r.family is.0.there.0 is.0.there.1 later)) (alone_is_there ns ms (base_of (slice_get fs r.family)) is.1 more),
+)
+
+pub rows_stay : (fs gs : List Family) (ns ms : List ℕ) (rs : List Row) → AllByRecursion (IsSharedRow fs ns) rs → AreLater fs gs → AreMore ns ms → map (row_at gs ms) rs ≡ map (row_at fs ns) rs
+rows_stay fs gs ns ms [] are later more = refl
+rows_stay fs gs ns ms (r ∷ rs) are later more = λ i. row_stays fs gs ns ms r are.0 later more i ∷ rows_stay fs gs ns ms rs are.1 later more i
+
+pub rows_are_there : (fs gs : List Family) (ns ms : List ℕ) (rs : List Row) → AllByRecursion (IsSharedRow fs ns) rs → AreLater fs gs → AreMore ns ms → AllByRecursion (IsSharedRow gs ms) rs
+rows_are_there fs gs ns ms [] are later more = tt
+rows_are_there fs gs ns ms (r ∷ rs) are later more = (row_is_there fs gs ns ms r are.0 later more, rows_are_there fs gs ns ms rs are.1 later more)
 
 -- with a row behind, or none
-pub rows_with : (fs : List Family) (rs : List Row) (r : Row) → AllByRecursion (IsFamilyRow fs) rs → IsFamilyRow fs r → AllByRecursion (IsFamilyRow fs) (rs ++ r ∷ [])
-rows_with fs [] r are is = (is, tt)
-rows_with fs (s ∷ rs) r are is = (are.0, rows_with fs rs r are.1 is)
+rows_with : (fs : List Family) (ns : List ℕ) (rs : List Row) (r : Row) → AllByRecursion (IsSharedRow fs ns) rs → IsSharedRow fs ns r → AllByRecursion (IsSharedRow fs ns) (rs ++ r ∷ [])
+rows_with fs ns [] r are is = (is, tt)
+rows_with fs ns (s ∷ rs) r are is = (are.0, rows_with fs ns rs r are.1 is)
 
-pub rows_then : (fs : List Family) (rs all : List Row) (r : Row) → AllByRecursion (IsFamilyRow fs) rs → IsFamilyRow fs r → (all ≡ rs) ⊎ (all ≡ rs ++ r ∷ []) → AllByRecursion (IsFamilyRow fs) all
-rows_then fs rs all r are is (inl same) = subst (AllByRecursion (IsFamilyRow fs)) (sym same) are
-rows_then fs rs all r are is (inr more) = subst (AllByRecursion (IsFamilyRow fs)) (sym more) (rows_with fs rs r are is)
+pub rows_then : (fs : List Family) (ns : List ℕ) (rs all : List Row) (r : Row) → AllByRecursion (IsSharedRow fs ns) rs → IsSharedRow fs ns r → (all ≡ rs) ⊎ (all ≡ rs ++ r ∷ []) → AllByRecursion (IsSharedRow fs ns) all
+rows_then fs ns rs all r are is (inl same) = subst (AllByRecursion (IsSharedRow fs ns)) (sym same) are
+rows_then fs ns rs all r are is (inr more) = subst (AllByRecursion (IsSharedRow fs ns)) (sym more) (rows_with fs ns rs r are is)
 
-pub later_rows : (fs gs : List Family) (rs all : List Row) (r : Row) → AllByRecursion (IsFamilyRow fs) rs → AreLater fs gs → (all ≡ rs) ⊎ (all ≡ rs ++ r ∷ []) → IsLater (map (row_at fs) rs) (map (row_at gs) all)
-later_rows fs gs rs all r are later (inl same) = record {
+pub later_rows : (fs gs : List Family) (ns ms : List ℕ) (rs all : List Row) (r : Row) → AllByRecursion (IsSharedRow fs ns) rs → AreLater fs gs → AreMore ns ms → (all ≡ rs) ⊎ (all ≡ rs ++ r ∷ []) → IsLater (map (row_at fs ns) rs) (map (row_at gs ms) all)
+later_rows fs gs ns ms rs all r are later more (inl same) = record {
   more = [];
-  is = ap (map (row_at gs)) same ∙ rows_stay fs gs rs are later ∙ sym (append-nil (map (row_at fs) rs));
+  is = ap (map (row_at gs ms)) same ∙ rows_stay fs gs ns ms rs are later more ∙ sym (append-nil (map (row_at fs ns) rs));
 }
-later_rows fs gs rs all r are later (inr more) = record {
-  more = row_at gs r ∷ [];
-  is = ap (map (row_at gs)) more ∙ map_push (row_at gs) rs r ∙ ap (λ (ns : List (List ℕ)). ns ++ row_at gs r ∷ []) (rows_stay fs gs rs are later);
+later_rows fs gs ns ms rs all r are later more (inr one) = record {
+  more = row_at gs ms r ∷ [];
+  is = ap (map (row_at gs ms)) one ∙ map_push (row_at gs ms) rs r ∙ ap (λ (ls : List (List ℕ)). ls ++ row_at gs ms r ∷ []) (rows_stay fs gs ns ms rs are later more);
 }
+
+-- the same rows, over what may have more
+pub rows_kept : (fs gs : List Family) (ns ms : List ℕ) (rs : List Row) → AllByRecursion (IsSharedRow fs ns) rs → AreLater fs gs → AreMore ns ms → IsLater (map (row_at fs ns) rs) (map (row_at gs ms) rs)
+rows_kept fs gs ns ms rs are later more = later_rows fs gs ns ms rs rs (rows.Alone (record { start = 0; count = 0 })) are later more (inl refl)
 
 -- the row that a family has now, if it is told
-pub row_there : (fs : List Family) (f : Family) (i : ℕ) (o : Option Row) → slice_get fs i ≡ Some f → IfSome o (λ r. r.family ≡ i) → IfSome o (λ r. r.count ≡ length f.members.items) → IfSome o (λ r. r.epoch ≡ f.epoch) → IfSome o (IsFamilyRow fs)
+pub row_there : (fs : List Family) (f : Family) (i : ℕ) (o : Option FamilyRow) → slice_get fs i ≡ Some f → IfSome o (λ r. r.family ≡ i) → IfSome o (λ r. r.count ≡ length f.members.items) → IfSome o (λ r. r.epoch ≡ f.epoch) → IfSome o (IsFamilyRow fs)
 row_there fs f i None at family count epoch = tt
 row_there fs f i (Some r) at family count epoch = record { there = (f, ap (slice_get fs) family ∙ at, omega (arith, count), omega (arith, epoch)) }

@@ -1,6 +1,6 @@
 -- Rows of candidates that stay as others come.
 use Rattle.std.proofs.Common.{◌≡◌, ap, refl, sym, ◌∙◌, subst, ℕ, zero, suc, ◌<◌, ◌≤◌, arith, length}
-use Rattle.std.specs.Prelude.{ℤ, drop, map, option_map, Option, Some, slice_get, Bool, true, false, List, [], ◌∷◌, ◌++◌, ◌==◌, if◌then◌else◌}
+use Rattle.std.specs.Prelude.{ℤ, drop, map, option_map, Some, slice_get, Bool, true, false, List, [], ◌∷◌, ◌++◌, ◌==◌, if◌then◌else◌}
 use Rattle.lj_clause.specs.Rat.{HintGroup}
 use Rattle.lj_book.specs.inner.Rows.{RowsByNumber, row_numbered, IsLater, IsPacked, begins_with, merged, row_named, row_header, unpacked, unpacked_addition, unpacked_entry, apart_groups, IsStable, AreStable}
 use Rattle.std.proofs.lemmas.List.{map_push, append_assoc, append-nil}

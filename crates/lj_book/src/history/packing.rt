@@ -16,9 +16,6 @@ use lj_clause::Lit;
 use lj_text::{Groups, Numbers};
 use std::alloc::{AllocError, Global};
 
-/// So many groups are written as they are.
-const FEW: usize = 4;
-
 /// Puts the words and the literals of a seat's addition behind the others, which have room for them.
 pub(super) fn put_recorded(
     words: &mut Vec<u32>,
@@ -68,7 +65,7 @@ fn pack(alloc: Global, rows: &mut Rows, step: &LentAddition<'_>, room: usize) ->
     ensures room { IfSome result
         (λ packed. 3 * (9 + length step.now.hints + groups_numbers packed) ≤ room) }
 {
-    if step.groups.len() <= FEW || have_many_hints(step.groups) {
+    if step.groups.len() < 2 || have_many_hints(step.groups) {
         return None;
     }
     let pivot = step.lemma.pivot()?;
@@ -76,7 +73,7 @@ fn pack(alloc: Global, rows: &mut Rows, step: &LentAddition<'_>, room: usize) ->
     packed_at(alloc, rows, row, step, room)
 }
 
-/// Whether more than half of the groups have hints, so that they are written as they are.
+/// Whether half of the groups or more have hints, so that they are written as they are.
 fn have_many_hints(groups: &Groups) -> bool {
     let mut count = 0usize;
     for group in groups.iter() {
@@ -84,7 +81,7 @@ fn have_many_hints(groups: &Groups) -> bool {
             count = count.saturating_add(1);
         }
     }
-    count > groups.len() / 2
+    count >= groups.len() - groups.len() / 2
 }
 
 /// The same, with the row of this number.

@@ -2,10 +2,9 @@
 ghost use Rattle.std.specs.Prelude.{◌≡◌, ◌↔◌, ◌<◌, ◌-◌, ◌∷◌, [], IfOk, IfSome, IfNone, IsTrue, true};
 ghost use Rattle.lj_clause.specs.Rat.{HintGroup};
 ghost use Rattle.lj_book.specs.inner.Words.{number_in, many_in, grouped, hint_group_in};
-ghost use Rattle.lj_book.specs.inner.Families.{is_there, row_in};
 ghost use Rattle.lj_book.specs.inner.Rows.{row_named, merged, unpacked, begins_with};
 
-use super::rows::{Member, Rows};
+use super::rows::{LentRow, Rows};
 use crate::words::{are_left, behind_numbers, number, numbers, same_numbers};
 use lj_clause::NoMemory;
 use lj_text::{Groups, LentGroup};
@@ -32,12 +31,11 @@ impl<'a> Model for WordGroup<'a> {
     ghost view = { λ g. record { candidate = g.candidate; hints = (many_in number_in g.count g.words.now).0 } };
 }
 
-/// The groups that are still to come: a group for each member of a row that is there in its epoch, without hints where its group isn't
-/// the next at the front of the words, and then those that are left there.
+/// The groups that are still to come: a group for each candidate of a row, without hints where its group isn't the next at the
+/// front of the words, and then those that are left there.
 #[derive(Drop)]
 pub(crate) struct RecordedGroups<'a> {
-    members: &'a [Member],
-    epoch: u64,
+    row: LentRow<'a>,
     /// How many groups stand at the front of the words.
     count: u64,
     words: &'a [u32],
@@ -49,33 +47,21 @@ impl<'a> Model for RecordedGroups<'a> {
     ghost use Rattle.lj_clause.specs.Rat.{HintGroup};
     ghost use Rattle.lj_clause.specs.inner.Codes.{hint_group_code};
     ghost use Rattle.lj_book.specs.inner.Words.{many_in, hint_group_in};
-    ghost use Rattle.lj_book.specs.inner.Families.{row_in};
     ghost use Rattle.lj_book.specs.inner.Rows.{merged};
 
     ghost Value = { List HintGroup };
 
     ghost coded = { coded_list hint_group_code };
 
-    ghost view = { λ g. merged (row_in g.members.now g.epoch) (many_in hint_group_in g.count g.words.now).0 };
+    ghost view = { λ g. merged g.row (many_in hint_group_in g.count g.words.now).0 };
 }
 
 impl<'a> RecordedGroups<'a> {
     /// Those of a row and of so many groups at the front of words.
-    pub(super) fn new(
-        members: &'a [Member],
-        epoch: u64,
-        count: u64,
-        words: &'a [u32],
-    ) -> RecordedGroups<'a>
-        ensures { result
-            ≡ merged (row_in members.now epoch) (many_in hint_group_in count words.now).0 }
+    pub(super) fn new(row: LentRow<'a>, count: u64, words: &'a [u32]) -> RecordedGroups<'a>
+        ensures { result ≡ merged row.entry (many_in hint_group_in count words.now).0 }
     {
-        RecordedGroups {
-            members,
-            epoch,
-            count,
-            words,
-        }
+        RecordedGroups { row, count, words }
     }
 }
 
@@ -89,13 +75,10 @@ impl<'a> Iterator for RecordedGroups<'a> {
     ghost remaining = { item_count (λ groups. groups) };
 
     fn next(&mut self) -> Option<WordGroup<'a>> {
-        if let Some((number, rest)) = first_there(self.members, self.epoch) {
-            self.members = rest;
+        if let Some(number) = self.row.next() {
             if !is_front(number, self.count, self.words) {
                 return Some(without_hints(number));
             }
-        } else {
-            self.members = &[];
         }
         let (group, rest) = split_front(self.count, self.words)?;
         self.words = rest;
@@ -114,23 +97,22 @@ pub(super) fn recorded_groups<'a>(
 {
     if let Some((header, rest)) = split_front(count, words) {
         if header.candidate == 0 {
-            let (members, epoch) = named_row(rows, header.count, header.words);
-            return RecordedGroups::new(members, epoch, count - 1, rest);
+            let row = named_row(rows, header.count, header.words);
+            return RecordedGroups::new(row, count - 1, rest);
         }
     }
-    RecordedGroups::new(&[], 0, count, words)
+    RecordedGroups::new(LentRow::empty(), count, words)
 }
 
-/// The row that the first of so many numbers at the front of words names: its members and those that are gone, and its epoch.
-fn named_row<'a>(rows: &'a Rows, count: u64, words: &[u32]) -> (&'a [Member], u64)
-    ensures { row_in result.0.now result.1
-        ≡ row_named rows.now (many_in number_in count words.now).0 }
+/// The row that the first of so many numbers at the front of words names.
+fn named_row<'a>(rows: &'a Rows, count: u64, words: &[u32]) -> LentRow<'a>
+    ensures { result ≡ row_named rows.now (many_in number_in count words.now).0 }
 {
     if count == 0 {
-        return (&[], 0);
+        return LentRow::empty();
     }
     let (row, _) = number(words);
-    rows.members(row)
+    rows.candidates(row)
 }
 
 /// The group of a candidate that has no hints.
@@ -195,29 +177,6 @@ fn group_header(words: &[u32]) -> (u64, u64, &[u32])
         }
         None => (0, 1, rest),
     }
-}
-
-/// The number of the first of the members that is there in an epoch, and those behind it.
-fn first_there<'a>(members: &'a [Member], epoch: u64) -> Option<(u64, &'a [Member])>
-    ensures none { IfNone result (row_in members.now epoch ≡ []) }
-    ensures some { IfSome result
-        (λ found. row_in members.now epoch ≡ found.0 ∷ row_in found.1.now epoch) }
-{
-    let mut rest = members;
-    while let [member, others @ ..] = rest {
-        rest = others;
-        if is_there(member, epoch) {
-            return Some((u64::from(member.number), others));
-        }
-    }
-    None
-}
-
-/// Whether a member is there in an epoch.
-fn is_there(member: &Member, epoch: u64) -> bool
-    ensures { result ≡ is_there epoch member.now }
-{
-    member.gone == 0 || epoch < u64::from(member.gone)
 }
 
 /// These groups in a list of their own.

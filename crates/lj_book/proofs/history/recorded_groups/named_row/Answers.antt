@@ -7,6 +7,6 @@ use Rattle.lj_book.proofs.history.recorded_groups.named_row.Goals as goal
 pub returns : goal.returns
 returns c =
     let rs = c.args.rows.now in
-    c.members.ensures
+    c.candidates.ensures
     ∙ ap (λ (n : ℕ). row_numbered (slice_get rs n)) c.number-row.ensures.number
     ∙ named_first rs c.args.count c.args.words.now (omega (arith, c.if-count-eq0.false))
