@@ -7,6 +7,7 @@ mod DigitLemmas
 mod GroupRows
 mod HeldLemmas
 mod JudgeLemmas
+mod MixedLaws
 mod PassLemmas
 mod ReaderLemmas
 pub mod StandLemmas
