@@ -8,6 +8,8 @@ pub mod ShortNumbers
 pub mod CnfReading
 pub mod CnfResuming
 pub mod CnfHeld
+pub mod MixedNumbers
+pub mod LentMixed
 pub mod Numbers
 pub mod Groups
 pub mod StepText

@@ -144,11 +144,11 @@ impl Groups {
         ensures { result ≡ self.now }
     {
         match &self.row {
-            Some(row) => GroupsIter {
+            Some(row) if row.count > 0 => GroupsIter {
                 rest: row.numbers.iter(),
                 count: row.count,
             },
-            None => GroupsIter {
+            _ => GroupsIter {
                 rest: NumbersIter::empty(),
                 count: 0,
             },
@@ -374,8 +374,8 @@ impl<'a> Model for IndexedGroups<'a> {
 }
 
 impl<'a> IndexedGroups<'a> {
-    /// The groups of a list. Takes time linear in how many there are, and four bytes for each, or eight where their
-    /// numbers are 2^32 or more.
+    /// The groups of a list. Takes time linear in how many there are, and four bytes for each, and up to eight more for
+    /// each where their numbers are 2^32 or more.
     ///
     /// # Errors
     /// [`AllocError`] where a growth was refused.
@@ -402,6 +402,7 @@ impl<'a> IndexedGroups<'a> {
     }
 
     /// The group at an index, counted from 0. Takes constant time.
+    #[inline(always)]
     pub fn get(&self, index: usize) -> Option<LentGroup<'a>>
         ensures { result ≡ slice_get self.now index }
     {

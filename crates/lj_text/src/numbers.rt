@@ -1,11 +1,13 @@
 //! Lists of clause numbers.
-ghost use Rattle.std.specs.Prelude.{◌≡◌, ◌==◌, ◌≤◌, ◌∷◌, ◌++◌, ◌↔◌, ◌⊎◌, IsTrue, [], length, take, drop, slice_get, vec_capacity, IfOk, IfSome, OnOk, OnErr};
+ghost use Rattle.std.specs.Prelude.{◌≡◌, ◌==◌, ◌<◌, ◌≤◌, ◌∷◌, ◌++◌, ◌↔◌, ◌⊎◌, IsTrue, [], length, take, drop, slice_get, slice_index, vec_capacity, IfOk, IfSome, OnOk, OnErr};
 ghost use Rattle.lj_text.specs.inner.Numbers.{numbers_in, numbers_left};
 ghost use Rattle.lj_text.specs.inner.LineReading.{IsReadOn};
 ghost use Rattle.lj_text.specs.inner.ShortNumbers.{AreNumbersAhead};
 
 use crate::bytes::short_number;
 use crate::few_numbers::{FEW, FewNumbers};
+use crate::lent_mixed::LentMixed;
+use crate::mixed_numbers::{MixedNumbers, are_short};
 use std::alloc::{AllocError, Global};
 use std::marker::Model;
 use std::mem::replace;
@@ -18,19 +20,52 @@ pub(crate) const MANY: usize = 65_536;
 
 /// A list of clause numbers. Two are equal where their contents are.
 ///
-/// Each number takes four bytes where all of them are below 2^32, and eight otherwise. Up to six of four bytes may stand
-/// in the list itself, and take no memory of their own.
+/// Each number takes four bytes where all of them are below 2^32, and otherwise eight more where it is 2^31 or greater;
+/// but in a list that was made of numbers of eight bytes, or that has no room for so many of them, it takes eight. Up to
+/// six of four bytes may stand in the list itself, and take no memory of their own.
 #[derive(Debug, Drop)]
 pub struct Numbers {
     form: Form,
 }
 
-/// Numbers of one width.
+/// Numbers by their widths.
 #[derive(Debug, Drop)]
 enum Form {
     Few(FewNumbers),
     Short(Vec<u32>),
+    Mixed(Box<MixedNumbers>),
     Long(Vec<u64>),
+}
+
+impl Form {
+    /// How many numbers there are, where some may take more than four bytes.
+    #[cold]
+    #[inline(never)]
+    fn len(&self) -> usize
+        ensures { result ≡ length (numbers_in self.now) }
+    {
+        match self {
+            Form::Few(numbers) => numbers.as_slice().len(),
+            Form::Short(numbers) => numbers.len(),
+            Form::Mixed(numbers) => numbers.len() as usize,
+            Form::Long(numbers) => numbers.len(),
+        }
+    }
+
+    /// The number at a place, counted from 0, where some may take more than four bytes. Takes constant time.
+    #[cold]
+    #[inline(never)]
+    fn at(&self, index: usize) -> u64
+        requires { index < length (numbers_in self.now) }
+        ensures { result ≡ slice_index (numbers_in self.now) index }
+    {
+        match self {
+            Form::Few(numbers) => u64::from(numbers.as_slice()[index]),
+            Form::Short(numbers) => u64::from(numbers[index]),
+            Form::Mixed(numbers) => numbers.at(index),
+            Form::Long(numbers) => numbers[index],
+        }
+    }
 }
 
 impl Model for Numbers {
@@ -99,7 +134,7 @@ impl Numbers {
         }
     }
 
-    /// The same, where the numbers stand in the list itself, or the number takes eight bytes.
+    /// The same, where the numbers stand in the list itself, or some take more than four bytes.
     #[inline(never)]
     fn push_other(&mut self, number: u64) -> Result<(), AllocError>
         ensures ok { OnOk result (self.new ≡ self.old ++ number ∷ []) }
@@ -114,7 +149,7 @@ impl Numbers {
         }
     }
 
-    /// The same, where the number takes eight bytes, or has no room among the few.
+    /// The same, where some take more than four bytes, or the number has no room among the few.
     #[cold]
     fn push_long(&mut self, number: u64) -> Result<(), AllocError>
         ensures ok { OnOk result (self.new ≡ self.old ++ number ∷ []) }
@@ -126,9 +161,13 @@ impl Numbers {
                 Ok(())
             }
             Form::Short(numbers) => {
-                let mut long = lengthened(*numbers.allocator(), numbers)?;
-                long.push(number)?;
-                self.form = Form::Long(long);
+                self.form = with_short(numbers, number)?;
+                Ok(())
+            }
+            Form::Mixed(numbers) => {
+                if !numbers.push(number)? {
+                    self.form = with_mixed(numbers, number)?;
+                }
                 Ok(())
             }
             Form::Long(numbers) => {
@@ -146,10 +185,22 @@ impl Numbers {
         match &mut self.form {
             Form::Short(numbers) => numbers.clear(),
             Form::Few(numbers) => numbers.truncate(0),
-            Form::Long(numbers) => {
-                self.form = Form::Short(Vec::new(*numbers.allocator()));
-            }
+            _ => self.clear_wide(),
         }
+    }
+
+    /// The same, where some take more than four bytes.
+    #[cold]
+    fn clear_wide(&mut self)
+        ensures { self.new ≡ [] }
+    {
+        let room = match &mut self.form {
+            Form::Few(numbers) => Vec::new(numbers.allocator()),
+            Form::Short(numbers) => Vec::new(*numbers.allocator()),
+            Form::Mixed(numbers) => numbers.take_room(),
+            Form::Long(numbers) => Vec::new(*numbers.allocator()),
+        };
+        self.form = Form::Short(room);
     }
 
     /// Lets go of the numbers, and of their room where they are many. Takes constant time.
@@ -160,6 +211,9 @@ impl Numbers {
         match &mut self.form {
             Form::Short(numbers) if numbers.len() > MANY => {
                 self.form = Form::Short(Vec::new(*numbers.allocator()));
+            }
+            Form::Mixed(numbers) => {
+                self.form = Form::Short(Vec::new(numbers.allocator()));
             }
             _ => self.clear(),
         }
@@ -218,6 +272,7 @@ impl Numbers {
         match &mut self.form {
             Form::Few(numbers) => numbers.truncate(count),
             Form::Short(numbers) => numbers.truncate(count),
+            Form::Mixed(numbers) => numbers.truncate(count),
             Form::Long(numbers) => numbers.truncate(count),
         }
     }
@@ -243,7 +298,7 @@ impl Numbers {
         match &self.form {
             Form::Few(numbers) => numbers.as_slice().len(),
             Form::Short(numbers) => numbers.len(),
-            Form::Long(numbers) => numbers.len(),
+            form => form.len(),
         }
     }
 
@@ -261,7 +316,12 @@ impl Numbers {
         match &self.form {
             Form::Few(numbers) => short_at(numbers.as_slice(), index),
             Form::Short(numbers) => short_at(numbers, index),
-            Form::Long(numbers) => numbers.get(index).copied(),
+            form => {
+                if index >= form.len() {
+                    return None;
+                }
+                Some(form.at(index))
+            }
         }
     }
 
@@ -277,6 +337,9 @@ impl Numbers {
             Form::Short(numbers) => NumbersIter {
                 rest: Rest::Short(numbers),
             },
+            Form::Mixed(numbers) => NumbersIter {
+                rest: Rest::Mixed(LentMixed::new(numbers)),
+            },
             Form::Long(numbers) => NumbersIter {
                 rest: Rest::Long(numbers),
             },
@@ -291,7 +354,7 @@ impl Numbers {
         match &self.form {
             Form::Few(numbers) => Some(numbers.as_slice()),
             Form::Short(numbers) => Some(numbers),
-            Form::Long(_) => None,
+            Form::Mixed(_) | Form::Long(_) => None,
         }
     }
 
@@ -320,6 +383,7 @@ impl Numbers {
         let form = match &self.form {
             Form::Few(numbers) => Form::Few(numbers.copy()),
             Form::Short(numbers) => form_of(*numbers.allocator(), numbers)?,
+            Form::Mixed(numbers) => Form::Mixed(numbers.copy()?),
             Form::Long(numbers) => Form::Long(Vec::from_slice(*numbers.allocator(), numbers)?),
         };
         Ok(Numbers { form })
@@ -335,6 +399,7 @@ impl Numbers {
         match &self.form {
             Form::Few(numbers) => lengthened(numbers.allocator(), numbers.as_slice()),
             Form::Short(numbers) => lengthened(*numbers.allocator(), numbers),
+            Form::Mixed(numbers) => numbers.to_vec(),
             Form::Long(numbers) => Vec::from_slice(*numbers.allocator(), numbers),
         }
     }
@@ -382,7 +447,49 @@ fn with_few(numbers: &FewNumbers, number: u64) -> Result<Form, AllocError>
         short.push(number as u32)?;
         return Ok(Form::Short(short));
     }
-    let mut long = lengthened(alloc, numbers.as_slice())?;
+    with_great(alloc, numbers.as_slice(), number)
+}
+
+/// A list of numbers of four bytes each, whose room it takes over where it can, and of one more.
+///
+/// # Errors
+/// [`AllocError`] where a growth was refused, and then nothing has changed.
+fn with_short(numbers: &mut Vec<u32>, number: u64) -> Result<Form, AllocError>
+    ensures ok { IfOk result
+        (λ form. numbers_in form ≡ numbers.old.items ++ number ∷ []) }
+    ensures err { OnErr result (numbers.new.items ≡ numbers.old.items) }
+{
+    if are_short(numbers) {
+        return Ok(Form::Mixed(MixedNumbers::taking(numbers, number)?));
+    }
+    with_great(*numbers.allocator(), numbers, number)
+}
+
+/// The same in room of its own.
+///
+/// # Errors
+/// [`AllocError`] where a growth was refused.
+fn with_great(alloc: Global, numbers: &[u32], number: u64) -> Result<Form, AllocError>
+    ensures { IfOk result (λ form. numbers_in form ≡ numbers.now ++ number ∷ []) }
+{
+    if let Some(mut mixed) = MixedNumbers::from_short(alloc, numbers)? {
+        if mixed.push(number)? {
+            return Ok(Form::Mixed(Box::new(alloc, mixed)?));
+        }
+    }
+    let mut long = lengthened(alloc, numbers)?;
+    long.push(number)?;
+    Ok(Form::Long(long))
+}
+
+/// The same of numbers most of which take four bytes, where one more has no room behind them.
+///
+/// # Errors
+/// [`AllocError`] where a growth was refused.
+fn with_mixed(numbers: &MixedNumbers, number: u64) -> Result<Form, AllocError>
+    ensures { IfOk result (λ form. numbers_in form ≡ numbers.now ++ number ∷ []) }
+{
+    let mut long = numbers.to_vec()?;
     long.push(number)?;
     Ok(Form::Long(long))
 }
@@ -432,10 +539,11 @@ pub struct NumbersIter<'a> {
     rest: Rest<'a>,
 }
 
-/// Numbers of one width that are still to come.
+/// Numbers by their widths that are still to come.
 #[derive(Clone, Copy, Debug)]
 enum Rest<'a> {
     Short(&'a [u32]),
+    Mixed(LentMixed<'a>),
     Long(&'a [u64]),
 }
 
@@ -467,6 +575,7 @@ impl<'a> NumbersIter<'a> {
     {
         match self.rest {
             Rest::Short(rest) => rest.len(),
+            Rest::Mixed(rest) => rest.len(),
             Rest::Long(rest) => rest.len(),
         }
     }
@@ -478,6 +587,7 @@ impl<'a> NumbersIter<'a> {
     {
         match self.rest {
             Rest::Short(rest) => short_at(rest, index),
+            Rest::Mixed(rest) => rest.get(index),
             Rest::Long(rest) => rest.get(index).copied(),
         }
     }
@@ -489,6 +599,7 @@ impl<'a> NumbersIter<'a> {
     {
         let rest = match self.rest {
             Rest::Short(rest) => Rest::Short(&rest[..rest.len().min(count)]),
+            Rest::Mixed(rest) => Rest::Mixed(rest.first(rest.len().min(count))),
             Rest::Long(rest) => Rest::Long(&rest[..rest.len().min(count)]),
         };
         NumbersIter { rest }
@@ -501,6 +612,7 @@ impl<'a> NumbersIter<'a> {
     {
         let rest = match self.rest {
             Rest::Short(rest) => Rest::Short(rest.split_at(rest.len().min(count)).1),
+            Rest::Mixed(rest) => Rest::Mixed(rest.behind(rest.len().min(count))),
             Rest::Long(rest) => Rest::Long(rest.split_at(rest.len().min(count)).1),
         };
         NumbersIter { rest }
@@ -513,22 +625,22 @@ impl<'a> NumbersIter<'a> {
         ensures front { result ≡ take count self.old }
         ensures behind { self.new ≡ drop count self.old }
     {
-        match self.rest {
+        let (front, behind) = match self.rest {
             Rest::Short(rest) => {
                 let (front, behind) = rest.split_at(count);
-                self.rest = Rest::Short(behind);
-                NumbersIter {
-                    rest: Rest::Short(front),
-                }
+                (Rest::Short(front), Rest::Short(behind))
             }
+            Rest::Mixed(rest) => (
+                Rest::Mixed(rest.first(count)),
+                Rest::Mixed(rest.behind(count)),
+            ),
             Rest::Long(rest) => {
                 let (front, behind) = rest.split_at(count);
-                self.rest = Rest::Long(behind);
-                NumbersIter {
-                    rest: Rest::Long(front),
-                }
+                (Rest::Long(front), Rest::Long(behind))
             }
-        }
+        };
+        self.rest = behind;
+        NumbersIter { rest: front }
     }
 }
 
@@ -548,6 +660,11 @@ impl<'a> Iterator for NumbersIter<'a> {
                 let (first, others) = rest.split_first()?;
                 self.rest = Rest::Short(others);
                 Some(u64::from(*first))
+            }
+            Rest::Mixed(rest) => {
+                let first = rest.get(0)?;
+                self.rest = Rest::Mixed(rest.behind(1));
+                Some(first)
             }
             Rest::Long(rest) => {
                 let (first, others) = rest.split_first()?;

@@ -1,11 +1,11 @@
-//! Lists of numbers of both widths.
+//! Lists of numbers of all widths.
 use crate::tables::assert_numbers;
 use lj_text::{Line, LineReader, Numbers};
 use std::alloc::Global;
 use std::process::Abort;
 use std::test::Fail;
 
-/// The least number that takes eight bytes.
+/// The least number that has no room in four bytes.
 const LONG: u64 = 4_294_967_296;
 
 /// The numbers as they are pushed into a list whose room is used again, and a copy of its own of them.
@@ -25,10 +25,15 @@ fn assert_are(rt: &impl Abort, numbers: &Numbers, wanted: &[u64; 3]) {
 }
 
 #[test]
-fn both_widths(rt: HostRuntime) -> Result<(), Fail> {
+fn all_widths(rt: HostRuntime) -> Result<(), Fail> {
     let alloc = rt.alloc();
     let mut room = Numbers::with_capacity(alloc, 9)?;
-    for wanted in [[1, 7, LONG - 1], [1, LONG, 7], [7, 1, 1]] {
+    for wanted in [
+        [1, 7, LONG - 1],
+        [1, LONG, 7],
+        [LONG / 2, LONG, LONG - 1],
+        [7, 1, 1],
+    ] {
         let pushed = pushed(&rt, &mut room, &wanted)?;
         assert_are(&rt, &pushed, &wanted);
         assert_are(&rt, &Numbers::from_slice(alloc, &wanted)?, &wanted);
