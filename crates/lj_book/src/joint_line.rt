@@ -178,7 +178,7 @@ fn put_in_turn(table: &SeatTable, owns: &[u32], joints: &mut Numbers) -> Result<
     Ok(())
 }
 
-/// The same of numbers that may take eight bytes.
+/// The same of numbers that may take more than four bytes.
 ///
 /// # Errors
 /// As [`put_joints`].

@@ -79,7 +79,7 @@ impl Model for Numbers {
 }
 
 impl Numbers {
-    /// The list of these numbers. Takes no memory, and eight bytes for each of them stay taken.
+    /// The list of these numbers. Takes no memory, and eight bytes for each of them stay taken. Takes constant time.
     pub fn new(numbers: Vec<u64>) -> Numbers
         ensures { result ≡ numbers.items }
     {
@@ -88,7 +88,7 @@ impl Numbers {
         }
     }
 
-    /// The list of these numbers. Takes no memory, and four bytes for each of them stay taken.
+    /// The list of these numbers. Takes no memory, and four bytes for each of them stay taken. Takes constant time.
     #[inline]
     pub fn from_short(numbers: Vec<u32>) -> Numbers
         ensures { result ≡ numbers.items }
@@ -98,7 +98,7 @@ impl Numbers {
         }
     }
 
-    /// A list of no numbers, with room for so many of four bytes each.
+    /// A list of no numbers, with room for so many of four bytes each. Takes constant time, but for the room.
     ///
     /// # Errors
     /// [`AllocError`] where a growth was refused.
@@ -177,7 +177,7 @@ impl Numbers {
         }
     }
 
-    /// Lets go of the numbers, and keeps the room of those of four bytes.
+    /// Lets go of the numbers, and keeps the room of those of four bytes. Takes constant time.
     #[inline(always)]
     pub fn clear(&mut self)
         ensures { self.new ≡ [] }
@@ -291,7 +291,7 @@ impl Numbers {
         Ok(Numbers { form })
     }
 
-    /// How many numbers there are.
+    /// How many numbers there are. Takes constant time.
     pub fn len(&self) -> usize
         ensures { result ≡ length self.now }
     {
@@ -302,7 +302,7 @@ impl Numbers {
         }
     }
 
-    /// Whether there is none.
+    /// Whether there is none. Takes constant time.
     pub fn is_empty(&self) -> bool
         ensures { result ≡ (length self.now == 0) }
     {
@@ -325,7 +325,7 @@ impl Numbers {
         }
     }
 
-    /// The numbers, in order.
+    /// The numbers, in order. Takes constant time.
     #[inline]
     pub fn iter(&self) -> NumbersIter<'_>
         ensures { result ≡ self.now }
@@ -347,6 +347,7 @@ impl Numbers {
     }
 
     /// The numbers, in order, where they are at hand in four bytes each. None tells nothing of them.
+    /// Takes constant time.
     #[inline]
     pub fn as_short(&self) -> Option<&[u32]>
         ensures { IfSome result (λ short. short.now ≡ self.now) }
@@ -558,7 +559,7 @@ impl<'a> Model for NumbersIter<'a> {
 }
 
 impl<'a> NumbersIter<'a> {
-    /// No numbers.
+    /// No numbers. Takes constant time.
     #[inline]
     pub fn empty() -> NumbersIter<'a>
         ensures { result ≡ [] }
@@ -568,7 +569,7 @@ impl<'a> NumbersIter<'a> {
         }
     }
 
-    /// How many numbers are still to come.
+    /// How many numbers are still to come. Takes constant time.
     #[inline]
     pub fn len(&self) -> usize
         ensures { result ≡ length self.now }

@@ -20,7 +20,7 @@ pub(super) struct Room {
 }
 
 impl Room {
-    /// Room for nothing yet.
+    /// Room for nothing yet. Takes constant time.
     pub fn new(alloc: Global) -> Room {
         Room {
             alloc,
@@ -31,7 +31,7 @@ impl Room {
         }
     }
 
-    /// A place for an addition, with whatever stands there.
+    /// A place for an addition, with whatever stands there. Takes constant time.
     #[inline(always)]
     pub fn addition(&mut self) -> Result<Box<Addition>, NoMemory> {
         match self.addition.take() {
@@ -40,7 +40,7 @@ impl Room {
         }
     }
 
-    /// A place for a deletion, with whatever stands there.
+    /// A place for a deletion, with whatever stands there. Takes constant time.
     #[inline(always)]
     pub fn deletion(&mut self) -> Result<Box<Numbers>, NoMemory> {
         match self.deletion.take() {

@@ -35,6 +35,7 @@ impl Run {
         Run { bytes }
     }
 
+    /// Its bytes. Takes constant time.
     pub fn bytes(&self) -> &[u8]
         ensures { result.now ≡ self.now }
     {
