@@ -20,6 +20,9 @@ const PAIR: u64 = 32;
 /// How many bytes what a seat keeps may take for each byte of text that its hints were told in.
 const FOR_A_BYTE: u64 = 4;
 
+/// How many bytes may be kept before any hint was told, so that a proof's first lemmas are kept, which later ones name most.
+const FIRST_ROOM: u64 = 65_536;
+
 /// How many bytes a number takes: up to two slots of 32, or else its part of a tree whose nodes are half empty.
 const NUMBER: u64 = 72;
 
@@ -53,7 +56,7 @@ impl OwnClauses {
             alloc,
             held: OwnMap::new(alloc),
             given_up: OwnMap::new(alloc),
-            room: 0,
+            room: FIRST_ROOM,
         }
     }
 
