@@ -210,6 +210,7 @@ pivots 5 100000 1
 pivots 5 60000 2
 pivots 100 10000 1
 pivots 20 20000 2 more
+pivots 5 60000 2 more
 
 # A row of a stream that 64 seats have, on threads: its name, its formula, a count and its text.
 crowd() {
