@@ -37,4 +37,3 @@ pub mod WordLaws
 pub mod RecordLaws
 pub mod StepLineLemmas
 mod RisingGroups
-pub mod CompareLaws

@@ -6,8 +6,9 @@ ghost use Rattle.lj_text.specs.Needed.{if_some};
 ghost use Rattle.lj_book.specs.Lookup.{numbers_holding};
 ghost use Rattle.lj_book.specs.State.{State, opening, live, steps_of, verdict};
 ghost use Rattle.lj_book.specs.History.{after_entry};
+ghost use Rattle.lj_book.specs.Telling.{without_receipt};
 ghost use Rattle.lj_book.specs.inner.Ready.{IsStepOf};
-ghost use Rattle.lj_book.specs.Calls.{IsReply, drop_reply, drop_entry, commit_refusal, commit_told, commit_reply, commit_entry, answer_alone, take_reply, free_refusal};
+ghost use Rattle.lj_book.specs.Calls.{IsReply, IsReplyBy, drop_reply, drop_entry, commit_refusal, commit_told, commit_reply, commit_entry, answer_alone, take_reply, free_refusal};
 
 mod adopting;
 mod inside;
@@ -19,9 +20,9 @@ mod telling;
 use crate::committing::{enter_addition, first_stale, refuted_at, step_of};
 use crate::dying::{no_longer_held, rising};
 use crate::entry::{Added, Dropped, Entry};
-use crate::entry_log::EntryLog;
 use crate::ledger::Ledger;
 use crate::lent_addition::LentAddition;
+use crate::ready::Ready;
 use crate::refusal::Refusal;
 use crate::seat_tables::SeatTables;
 use crate::steps::Steps;
@@ -166,15 +167,6 @@ impl Book {
         self.ledger.history().is_entry(place, entry)
     }
 
-    /// Whether there is an entry at a place of the history, counted from 0, and it is the one at this place of the log. Takes time
-    /// linear in its contents, and no memory.
-    pub fn is_entry_of(&self, place: u64, log: &EntryLog, at: u64) -> bool
-        ensures { IsTrue result ↔ ((is_some (slice_get self.now.history place) ≡ true)
-            × (slice_get self.now.history place ≡ slice_get log.now at)) }
-    {
-        log.is_entry_of(at, self.ledger.history(), place)
-    }
-
     /// The place of the first entry that adds the empty clause. Takes constant time.
     pub fn verdict(&self) -> Option<u64>
         ensures { result ≡ verdict self.now.history }
@@ -251,6 +243,30 @@ impl Book {
         };
         match self.enter(&receipt, step) {
             Ok(added) => Ok(added),
+            Err(e) => Err((Refusal::NoMemory(e), receipt)),
+        }
+    }
+
+    /// As [`Book::commit`], of a receipt with what its entry takes, which comes back on an answer too. Takes the time of
+    /// [`Book::commit`].
+    ///
+    /// # Errors
+    /// As [`Book::commit`].
+    pub fn commit_ready(&mut self, ready: Ready) -> Result<(Added, Receipt), (Refusal, Receipt)>
+        ensures reply { IsReplyBy (λ made. made.0) (without_receipt result)
+            (commit_reply self.old ready) }
+        ensures refused { IfErr (commit_reply self.old ready) (λ e. result ≡ Err (e, ready)) }
+        ensures ok { OnOk result (self.new ≡ after_entry self.old (commit_entry self.old ready)) }
+        ensures err { OnErr result (self.new ≡ self.old) }
+        ensures back { IfErr result (λ e. e.1 ≡ ready) }
+        ensures given { IfOk result (λ made. made.1 ≡ ready) }
+    {
+        if let Some(refusal) = self.commit_refusal(ready.receipt()) {
+            return Err((refusal, ready.into_receipt()));
+        }
+        let (receipt, step) = ready.into_parts();
+        match self.enter(&receipt, step) {
+            Ok(added) => Ok((added, receipt)),
             Err(e) => Err((Refusal::NoMemory(e), receipt)),
         }
     }

@@ -1,5 +1,5 @@
 //! The history of a book.
-ghost use Rattle.std.specs.Prelude.{◌≡◌, ◌≢◌, ◌↔◌, ◌+◌, ◌*◌, ◌<◌, ◌≤◌, ◌++◌, ◌∷◌, [], ◌^◌, length, IfOk, OnOk, OnErr, IsTrue, true, IfSome, Some, None, option_copied, slice_get, option_map, is_some};
+ghost use Rattle.std.specs.Prelude.{◌≡◌, ◌≢◌, ◌↔◌, ◌+◌, ◌*◌, ◌<◌, ◌≤◌, ◌++◌, ◌∷◌, [], ◌^◌, length, IfOk, OnOk, OnErr, IsTrue, true, IfSome, Some, None, option_copied, slice_get, option_map};
 ghost use Rattle.lj_clause.specs.LiteralSet.{literals};
 ghost use Rattle.lj_text.specs.declared.step.Step.TheVariants.{Add};
 ghost use Rattle.lj_text.specs.Needed.{if_some, up_to_empty};
@@ -9,8 +9,6 @@ ghost use Rattle.lj_book.specs.State.{steps_of};
 ghost use Rattle.lj_book.specs.declared.entry.Call.TheVariants as calls;
 ghost use Rattle.lj_book.specs.inner.Records.{lemma_lits, addition_numbers, binding_call, binding_lits, entry_of};
 
-mod comparing;
-mod copying;
 mod lines;
 mod matching;
 mod packing;
@@ -23,7 +21,6 @@ mod writing;
 
 use crate::entry::Entry;
 use crate::lent_addition::LentAddition;
-use comparing::Kept;
 use lines::write_entries;
 use lj_clause::{Clause, Lit, NoMemory};
 use lj_text::{Numbers, Sink, SinkFault, Step, WordWriter};
@@ -408,29 +405,6 @@ impl History {
             Some(words) => matching::is_entry(&self.lits, &self.rows, words, entry),
             None => false,
         }
-    }
-
-    /// Whether there is an entry at a place, counted from 0, and it is the one at this place of the other history. Takes time
-    /// linear in its contents, and no memory.
-    pub(crate) fn is_same_entry(&self, place: u64, other: &History, at: u64) -> bool
-        ensures { IsTrue result ↔ ((is_some (slice_get self.now.entries place) ≡ true)
-            × (slice_get self.now.entries place ≡ slice_get other.now.entries at)) }
-    {
-        let Some(words) = words_at(&self.starts, &self.words, place) else {
-            return false;
-        };
-        let Some(others) = words_at(&other.starts, &other.words, at) else {
-            return false;
-        };
-        let kept = Kept {
-            lits: &self.lits,
-            rows: &self.rows,
-        };
-        let other_kept = Kept {
-            lits: &other.lits,
-            rows: &other.rows,
-        };
-        comparing::same_entry(kept, words, other_kept, others)
     }
 }
 

@@ -10,7 +10,6 @@ mod counts;
 mod dying;
 mod early_table;
 mod entry;
-mod entry_log;
 mod event;
 mod far_numbers;
 mod first_uses;
@@ -44,7 +43,6 @@ mod words;
 
 pub use book::{Book, laws};
 pub use entry::{Added, Call, Dropped, Entry, Imported};
-pub use entry_log::EntryLog;
 pub use event::{Event, Reply};
 pub use own_map::OwnMap;
 pub use ready::Ready;

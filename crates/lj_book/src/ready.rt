@@ -1,13 +1,11 @@
 //! Receipts with all that their entries take.
 ghost use Rattle.std.specs.Prelude.{◌≡◌, IfOk, IfErr};
-ghost use Rattle.lj_book.specs.Calls.{entry_with};
-ghost use Rattle.lj_book.specs.inner.Ready.{IsStepOf, IsReady};
+ghost use Rattle.lj_book.specs.inner.Ready.{IsStepOf};
 
 use crate::committing::step_of;
-use crate::entry::{Call, Entry};
-use lj_clause::{Lemma, NoMemory};
+use lj_clause::NoMemory;
 use lj_hint::Receipt;
-use lj_text::{Addition, Step};
+use lj_text::Addition;
 use std::alloc::Global;
 use std::marker::Model;
 
@@ -17,15 +15,12 @@ pub struct Ready {
     receipt: Receipt,
     /// The step for the history, but for its number.
     step: Addition,
-    /// The step and the lemma for who is told of the entry.
-    told: Addition,
-    lemma: Lemma,
 }
 
 impl Model for Ready {
     ghost use Rattle.lj_hint.specs.Receipt.{ReceiptValue};
     ghost use Rattle.lj_hint.specs.inner.Codes.{receipt_code};
-    ghost use Rattle.lj_book.specs.inner.Ready.{IsReady};
+    ghost use Rattle.lj_book.specs.inner.Ready.{IsStepOf};
 
     ghost Value = { ReceiptValue };
 
@@ -33,7 +28,7 @@ impl Model for Ready {
 
     ghost view = { λ r. r.receipt };
 
-    ghost invariant = { λ r. IsReady r.receipt r.step r.told r.lemma };
+    ghost invariant = { λ r. IsStepOf r.receipt r.step };
 }
 
 impl Ready {
@@ -46,13 +41,8 @@ impl Ready {
         ensures ready { IfOk result (λ ready. ready ≡ receipt) }
         ensures back { IfErr result (λ e. e.1 ≡ receipt) }
     {
-        match parts_of(alloc, &receipt) {
-            Ok((step, told, lemma)) => Ok(Ready {
-                receipt,
-                step,
-                told,
-                lemma,
-            }),
+        match step_of(alloc, &receipt) {
+            Ok(step) => Ok(Ready { receipt, step }),
             Err(refused) => Err((refused, receipt)),
         }
     }
@@ -71,59 +61,12 @@ impl Ready {
         self.receipt
     }
 
-    /// The receipt, the step but for its number, and the entry of the step under this number.
-    pub(crate) fn into_parts(self, number: u64) -> (Receipt, Addition, Entry)
+    /// The receipt, and the step but for its number.
+    pub(crate) fn into_parts(self) -> (Receipt, Addition)
         ensures receipt { result.0 ≡ self }
         ensures step { IsStepOf result.0 result.1 }
-        ensures entry { result.2 ≡ entry_with number self }
     {
-        let Ready {
-            receipt,
-            step,
-            told,
-            lemma,
-        } = self;
-        let entry = Entry {
-            seat: receipt.seat(),
-            call: Call::Add {
-                own: receipt.own(),
-                lemma,
-            },
-            step: Some(Step::Add(Addition {
-                number,
-                lemma: told.lemma,
-                hints: told.hints,
-                groups: told.groups,
-            })),
-        };
-        (receipt, step, entry)
+        let Ready { receipt, step } = self;
+        (receipt, step)
     }
-}
-
-/// The step of a receipt, but for its number, twice, and its lemma.
-///
-/// # Errors
-/// [`NoMemory`] where a growth was refused.
-fn parts_of(alloc: Global, receipt: &Receipt) -> Result<(Addition, Addition, Lemma), NoMemory>
-    ensures { IfOk result (λ parts. IsReady receipt.now parts.0 parts.1 parts.2) }
-{
-    let step = step_of(alloc, receipt)?;
-    let told = copy_of(&step)?;
-    let lemma = receipt.lemma().copy()?;
-    Ok((step, told, lemma))
-}
-
-/// An addition of its own with the same contents.
-///
-/// # Errors
-/// [`NoMemory`] where a growth was refused.
-fn copy_of(addition: &Addition) -> Result<Addition, NoMemory>
-    ensures { IfOk result (λ copy. copy ≡ addition.now) }
-{
-    Ok(Addition {
-        number: addition.number,
-        lemma: addition.lemma.copy()?,
-        hints: addition.hints.copy()?,
-        groups: addition.groups.copy()?,
-    })
 }

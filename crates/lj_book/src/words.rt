@@ -1,11 +1,9 @@
 //! Numbers as words of four bytes.
 
-mod comparing;
 mod matching;
 mod reading;
 mod writing;
 
-pub(crate) use comparing::{same_lists, same_numbers};
 pub(crate) use matching::{are_left, are_numbers, list_matches, numbers_match};
 pub(crate) use reading::{behind_list, behind_numbers, list, number, numbers};
 pub(crate) use writing::{put_all, put_groups, put_list, put_number, put_numbers};

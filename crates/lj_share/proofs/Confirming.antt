@@ -9,7 +9,7 @@ use Rattle.std.proofs.lemmas.Bool.{eqb-true, eq-eqb, false≢true}
 use Rattle.lj_book.specs.declared.entry.Entry.{Entry}
 use Rattle.lj_share.specs.Entries.{entries_of}
 
-is_other : (a b : ℕ) → (a ≡ b → ⊥) → (a == b) ≡ false
+pub is_other : (a b : ℕ) → (a ≡ b → ⊥) → (a == b) ≡ false
 is_other a b h = go (a == b) refl
   where
     go : (x : Bool) → (a == b) ≡ x → x ≡ false
@@ -76,33 +76,3 @@ entry_there es place by h = go (slice_get es place) refl h
 pub some_entry : (es : List Entry) (place : ℕ) → place < length es → option_map (λ (e : Entry). e.seat) (slice_get es place) ≡ None → ⊥
 some_entry [] place within is = absurd (omega arith)
 some_entry (e ∷ es) place within is = is_none _ (sym (ap (option_map (λ (f : Entry). f.seat)) (slice_get-get_or (e ∷ es) place e within)) ∙ is)
-
--- ---- kept tokens
-
--- an entry of the seat is that of the token at this place
-pub matched_at : {A : Type 0} (es told : List Entry) (seat place next : ℕ) (e : Entry) → A ↔ (entries_of seat (drop place es) ≡ drop next told) → slice_get es place ≡ Some e → e.seat ≡ seat → slice_get told next ≡ Some e → A ↔ (entries_of seat (drop (place + 1) es) ≡ drop (next + 1) told)
-matched_at es told seat place next e so_far is same token =
-    matched es seat place e e (drop next told) (drop (next + 1) told) (drop (next + 1) told) so_far is same refl (at_place told next e token) refl
-
--- the token at the place of the first of those that are left
-pub first_left : (told : List Entry) (next : ℕ) (e : Entry) (rest : List Entry) → drop next told ≡ e ∷ rest → slice_get told next ≡ Some e
-first_left [] zero e rest is = let long = ap length is in absurd (let no : ⊥ = omega (arith, long) in no)
-first_left [] (suc next) e rest is = let long = ap length is in absurd (let no : ⊥ = omega (arith, long) in no)
-first_left (f ∷ told) zero e rest is = ap Some (same_first f e told rest is)
-first_left (f ∷ told) (suc next) e rest is = first_left told next e rest is
-
--- where no entry is left, all are told exactly where no token is left
-pub all_told : {A : Type 0} (es told : List Entry) (seat place next : ℕ) (more : Bool) → length es ≤ place → A ↔ (entries_of seat (drop place es) ≡ drop next told) → IsTrue more ↔ (next < length told) → IsTrue (not more) ↔ A
-all_told {A = A} es told seat place next more end so_far is =
-    let none : entries_of seat (drop place es) ≡ [] = ap (entries_of seat) (drop_all place es end) in
-    by none more is
-  where
-    left : next < length told → [] ≡ drop next told → ⊥
-    left lt e = let none = ap length e ∙ length-drop next told in let no : ⊥ = omega (arith, lt, none) in no
-
-    by : entries_of seat (drop place es) ≡ [] → (b : Bool) → IsTrue b ↔ (next < length told) → IsTrue (not b) ↔ A
-    by none true h = (λ no. absurd (false≢true no), λ a. absurd (left (h.0 refl) (sym none ∙ so_far.0 a)))
-    by none false h = (
-      λ yes. so_far.1 (none ∙ sym (drop_all next told (let past : next < length told → ⊥ = λ lt. false≢true (h.1 lt) in omega (arith, past)))),
-      λ a. refl,
-    )

@@ -1,5 +1,5 @@
 -- What the entry of a call has to say.
-use Rattle.std.specs.Prelude.{◌≡◌, ◌==◌, ℕ, List, filter}
+use Rattle.std.specs.Prelude.{◌≡◌, ◌==◌, ℕ, List, filter, map}
 use Rattle.lj_text.specs.declared.line.Line.{Line}
 use Rattle.lj_text.specs.declared.line.Line.TheVariants as lines
 use Rattle.lj_book.specs.declared.entry.Call.{Call}
@@ -20,3 +20,7 @@ pub record IsEntryOf (seat : ℕ) (call : Call) (e : Entry) : Type 0 where
 -- the entries of a seat, in order
 abbrev pub entries_of : ℕ → List Entry → List Entry
 entries_of seat history = filter (λ e. e.seat == seat) history
+
+-- the calls of a seat's entries, in order
+abbrev pub calls_of : ℕ → List Entry → List Call
+calls_of seat history = map (λ e. e.call) (entries_of seat history)

@@ -1,5 +1,4 @@
 pub mod Seats
 pub mod Entries
 pub mod Refusals
-pub mod Tokens
 pub mod inner

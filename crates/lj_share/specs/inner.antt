@@ -1,3 +1,5 @@
 -- What invariants, private functions and proofs say. No public contract names any of it.
 pub mod Seats
 pub mod Codes
+pub mod Copies
+pub mod Telling

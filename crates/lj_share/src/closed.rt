@@ -4,7 +4,6 @@ ghost use Rattle.lj_share.specs.Entries.{entries_of};
 ghost use Rattle.lj_share.specs.Seats.{IsOpenedAs};
 
 use crate::opening::Opening;
-use crate::tokens::Tokens;
 use crate::told::Told;
 use lj_book::Book;
 use std::marker::{Model, PhantomData};
@@ -77,23 +76,5 @@ impl<L: Opening> Closed<L> {
             }
         }
         rest.is_empty()
-    }
-
-    /// As [`Closed::confirm`], of kept tokens. Takes the same time, and no memory.
-    pub fn confirm_tokens(&self, seat: u32, tokens: &Tokens) -> bool
-        ensures { IsTrue result ↔ (entries_of seat self.now.history ≡ tokens.now.entries) }
-    {
-        let mut next = 0;
-        for place in 0..self.book.history_len() {
-            if let Some(by) = self.book.seat_at(place) {
-                if by == seat {
-                    if !tokens.is_at(next, &self.book, place) {
-                        return false;
-                    }
-                    next += 1;
-                }
-            }
-        }
-        !tokens.has_more(next)
     }
 }

@@ -1,14 +1,18 @@
 //! What lies under the lock.
-ghost use Rattle.std.specs.Prelude.{◌≡◌, ◌+◌, length, OnOk, OnErr, IfOk, IfErr};
+ghost use Rattle.std.specs.Prelude.{◌≡◌, ◌+◌, length, slice_set, OnOk, OnErr, IfOk, IfErr};
+ghost use Rattle.lj_book.specs.declared.entry.Call.{Call};
 ghost use Rattle.lj_book.specs.declared.entry.Call.TheVariants as calls;
-ghost use Rattle.lj_share.specs.inner.Seats.{IsDesk};
-ghost use Rattle.lj_share.specs.Seats.{counting_one};
+ghost use Rattle.lj_share.specs.inner.Seats.{IsDesk, HasOneMore};
+ghost use Rattle.lj_share.specs.inner.Telling.{IsTokenOf};
+ghost use Rattle.lj_share.specs.Seats.{making};
 ghost use Rattle.lj_share.specs.Entries.{IsEntryOf};
 ghost use Rattle.lj_share.specs.Refusals.{CanMeet};
 
+use crate::lists::Lists;
 use crate::opening::Opening;
 use crate::refutation::Refutation;
 use crate::seat::Seat;
+use crate::telling;
 use crate::told::Told;
 use lj_book::laws::refuted_is_unsatisfiable;
 use lj_book::{Book, Entry, Ready, Refusal};
@@ -18,11 +22,12 @@ use lj_text::{Addition, Numbers};
 use std::marker::Model;
 use std::sync::ledger::{Book as Tally, Share};
 
-/// The book, and the ledger of its opening, whose total is the number of entries.
+/// The book; the ledger of its opening, whose total is the number of entries; and the lists of its seats' calls.
 #[derive(Drop)]
 pub(crate) struct Desk<L: Opening> {
     book: Book,
     entries: Tally<L>,
+    lists: Lists<L>,
     /// What no seat has of the ledger: nothing.
     rest: Share<L>,
 }
@@ -35,18 +40,27 @@ impl<L: Opening> Model for Desk<L> {
 
     ghost view = { λ d. tt };
 
-    ghost invariant = { λ d. IsDesk L.formula L.seats L.max_steps d.book d.entries.total
+    ghost invariant = { λ d. IsDesk L.formula L.seats L.max_steps d.book d.lists d.entries.total
         d.rest.parts d.rest.amount };
 }
 
+/// What an addition that was entered leaves: its joint number, and its token where one is asked for.
+#[derive(Drop)]
+pub(crate) struct Entered {
+    pub joint: u64,
+    pub told: Option<Told>,
+}
+
 impl<L: Opening> Desk<L> {
-    /// A new book under a ledger all of whose parts the seats have.
-    pub(crate) fn new(book: Book, entries: Tally<L>, rest: Share<L>) -> Desk<L>
-        requires { IsDesk L.formula L.seats L.max_steps book entries.total rest.parts rest.amount }
+    /// A new book under a ledger all of whose parts the seats have, with the lists of their calls.
+    pub(crate) fn new(book: Book, entries: Tally<L>, lists: Lists<L>, rest: Share<L>) -> Desk<L>
+        requires { IsDesk L.formula L.seats L.max_steps book lists entries.total rest.parts
+            rest.amount }
     {
         Desk {
             book,
             entries,
+            lists,
             rest,
         }
     }
@@ -63,60 +77,71 @@ impl<L: Opening> Desk<L> {
         Some(Refutation::new(place))
     }
 
-    /// The book, the ledger, and what no seat has of it.
-    pub(crate) fn into_parts(self) -> (Book, Tally<L>, Share<L>)
-        ensures { IsDesk L.formula L.seats L.max_steps result.0 result.1.total result.2.parts
-            result.2.amount }
+    /// The book, the ledger, the lists, and what no seat has of the ledger.
+    pub(crate) fn into_parts(self) -> (Book, Tally<L>, Lists<L>, Share<L>)
+        ensures { IsDesk L.formula L.seats L.max_steps result.0 result.2 result.1.total
+            result.3.parts result.3.amount }
     {
         let Desk {
             book,
             entries,
+            lists,
             rest,
         } = self;
-        (book, entries, rest)
+        (book, entries, lists, rest)
     }
 
-    /// Commits a receipt of the seat.
+    /// Commits a receipt of the seat, and tells its joint number and its token.
     pub(crate) fn commit(
         &mut self,
         seat: &mut Seat<L>,
         receipt: Receipt,
-    ) -> Result<Told, (Refusal, Receipt)>
+    ) -> Result<(u64, Told), (Refusal, Receipt)>
+        requires { receipt.seat ≡ seat.old.number }
         ensures told { IfOk result
-            (λ told. IsEntryOf receipt.seat (calls.Add receipt.own receipt.lemma) told) }
-        ensures counted { OnOk result (seat.new ≡ counting_one seat.old) }
+            (λ made. IsEntryOf seat.old.number (calls.Add receipt.own receipt.lemma) made.1) }
+        ensures made { OnOk result
+            (seat.new ≡ making (calls.Add receipt.own receipt.lemma) seat.old) }
         ensures kept { OnErr result (seat.new ≡ seat.old) }
         ensures back { IfErr result (λ e. e.1 ≡ receipt) }
     {
         let Desk {
             book,
             entries,
+            lists,
             rest: _,
         } = self;
         match book.commit_telling(receipt) {
-            Ok((_, entry)) => Ok(tell(book, entries, seat, entry)),
+            Ok((added, entry)) => {
+                seat.count_one(entries, lists, book);
+                Ok((added.joint, Told { entry }))
+            }
             Err(refused) => Err(refused),
         }
     }
 
-    /// Commits a receipt of the seat that has what its entry takes, and gives the receipt back.
+    /// Commits a receipt of the seat that has what its entry takes, tells its joint number, and gives the receipt back.
     pub(crate) fn commit_ready(
         &mut self,
         seat: &mut Seat<L>,
         ready: Ready,
-    ) -> Result<(Told, Receipt), (Refusal, Receipt)>
-        ensures told { IfOk result
-            (λ made. IsEntryOf ready.seat (calls.Add ready.own ready.lemma) made.0) }
-        ensures counted { OnOk result (seat.new ≡ counting_one seat.old) }
+    ) -> Result<(u64, Receipt), (Refusal, Receipt)>
+        requires { ready.seat ≡ seat.old.number }
+        ensures made { OnOk result
+            (seat.new ≡ making (calls.Add ready.own ready.lemma) seat.old) }
         ensures kept { OnErr result (seat.new ≡ seat.old) }
     {
         let Desk {
             book,
             entries,
+            lists,
             rest: _,
         } = self;
         match book.commit_ready(ready) {
-            Ok((_, entry, receipt)) => Ok((tell(book, entries, seat, entry), receipt)),
+            Ok((added, receipt)) => {
+                seat.count_one(entries, lists, book);
+                Ok((added.joint, receipt))
+            }
             Err(refused) => Err(refused),
         }
     }
@@ -126,20 +151,28 @@ impl<L: Opening> Desk<L> {
         &mut self,
         seat: &mut Seat<L>,
         addition: &Addition,
-    ) -> Result<Told, Refusal>
-        ensures told { IfOk result (λ told. IsEntryOf seat.old.number
-            (calls.Add addition.now.number addition.now.lemma) told) }
-        ensures counted { OnOk result (seat.new ≡ counting_one seat.old) }
+        telling: bool,
+    ) -> Result<Entered, Refusal>
+        ensures told { IfOk result (λ entered. IsTokenOf telling seat.old.number
+            (calls.Add addition.now.number addition.now.lemma) entered.told) }
+        ensures made { OnOk result
+            (seat.new ≡ making (calls.Add addition.now.number addition.now.lemma) seat.old) }
         ensures kept { OnErr result (seat.new ≡ seat.old) }
     {
         let Desk {
             book,
             entries,
+            lists,
             rest: _,
         } = self;
         let number = seat.number();
-        match book.add_inside_telling(number, addition, &mut seat.marks) {
-            Ok((_, entry)) => Ok(tell(book, entries, seat, entry)),
+        match telling::add_inside(book, number, addition, &mut seat.marks, telling) {
+            Ok((added, entry)) => {
+                seat.count_one(entries, lists, book);
+                let joint = added.joint;
+                let told = token(entry);
+                Ok(Entered { joint, told })
+            }
             Err(refusal) => Err(refusal),
         }
     }
@@ -150,20 +183,25 @@ impl<L: Opening> Desk<L> {
         &mut self,
         seat: &mut Seat<L>,
         numbers: &Numbers,
-    ) -> Result<Told, Refusal>
+        telling: bool,
+    ) -> Result<Option<Told>, Refusal>
         ensures told { IfOk result
-            (λ told. IsEntryOf seat.old.number (calls.Drop numbers.now) told) }
-        ensures counted { OnOk result (seat.new ≡ counting_one seat.old) }
+            (IsTokenOf telling seat.old.number (calls.Drop numbers.now)) }
+        ensures made { OnOk result (seat.new ≡ making (calls.Drop numbers.now) seat.old) }
         ensures kept { OnErr result (seat.new ≡ seat.old) }
         ensures refusal { IfErr result (λ e. CanMeet (calls.Drop numbers.now) e) }
     {
         let Desk {
             book,
             entries,
+            lists,
             rest: _,
         } = self;
-        match book.drop_telling(seat.number(), numbers) {
-            Ok((_, entry)) => Ok(tell(book, entries, seat, entry)),
+        match telling::drop_numbers(book, seat.number(), numbers, telling) {
+            Ok(entry) => {
+                seat.count_one(entries, lists, book);
+                Ok(token(entry))
+            }
             Err(refusal) => Err(refusal),
         }
     }
@@ -175,22 +213,25 @@ impl<L: Opening> Desk<L> {
         seat: &mut Seat<L>,
         own: u64,
         clause: &Clause,
-    ) -> Result<Told, Refusal>
+        telling: bool,
+    ) -> Result<Option<Told>, Refusal>
         ensures told { IfOk result
-            (λ told. IsEntryOf seat.old.number (calls.Import own clause.now) told) }
-        ensures counted { OnOk result (seat.new ≡ counting_one seat.old) }
+            (IsTokenOf telling seat.old.number (calls.Import own clause.now)) }
+        ensures made { OnOk result (seat.new ≡ making (calls.Import own clause.now) seat.old) }
         ensures kept { OnErr result (seat.new ≡ seat.old) }
         ensures refusal { IfErr result (λ e. CanMeet (calls.Import own clause.now) e) }
     {
         let Desk {
             book,
             entries,
+            lists,
             rest: _,
         } = self;
-        match book.import_telling(seat.number(), own, clause) {
+        match telling::import(book, seat.number(), own, clause, telling) {
             Ok((imported, entry)) => {
                 seat.bind(own, imported.joint, &clause.view());
-                Ok(tell(book, entries, seat, entry))
+                seat.count_one(entries, lists, book);
+                Ok(token(entry))
             }
             Err(refusal) => Err(refusal),
         }
@@ -206,13 +247,14 @@ impl<L: Opening> Desk<L> {
     ) -> Result<Told, Refusal>
         ensures told { IfOk result
             (λ told. IsEntryOf seat.old.number (calls.Adopt own joint) told) }
-        ensures counted { OnOk result (seat.new ≡ counting_one seat.old) }
+        ensures made { OnOk result (seat.new ≡ making (calls.Adopt own joint) seat.old) }
         ensures kept { OnErr result (seat.new ≡ seat.old) }
         ensures refusal { IfErr result (λ e. CanMeet (calls.Adopt own joint) e) }
     {
         let Desk {
             book,
             entries,
+            lists,
             rest: _,
         } = self;
         match book.adopt_telling(seat.number(), own, joint) {
@@ -220,7 +262,8 @@ impl<L: Opening> Desk<L> {
                 if let Some(clause) = book.clause(joint) {
                     seat.bind(own, joint, &clause);
                 }
-                Ok(tell(book, entries, seat, entry))
+                seat.count_one(entries, lists, book);
+                Ok(Told { entry })
             }
             Err(refusal) => Err(refusal),
         }
@@ -230,29 +273,32 @@ impl<L: Opening> Desk<L> {
     #[tactic(auto, using(crate::proofs::Refusing::leave_refused))]
     pub(crate) fn leave(&mut self, seat: &mut Seat<L>) -> Result<Told, Refusal>
         ensures told { IfOk result (λ told. IsEntryOf seat.old.number calls.Leave told) }
-        ensures counted { OnOk result (seat.new ≡ counting_one seat.old) }
+        ensures made { OnOk result (seat.new ≡ making calls.Leave seat.old) }
         ensures kept { OnErr result (seat.new ≡ seat.old) }
         ensures refusal { IfErr result (λ e. CanMeet calls.Leave e) }
     {
         let Desk {
             book,
             entries,
+            lists,
             rest: _,
         } = self;
         match book.leave_telling(seat.number()) {
-            Ok((_, entry)) => Ok(tell(book, entries, seat, entry)),
+            Ok((_, entry)) => {
+                seat.count_one(entries, lists, book);
+                Ok(Told { entry })
+            }
             Err(refusal) => Err(refusal),
         }
     }
 }
 
-/// The token of the entry that was just made through the seat, which counts it.
-fn tell<L: Opening>(book: &Book, entries: &mut Tally<L>, seat: &mut Seat<L>, entry: Entry) -> Told
-    requires { entries.old.total + 1 ≡ length book.now.history }
-    ensures told { result ≡ entry }
-    ensures seat { seat.new ≡ counting_one seat.old }
-    ensures entries { entries.new.total ≡ length book.now.history }
+/// The token of an entry, if there is one.
+fn token(entry: Option<Entry>) -> Option<Told>
+    ensures { result ≡ entry }
 {
-    seat.count_one(entries, book.history_len());
-    Told { entry }
+    match entry {
+        Some(entry) => Some(Told { entry }),
+        None => None,
+    }
 }

@@ -3,21 +3,24 @@
 //! A call takes constant time where neither it nor its type tells a cost.
 #![tactic(auto)]
 
+mod blank;
 mod closed;
+mod copies;
 mod desk;
 mod gate;
+mod lists;
 mod opening;
 mod own_clauses;
 mod refutation;
 mod seat;
 mod shared;
-mod tokens;
+mod telling;
 mod told;
 
+pub use blank::Blank;
 pub use closed::Closed;
 pub use gate::{Gate, NoGate};
 pub use opening::Opening;
 pub use seat::Seat;
 pub use shared::{SeatsOut, Shared};
-pub use tokens::Tokens;
 pub use told::Told;

@@ -6,7 +6,7 @@ use std::sync::ledger::Ledger;
 /// seats and the closed book name it by their type, so what belongs to different openings doesn't mix. Whoever opens is
 /// generic over it, and is called with [`Brand`].
 pub trait Opening: Ledger {
-    ghost use Rattle.std.specs.Prelude.{ℕ};
+    ghost use Rattle.std.specs.Prelude.{ℕ, List};
     ghost use Rattle.lj_clause.specs.ClauseMap.{FormulaValue};
 
     ghost formula: { FormulaValue };
@@ -14,6 +14,9 @@ pub trait Opening: Ledger {
     ghost seats: { ℕ };
 
     ghost max_steps: { ℕ };
+
+    // The names of the lists of its seats' calls, by seat.
+    ghost lists: { List ℕ };
 }
 
 impl Opening for Brand {
@@ -24,4 +27,6 @@ impl Opening for Brand {
     ghost seats = { 0 };
 
     ghost max_steps = { 0 };
+
+    ghost lists = { [] };
 }

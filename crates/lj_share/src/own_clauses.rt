@@ -1,10 +1,10 @@
 //! The clauses that a seat holds, as it knows by itself.
 ghost use Rattle.std.specs.Prelude.{◌≡◌, ◌≤◌, ◌+◌, IfOk, IfSome, OnOk, OnErr};
 
-use lj_book::{Call, Entry, OwnMap};
-use lj_clause::{Clause, ClauseView, Formula, Lit, NoMemory};
+use lj_book::OwnMap;
+use lj_clause::{Clause, ClauseView, Formula, Lemma, Lit, NoMemory};
 use lj_hint::{Case, Pair};
-use lj_text::{Addition, Numbers, Step};
+use lj_text::{Addition, Numbers};
 use std::alloc::Global;
 
 /// The greatest number of literals of a clause of the formula of which a seat makes one of its own. Whoever walks over a
@@ -182,23 +182,6 @@ impl OwnClauses {
         Ok(shared)
     }
 
-    /// Takes up what an entry of the seat has bound and given up; of an adoption and an import it doesn't say what was bound.
-    /// Answers whether all that is here is still held, as far as it is known.
-    pub(crate) fn follow(&mut self, formula: &Formula, entry: &Entry) -> bool {
-        match &entry.call {
-            Call::Add { own, lemma: _ } => {
-                if let Some(Step::Add(step)) = &entry.step {
-                    self.share(*own, step).is_ok()
-                } else {
-                    true
-                }
-            }
-            Call::Drop { numbers } => self.give_up(formula, numbers).is_ok(),
-            Call::Leave => false,
-            _ => true,
-        }
-    }
-
     /// Takes up the joint number with its clause, which is lent, that an own number was bound to, if there is room for it.
     ///
     /// # Errors
@@ -217,17 +200,16 @@ impl OwnClauses {
         self.keep(own, Pair { joint, clause }, bytes)
     }
 
-    /// Takes up the number of a step with a share of its clause, which an own number was bound to, if there is room for it.
+    /// Takes up the joint number with a share of the lemma's clause, which an own number was bound to, if there is room for it.
     ///
     /// # Errors
     /// [`NoMemory`] where a growth was refused: the number is then bound, and not here.
-    fn share(&mut self, own: u64, step: &Addition) -> Result<(), NoMemory> {
-        let lemma = step.lemma.clause();
+    pub(crate) fn share(&mut self, own: u64, joint: u64, lemma: &Lemma) -> Result<(), NoMemory> {
+        let lemma = lemma.clause();
         let bytes = bytes_of(lemma.lits());
         if bytes > self.room {
             return Ok(());
         }
-        let joint = step.number;
         let clause = lemma.copy()?;
         self.keep(own, Pair { joint, clause }, bytes)
     }
@@ -250,7 +232,7 @@ impl OwnClauses {
     ///
     /// # Errors
     /// [`NoMemory`] where a growth was refused: what is here may then be more than the seat holds.
-    fn give_up(&mut self, formula: &Formula, numbers: &Numbers) -> Result<(), NoMemory> {
+    pub(crate) fn give_up(&mut self, formula: &Formula, numbers: &Numbers) -> Result<(), NoMemory> {
         for own in numbers.iter() {
             let _ = self.held.remove(own);
             if formula.clause(own).is_some() {

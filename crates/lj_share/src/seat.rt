@@ -1,18 +1,23 @@
 //! Seats.
-ghost use Rattle.std.specs.Prelude.{◌≡◌, ◌+◌, ◌<◌, IfSome};
-ghost use Rattle.lj_share.specs.Seats.{new_seat, counting_one};
+ghost use Rattle.std.specs.Prelude.{◌≡◌, ◌+◌, ◌<◌, [], length, Some, IfSome, slice_get, slice_set};
+ghost use Rattle.lj_book.specs.declared.entry.Call.{Call};
+ghost use Rattle.lj_share.specs.Entries.{calls_of};
+ghost use Rattle.lj_share.specs.Seats.{new_seat, making};
+ghost use Rattle.lj_share.specs.inner.Seats.{HasOneMore};
 
+use crate::copies::SeatCopy;
+use crate::lists::Lists;
 use crate::opening::Opening;
 use crate::own_clauses::OwnClauses;
-use lj_book::Entry;
-use lj_clause::{ClauseView, Formula};
+use lj_book::Book;
+use lj_clause::{ClauseView, Formula, Lemma};
 use lj_hint::{Case, Marks};
-use lj_text::Addition;
+use lj_text::{Addition, Numbers};
 use std::alloc::Global;
 use std::marker::Model;
 use std::sync::ledger::{Book as Tally, Share};
 
-/// A place at a shared book, for one prover. It can't be copied, and counts the entries that were made through it.
+/// A place at a shared book, for one prover. It can't be copied. Contracts see the calls whose entries were made through it.
 #[derive(Drop)]
 pub struct Seat<L: Opening> {
     number: u32,
@@ -22,10 +27,12 @@ pub struct Seat<L: Opening> {
     own: Option<OwnClauses>,
     /// One part of the opening's ledger, and as great an amount as there are entries.
     share: Share<L>,
+    /// The calls whose entries were made through it.
+    copy: SeatCopy,
 }
 
 impl<L: Opening> Model for Seat<L> {
-    ghost use Rattle.std.specs.Prelude.{◌≡◌};
+    ghost use Rattle.std.specs.Prelude.{◌≡◌, Some, length, slice_get};
     ghost use Rattle.lj_share.specs.Seats.{SeatValue};
     ghost use Rattle.lj_share.specs.inner.Codes.{seat_code};
 
@@ -33,16 +40,19 @@ impl<L: Opening> Model for Seat<L> {
 
     ghost coded = { seat_code };
 
-    ghost view = { λ s. record { number = s.number; count = s.count } };
+    ghost view = { λ s. record { number = s.number; calls = s.copy.calls } };
 
-    ghost invariant = { λ s. (s.share.parts ≡ 1) × (s.share.amount ≡ s.count) };
+    ghost invariant = { λ s. (s.share.parts ≡ 1) × (s.share.amount ≡ s.count)
+        × (s.count ≡ length s.copy.calls) × (slice_get L.lists s.number ≡ Some s.copy.name) };
 }
 
 impl<L: Opening> Seat<L> {
     /// The seat of this number, through which no entry was made.
-    pub(crate) fn new(alloc: Global, number: u32, share: Share<L>) -> Seat<L>
+    pub(crate) fn new(alloc: Global, number: u32, share: Share<L>, copy: SeatCopy) -> Seat<L>
         requires part { share.parts ≡ 1 }
         requires empty { share.amount ≡ 0 }
+        requires none { copy.calls ≡ [] }
+        requires named { slice_get L.lists number ≡ Some copy.name }
         ensures { result ≡ new_seat number }
     {
         Seat {
@@ -51,6 +61,7 @@ impl<L: Opening> Seat<L> {
             marks: Marks::new(alloc),
             own: Some(OwnClauses::new(alloc)),
             share,
+            copy,
         }
     }
 
@@ -63,19 +74,30 @@ impl<L: Opening> Seat<L> {
 
     /// How many entries were made through it. Takes constant time.
     pub fn count(&self) -> u64
-        ensures { result ≡ self.now.count }
+        ensures { result ≡ length self.now.calls }
     {
         self.count
     }
 
-    /// Counts one entry more, here and in the ledger, which then has as many as were made.
-    pub(crate) fn count_one(&mut self, entries: &mut Tally<L>, made: u64)
-        requires { entries.old.total + 1 ≡ made }
-        ensures seat { self.new ≡ counting_one self.old }
-        ensures entries { entries.new.total ≡ made }
+    /// Counts an entry more, which was just made through it: here, in the ledger, and in both copies of the list of its
+    /// calls.
+    pub(crate) fn count_one(
+        &mut self,
+        entries: &mut Tally<L>,
+        lists: &mut Lists<L>,
+        book: &Book,
+    )
+        requires made { entries.old.total + 1 ≡ length book.now.history }
+        requires one { (call : Call) × HasOneMore self.old.number lists.old book.now.history call }
+        ensures seat { (call : Call) → HasOneMore self.old.number lists.old book.now.history call
+            → self.new ≡ making call self.old }
+        ensures entries { entries.new.total ≡ length book.now.history }
+        ensures lists { lists.new ≡ slice_set lists.old self.old.number
+            (calls_of self.old.number book.now.history) }
     {
         entries.add(&mut self.share, 1);
         entries.audit(&mut self.share);
+        lists.follow(&mut self.copy, book, self.number);
         self.count += 1;
     }
 
@@ -98,17 +120,37 @@ impl<L: Opening> Seat<L> {
         }
     }
 
-    /// Takes up what an entry of the seat has bound and given up; of an adoption and an import it doesn't say what was bound.
-    pub(crate) fn follow(&mut self, formula: &Formula, entry: &Entry)
+    /// Takes up the joint number with the clause of a lemma that the seat's own number was bound to.
+    pub(crate) fn take_up(&mut self, own: u64, joint: u64, lemma: &Lemma)
         ensures { self.new ≡ self.old }
     {
         let held = match &mut self.own {
-            Some(own) => own.follow(formula, entry),
+            Some(clauses) => clauses.share(own, joint, lemma).is_ok(),
             None => return,
         };
         if !held {
             self.own = None;
         }
+    }
+
+    /// Gives up what the seat's own numbers were bound to.
+    pub(crate) fn give_up(&mut self, formula: &Formula, numbers: &Numbers)
+        ensures { self.new ≡ self.old }
+    {
+        let held = match &mut self.own {
+            Some(clauses) => clauses.give_up(formula, numbers).is_ok(),
+            None => return,
+        };
+        if !held {
+            self.own = None;
+        }
+    }
+
+    /// Gives all up.
+    pub(crate) fn forget(&mut self)
+        ensures { self.new ≡ self.old }
+    {
+        self.own = None;
     }
 
     /// Takes up the joint number with its clause that the seat's own number was bound to.
@@ -124,11 +166,14 @@ impl<L: Opening> Seat<L> {
         }
     }
 
-    /// The seat's share of the ledger.
-    pub(crate) fn into_share(self) -> Share<L>
-        ensures parts { result.parts ≡ 1 }
-        ensures amount { result.amount ≡ self.count }
+    /// The seat's number, its share of the ledger, and its copy of the list of its calls.
+    pub(crate) fn into_parts(self) -> (u32, Share<L>, SeatCopy)
+        ensures number { result.0 ≡ self.number }
+        ensures parts { result.1.parts ≡ 1 }
+        ensures amount { result.1.amount ≡ length self.calls }
+        ensures calls { result.2.calls ≡ self.calls }
+        ensures named { slice_get L.lists self.number ≡ Some result.2.name }
     {
-        self.share
+        (self.number, self.share, self.copy)
     }
 }

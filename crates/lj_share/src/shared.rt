@@ -1,26 +1,31 @@
 //! The shared book.
-ghost use Rattle.std.specs.Prelude.{◌≡◌, ◌==◌, ◌+◌, ◌<◌, length, is_ok, OnOk, OnErr, OnSome, IfOk, IfErr, IfSome, None, Ok, Err};
+ghost use Rattle.std.specs.Prelude.{◌≡◌, ◌==◌, ◌+◌, ◌<◌, [], length, map, drop, All, is_ok, OnOk, OnErr, OnSome, IfOk, IfErr, IfSome, None, Ok, Err};
 ghost use Rattle.lj_clause.specs.Truth.{IsUnsatisfiable};
 ghost use Rattle.lj_book.specs.declared.entry.Call.TheVariants as calls;
 ghost use Rattle.lj_book.specs.History.{IsReached};
-ghost use Rattle.lj_share.specs.Seats.{new_seats, counting_one, entries_made};
+ghost use Rattle.lj_share.specs.Seats.{new_seats, making, entries_made, HasCallsOf};
 ghost use Rattle.lj_share.specs.Entries.{call_of, IsEntryOf};
+ghost use Rattle.lj_share.specs.inner.Seats.{AreListsOf};
+ghost use Rattle.lj_share.specs.inner.Telling.{IsTokenOf};
 ghost use Rattle.lj_share.specs.Refusals.{CanMeet};
 
+use crate::blank::Blank;
 use crate::closed::Closed;
-use crate::desk::Desk;
+use crate::copies::SeatCopy;
+use crate::desk::{Desk, Entered};
 use crate::gate::{Gate, NoGate};
+use crate::lists::Lists;
 use crate::opening::Opening;
 use crate::refutation::Refutation;
 use crate::seat::Seat;
 use crate::told::Told;
 use lj_book::laws::history_is_legal;
-use lj_book::{Book, Entry, Ready, Refusal};
+use lj_book::{Book, Call, Entry, Ready, Refusal};
 use lj_clause::{Formula, NoMemory};
 use lj_hint::{Case, Receipt, Tested};
 use lj_text::{Addition, Line, Numbers};
 use std::alloc::Global;
-use std::sync::ledger::{Blank, Share};
+use std::sync::ledger::Share;
 use std::sync::{Mutex, MutexGuard, OnceLock, Wait};
 
 /// How often the lock is tried before a thread sleeps for it.
@@ -52,8 +57,8 @@ pub struct SeatsOut<L: Opening> {
 
 impl<L: Opening> Shared<L> {
     /// A new book for so many seats, and the seats, by rising number. Each holds the clauses of the formula under their
-    /// numbers. The history takes at most `max_steps` additions. The blank is the opening's, with a part for each seat. Takes
-    /// the time of [`Book::open`].
+    /// numbers. The history takes at most `max_steps` additions. The blank is the opening's, for so many seats. Takes the time
+    /// of [`Book::open`].
     ///
     /// # Errors
     /// [`NoMemory`] where a growth was refused.
@@ -66,6 +71,7 @@ impl<L: Opening> Shared<L> {
     ) -> Result<(Shared<L>, Vec<Seat<L>>), NoMemory>
         requires name { blank.name ≡ L.name }
         requires parts { (blank.parts ≡ L.parts) × (blank.parts ≡ seats) }
+        requires lists { blank.lists ≡ L.lists }
         requires formula { formula ≡ L.formula }
         requires seats { (0 < seats) × (seats ≡ L.seats) }
         requires limit { max_steps ≡ L.max_steps }
@@ -73,10 +79,15 @@ impl<L: Opening> Shared<L> {
     {
         let shown = formula.copy()?;
         let book = Book::open(alloc, formula, seats, max_steps)?;
-        let (entries, mut rest) = blank.open::<L>();
-        let out = seats_of(alloc, &mut rest, seats)?;
+        let Blank {
+            ledger,
+            desk,
+            seats: copies,
+        } = blank;
+        let (entries, mut rest) = ledger.open::<L>();
+        let out = seats_of(alloc, &mut rest, copies)?;
         let shared = Shared {
-            desk: Mutex::new(Desk::new(book, entries, rest)),
+            desk: Mutex::new(Desk::new(book, entries, Lists::new(desk), rest)),
             refutation: OnceLock::new(),
             seats,
             formula: shown,
@@ -94,7 +105,7 @@ impl<L: Opening> Shared<L> {
     /// The refusals of [`Book`]'s calls.
     pub fn submit<R: Wait>(&self, rt: &R, seat: &mut Seat<L>, line: &Line) -> Result<Told, Refusal>
         ensures told { IfOk result (λ told. IsEntryOf seat.old.number (call_of line.now) told) }
-        ensures counted { OnOk result (seat.new ≡ counting_one seat.old) }
+        ensures made { OnOk result (seat.new ≡ making (call_of line.now) seat.old) }
         ensures kept { OnErr result (seat.new ≡ seat.old) }
         ensures refusal { IfErr result (λ e. CanMeet (call_of line.now) e) }
     {
@@ -115,27 +126,69 @@ impl<L: Opening> Shared<L> {
         gate: &G,
     ) -> Result<Told, Refusal>
         ensures told { IfOk result (λ told. IsEntryOf seat.old.number (call_of line.now) told) }
-        ensures counted { OnOk result (seat.new ≡ counting_one seat.old) }
+        ensures made { OnOk result (seat.new ≡ making (call_of line.now) seat.old) }
+        ensures kept { OnErr result (seat.new ≡ seat.old) }
+        ensures refusal { IfErr result (λ e. CanMeet (call_of line.now) e) }
+    {
+        match self.hand_in(rt, seat, line, at, gate, true)? {
+            Some(told) => Ok(told),
+            None => unreachable!(),
+        }
+    }
+
+    /// The same without a token, for who needs none: that the line was entered, and just once, is known of the seat. Takes the
+    /// time of [`Shared::submit_at`].
+    ///
+    /// # Errors
+    /// As [`Shared::submit`].
+    pub fn enter_at<R: Wait, G: Gate>(
+        &self,
+        rt: &R,
+        seat: &mut Seat<L>,
+        line: &Line,
+        at: u64,
+        gate: &G,
+    ) -> Result<(), Refusal>
+        ensures made { OnOk result (seat.new ≡ making (call_of line.now) seat.old) }
+        ensures kept { OnErr result (seat.new ≡ seat.old) }
+        ensures refusal { IfErr result (λ e. CanMeet (call_of line.now) e) }
+    {
+        self.hand_in(rt, seat, line, at, gate, false)?;
+        Ok(())
+    }
+
+    /// Hands a line in, and gives its token where one is asked for.
+    fn hand_in<R: Wait, G: Gate>(
+        &self,
+        rt: &R,
+        seat: &mut Seat<L>,
+        line: &Line,
+        at: u64,
+        gate: &G,
+        telling: bool,
+    ) -> Result<Option<Told>, Refusal>
+        ensures told { IfOk result (IsTokenOf telling seat.old.number (call_of line.now)) }
+        ensures made { OnOk result (seat.new ≡ making (call_of line.now) seat.old) }
         ensures kept { OnErr result (seat.new ≡ seat.old) }
         ensures refusal { IfErr result (λ e. CanMeet (call_of line.now) e) }
     {
         let number = seat.number();
         let answer = match line {
             Line::Add(addition) => {
-                let told = self.submit_addition(rt, seat, addition, at, gate)?;
-                seat.follow(&self.formula, &told.entry);
-                return Ok(told);
+                let entered = self.submit_addition(rt, seat, addition, at, gate, telling)?;
+                seat.take_up(addition.number, entered.joint, &addition.lemma);
+                return Ok(entered.told);
             }
             Line::Delete(numbers) => {
                 gate.pass(number, at);
-                self.drop_numbers(rt, seat, numbers)
+                self.drop_numbers(rt, seat, numbers, telling)
             }
             Line::Import {
                 number: own,
                 clause,
             } => {
                 gate.pass(number, at);
-                self.desk.lock(rt).import(seat, *own, clause)
+                self.desk.lock(rt).import(seat, *own, clause, telling)
             }
         };
         gate.answered(number, at);
@@ -148,41 +201,41 @@ impl<L: Opening> Shared<L> {
         rt: &R,
         seat: &mut Seat<L>,
         numbers: &Numbers,
-    ) -> Result<Told, Refusal>
+        telling: bool,
+    ) -> Result<Option<Told>, Refusal>
         ensures told { IfOk result
-            (λ told. IsEntryOf seat.old.number (calls.Drop numbers.now) told) }
-        ensures counted { OnOk result (seat.new ≡ counting_one seat.old) }
+            (IsTokenOf telling seat.old.number (calls.Drop numbers.now)) }
+        ensures made { OnOk result (seat.new ≡ making (calls.Drop numbers.now) seat.old) }
         ensures kept { OnErr result (seat.new ≡ seat.old) }
         ensures refusal { IfErr result (λ e. CanMeet (calls.Drop numbers.now) e) }
     {
-        let told = self.desk(rt).drop_numbers(seat, numbers)?;
-        seat.follow(&self.formula, &told.entry);
+        let told = self.desk(rt).drop_numbers(seat, numbers, telling)?;
+        seat.give_up(&self.formula, numbers);
         Ok(told)
     }
 
-    /// The receipt of an addition over the clauses that the seat holds as it knows by itself, with all that its entry takes:
-    /// none where they don't tell.
+    /// The receipt of an addition over the clauses that the seat holds as it knows by itself: none where they don't tell.
     ///
     /// # Errors
     /// [`Refusal::HintNotUnit`].
-    fn ready_alone(&self, seat: &mut Seat<L>, addition: &Addition) -> Option<Result<Ready, Refusal>>
+    fn receipt_alone(
+        &self,
+        seat: &mut Seat<L>,
+        addition: &Addition,
+    ) -> Option<Result<Receipt, Refusal>>
         ensures seat { IfSome result
-            (λ answer. IfOk answer (λ ready. ready.seat ≡ seat.old.number)) }
+            (λ answer. IfOk answer (λ receipt. receipt.seat ≡ seat.old.number)) }
         ensures own { IfSome result
-            (λ answer. IfOk answer (λ ready. ready.own ≡ addition.now.number)) }
+            (λ answer. IfOk answer (λ receipt. receipt.own ≡ addition.now.number)) }
         ensures lemma { IfSome result
-            (λ answer. IfOk answer (λ ready. ready.lemma ≡ addition.now.lemma)) }
+            (λ answer. IfOk answer (λ receipt. receipt.lemma ≡ addition.now.lemma)) }
         ensures kept { seat.new ≡ seat.old }
     {
         let case = seat.case(&self.formula, addition)?;
-        let receipt = match case.test(&mut seat.marks) {
-            Tested::Closed(receipt) => receipt,
-            Tested::Stuck(place) => return Some(Err(Refusal::HintNotUnit(place))),
-            Tested::Open(_) | Tested::NoMemory(_, _) => return None,
-        };
-        match Ready::new(self.alloc, receipt) {
-            Ok(ready) => Some(Ok(ready)),
-            Err(_) => None,
+        match case.test(&mut seat.marks) {
+            Tested::Closed(receipt) => Some(Ok(receipt)),
+            Tested::Stuck(place) => Some(Err(Refusal::HintNotUnit(place))),
+            Tested::Open(_) | Tested::NoMemory(_, _) => None,
         }
     }
 
@@ -195,23 +248,26 @@ impl<L: Opening> Shared<L> {
         addition: &Addition,
         at: u64,
         gate: &G,
-    ) -> Option<Result<Told, Refusal>>
-        ensures told { IfSome result (λ answer. IfOk answer (λ told. IsEntryOf seat.old.number
-            (calls.Add addition.now.number addition.now.lemma) told)) }
-        ensures counted { IfSome result
-            (λ answer. OnOk answer (seat.new ≡ counting_one seat.old)) }
+        telling: bool,
+    ) -> Option<Result<Entered, Refusal>>
+        ensures told { IfSome result (λ answer. IfOk answer
+            (λ entered. IsTokenOf telling seat.old.number
+            (calls.Add addition.now.number addition.now.lemma) entered.told)) }
+        ensures made { IfSome result (λ answer. OnOk answer
+            (seat.new ≡ making (calls.Add addition.now.number addition.now.lemma) seat.old)) }
         ensures kept { IfSome result (λ answer. OnErr answer (seat.new ≡ seat.old)) }
         ensures nothing { result ≡ None → seat.new ≡ seat.old }
     {
         let number = seat.number();
-        let ready = match self.ready_alone(seat, addition)? {
-            Ok(ready) => ready,
+        let receipt = match self.receipt_alone(seat, addition)? {
+            Ok(receipt) => receipt,
             Err(refusal) => return Some(Err(refusal)),
         };
         gate.pass(number, at);
-        let answer = match self.commit_ready(rt, seat, ready) {
-            Ok((told, _receipt)) => Ok(told),
-            Err((refusal, _receipt)) => Err(refusal),
+        let answer = if telling {
+            self.commit_telling(rt, seat, receipt)
+        } else {
+            self.commit_ready(rt, seat, receipt)
         };
         gate.answered(number, at);
         Some(answer)
@@ -225,18 +281,20 @@ impl<L: Opening> Shared<L> {
         addition: &Addition,
         at: u64,
         gate: &G,
-    ) -> Result<Told, Refusal>
-        ensures told { IfOk result (λ told. IsEntryOf seat.old.number
-            (calls.Add addition.now.number addition.now.lemma) told) }
-        ensures counted { OnOk result (seat.new ≡ counting_one seat.old) }
+        telling: bool,
+    ) -> Result<Entered, Refusal>
+        ensures told { IfOk result (λ entered. IsTokenOf telling seat.old.number
+            (calls.Add addition.now.number addition.now.lemma) entered.told) }
+        ensures made { OnOk result
+            (seat.new ≡ making (calls.Add addition.now.number addition.now.lemma) seat.old) }
         ensures kept { OnErr result (seat.new ≡ seat.old) }
     {
-        if let Some(answer) = self.submit_alone(rt, seat, addition, at, gate) {
+        if let Some(answer) = self.submit_alone(rt, seat, addition, at, gate, telling) {
             return answer;
         }
         let number = seat.number();
         gate.pass(number, at);
-        let answer = self.add_inside(rt, seat, addition);
+        let answer = self.add_inside(rt, seat, addition, telling);
         gate.answered(number, at);
         answer
     }
@@ -247,16 +305,18 @@ impl<L: Opening> Shared<L> {
         rt: &R,
         seat: &mut Seat<L>,
         addition: &Addition,
-    ) -> Result<Told, Refusal>
-        ensures told { IfOk result (λ told. IsEntryOf seat.old.number
-            (calls.Add addition.now.number addition.now.lemma) told) }
-        ensures counted { OnOk result (seat.new ≡ counting_one seat.old) }
+        telling: bool,
+    ) -> Result<Entered, Refusal>
+        ensures told { IfOk result (λ entered. IsTokenOf telling seat.old.number
+            (calls.Add addition.now.number addition.now.lemma) entered.told) }
+        ensures made { OnOk result
+            (seat.new ≡ making (calls.Add addition.now.number addition.now.lemma) seat.old) }
         ensures kept { OnErr result (seat.new ≡ seat.old) }
     {
         let mut desk = self.desk(rt);
-        let told = desk.add_inside(seat, addition);
+        let entered = desk.add_inside(seat, addition, telling);
         self.publish(&desk);
-        told
+        entered
     }
 
     /// An addition under the seat's numbers as a case in joint numbers, which can be tested without the book. Takes time
@@ -291,51 +351,103 @@ impl<L: Opening> Shared<L> {
         requires { receipt.seat ≡ seat.old.number }
         ensures told { IfOk result
             (λ told. IsEntryOf seat.old.number (calls.Add receipt.own receipt.lemma) told) }
-        ensures counted { OnOk result (seat.new ≡ counting_one seat.old) }
+        ensures made { OnOk result
+            (seat.new ≡ making (calls.Add receipt.own receipt.lemma) seat.old) }
         ensures kept { OnErr result (seat.new ≡ seat.old) }
         ensures back { IfErr result (λ e. e.1 ≡ receipt) }
     {
-        let told = self.commit_taken(rt, seat, receipt)?;
-        seat.follow(&self.formula, &told.entry);
+        let (joint, told) = self.commit_taken(rt, seat, receipt)?;
+        if let Call::Add { own, lemma } = &told.entry.call {
+            seat.take_up(*own, joint, lemma);
+        }
         Ok(told)
     }
 
-    /// Enters the lemma of a receipt of this seat.
+    /// Enters the lemma of a receipt of this seat, and tells its joint number and its token.
     fn commit_taken<R: Wait>(
         &self,
         rt: &R,
         seat: &mut Seat<L>,
         receipt: Receipt,
-    ) -> Result<Told, (Refusal, Receipt)>
+    ) -> Result<(u64, Told), (Refusal, Receipt)>
+        requires { receipt.seat ≡ seat.old.number }
         ensures told { IfOk result
-            (λ told. IsEntryOf receipt.seat (calls.Add receipt.own receipt.lemma) told) }
-        ensures counted { OnOk result (seat.new ≡ counting_one seat.old) }
+            (λ made. IsEntryOf seat.old.number (calls.Add receipt.own receipt.lemma) made.1) }
+        ensures made { OnOk result
+            (seat.new ≡ making (calls.Add receipt.own receipt.lemma) seat.old) }
         ensures kept { OnErr result (seat.new ≡ seat.old) }
         ensures back { IfErr result (λ e. e.1 ≡ receipt) }
     {
         let mut desk = self.desk.lock(rt);
-        let told = desk.commit(seat, receipt);
+        let made = desk.commit(seat, receipt);
         self.publish(&desk);
-        told
+        made
     }
 
-    /// Enters the lemma of a receipt that has what its entry takes. The receipt comes back, so that it is let go of
-    /// outside the lock.
+    /// The same, where a refused commit gives no receipt back.
+    fn commit_telling<R: Wait>(
+        &self,
+        rt: &R,
+        seat: &mut Seat<L>,
+        receipt: Receipt,
+    ) -> Result<Entered, Refusal>
+        requires { receipt.seat ≡ seat.old.number }
+        ensures told { IfOk result (λ entered. IsTokenOf true seat.old.number
+            (calls.Add receipt.own receipt.lemma) entered.told) }
+        ensures made { OnOk result
+            (seat.new ≡ making (calls.Add receipt.own receipt.lemma) seat.old) }
+        ensures kept { OnErr result (seat.new ≡ seat.old) }
+    {
+        match self.commit_taken(rt, seat, receipt) {
+            Ok((joint, told)) => Ok(Entered {
+                joint,
+                told: Some(told),
+            }),
+            Err((refusal, _receipt)) => Err(refusal),
+        }
+    }
+
+    /// Enters the lemma of a receipt of this seat, without a token. What its entry takes is made before the lock is taken, and
+    /// the receipt is let go of after.
     fn commit_ready<R: Wait>(
         &self,
         rt: &R,
         seat: &mut Seat<L>,
+        receipt: Receipt,
+    ) -> Result<Entered, Refusal>
+        requires { receipt.seat ≡ seat.old.number }
+        ensures told { IfOk result (λ entered. IsTokenOf false seat.old.number
+            (calls.Add receipt.own receipt.lemma) entered.told) }
+        ensures made { OnOk result
+            (seat.new ≡ making (calls.Add receipt.own receipt.lemma) seat.old) }
+        ensures kept { OnErr result (seat.new ≡ seat.old) }
+    {
+        let ready = match Ready::new(self.alloc, receipt) {
+            Ok(ready) => ready,
+            Err((refused, _receipt)) => return Err(Refusal::NoMemory(refused)),
+        };
+        match self.commit_outside(rt, seat, ready) {
+            Ok((joint, _receipt)) => Ok(Entered { joint, told: None }),
+            Err((refusal, _receipt)) => Err(refusal),
+        }
+    }
+
+    /// Enters the lemma of a receipt that has what its entry takes, and gives the receipt back.
+    fn commit_outside<R: Wait>(
+        &self,
+        rt: &R,
+        seat: &mut Seat<L>,
         ready: Ready,
-    ) -> Result<(Told, Receipt), (Refusal, Receipt)>
-        ensures told { IfOk result
-            (λ made. IsEntryOf ready.seat (calls.Add ready.own ready.lemma) made.0) }
-        ensures counted { OnOk result (seat.new ≡ counting_one seat.old) }
+    ) -> Result<(u64, Receipt), (Refusal, Receipt)>
+        requires { ready.seat ≡ seat.old.number }
+        ensures made { OnOk result
+            (seat.new ≡ making (calls.Add ready.own ready.lemma) seat.old) }
         ensures kept { OnErr result (seat.new ≡ seat.old) }
     {
         let mut desk = self.desk(rt);
-        let told = desk.commit_ready(seat, ready);
+        let made = desk.commit_ready(seat, ready);
         self.publish(&desk);
-        told
+        made
     }
 
     /// Binds the seat's own number to a joint number that lives. Takes the time of [`Book::adopt`], and time linear in the
@@ -352,7 +464,7 @@ impl<L: Opening> Shared<L> {
     ) -> Result<Told, Refusal>
         ensures told { IfOk result
             (λ told. IsEntryOf seat.old.number (calls.Adopt own joint) told) }
-        ensures counted { OnOk result (seat.new ≡ counting_one seat.old) }
+        ensures made { OnOk result (seat.new ≡ making (calls.Adopt own joint) seat.old) }
         ensures kept { OnErr result (seat.new ≡ seat.old) }
         ensures refusal { IfErr result (λ e. CanMeet (calls.Adopt own joint) e) }
     {
@@ -366,12 +478,12 @@ impl<L: Opening> Shared<L> {
     /// As [`Book::leave`].
     pub fn leave<R: Wait>(&self, rt: &R, seat: &mut Seat<L>) -> Result<Told, Refusal>
         ensures told { IfOk result (λ told. IsEntryOf seat.old.number calls.Leave told) }
-        ensures counted { OnOk result (seat.new ≡ counting_one seat.old) }
+        ensures made { OnOk result (seat.new ≡ making calls.Leave seat.old) }
         ensures kept { OnErr result (seat.new ≡ seat.old) }
         ensures refusal { IfErr result (λ e. CanMeet calls.Leave e) }
     {
         let told = self.desk.lock(rt).leave(seat)?;
-        seat.follow(&self.formula, &told.entry);
+        seat.forget();
         Ok(told)
     }
 
@@ -428,6 +540,7 @@ impl<L: Opening> Shared<L> {
         ensures all { is_ok result ≡ (length seats.items == L.seats) }
         ensures legal { IfOk result (λ closed. IsReached closed) }
         ensures entries { IfOk result (λ closed. length closed.history ≡ entries_made seats.items) }
+        ensures calls { IfOk result (λ closed. HasCallsOf closed.history seats.items) }
         ensures out { IfErr result (λ out. out.seats.items ≡ seats.items) }
     {
         if seats.len() as u64 != u64::from(self.seats) {
@@ -436,44 +549,58 @@ impl<L: Opening> Shared<L> {
                 seats,
             });
         }
-        let (book, mut entries, rest) = self.desk.into_inner().into_parts();
-        let mut all = gathered(rest, seats);
+        let (book, mut entries, mut lists, rest) = self.desk.into_inner().into_parts();
+        let mut all = gathered(&book, &mut lists, rest, seats);
         entries.audit(&mut all);
         history_is_legal(&book);
         Ok(Closed::new(book))
     }
 }
 
-/// The seats of an opening, by rising number, each with a part of the ledger.
+/// The seats of an opening, by rising number, each with a part of the ledger and one of these copies.
 ///
 /// # Errors
 /// [`NoMemory`] where a growth was refused.
 fn seats_of<L: Opening>(
     alloc: Global,
     rest: &mut Share<L>,
-    seats: u32,
+    copies: Vec<SeatCopy>,
 ) -> Result<Vec<Seat<L>>, NoMemory>
-    requires parts { rest.old.parts ≡ seats }
+    requires parts { rest.old.parts ≡ length copies.items }
+    requires few { length copies.items < 4294967296 }
     requires amount { rest.old.amount ≡ 0 }
-    ensures seats { IfOk result (λ out. out.items ≡ new_seats seats) }
+    requires named { map (λ c. c.name) copies.items ≡ L.lists }
+    requires none { All (λ c. c.calls ≡ []) copies.items }
+    ensures seats { IfOk result (λ out. out.items ≡ new_seats (length copies.items)) }
     ensures parts { OnOk result (rest.new.parts ≡ 0) }
     ensures amount { OnOk result (rest.new.amount ≡ 0) }
 {
-    let mut out = Vec::with_capacity(alloc, seats as usize)?;
-    for number in 0..seats {
+    let mut out = Vec::new(alloc);
+    let mut number = 0;
+    for copy in copies {
         let share = rest.split_off(1, 0);
-        out.push(Seat::new(alloc, number, share))?;
+        out.push(Seat::new(alloc, number, share, copy))?;
+        number += 1;
     }
     Ok(out)
 }
 
-/// The shares of these seats, put together with the rest.
-fn gathered<L: Opening>(mut rest: Share<L>, seats: Vec<Seat<L>>) -> Share<L>
+/// The shares of these seats, put together with the rest. Their copies of the lists of their calls agree with those of the desk.
+fn gathered<L: Opening>(
+    book: &Book,
+    lists: &mut Lists<L>,
+    mut rest: Share<L>,
+    seats: Vec<Seat<L>>,
+) -> Share<L>
+    requires { AreListsOf book.now.history lists.old }
     ensures parts { result.parts ≡ rest.parts + length seats.items }
     ensures amount { result.amount ≡ rest.amount + entries_made seats.items }
+    ensures calls { HasCallsOf book.now.history seats.items }
 {
     for seat in seats {
-        rest.merge(seat.into_share());
+        let (number, share, mut copy) = seat.into_parts();
+        lists.follow(&mut copy, book, number);
+        rest.merge(share);
     }
     rest
 }

@@ -1,6 +1,5 @@
--- Receipts with all that their entries take.
+-- Steps of receipts.
 use Rattle.std.specs.Prelude.{◌≡◌, ℕ}
-use Rattle.lj_clause.specs.Lemma.{LemmaValue}
 use Rattle.lj_text.specs.declared.line.Addition.{Addition}
 use Rattle.lj_hint.specs.Receipt.{ReceiptValue}
 use Rattle.lj_book.specs.Calls.{entry_with}
@@ -13,9 +12,3 @@ numbered number a = record { number = number; lemma = a.lemma; hints = a.hints; 
 -- whatever number it takes, the addition is the step of the receipt's entry
 abbrev pub IsStepOf : ReceiptValue → Addition → Type 0
 IsStepOf r a = (number : ℕ) → line_entry r.seat r.own (numbered number a) ≡ entry_with number r
-
--- What the entry of a receipt takes: its step, the step that is told, and the lemma.
-pub record IsReady (r : ReceiptValue) (step told : Addition) (lemma : LemmaValue) : Type 0 where
-  pub step_is : IsStepOf r step
-  pub told_is : IsStepOf r told
-  pub lemma_is : lemma ≡ r.lemma

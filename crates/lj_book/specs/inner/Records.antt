@@ -202,45 +202,6 @@ named_in lits kind code ws =
     else if kind == import_kind then lits_in lits (number_in ws).1
     else []
 
--- the sort of call of a kind: a drop is one, however it is written
-abbrev pub sort_in : ℕ → ℕ
-sort_in kind =
-    if kind == addition_kind then 0
-    else if kind == drop_kind then 1
-    else if kind == drop_once_kind then 1
-    else if kind == adopt_kind then 2
-    else if kind == import_kind then 3
-    else 4
-
--- the words that begin with the list of what died by a drop or a leave of this kind
-abbrev pub died_in : ℕ → List ℕ → List ℕ
-died_in kind ws = if kind == drop_kind then (list_in ws).1 else ws
-
--- the call, the step and the literals of a sort, where the list of what died is this one
-abbrev pub call_of_sort : List ℤ → ℕ → ℕ → List ℕ → Call
-call_of_sort lits sort code ws =
-    if sort == 0 then sized_call lits code (sizes_in code ws)
-    else if sort == 1 then calls.Drop (list_in ws).0
-    else if sort == 2 then calls.Adopt (number_in ws).0 (number_in (number_in ws).1).0
-    else if sort == 3 then calls.Import (number_in ws).0 (from_literals (lits_in lits (number_in ws).1))
-    else calls.Leave
-
-abbrev pub step_of_sort : List ℤ → ℕ → ℕ → List ℕ → List ℕ → Option Step
-step_of_sort lits sort code ws died =
-    if sort == 0 then Some (steps.Add (sized_addition lits code (sizes_in code ws)))
-    else if sort == 1 then if_some (list_in died).0
-    else if sort == 2 then None
-    else if sort == 3 then None
-    else if_some (list_in died).0
-
-abbrev pub named_of_sort : List ℤ → ℕ → ℕ → List ℕ → List ℤ
-named_of_sort lits sort code ws =
-    if sort == 0 then sized_lits lits code (sizes_in code ws)
-    else if sort == 1 then []
-    else if sort == 2 then []
-    else if sort == 3 then lits_in lits (number_in ws).1
-    else []
-
 -- the entry, and the literals that its words name
 abbrev pub read_in : List ℤ → List ℕ → Entry × List ℤ
 read_in lits ws =

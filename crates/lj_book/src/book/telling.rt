@@ -1,17 +1,17 @@
 //! Calls that also tell the entry that they make: a copy, made before the book changes.
 ghost use Rattle.std.specs.Prelude.{◌≡◌, OnOk, OnErr, IfOk, IfErr, IfSome, Ok, Err, None};
 ghost use Rattle.lj_book.specs.History.{after_entry};
-ghost use Rattle.lj_book.specs.Calls.{IsReplyBy, drop_reply, drop_entry, commit_refusal, commit_told, commit_reply, commit_entry, adopt_reply, adopt_entry, import_reply, import_entry, leave_reply, leave_entry, free_refusal};
+ghost use Rattle.lj_book.specs.Calls.{IsReplyBy, drop_reply, drop_entry, commit_reply, commit_entry, entry_with, adopt_reply, adopt_entry, import_reply, import_entry, leave_reply, leave_entry, free_refusal};
 ghost use Rattle.lj_book.specs.Inside.{inside_reply, inside_entry};
 ghost use Rattle.lj_book.specs.inner.JointLines.{line_entry};
 ghost use Rattle.lj_book.specs.Telling.{without_receipt};
 
 use crate::book::{Book, deletion_of};
+use crate::committing::step_of;
 use crate::dying::{no_longer_held, rising};
 use crate::entry::{Added, Call, Dropped, Entry, Imported};
 use crate::joint_line::clear;
 use crate::lent_addition::LentAddition;
-use crate::ready::Ready;
 use crate::refusal::Refusal;
 use lj_clause::{Clause, NoMemory};
 use lj_hint::{Marks, Receipt};
@@ -35,56 +35,13 @@ impl Book {
         if let Some(refusal) = self.commit_refusal(&receipt) {
             return Err((refusal, receipt));
         }
-        let ready = match Ready::new(self.ledger.allocator(), receipt) {
-            Ok(ready) => ready,
-            Err((e, receipt)) => return Err((Refusal::NoMemory(e), receipt)),
+        let entry = match entry_of_receipt(self.ledger.allocator(), &receipt, self.next()) {
+            Ok(entry) => entry,
+            Err(refused) => return Err((Refusal::NoMemory(refused), receipt)),
         };
-        match self.enter_ready(ready) {
-            Ok((added, entry, _receipt)) => Ok((added, entry)),
-            Err((e, receipt)) => Err((Refusal::NoMemory(e), receipt)),
-        }
-    }
-
-    /// As [`Book::commit_telling`], of a receipt with what its entry takes. The receipt comes back on an answer too. Takes
-    /// the time of [`Book::commit`].
-    ///
-    /// # Errors
-    /// As [`Book::commit`].
-    pub fn commit_ready(
-        &mut self,
-        ready: Ready,
-    ) -> Result<(Added, Entry, Receipt), (Refusal, Receipt)>
-        ensures reply { IsReplyBy (λ told. told.0) (without_receipt result)
-            (commit_reply self.old ready) }
-        ensures refused { IfErr (commit_reply self.old ready) (λ e. result ≡ Err (e, ready)) }
-        ensures told { IfOk result (λ told. told.1 ≡ commit_entry self.old ready) }
-        ensures ok { OnOk result (self.new ≡ after_entry self.old (commit_entry self.old ready)) }
-        ensures err { OnErr result (self.new ≡ self.old) }
-        ensures back { IfErr result (λ e. e.1 ≡ ready) }
-    {
-        if let Some(refusal) = self.commit_refusal(ready.receipt()) {
-            return Err((refusal, ready.into_receipt()));
-        }
-        match self.enter_ready(ready) {
-            Ok(entered) => Ok(entered),
-            Err((e, receipt)) => Err((Refusal::NoMemory(e), receipt)),
-        }
-    }
-
-    /// Enters the lemma of a receipt that isn't refused, and tells its entry. The receipt comes back.
-    fn enter_ready(&mut self, ready: Ready) -> Result<(Added, Entry, Receipt), (NoMemory, Receipt)>
-        requires { commit_refusal self.old ready ≡ None }
-        ensures told { IfOk result (λ told. told.0 ≡ commit_told self.old) }
-        ensures entry { IfOk result (λ told. told.1 ≡ commit_entry self.old ready) }
-        ensures ok { OnOk result (self.new ≡ after_entry self.old (commit_entry self.old ready)) }
-        ensures err { OnErr result (self.new ≡ self.old) }
-        ensures back { IfErr result (λ e. e.1 ≡ ready) }
-    {
-        let joint = self.formula.len() as u64 + 1 + u64::from(self.added);
-        let (receipt, step, entry) = ready.into_parts(joint);
-        match self.enter(&receipt, step) {
-            Ok(added) => Ok((added, entry, receipt)),
-            Err(e) => Err((e, receipt)),
+        match self.commit(receipt) {
+            Ok(added) => Ok((added, entry)),
+            Err(refused) => Err(refused),
         }
     }
 
@@ -266,6 +223,31 @@ impl Book {
         let step = deletion_of(no_longer_held(&self.tables, joints));
         Ok((place, Entry { seat, call, step }))
     }
+}
+
+/// The entry of a receipt under this joint number.
+///
+/// # Errors
+/// [`NoMemory`] where a growth was refused.
+fn entry_of_receipt(alloc: Global, receipt: &Receipt, joint: u64) -> Result<Entry, NoMemory>
+    ensures { IfOk result (λ entry. entry ≡ entry_with joint receipt.now) }
+{
+    let step = step_of(alloc, receipt)?;
+    let call = Call::Add {
+        own: receipt.own(),
+        lemma: receipt.lemma().copy()?,
+    };
+    let step = Some(Step::Add(Addition {
+        number: joint,
+        lemma: step.lemma,
+        hints: step.hints,
+        groups: step.groups,
+    }));
+    Ok(Entry {
+        seat: receipt.seat(),
+        call,
+        step,
+    })
 }
 
 /// The entry of a seat's addition with this step.

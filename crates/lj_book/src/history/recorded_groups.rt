@@ -5,7 +5,7 @@ ghost use Rattle.lj_book.specs.inner.Words.{number_in, many_in, grouped, hint_gr
 ghost use Rattle.lj_book.specs.inner.Rows.{row_named, merged, unpacked, begins_with};
 
 use super::rows::{LentRow, Rows};
-use crate::words::{are_left, behind_numbers, number, numbers, same_numbers};
+use crate::words::{are_left, behind_numbers, number, numbers};
 use lj_clause::NoMemory;
 use lj_text::{Groups, LentGroup};
 use std::alloc::Global;
@@ -218,35 +218,4 @@ fn is_group(group: &WordGroup<'_>, wanted: LentGroup<'_>) -> bool
 {
     group.candidate == wanted.candidate
         && are_left(group.words, group.count, wanted.hints).is_some()
-}
-
-/// Whether these groups are the same as others.
-pub(super) fn same_groups(recorded: RecordedGroups<'_>, others: RecordedGroups<'_>) -> bool
-    ensures { IsTrue result ↔ (recorded.entry ≡ others.entry) }
-{
-    let mut rest = others;
-    for group in recorded {
-        match rest.next() {
-            Some(other) => {
-                if !is_same(&group, &other) {
-                    return false;
-                }
-            }
-            None => return false,
-        }
-    }
-    rest.next().is_none()
-}
-
-/// Whether the two groups are the same.
-fn is_same(group: &WordGroup<'_>, other: &WordGroup<'_>) -> bool
-    ensures { IsTrue result ↔ (group.now ≡ other.now) }
-{
-    if group.candidate != other.candidate {
-        return false;
-    }
-    if group.count != other.count {
-        return false;
-    }
-    same_numbers(group.count, group.words, other.words).is_some()
 }

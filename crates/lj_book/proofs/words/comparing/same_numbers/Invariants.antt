@@ -1,6 +1,0 @@
-use Rattle.std.specs.Prelude.{◌-◌}
-use Rattle.lj_book.specs.inner.Words.{number_in, many_in, Agree}
-use Rattle.lj_book.proofs.words.comparing.same_numbers.Given as goal
-
-abbrev pub invariant-loop : goal.invariant-loop
-invariant-loop l = Agree number_in (many_in number_in l.count l.words) (many_in number_in l.count l.others) l.rest l.other_rest (l.count - l.counter)

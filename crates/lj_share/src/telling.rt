@@ -1,0 +1,85 @@
+//! Calls on the book that tell a copy of their entry where it is asked for.
+ghost use Rattle.std.specs.Prelude.{◌≡◌, IfOk, IfErr, OnOk, OnErr};
+ghost use Rattle.lj_book.specs.Calls.{IsRefusal, drop_entry, drop_reply, import_entry, import_reply};
+ghost use Rattle.lj_book.specs.History.{after_entry};
+ghost use Rattle.lj_book.specs.Inside.{inside_entry};
+ghost use Rattle.lj_share.specs.inner.Telling.{IsAsked};
+
+use lj_book::{Added, Book, Entry, Imported, Refusal};
+use lj_clause::Clause;
+use lj_hint::Marks;
+use lj_text::{Addition, Numbers};
+
+/// Tests a seat's addition, and enters it.
+///
+/// # Errors
+/// As [`Book::add_inside`].
+pub(crate) fn add_inside(
+    book: &mut Book,
+    seat: u32,
+    addition: &Addition,
+    marks: &mut Marks,
+    telling: bool,
+) -> Result<(Added, Option<Entry>), Refusal>
+    ensures ok { OnOk result
+        (book.new ≡ after_entry book.old (inside_entry book.old seat addition.now)) }
+    ensures told { IfOk result
+        (λ made. IsAsked telling (inside_entry book.old seat addition.now) made.1) }
+    ensures err { OnErr result (book.new ≡ book.old) }
+{
+    if telling {
+        let (added, entry) = book.add_inside_telling(seat, addition, marks)?;
+        return Ok((added, Some(entry)));
+    }
+    let added = book.add_inside(seat, addition, marks)?;
+    Ok((added, None))
+}
+
+/// Gives own numbers of a seat up.
+///
+/// # Errors
+/// As [`Book::drop_numbers`].
+pub(crate) fn drop_numbers(
+    book: &mut Book,
+    seat: u32,
+    numbers: &Numbers,
+    telling: bool,
+) -> Result<Option<Entry>, Refusal>
+    ensures ok { OnOk result
+        (book.new ≡ after_entry book.old (drop_entry book.old seat numbers.now)) }
+    ensures told { IfOk result (IsAsked telling (drop_entry book.old seat numbers.now)) }
+    ensures err { OnErr result (book.new ≡ book.old) }
+    ensures refusal { IfErr result (λ e. IsRefusal e (drop_reply book.old seat numbers.now)) }
+{
+    if telling {
+        let (_, entry) = book.drop_telling(seat, numbers)?;
+        return Ok(Some(entry));
+    }
+    book.drop_numbers(seat, numbers)?;
+    Ok(None)
+}
+
+/// Binds a seat's own number to a live clause with exactly these literals.
+///
+/// # Errors
+/// As [`Book::import`].
+pub(crate) fn import(
+    book: &mut Book,
+    seat: u32,
+    own: u64,
+    clause: &Clause,
+    telling: bool,
+) -> Result<(Imported, Option<Entry>), Refusal>
+    ensures ok { OnOk result
+        (book.new ≡ after_entry book.old (import_entry seat own clause.now)) }
+    ensures told { IfOk result (λ made. IsAsked telling (import_entry seat own clause.now) made.1) }
+    ensures err { OnErr result (book.new ≡ book.old) }
+    ensures refusal { IfErr result (λ e. IsRefusal e (import_reply book.old seat own clause.now)) }
+{
+    if telling {
+        let (imported, entry) = book.import_telling(seat, own, clause)?;
+        return Ok((imported, Some(entry)));
+    }
+    let imported = book.import(seat, own, clause)?;
+    Ok((imported, None))
+}
