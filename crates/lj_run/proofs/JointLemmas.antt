@@ -1,12 +1,14 @@
 -- The run of one stream on a shared book.
-use Rattle.std.proofs.Common.{◌≡◌, ℕ, suc, ◌+◌, Bool, true, false, List, [], ◌∷◌, ◌++◌, length, map, filter, take, drop, None, Some, Ok, refl, sym, ap, ◌∙◌, subst, arith, add-one}
-use Rattle.std.specs.Prelude.{if◌then◌else◌}
+use Rattle.std.proofs.Common.{◌≡◌, ℕ, suc, ◌+◌, Bool, true, false, List, [], ◌∷◌, ◌++◌, length, map, filter, take, drop, None, Some, Result, Ok, Err, refl, sym, ap, ◌∙◌, subst, arith, add-one, add-zero, cond, length-append}
+use Rattle.std.proofs.lemmas.List.{map-append}
+use Rattle.std.proofs.lemmas.List.Elements.{filter-append}
 use Rattle.lj_text.specs.declared.line.Line.{Line}
 use Rattle.lj_text.specs.declared.line.Line.TheVariants.{Add, Delete, Import}
+use Rattle.lj_text.specs.declared.lines.fault.LineFaultKind.{LineFaultKind}
 use Rattle.lj_text.specs.Lines.{Said, all_said}
 use Rattle.lj_text.specs.LinesRead.{LinesRead, LineReaderStandsAt}
 use Rattle.lj_text.specs.Streams.{SourceState, HasGiven}
-use Rattle.lj_book.specs.declared.entry.Entry.{Entry}
+use Rattle.lj_book.specs.declared.entry.Call.{Call}
 use Rattle.lj_share.specs.Entries.{call_of}
 use Rattle.lj_run.specs.declared.outcome.End.TheVariants.{Ended, Stopped, Line as AtLine}
 use Rattle.lj_run.specs.declared.outcome.LineEnd.TheVariants.{Refused}
@@ -15,122 +17,130 @@ use Rattle.lj_run.specs.declared.stream.Tally.{Tally}
 use Rattle.lj_run.specs.declared.reading.Miss.{Miss}
 use Rattle.lj_run.specs.declared.reading.Miss.TheVariants.{Failed, AtFault}
 use Rattle.lj_book.specs.declared.refusal.Refusal.{Refusal}
-use Rattle.lj_run.specs.Joint.{said_call, AreEntriesOf, is_addition, is_deletion, is_import, how_many, AreCountsOf, EndsBeside, IsStreamBeside}
+use Rattle.lj_run.specs.Joint.{said_call, AreCallsOf, is_addition, is_deletion, is_import, how_many, AreCountsOf, EndsBeside, IsStreamBeside}
 use Rattle.lj_run.specs.inner.Joint.{report_of}
 use Rattle.lj_run.specs.inner.Reading.{LineRead, LineMissed, IsMiss, reads_failed}
 use Rattle.lj_run.specs.Reading.{IsRoomRefused, FailsAt}
 use Rattle.lj_run.specs.inner.Run.{IsCounted}
 use Rattle.lj_run.specs.Run.{IfReadFailed}
-use Rattle.lj_run.specs.inner.Tally.{with_count, with_end, missed_at, IsToldOf}
+use Rattle.lj_run.specs.inner.Tally.{with_count, with_end, missed_at}
 use Rattle.lj_run.proofs.GivenLemmas.{given_none, given_on}
 use Rattle.lj_run.proofs.RunLemmas.{take_next, first_left, none_left, meets_fault, no_end_missed, reads_missed, room_missed}
 use Rattle.lj_clause.specs.declared.lit.TheConstants.{MAX_VARIABLE}
 
--- ---- one entry more
+-- ---- one call more
 
-pub map_snoc : {X Y : Type 0} (f : X → Y) (xs : List X) (x : X) → map f (xs ++ x ∷ []) ≡ map f xs ++ f x ∷ []
-map_snoc f [] x = refl
-map_snoc f (y ∷ xs) x = ap (λ ys. f y ∷ ys) (map_snoc f xs x)
+how_many_more : (is : Call → Bool) (made : List Call) (call : Call) → how_many is (made ++ call ∷ []) ≡ how_many is made + how_many is (call ∷ [])
+how_many_more is made call = ap length (filter-append is made (call ∷ [])) ∙ length-append (filter is made) (filter is (call ∷ []))
 
--- how many there are with one entry more
-with_one : Bool → ℕ → ℕ
-with_one true n = n + 1
-with_one false n = n
+how_many_same : (is : Call → Bool) (made : List Call) (call : Call) → is call ≡ false → how_many is (made ++ call ∷ []) ≡ how_many is made
+how_many_same is made call other = how_many_more is made call ∙ ap (λ b. how_many is made + length (cond b (call ∷ []) [])) other ∙ add-zero (how_many is made)
 
-suc_with : (b : Bool) (n : ℕ) → suc (with_one b n) ≡ with_one b (suc n)
-unfolding with_one
-suc_with true n = omega arith
-suc_with false n = refl
-
-kept_snoc : {X : Type 0} (p : X → Bool) (xs : List X) (x : X) → length (filter p (xs ++ x ∷ [])) ≡ with_one (p x) (length (filter p xs))
-unfolding with_one
-kept_snoc p [] x = elim (p x) as (λ b. length (if b then x ∷ [] else []) ≡ with_one b 0) [
-  | true ↦ refl
-  | false ↦ refl
-]
-kept_snoc p (y ∷ xs) x = elim (p y) as (λ b. length (if b then y ∷ filter p (xs ++ x ∷ []) else filter p (xs ++ x ∷ [])) ≡ with_one (p x) (length (if b then y ∷ filter p xs else filter p xs))) [
-  | true ↦ ap suc (kept_snoc p xs x) ∙ suc_with (p x) (length (filter p xs))
-  | false ↦ kept_snoc p xs x
-]
-
-counts_more : (tally : Tally) (es : List Entry) (e : Entry) (line : Line) (count : Count) → IsCounted line count → e.call ≡ call_of line → AreCountsOf es tally.added tally.deleted tally.imported
-    → AreCountsOf (es ++ e ∷ []) (with_count tally count).added (with_count tally count).deleted (with_count tally count).imported
-unfolding with_one
-counts_more tally es e (Add a) count is call c = record {
-  added_is = ap (λ k. (with_count tally k).added) is ∙ ap (λ n. n + 1) c.added_is ∙ ap (λ k. with_one (is_addition k) (how_many is_addition es)) (sym call) ∙ sym (kept_snoc (λ x. is_addition x.call) es e);
-  deleted_is = ap (λ k. (with_count tally k).deleted) is ∙ c.deleted_is ∙ ap (λ k. with_one (is_deletion k) (how_many is_deletion es)) (sym call) ∙ sym (kept_snoc (λ x. is_deletion x.call) es e);
-  imported_is = ap (λ k. (with_count tally k).imported) is ∙ c.imported_is ∙ ap (λ k. with_one (is_import k) (how_many is_import es)) (sym call) ∙ sym (kept_snoc (λ x. is_import x.call) es e);
+-- a line's call more, which is counted so
+pub counts_on : (tally : Tally) (made : List Call) (line : Line) (count : Count) → IsCounted line count → AreCountsOf made tally.added tally.deleted tally.imported
+    → AreCountsOf (made ++ call_of line ∷ []) (with_count tally count).added (with_count tally count).deleted (with_count tally count).imported
+counts_on tally made (Add a) count is c = record {
+  added_is = ap (λ k. (with_count tally k).added) is ∙ ap (λ n. n + 1) c.added_is ∙ sym (how_many_more is_addition made (call_of (Add a)));
+  deleted_is = ap (λ k. (with_count tally k).deleted) is ∙ c.deleted_is ∙ sym (how_many_same is_deletion made (call_of (Add a)) refl);
+  imported_is = ap (λ k. (with_count tally k).imported) is ∙ c.imported_is ∙ sym (how_many_same is_import made (call_of (Add a)) refl);
 }
-counts_more tally es e (Delete numbers) count is call c = record {
-  added_is = ap (λ k. (with_count tally k).added) is ∙ c.added_is ∙ ap (λ k. with_one (is_addition k) (how_many is_addition es)) (sym call) ∙ sym (kept_snoc (λ x. is_addition x.call) es e);
-  deleted_is = ap (λ k. (with_count tally k).deleted) is ∙ ap (λ n. n + 1) c.deleted_is ∙ ap (λ k. with_one (is_deletion k) (how_many is_deletion es)) (sym call) ∙ sym (kept_snoc (λ x. is_deletion x.call) es e);
-  imported_is = ap (λ k. (with_count tally k).imported) is ∙ c.imported_is ∙ ap (λ k. with_one (is_import k) (how_many is_import es)) (sym call) ∙ sym (kept_snoc (λ x. is_import x.call) es e);
+counts_on tally made (Delete numbers) count is c = record {
+  added_is = ap (λ k. (with_count tally k).added) is ∙ c.added_is ∙ sym (how_many_same is_addition made (call_of (Delete numbers)) refl);
+  deleted_is = ap (λ k. (with_count tally k).deleted) is ∙ ap (λ n. n + 1) c.deleted_is ∙ sym (how_many_more is_deletion made (call_of (Delete numbers)));
+  imported_is = ap (λ k. (with_count tally k).imported) is ∙ c.imported_is ∙ sym (how_many_same is_import made (call_of (Delete numbers)) refl);
 }
-counts_more tally es e (Import number clause) count is call c = record {
-  added_is = ap (λ k. (with_count tally k).added) is ∙ c.added_is ∙ ap (λ k. with_one (is_addition k) (how_many is_addition es)) (sym call) ∙ sym (kept_snoc (λ x. is_addition x.call) es e);
-  deleted_is = ap (λ k. (with_count tally k).deleted) is ∙ c.deleted_is ∙ ap (λ k. with_one (is_deletion k) (how_many is_deletion es)) (sym call) ∙ sym (kept_snoc (λ x. is_deletion x.call) es e);
-  imported_is = ap (λ k. (with_count tally k).imported) is ∙ ap (λ n. n + 1) c.imported_is ∙ ap (λ k. with_one (is_import k) (how_many is_import es)) (sym call) ∙ sym (kept_snoc (λ x. is_import x.call) es e);
+counts_on tally made (Import number clause) count is c = record {
+  added_is = ap (λ k. (with_count tally k).added) is ∙ c.added_is ∙ sym (how_many_same is_addition made (call_of (Import number clause)) refl);
+  deleted_is = ap (λ k. (with_count tally k).deleted) is ∙ c.deleted_is ∙ sym (how_many_same is_deletion made (call_of (Import number clause)) refl);
+  imported_is = ap (λ k. (with_count tally k).imported) is ∙ ap (λ n. n + 1) c.imported_is ∙ sym (how_many_more is_import made (call_of (Import number clause)));
 }
 
-pub counts_on : (tally : Tally) (before after : List Entry) (line : Line) (count : Count) → IsCounted line count → IsToldOf (call_of line) before after → AreCountsOf before tally.added tally.deleted tally.imported
-    → AreCountsOf after (with_count tally count).added (with_count tally count).deleted (with_count tally count).imported
-counts_on tally before after line count is told c =
-    subst (λ es. AreCountsOf es (with_count tally count).added (with_count tally count).deleted (with_count tally count).imported) (sym told.told_is) (counts_more tally before told.entry line count is told.call_is c)
+-- no calls, and nothing counted
+pub counts_begin : (made : List Call) → made ≡ [] → AreCountsOf made 0 0 0
+counts_begin made none = subst (λ cs. AreCountsOf cs 0 0 0) (sym none) (record { added_is = refl; deleted_is = refl; imported_is = refl })
 
--- no entries, and nothing counted
-pub counts_begin : (es : List Entry) → es ≡ [] → AreCountsOf es 0 0 0
-counts_begin es none = subst (λ xs. AreCountsOf xs 0 0 0) (sym none) (record { added_is = refl; deleted_is = refl; imported_is = refl })
+-- how many of the calls are of the kinds that lines make
+of_lines : List Call → ℕ
+of_lines made = how_many is_addition made + how_many is_deletion made + how_many is_import made
+
+one_of_lines : (line : Line) (made : List Call) → of_lines (call_of line ∷ made) ≡ suc (of_lines made)
+unfolding of_lines
+one_of_lines (Add a) made = omega arith
+one_of_lines (Delete numbers) made = omega arith
+one_of_lines (Import number clause) made = omega arith
+
+-- the call of a first line
+first_of_lines : (says : Result Line LineFaultKind) (call : Call) (made : List Call) → said_call says ≡ Some call → of_lines (call ∷ made) ≡ suc (of_lines made)
+first_of_lines (Ok line) call made is = let same : call_of line ≡ call = cc in subst (λ k. of_lines (k ∷ made) ≡ suc (of_lines made)) same (one_of_lines line made)
+first_of_lines (Err kind) call made is = cc
+
+all_of_lines : (lines : List Said) (made : List Call) → AreCallsOf lines made → length made ≡ of_lines made
+unfolding of_lines
+all_of_lines [] [] are = refl
+all_of_lines [] (call ∷ made) are = cc
+all_of_lines (line ∷ lines) [] are = cc
+all_of_lines (line ∷ lines) (call ∷ made) are =
+    let first : said_call line.says ≡ Some call = cc in
+    let rest : AreCallsOf lines made = cc in
+    ap suc (all_of_lines lines made rest) ∙ sym (first_of_lines line.says call made first)
+
+-- the calls of lines are as many as are counted
+pub as_many_counted : (lines : List Said) (made : List Call) (added deleted imported : ℕ) → AreCallsOf lines made → AreCountsOf made added deleted imported → length made ≡ added + deleted + imported
+unfolding of_lines
+as_many_counted lines made added deleted imported are c =
+    let all = all_of_lines lines made are in
+    let a = c.added_is in
+    let d = c.deleted_is in
+    let i = c.imported_is in
+    omega (arith, all, a, d, i)
 
 -- ---- the run so far
 
--- The source gave a text, of which so many lines were handed in, and these are their entries; the reader stands behind them.
-pub record SubmittedTo (before after : SourceState) (entries : List Entry) (reader : LinesRead) : Type 0 where
+-- The source gave a text, of which so many lines were entered, and these are their calls; the reader stands behind them.
+pub record EnteredTo (before after : SourceState) (made : List Call) (reader : LinesRead) : Type 0 where
   pub text : List ℕ
   pub gave : HasGiven before after text
   pub handed : ℕ
   pub stands : LineReaderStandsAt reader text handed
-  pub enters : AreEntriesOf (take handed (all_said MAX_VARIABLE text)) entries
+  pub enters : AreCallsOf (take handed (all_said MAX_VARIABLE text)) made
 
-pub submitted_begin : (before : SourceState) (entries : List Entry) (reader : LinesRead) → entries ≡ [] → LineReaderStandsAt reader [] 0 → SubmittedTo before before entries reader
-submitted_begin before entries reader none stands =
-    record { text = []; gave = given_none before; handed = 0; stands = stands; enters = ap (map (λ e. Some e.call)) (sym none) }
+pub entered_begin : (before : SourceState) (made : List Call) (reader : LinesRead) → made ≡ [] → LineReaderStandsAt reader [] 0 → EnteredTo before before made reader
+entered_begin before made reader none stands =
+    record { text = []; gave = given_none before; handed = 0; stands = stands; enters = ap (map (λ (call : Call). Some call)) (sym none) }
 
--- the entries are those of the first lines of what the source gave since, too
-entries_since : (entries : List Entry) (text piece : List ℕ) (handed : ℕ) → take handed (all_said MAX_VARIABLE (text ++ piece)) ≡ take handed (all_said MAX_VARIABLE text)
-    → AreEntriesOf (take handed (all_said MAX_VARIABLE text)) entries → AreEntriesOf (take handed (all_said MAX_VARIABLE (text ++ piece))) entries
-entries_since entries text piece handed same enters = ap (map (λ (said : Said). said_call said.says)) same ∙ enters
+-- the calls are those of the first lines of what the source gave since, too
+calls_since : (made : List Call) (text piece : List ℕ) (handed : ℕ) → take handed (all_said MAX_VARIABLE (text ++ piece)) ≡ take handed (all_said MAX_VARIABLE text)
+    → AreCallsOf (take handed (all_said MAX_VARIABLE text)) made → AreCallsOf (take handed (all_said MAX_VARIABLE (text ++ piece))) made
+calls_since made text piece handed same enters = ap (map (λ (said : Said). said_call said.says)) same ∙ enters
 
-one_more : (lines : List Said) (entries : List Entry) (n : ℕ) (line : Line) (e : Entry) → e.call ≡ call_of line → AreEntriesOf lines entries → AreEntriesOf (lines ++ record { line = n; says = Ok line } ∷ []) (entries ++ e ∷ [])
-one_more lines entries n line e call are =
-    map_snoc (λ (said : Said). said_call said.says) lines (record { line = n; says = Ok line })
+one_more : (lines : List Said) (made : List Call) (n : ℕ) (line : Line) → AreCallsOf lines made → AreCallsOf (lines ++ record { line = n; says = Ok line } ∷ []) (made ++ call_of line ∷ [])
+one_more lines made n line are =
+    map-append (λ (said : Said). said_call said.says) lines (record { line = n; says = Ok line } ∷ [])
     ∙ ap (λ cs. cs ++ Some (call_of line) ∷ []) are
-    ∙ ap (λ c. map (λ (x : Entry). Some x.call) entries ++ Some c ∷ []) (sym call)
-    ∙ sym (map_snoc (λ (x : Entry). Some x.call) entries e)
+    ∙ sym (map-append (λ (call : Call). Some call) made (call_of line ∷ []))
 
 -- a line was read and entered
-pub submitted_on : (entries new_entries : List Entry) (line : Line) (reader new : LinesRead) (first before after : SourceState)
-    → (r : SubmittedTo first before entries reader) → LineRead MAX_VARIABLE r.text r.handed new before after (Some line) → IsToldOf (call_of line) entries new_entries
-    → SubmittedTo first after new_entries new
-submitted_on entries new_entries line reader new first before after r read told =
+pub entered_on : (made : List Call) (line : Line) (reader new : LinesRead) (first before after : SourceState)
+    → (r : EnteredTo first before made reader) → LineRead MAX_VARIABLE r.text r.handed new before after (Some line) → EnteredTo first after (made ++ call_of line ∷ []) new
+entered_on made line reader new first before after r read =
     let said : Said = record { line = new.at; says = Ok line } in
     let lines = all_said MAX_VARIABLE (r.text ++ read.piece) in
-    let before_it = entries_since entries r.text read.piece r.handed read.same r.enters in
-    let more = one_more (take r.handed lines) entries new.at line told.entry told.call_is before_it in
+    let more = one_more (take r.handed lines) made new.at line (calls_since made r.text read.piece r.handed read.same r.enters) in
     let taken : take (r.handed + 1) lines ≡ take r.handed lines ++ said ∷ [] = rw add-one (take_next lines r.handed said read.next) in
     record {
       text = r.text ++ read.piece;
       gave = given_on first before after r.text read.piece r.gave read.gave;
       handed = r.handed + 1;
       stands = read.stands;
-      enters = subst (λ ls. AreEntriesOf ls new_entries) (sym taken) (subst (λ es. AreEntriesOf (take r.handed lines ++ said ∷ []) es) (sym told.told_is) more);
+      enters = subst (λ ls. AreCallsOf ls (made ++ call_of line ∷ [])) (sym taken) more;
     }
 
 -- ---- how it ends
 
 module _ {S : Type 0} (seen : S → SourceState) where
-  pub beside_stopped : (stream source : S) (entries : List Entry) (tally : Tally) (reader : LinesRead) → SubmittedTo (seen stream) (seen source) entries reader → AreCountsOf entries tally.added tally.deleted tally.imported → (seen source).failures ≡ 0
-      → IsStreamBeside seen true entries stream (report_of (with_end tally Stopped) source)
-  beside_stopped stream source entries tally reader r counts unfailed = record {
+  pub beside_stopped : (stream source : S) (made : List Call) (tally : Tally) (reader : LinesRead) → EnteredTo (seen stream) (seen source) made reader → AreCountsOf made tally.added tally.deleted tally.imported → (seen source).failures ≡ 0
+      → IsStreamBeside seen true made stream (report_of (with_end tally Stopped) source)
+  beside_stopped stream source made tally reader r counts unfailed = record {
     text = r.text;
     gave = r.gave;
     count = r.handed;
@@ -143,13 +153,13 @@ module _ {S : Type 0} (seen : S → SourceState) where
     failures = unfailed;
   }
 
-  pub beside_ended : (stream source next : S) (entries : List Entry) (tally : Tally) (reader new : LinesRead) (r : SubmittedTo (seen stream) (seen source) entries reader) → LineRead MAX_VARIABLE r.text r.handed new (seen source) (seen next) None
-      → AreCountsOf entries tally.added tally.deleted tally.imported → (seen next).failures ≡ 0 → IsStreamBeside seen true entries stream (report_of (with_end tally Ended) next)
-  beside_ended stream source next entries tally reader new r read counts unfailed = record {
+  pub beside_ended : (stream source next : S) (made : List Call) (tally : Tally) (reader new : LinesRead) (r : EnteredTo (seen stream) (seen source) made reader) → LineRead MAX_VARIABLE r.text r.handed new (seen source) (seen next) None
+      → AreCountsOf made tally.added tally.deleted tally.imported → (seen next).failures ≡ 0 → IsStreamBeside seen true made stream (report_of (with_end tally Ended) next)
+  beside_ended stream source next made tally reader new r read counts unfailed = record {
     text = r.text ++ read.piece;
     gave = given_on (seen stream) (seen source) (seen next) r.text read.piece r.gave read.gave;
     count = r.handed;
-    enters = entries_since entries r.text read.piece r.handed read.same r.enters;
+    enters = calls_since made r.text read.piece r.handed read.same r.enters;
     counts = counts;
     ends = none_left (all_said MAX_VARIABLE (r.text ++ read.piece)) r.handed read.next;
     failed_read = tt;
@@ -166,13 +176,13 @@ module _ {S : Type 0} (seen : S → SourceState) where
   fails_missed at text handed Failed is = is
   fails_missed at text handed (AtFault fault) is = tt
 
-  pub beside_missed : (stream source next : S) (entries : List Entry) (tally : Tally) (reader : LinesRead) (r : SubmittedTo (seen stream) (seen source) entries reader) (at : ℕ) (miss : Miss) → LineMissed MAX_VARIABLE r.text r.handed at (seen source) (seen next) miss
-      → AreCountsOf entries tally.added tally.deleted tally.imported → (seen next).failures ≡ reads_failed miss → IsStreamBeside seen true entries stream (report_of (with_end tally (missed_at at miss)) next)
-  beside_missed stream source next entries tally reader r at miss m counts failures = record {
+  pub beside_missed : (stream source next : S) (made : List Call) (tally : Tally) (reader : LinesRead) (r : EnteredTo (seen stream) (seen source) made reader) (at : ℕ) (miss : Miss) → LineMissed MAX_VARIABLE r.text r.handed at (seen source) (seen next) miss
+      → AreCountsOf made tally.added tally.deleted tally.imported → (seen next).failures ≡ reads_failed miss → IsStreamBeside seen true made stream (report_of (with_end tally (missed_at at miss)) next)
+  beside_missed stream source next made tally reader r at miss m counts failures = record {
     text = r.text ++ m.piece;
     gave = given_on (seen stream) (seen source) (seen next) r.text m.piece r.gave m.gave;
     count = r.handed;
-    enters = entries_since entries r.text m.piece r.handed m.same r.enters;
+    enters = calls_since made r.text m.piece r.handed m.same r.enters;
     counts = counts;
     ends = ends_missed at (r.text ++ m.piece) r.handed miss m.is;
     failed_read = fails_missed at (r.text ++ m.piece) r.handed miss m.is;
@@ -181,13 +191,13 @@ module _ {S : Type 0} (seen : S → SourceState) where
     failures = failures ∙ sym (reads_missed at miss);
   }
 
-  pub beside_refused : (stream source next : S) (entries : List Entry) (tally : Tally) (reader new : LinesRead) (r : SubmittedTo (seen stream) (seen source) entries reader) (line : Line) (refusal : Refusal) → LineRead MAX_VARIABLE r.text r.handed new (seen source) (seen next) (Some line)
-      → AreCountsOf entries tally.added tally.deleted tally.imported → (seen next).failures ≡ 0 → IsStreamBeside seen true entries stream (report_of (with_end tally (AtLine new.at (Refused refusal))) next)
-  beside_refused stream source next entries tally reader new r line refusal read counts unfailed = record {
+  pub beside_refused : (stream source next : S) (made : List Call) (tally : Tally) (reader new : LinesRead) (r : EnteredTo (seen stream) (seen source) made reader) (line : Line) (refusal : Refusal) → LineRead MAX_VARIABLE r.text r.handed new (seen source) (seen next) (Some line)
+      → AreCountsOf made tally.added tally.deleted tally.imported → (seen next).failures ≡ 0 → IsStreamBeside seen true made stream (report_of (with_end tally (AtLine new.at (Refused refusal))) next)
+  beside_refused stream source next made tally reader new r line refusal read counts unfailed = record {
     text = r.text ++ read.piece;
     gave = given_on (seen stream) (seen source) (seen next) r.text read.piece r.gave read.gave;
     count = r.handed;
-    enters = entries_since entries r.text read.piece r.handed read.same r.enters;
+    enters = calls_since made r.text read.piece r.handed read.same r.enters;
     counts = counts;
     ends = record { line = line; first = first_left (all_said MAX_VARIABLE (r.text ++ read.piece)) r.handed ∙ read.next };
     failed_read = tt;

@@ -1,20 +1,23 @@
 -- The run of streams beside one another, on one opening.
-use Rattle.std.proofs.Common.{◌≡◌, ℕ, zero, suc, ◌+◌, ◌<◌, Bool, true, false, List, [], ◌∷◌, ◌++◌, length, map, Option, None, Some, refl, sym, ap, ◌∙◌, subst, arith, add-zero, zero-add, length-append, inl, inr}
-use Rattle.std.specs.Prelude.{slice_get, slice_index_or, All, IfSome, is_some, ◌==◌, ◌⊎◌}
+use Rattle.std.proofs.Common.{◌≡◌, ℕ, zero, suc, ◌+◌, ◌<◌, Bool, true, false, List, [], ◌∷◌, ◌++◌, length, map, take, Option, None, Some, refl, sym, ap, ◌∙◌, subst, arith, add-zero, zero-add, length-append}
+use Rattle.std.specs.Prelude.{slice_get, All, IfSome, is_some, ◌==◌, ◌&&◌}
 use Rattle.std.specs.Int.{from_bool}
-use Rattle.std.specs.List.{zip, sum_by}
+use Rattle.std.specs.List.{zip, sum_by, list_all, AllZip}
 use Rattle.std.proofs.lemmas.Bool.Decides.{nat_tests}
-use Rattle.std.proofs.lemmas.List.Sums.{sum_by-cons, sum_by-append}
-use Rattle.std.proofs.lemmas.List.Elements.{All-append}
+use Rattle.std.proofs.lemmas.List.{length-map}
+use Rattle.std.proofs.lemmas.List.Sums.{sum_by-cons}
+use Rattle.std.proofs.lemmas.List.Elements.{All-nil, All-head, All-tail, All-push}
+use Rattle.std.proofs.lemmas.Slice.Zip.{AllZip-long, seconds-zip}
 use Rattle.lj_clause.specs.ClauseMap.{FormulaValue, formula_map}
-use Rattle.lj_text.specs.Lines.{Said}
+use Rattle.lj_text.specs.Lines.{Said, all_said}
 use Rattle.lj_text.specs.Steps.{replay, refutes}
 use Rattle.lj_text.specs.Streams.{SourceState}
+use Rattle.lj_book.specs.declared.entry.Call.{Call}
 use Rattle.lj_book.specs.declared.entry.Entry.{Entry}
 use Rattle.lj_book.specs.State.{State, live, steps_of}
 use Rattle.lj_book.specs.History.{IsReached}
-use Rattle.lj_share.specs.Entries.{entries_of}
-use Rattle.lj_share.specs.Seats.{SeatValue, IsOpenedAs, new_seat, new_seats, entries_made}
+use Rattle.lj_share.specs.Entries.{calls_of}
+use Rattle.lj_share.specs.Seats.{SeatValue, IsOpenedAs, HasCallsOf, new_seat, new_seats, entries_made}
 use Rattle.lj_run.specs.declared.outcome.End.{End}
 use Rattle.lj_run.specs.declared.outcome.End.TheVariants.{Ended, Stopped, Line as AtLine}
 use Rattle.lj_run.specs.declared.outcome.LineEnd.TheVariants.{Fault, Refused, ReadFailed}
@@ -22,146 +25,164 @@ use Rattle.lj_run.specs.declared.outcome.Outcome.{Outcome}
 use Rattle.lj_run.specs.declared.outcome.Report.{Report}
 use Rattle.lj_run.specs.InTurn.{streams_by_seat}
 use Rattle.lj_run.specs.Joint.{EndsBeside, IsStreamBeside, RunBeside, IsUnconfirmed, IsBookOfRun, IsJointOutcome, accepted_count}
-use Rattle.lj_run.specs.inner.Joint.{HaveRun, IsConfirmed, AreConfirmed, SomeDenied}
+use Rattle.lj_run.specs.inner.Joint.{HasRun, is_confirmed}
 use Rattle.lj_run.specs.Run.{has_verdict}
-use Rattle.lj_run.proofs.JointLemmas.{map_snoc}
+use Rattle.lj_run.proofs.JointLemmas.{as_many_counted}
 use Rattle.lj_run.proofs.WayLemmas.{verified_is}
+use Rattle.lj_clause.specs.declared.lit.TheConstants.{MAX_VARIABLE}
 
 -- ---- seats
 
-one_fresh : (n : ℕ) → All (λ (s : SeatValue). s.count ≡ 0) (new_seat n ∷ [])
-one_fresh n zero d below = refl
-one_fresh n (suc k) d below = absurd (omega arith)
-
-none_fresh : All (λ (s : SeatValue). s.count ≡ 0) []
-none_fresh k d below = absurd (omega arith)
-
 -- no entry was made through new seats
-pub fresh_seats : (n : ℕ) → All (λ (s : SeatValue). s.count ≡ 0) (new_seats n)
-fresh_seats zero = none_fresh
-fresh_seats (suc n) = All-append (λ (s : SeatValue). s.count ≡ 0) (new_seats n) (new_seat n ∷ []) (fresh_seats n) (one_fresh n)
+pub fresh_seats : (n : ℕ) → All (λ (s : SeatValue). s.calls ≡ []) (new_seats n)
+fresh_seats zero = All-nil (λ (s : SeatValue). s.calls ≡ [])
+fresh_seats (suc n) = All-push (λ (s : SeatValue). s.calls ≡ []) (new_seats n) (new_seat n) (fresh_seats n) refl
 
 pub length-new_seats : (n : ℕ) → length (new_seats n) ≡ n
 length-new_seats zero = refl
 length-new_seats (suc n) = length-append (new_seats n) (new_seat n ∷ []) ∙ (let e = length-new_seats n in omega arith)
 
--- the entries made through the seats of values, where each seat counts what this says of its value
-pub made_each : {R : Type 0} (seat : R → SeatValue) (count : R → ℕ) (rs : List R) → ((i : ℕ) (r : R) → slice_get rs i ≡ Some r → (seat r).count ≡ count r) → entries_made (map seat rs) ≡ sum_by count rs
-made_each seat count [] each = refl
-made_each seat count (r ∷ rs) each =
-    let first = each 0 r refl in
-    let rest = made_each seat count rs (λ i q a. each (suc i) q a) in
-    omega (arith, first, rest, sum_by-cons count r rs)
+-- The seats have the numbers from this one on.
+abbrev pub AreNumbered : ℕ → List SeatValue → Type 0
+AreNumbered k [] = Unit {0}
+AreNumbered k (s ∷ ss) = (s.number ≡ k) × AreNumbered (k + 1) ss
 
-made_append : {R : Type 0} (seat : R → SeatValue) (rs : List R) (r : R) → entries_made (map seat (rs ++ r ∷ [])) ≡ entries_made (map seat rs) + (seat r).count
-made_append seat [] r = omega arith
-made_append seat (x ∷ rs) r = let rest = made_append seat rs r in omega (arith, rest)
+further : (n k : ℕ) → n + suc k ≡ (n + 1) + k
+further n k = omega arith
 
--- one value more
-pub made_more : {R : Type 0} (seat : R → SeatValue) (count : R → ℕ) (rs : List R) (r : R) → entries_made (map seat rs) ≡ sum_by count rs → (seat r).count ≡ count r → entries_made (map seat (rs ++ r ∷ [])) ≡ sum_by count (rs ++ r ∷ [])
-made_more seat count rs r so_far here =
-    omega (arith, so_far, here, made_append seat rs r, sum_by-append count rs (r ∷ []), sum_by-cons count r [])
+numbered_more : (k : ℕ) (ss : List SeatValue) (s : SeatValue) → AreNumbered k ss → s.number ≡ k + length ss → AreNumbered k (ss ++ s ∷ [])
+numbered_more k [] s are here = (here ∙ add-zero k, tt)
+numbered_more k (x ∷ xs) s are here = (are.0, numbered_more (k + 1) xs s are.1 (here ∙ further k (length xs)))
 
-pub sum_of_map : {R X : Type 0} (f : R → X) (count : X → ℕ) (rs : List R) → sum_by count (map f rs) ≡ sum_by (λ r. count (f r)) rs
-sum_of_map f count [] = refl
-sum_of_map f count (r ∷ rs) =
-    let rest = sum_of_map f count rs in
-    omega (arith, rest, sum_by-cons count (f r) (map f rs), sum_by-cons (λ q. count (f q)) r rs)
+new_numbered : (n : ℕ) → AreNumbered 0 (new_seats n)
+new_numbered zero = tt
+new_numbered (suc n) = numbered_more 0 (new_seats n) (new_seat n) (new_numbered n) (sym (length-new_seats n))
+
+-- ---- workers
+
+module _ {S R : Type 0} (seen : S → SourceState) (seat : R → SeatValue) (report : R → Report S) where
+  -- the entries of the seats are as many as the reports count
+  pub entries_counted : (jobs : List (SeatValue × S)) (rs : List R) → AllZip (λ job r. HasRun seen job (seat r) (report r)) jobs rs → entries_made (map seat rs) ≡ sum_by accepted_count (map report rs)
+  entries_counted [] [] ran = refl
+  entries_counted [] (r ∷ rs) ran = absurd ran
+  entries_counted (job ∷ jobs) [] ran = absurd ran
+  entries_counted (job ∷ jobs) (r ∷ rs) ran =
+      let is = ran.0.0 in
+      let here = as_many_counted (take is.count (all_said MAX_VARIABLE is.text)) (seat r).calls (report r).added (report r).deleted (report r).imported is.enters is.counts in
+      let rest = entries_counted jobs rs ran.1 in
+      omega (arith, here, rest, sum_by-cons accepted_count (report r) (map report rs))
+
+  -- as many ran as there are streams
+  pub as_many_ran : (seats : List SeatValue) (streams : List S) (rs : List R) → length seats ≡ length streams → AllZip (λ job r. HasRun seen job (seat r) (report r)) (zip seats streams) rs → length (map seat rs) ≡ length streams
+  as_many_ran seats streams rs same ran =
+      length-map rs seat ∙ AllZip-long (λ job r. HasRun seen job (seat r) (report r)) (zip seats streams) rs ran
+      ∙ sym (length-map (zip seats streams) (λ job. job.1)) ∙ ap length (seconds-zip seats streams (sym same))
+
+  -- the run of streams under these seats, on a book that has their calls
+  beside_from : (history : List Entry) (k : ℕ) (seats : List SeatValue) (streams : List S) (rs : List R) → length seats ≡ length streams → AreNumbered k seats
+      → AllZip (λ job r. HasRun seen job (seat r) (report r)) (zip seats streams) rs → HasCallsOf history (map seat rs) → RunBeside seen true history k streams (map report rs)
+  beside_from history k [] [] [] same are ran calls = tt
+  beside_from history k [] [] (r ∷ rs) same are ran calls = absurd ran
+  beside_from history k [] (x ∷ xs) rs same are ran calls = cc
+  beside_from history k (s ∷ ss) [] rs same are ran calls = cc
+  beside_from history k (s ∷ ss) (x ∷ xs) [] same are ran calls = absurd ran
+  beside_from history k (s ∷ ss) (x ∷ xs) (r ∷ rs) same are ran calls =
+      let number : (seat r).number ≡ k = ran.0.1 ∙ are.0 in
+      let first : calls_of (seat r).number history ≡ (seat r).calls = All-head (λ (t : SeatValue). calls_of t.number history ≡ t.calls) (seat r) (map seat rs) calls in
+      let here : (seat r).calls ≡ calls_of k history = sym first ∙ ap (λ n. calls_of n history) number in
+      let later = All-tail (λ (t : SeatValue). calls_of t.number history ≡ t.calls) (seat r) (map seat rs) calls in
+      (subst (λ made. IsStreamBeside seen true made x (report r)) here ran.0.0, beside_from history (k + 1) ss xs rs (omega (arith, same)) are.1 ran.1 later)
+
+  -- the run of streams under new seats
+  pub beside_of : (history : List Entry) (n : ℕ) (seats : List SeatValue) (streams : List S) (rs : List R) → seats ≡ new_seats n → n ≡ length streams
+      → AllZip (λ job r. HasRun seen job (seat r) (report r)) (zip seats streams) rs → HasCallsOf history (map seat rs) → RunBeside seen true history 0 streams (map report rs)
+  beside_of history n seats streams rs new many ran calls =
+      beside_from history 0 (new_seats n) streams rs (length-new_seats n ∙ many) (new_numbered n) (subst (λ ss. AllZip (λ job r. HasRun seen job (seat r) (report r)) (zip ss streams) rs) new ran) calls
 
 -- ---- confirmed streams
 
-ends_kept : (b : Bool) (rest : List Said) (end : End) → EndsBeside true rest end → (end ≡ Stopped → b ≡ true) → EndsBeside b rest end
-ends_kept b rest Ended e stops = e
-ends_kept b rest Stopped e stops = stops refl
-ends_kept b rest (AtLine n (Fault kind)) e stops = e
-ends_kept b rest (AtLine n (Refused refusal)) e stops = e
-ends_kept b rest (AtLine n ReadFailed) e stops = e
+-- a test of a first one and of the others that is true
+both_true : (a b : Bool) → (a && b) ≡ true → (a ≡ true) × (b ≡ true)
+both_true true b all = (refl, all)
+both_true false b all = cc
+
+end_confirmed : (verdict : Bool) (rest : List Said) (end : End) → EndsBeside true rest end → is_confirmed verdict end ≡ true → EndsBeside verdict rest end
+end_confirmed verdict rest Ended e is = e
+end_confirmed verdict rest Stopped e is = is
+end_confirmed verdict rest (AtLine n (Fault kind)) e is = e
+end_confirmed verdict rest (AtLine n (Refused refusal)) e is = e
+end_confirmed verdict rest (AtLine n ReadFailed) e is = e
+
+end_denied : (verdict : Bool) (end : End) → is_confirmed verdict end ≡ false → (end ≡ Stopped) × (verdict ≡ false)
+end_denied verdict Ended is = absurd cc
+end_denied verdict Stopped is = (refl, is)
+end_denied verdict (AtLine n e) is = absurd cc
 
 module _ {S : Type 0} (seen : S → SourceState) where
-  told_confirmed : (s : State) (seat : ℕ) (stream : S) (told : List Entry) (report : Report S) → IsStreamBeside seen true told stream report → IsConfirmed s seat told report → IsStreamBeside seen (has_verdict s) (entries_of seat s.history) stream report
-  told_confirmed s seat stream told report r is =
-      subst (λ es. IsStreamBeside seen (has_verdict s) es stream report) (sym is.entries) (record {
-        text = r.text;
-        gave = r.gave;
-        count = r.count;
-        enters = r.enters;
-        counts = r.counts;
-        ends = ends_kept (has_verdict s) _ report.end r.ends is.stopped;
-        failed_read = r.failed_read;
-        no_room = r.no_room;
-        ended = r.ended;
-        failures = r.failures;
-      })
+  stream_confirmed : (verdict : Bool) (made : List Call) (stream : S) (report : Report S) → IsStreamBeside seen true made stream report → is_confirmed verdict report.end ≡ true → IsStreamBeside seen verdict made stream report
+  stream_confirmed verdict made stream report r is = record {
+    text = r.text;
+    gave = r.gave;
+    count = r.count;
+    enters = r.enters;
+    counts = r.counts;
+    ends = end_confirmed verdict _ report.end r.ends is;
+    failed_read = r.failed_read;
+    no_room = r.no_room;
+    ended = r.ended;
+    failures = r.failures;
+  }
 
-  -- streams that ran, and of which all that was told is confirmed, from this seat on
-  pub run_confirmed : (s : State) (seat : ℕ) (streams : List S) (tokens : List (List Entry)) (reports : List (Report S)) → HaveRun seen streams tokens reports
-      → ((k : ℕ) (told : List Entry) (report : Report S) → slice_get tokens k ≡ Some told → slice_get reports k ≡ Some report → IsConfirmed s (seat + k) told report)
-      → RunBeside seen (has_verdict s) s.history seat streams reports
-  run_confirmed s seat [] [] [] ran are = tt
-  run_confirmed s seat [] [] (r ∷ rs) ran are = absurd ran
-  run_confirmed s seat [] (t ∷ ts) rs ran are = absurd ran
-  run_confirmed s seat (x ∷ xs) [] rs ran are = absurd ran
-  run_confirmed s seat (x ∷ xs) (t ∷ ts) [] ran are = absurd ran
-  run_confirmed s seat (x ∷ xs) (t ∷ ts) (r ∷ rs) ran are = (
-    told_confirmed s seat x t r ran.0 (subst (λ n. IsConfirmed s n t r) (add-zero seat) (are 0 t r refl refl)),
-    run_confirmed s (seat + 1) xs ts rs ran.1 (λ k told report a b. subst (λ n. IsConfirmed s n told report) (further seat k) (are (suc k) told report a b)),
-  )
-    where
-      further : (n k : ℕ) → n + suc k ≡ (n + 1) + k
-      further n k = omega arith
+  run_confirmed : (verdict : Bool) (history : List Entry) (k : ℕ) (streams : List S) (reports : List (Report S)) → RunBeside seen true history k streams reports → list_all (λ (r : Report S). is_confirmed verdict r.end) reports ≡ true
+      → RunBeside seen verdict history k streams reports
+  run_confirmed verdict history k [] [] ran all = tt
+  run_confirmed verdict history k [] (r ∷ rs) ran all = absurd ran
+  run_confirmed verdict history k (x ∷ xs) [] ran all = absurd ran
+  run_confirmed verdict history k (x ∷ xs) (r ∷ rs) ran all =
+      let both = both_true (is_confirmed verdict r.end) (list_all (λ (q : Report S). is_confirmed verdict q.end) rs) all in
+      (stream_confirmed verdict (calls_of k history) x r ran.0 both.0, run_confirmed verdict history (k + 1) xs rs ran.1 both.1)
 
-  -- the stream of what was told, and of its report
-  pub stream_of : (streams : List S) (tokens : List (List Entry)) (reports : List (Report S)) (k : ℕ) (told : List Entry) (report : Report S) → HaveRun seen streams tokens reports
-      → slice_get tokens k ≡ Some told → slice_get reports k ≡ Some report → (stream : S) × (slice_get streams k ≡ Some stream) × IsStreamBeside seen true told stream report
-  stream_of [] [] [] k told report ran a b = absurd (no_none a)
-    where
-      no_none : {X : Type 0} {x : X} → None ≡ Some x → ⊥
-      no_none e = cc
-  stream_of [] [] (r ∷ rs) k told report ran a b = absurd ran
-  stream_of [] (t ∷ ts) rs k told report ran a b = absurd ran
-  stream_of (x ∷ xs) [] rs k told report ran a b = absurd ran
-  stream_of (x ∷ xs) (t ∷ ts) [] k told report ran a b = absurd ran
-  stream_of (x ∷ xs) (t ∷ ts) (r ∷ rs) zero told report ran a b = (x, refl, subst (λ u. IsStreamBeside seen true u x report) (same t told a) (subst (λ u. IsStreamBeside seen true t x u) (same r report b) ran.0))
-    where
-      same : {X : Type 0} (y z : X) → Some y ≡ Some z → y ≡ z
-      same y z e = cc
-  stream_of (x ∷ xs) (t ∷ ts) (r ∷ rs) (suc k) told report ran a b = stream_of xs ts rs k told report ran.1 a b
-
-  -- one stream more
-  pub one_more_beside : (streams : List S) (tokens : List (List Entry)) (reports : List (Report S)) (stream : S) (told : List Entry) (report : Report S) → HaveRun seen streams tokens reports → IsStreamBeside seen true told stream report
-      → HaveRun seen (streams ++ stream ∷ []) (tokens ++ told ∷ []) (reports ++ report ∷ [])
-  one_more_beside [] [] [] stream told report ran is = (is, tt)
-  one_more_beside [] [] (r ∷ rs) stream told report ran is = absurd ran
-  one_more_beside [] (t ∷ ts) rs stream told report ran is = absurd ran
-  one_more_beside (x ∷ xs) [] rs stream told report ran is = absurd ran
-  one_more_beside (x ∷ xs) (t ∷ ts) [] stream told report ran is = absurd ran
-  one_more_beside (x ∷ xs) (t ∷ ts) (r ∷ rs) stream told report ran is = (ran.0, one_more_beside xs ts rs stream told report ran.1 is)
-
-  pub book_of_run : (f : FormulaValue) (max : ℕ) (streams : List S) (tokens : List (List Entry)) (reports : List (Report S)) (s : State)
-      → IsOpenedAs f (length streams) max s → IsReached s → length s.history ≡ sum_by accepted_count reports → HaveRun seen streams tokens reports → AreConfirmed s tokens reports
-      → IsBookOfRun seen f max streams (has_verdict s) reports s
-  book_of_run f max streams tokens reports s opened legal counted ran are = record {
+  pub book_of_run : (f : FormulaValue) (max : ℕ) (streams : List S) (reports : List (Report S)) (s : State) → IsOpenedAs f (length streams) max s → IsReached s → length s.history ≡ sum_by accepted_count reports
+      → RunBeside seen true s.history 0 streams reports → true ≡ list_all (λ (r : Report S). is_confirmed (has_verdict s) r.end) reports → IsBookOfRun seen f max streams (has_verdict s) reports s
+  book_of_run f max streams reports s opened legal counted ran all = record {
     opened = opened;
     legal = legal;
     counted = counted;
-    runs = run_confirmed s 0 streams tokens reports ran (λ k told report a b. subst (λ n. IsConfirmed s n told report) (sym (zero-add k)) (are k told report a b));
+    runs = run_confirmed (has_verdict s) s.history 0 streams reports ran (sym all);
   }
 
-  pub unconfirmed : (f : FormulaValue) (max : ℕ) (streams : List S) (tokens : List (List Entry)) (reports : List (Report S)) (s : State)
-      → IsOpenedAs f (length streams) max s → IsReached s → HaveRun seen streams tokens reports → SomeDenied s tokens reports → IsUnconfirmed seen f max streams
-  unconfirmed f max streams tokens reports s opened legal ran d =
-      let of_it = stream_of streams tokens reports d.seat d.told d.report ran d.told_is d.report_is in
+  -- a stream that isn't confirmed, of those from this seat on
+  denied_stream : (verdict : Bool) (history : List Entry) (k : ℕ) (streams : List S) (reports : List (Report S)) → RunBeside seen true history k streams reports → list_all (λ (r : Report S). is_confirmed verdict r.end) reports ≡ false
+      → (i : ℕ) × (stream : S) × (report : Report S) × (slice_get streams i ≡ Some stream) × IsStreamBeside seen true (calls_of (k + i) history) stream report × (report.end ≡ Stopped) × (verdict ≡ false)
+  denied_stream verdict history k [] [] ran all = absurd cc
+  denied_stream verdict history k [] (r ∷ rs) ran all = absurd ran
+  denied_stream verdict history k (x ∷ xs) [] ran all = absurd ran
+  denied_stream verdict history k (x ∷ xs) (r ∷ rs) ran all =
+      elim (is_confirmed verdict r.end) as (λ b. is_confirmed verdict r.end ≡ b → (b && list_all (λ (q : Report S). is_confirmed verdict q.end) rs) ≡ false
+      → (i : ℕ) × (stream : S) × (report : Report S) × (slice_get (x ∷ xs) i ≡ Some stream) × IsStreamBeside seen true (calls_of (k + i) history) stream report × (report.end ≡ Stopped) × (verdict ≡ false)) [
+        | true ↦ λ is others.
+            let d = denied_stream verdict history (k + 1) xs rs ran.1 others in
+            (suc d.0, d.1, d.2, d.3, subst (λ n. IsStreamBeside seen true (calls_of n history) d.1 d.2) (sym (further k d.0)) d.4, d.5, d.6)
+        | false ↦ λ is others.
+            let e = end_denied verdict r.end is in
+            (0, x, r, refl, subst (λ n. IsStreamBeside seen true (calls_of n history) x r) (sym (add-zero k)) ran.0, e.0, e.1)
+      ] refl all
+
+  pub unconfirmed : (f : FormulaValue) (max : ℕ) (streams : List S) (reports : List (Report S)) (s : State) → IsOpenedAs f (length streams) max s → IsReached s → RunBeside seen true s.history 0 streams reports
+      → false ≡ list_all (λ (r : Report S). is_confirmed (has_verdict s) r.end) reports → IsUnconfirmed seen f max streams
+  unconfirmed f max streams reports s opened legal ran all =
+      let d = denied_stream (has_verdict s) s.history 0 streams reports ran (sym all) in
       record {
         final = s;
         opened = opened;
         legal = legal;
-        seat = d.seat;
-        stream = of_it.0;
-        stream_is = of_it.1;
-        told = d.told;
-        report = d.report;
-        runs = of_it.2;
-        denied = d.denied;
+        seat = d.0;
+        stream = d.1;
+        stream_is = d.3;
+        report = d.2;
+        runs = subst (λ n. IsStreamBeside seen true (calls_of n s.history) d.1 d.2) (zero-add d.0) d.4;
+        stopped = d.5;
+        denied = d.6;
       }
 
 -- ---- the outcome
@@ -180,37 +201,22 @@ joint_outcome_is seen f max streams final outcome book steps replayed some refut
       verified = verified_is outcome.verified f final.formula (refutes f outcome.steps) same refuted_is verified;
     }
 
--- ---- reading by index
+-- ---- jobs
 
--- what stands at a place, got by that place
-pub got : {X : Type 0} (xs : List X) (i : ℕ) (x : X) → i < length xs → x ≡ slice_index_or xs i x → slice_get xs i ≡ Some x
-got [] i x below is = absurd (omega arith)
-got (y ∷ xs) zero x below is = ap Some (sym is)
-got (y ∷ xs) (suc i) x below is = got xs i x (omega arith) is
+module _ {J A B : Type 0} (R : A → B → Type 0) (f : J → A) where
+  -- what holds of each two at one place
+  pub zip_each : (js : List J) (ys : List B) → length ys ≡ length js → ((i : ℕ) (j : J) (y : B) → slice_get js i ≡ Some j → slice_get ys i ≡ Some y → R (f j) y) → AllZip R (map f js) ys
+  zip_each [] [] same each = tt
+  zip_each [] (y ∷ ys) same each = cc
+  zip_each (j ∷ js) [] same each = cc
+  zip_each (j ∷ js) (y ∷ ys) same each = (each 0 j y refl refl, zip_each js ys (omega (arith, same)) (λ i k q a b. each (suc i) k q a b))
 
-pub got_mapped : {X Y : Type 0} (f : X → Y) (xs : List X) (i : ℕ) (x : X) → slice_get xs i ≡ Some x → slice_get (map f xs) i ≡ Some (f x)
-got_mapped f [] i x is = cc
-got_mapped f (y ∷ xs) zero x is = let same : y ≡ x = cc in ap (λ z. Some (f z)) same
-got_mapped f (y ∷ xs) (suc i) x is = got_mapped f xs i x is
-
--- a place up to this one is below it, or is it
-up_to : (k n : ℕ) → k < n + 1 → (k < n) ⊎ (k ≡ n)
-up_to zero zero below = inr refl
-up_to zero (suc n) below = inl (omega arith)
-up_to (suc k) zero below = absurd (omega arith)
-up_to (suc k) (suc n) below = further (up_to k n (omega arith))
-  where
-    further : (k < n) ⊎ (k ≡ n) → (suc k < suc n) ⊎ (suc k ≡ suc n)
-    further (inl less) = inl (omega arith)
-    further (inr same) = inr (ap suc same)
-
--- a fact of each place below this one, and of this one
-pub up_to_here : (P : ℕ → Type 0) (n k : ℕ) → (k < n → P k) → P n → k < n + 1 → P k
-up_to_here P n k before here below = of (up_to k n below)
-  where
-    of : (k < n) ⊎ (k ≡ n) → P k
-    of (inl less) = before less
-    of (inr same) = subst P (sym same) here
+-- each of two lists with one more
+pub zip_more : {K X : Type 0} (ks : List K) (xs : List X) (k : K) (x : X) → length ks ≡ length xs → zip (ks ++ k ∷ []) (xs ++ x ∷ []) ≡ zip ks xs ++ (k, x) ∷ []
+zip_more [] [] k x same = refl
+zip_more [] (y ∷ ys) k x same = cc
+zip_more (j ∷ js) [] k x same = cc
+zip_more (j ∷ js) (y ∷ ys) k x same = ap (λ zs. (j, y) ∷ zs) (zip_more js ys k x (omega (arith, same)))
 
 -- a place where something stands is within the list
 pub got_below : {X : Type 0} (xs : List X) (i : ℕ) (x : X) → slice_get xs i ≡ Some x → i < length xs
@@ -219,63 +225,18 @@ got_below [] (suc i) x is = cc
 got_below (y ∷ xs) zero x is = omega arith
 got_below (y ∷ xs) (suc i) x is = let below = got_below xs i x is in omega arith
 
-same_element : {X : Type 0} (x y : X) → Some x ≡ Some y → x ≡ y
-same_element x y e = cc
-
--- what stands at a place is confirmed, whatever name it has
-pub confirmed_here : {S : Type 0} (s : State) (seat : ℕ) (tokens : List (List Entry)) (reports : List (Report S)) (told : List Entry) (report : Report S) → slice_get tokens seat ≡ Some told → slice_get reports seat ≡ Some report → entries_of seat s.history ≡ told
-    → (report.end ≡ Stopped → has_verdict s ≡ true) → (u : List Entry) (r : Report S) → slice_get tokens seat ≡ Some u → slice_get reports seat ≡ Some r → IsConfirmed s seat u r
-confirmed_here s seat tokens reports told report a b entries stopped u r c d =
-    let is : IsConfirmed s seat told report = record { entries = entries; stopped = stopped } in
-    subst (λ t. IsConfirmed s seat t r) (same_element told u (sym a ∙ c)) (subst (λ t. IsConfirmed s seat told t) (same_element report r (sym b ∙ d)) is)
-
--- ---- jobs
-
-module _ {S J R : Type 0} (seen : S → SourceState) (stream : J → S) (told : R → List Entry) (report : R → Report S) where
-  -- each job ran
-  pub have_run_each : (js : List J) (rs : List R) → length rs ≡ length js
-      → ((i : ℕ) (j : J) (r : R) → slice_get js i ≡ Some j → slice_get rs i ≡ Some r → IsStreamBeside seen true (told r) (stream j) (report r)) → HaveRun seen (map stream js) (map told rs) (map report rs)
-  have_run_each [] [] same each = tt
-  have_run_each [] (r ∷ rs) same each = cc
-  have_run_each (j ∷ js) [] same each = cc
-  have_run_each (j ∷ js) (r ∷ rs) same each = (each 0 j r refl refl, have_run_each js rs (omega (arith, same)) (λ i k q a b. each (suc i) k q a b))
-
--- the streams of jobs that are as many as their seats
-pub streams_zipped : {K S : Type 0} (seats : List K) (streams : List S) → length seats ≡ length streams → map (λ p. p.1) (zip seats streams) ≡ streams
-streams_zipped [] [] same = refl
-streams_zipped [] (x ∷ xs) same = cc
-streams_zipped (k ∷ ks) [] same = cc
-streams_zipped (k ∷ ks) (x ∷ xs) same = ap (λ ys. x ∷ ys) (streams_zipped ks xs (omega (arith, same)))
-
-all_tail : {X : Type 0} (P : X → Type 0) (x : X) (xs : List X) → All P (x ∷ xs) → All P xs
-all_tail P x xs all k d below = all (suc k) d (omega arith)
-
 -- what holds of all seats, and of all streams, holds in all jobs
 pub zipped_first : {K S : Type 0} (P : K → Type 0) (seats : List K) (streams : List S) → All P seats → All (λ (p : K × S). P p.0) (zip seats streams)
 zipped_first P [] streams all k d below = absurd (omega arith)
 zipped_first P (x ∷ xs) [] all k d below = absurd (omega arith)
 zipped_first P (x ∷ xs) (y ∷ ys) all zero d below = all 0 x (omega arith)
-zipped_first P (x ∷ xs) (y ∷ ys) all (suc k) d below = zipped_first P xs ys (all_tail P x xs all) k d (omega arith)
+zipped_first P (x ∷ xs) (y ∷ ys) all (suc k) d below = zipped_first P xs ys (All-tail P x xs all) k d (omega arith)
 
 pub zipped_second : {K S : Type 0} (P : S → Type 0) (seats : List K) (streams : List S) → All P streams → All (λ (p : K × S). P p.1) (zip seats streams)
 zipped_second P [] streams all k d below = absurd (omega arith)
 zipped_second P (x ∷ xs) [] all k d below = absurd (omega arith)
 zipped_second P (x ∷ xs) (y ∷ ys) all zero d below = all 0 y (omega arith)
-zipped_second P (x ∷ xs) (y ∷ ys) all (suc k) d below = zipped_second P xs ys (all_tail P y ys all) k d (omega arith)
-
--- a place where something stands in a list of that length
-pub got_below_as : {X Y : Type 0} (xs : List X) (ys : List Y) → length ys ≡ length xs → (i : ℕ) (y : Y) → slice_get ys i ≡ Some y → i < length xs
-got_below_as xs ys same i y is = let below = got_below ys i y is in omega (arith, same)
-
--- what holds of all and of one more holds of all, and of the one
-pub all_front : {X : Type 0} (P : X → Type 0) (xs : List X) (x : X) → All P (xs ++ x ∷ []) → All P xs
-all_front P [] x all k d below = absurd (omega arith)
-all_front P (y ∷ ys) x all zero d below = all 0 y (omega arith)
-all_front P (y ∷ ys) x all (suc k) d below = all_front P ys x (all_tail P y (ys ++ x ∷ []) all) k d (omega arith)
-
-pub all_last : {X : Type 0} (P : X → Type 0) (xs : List X) (x : X) → All P (xs ++ x ∷ []) → P x
-all_last P [] x all = all 0 x (omega arith)
-all_last P (y ∷ ys) x all = all_last P ys x (all_tail P y (ys ++ x ∷ []) all)
+zipped_second P (x ∷ xs) (y ∷ ys) all (suc k) d below = zipped_second P xs ys (All-tail P y ys all) k d (omega arith)
 
 -- of two lists of one length, each with one more, what stands before is of one length
 pub length_before : {X Y : Type 0} (all xs : List X) (x : X) (ys : List Y) (y : Y) → all ≡ xs ++ x ∷ [] → length all ≡ length (ys ++ y ∷ []) → length xs ≡ length ys
@@ -283,36 +244,8 @@ length_before all xs x ys y is same =
     let longer = sym (ap length is) ∙ same in
     omega (arith, longer, length-append xs (x ∷ []), length-append ys (y ∷ []))
 
-pub map_twice : {X Y Z : Type 0} (f : Y → Z) (h : X → Y) (xs : List X) → map f (map h xs) ≡ map (λ x. f (h x)) xs
-map_twice f h [] = refl
-map_twice f h (x ∷ xs) = ap (λ zs. f (h x) ∷ zs) (map_twice f h xs)
-
-length_mapped : {X Y : Type 0} (f : X → Y) (xs : List X) → length (map f xs) ≡ length xs
-length_mapped f [] = refl
-length_mapped f (x ∷ xs) = ap suc (length_mapped f xs)
-
-have_run_length : {S : Type 0} (seen : S → SourceState) (streams : List S) (tokens : List (List Entry)) (reports : List (Report S)) → HaveRun seen streams tokens reports → length reports ≡ length streams
-have_run_length seen [] [] [] ran = refl
-have_run_length seen [] [] (r ∷ rs) ran = absurd ran
-have_run_length seen [] (t ∷ ts) rs ran = absurd ran
-have_run_length seen (x ∷ xs) [] rs ran = absurd ran
-have_run_length seen (x ∷ xs) (t ∷ ts) [] ran = absurd ran
-have_run_length seen (x ∷ xs) (t ∷ ts) (r ∷ rs) ran = ap suc (have_run_length seen xs ts rs ran.1)
-
--- as many ran as there are streams
-pub as_many_ran : {S R V : Type 0} (seen : S → SourceState) (told : R → List Entry) (report : R → Report S) (other : R → V) (streams : List S) (rs : List R) → HaveRun seen streams (map told rs) (map report rs) → length (map other rs) ≡ length streams
-as_many_ran seen told report other streams rs ran = length_mapped other rs ∙ (sym (length_mapped report rs) ∙ have_run_length seen streams (map told rs) (map report rs) ran)
-
 pub no_other_test : (m n : ℕ) → m ≡ n → false ≡ (m == n) → ⊥
 no_other_test m n same other = grind (arith, nat_tests)
-
--- one more ran
-pub one_more_of : {S R : Type 0} (seen : S → SourceState) (told : R → List Entry) (report : R → Report S) (streams : List S) (rs : List R) (x : S) (r : R) → HaveRun seen streams (map told rs) (map report rs) → IsStreamBeside seen true (told r) x (report r)
-    → HaveRun seen (streams ++ x ∷ []) (map told (rs ++ r ∷ [])) (map report (rs ++ r ∷ []))
-one_more_of seen told report streams rs x r ran is =
-    subst (λ ts. HaveRun seen (streams ++ x ∷ []) ts (map report (rs ++ r ∷ []))) (sym (map_snoc told rs r))
-    (subst (λ qs. HaveRun seen (streams ++ x ∷ []) (map told rs ++ told r ∷ []) qs) (sym (map_snoc report rs r))
-    (one_more_beside seen streams (map told rs) (map report rs) x (told r) (report r) ran is))
 
 -- an opening, by other names of its parts
 pub opened_by : (f f' : FormulaValue) (n n' m m' : ℕ) (s : State) → f' ≡ f → n ≡ n' → m' ≡ m → IsOpenedAs f n m s → IsOpenedAs f' n' m' s

@@ -1,5 +1,5 @@
 -- What comes of a run of streams beside one another, on one shared book.
-use Rattle.std.specs.Prelude.{◌≡◌, ◌≢◌, ◌⊎◌, ℕ, ◌+◌, Bool, true, false, List, [], ◌∷◌, length, map, filter, take, drop, Option, None, Some, Result, Ok, Err, slice_get, if◌then◌else◌}
+use Rattle.std.specs.Prelude.{◌≡◌, ℕ, ◌+◌, Bool, true, false, List, [], ◌∷◌, length, map, filter, take, drop, Option, None, Some, Result, Ok, Err, slice_get, if◌then◌else◌}
 use Rattle.std.specs.List.{sum_by}
 use Rattle.lj_clause.specs.ClauseMap.{FormulaValue, formula_map}
 use Rattle.lj_text.specs.declared.line.Line.{Line}
@@ -12,7 +12,7 @@ use Rattle.lj_book.specs.declared.entry.Call.TheVariants as calls
 use Rattle.lj_book.specs.declared.entry.Entry.{Entry}
 use Rattle.lj_book.specs.State.{State, live, steps_of}
 use Rattle.lj_book.specs.History.{IsReached}
-use Rattle.lj_share.specs.Entries.{call_of, entries_of}
+use Rattle.lj_share.specs.Entries.{call_of, calls_of}
 use Rattle.lj_share.specs.Seats.{IsOpenedAs}
 use Rattle.lj_run.specs.declared.outcome.End.{End}
 use Rattle.lj_run.specs.declared.outcome.End.TheVariants.{Ended, Stopped, Line as AtLine}
@@ -26,17 +26,16 @@ use Rattle.lj_run.specs.Reading.{FailsAt, IsRoomRefused}
 use Rattle.lj_run.specs.Run.{has_verdict, MeetsFault, MeetsLine, IfReadFailed, IfRoomRefused, failed_reads}
 use Rattle.lj_clause.specs.declared.lit.TheConstants.{MAX_VARIABLE}
 
--- ---- the entries of one stream
+-- ---- the calls of one stream
 
 -- the call that a line makes, where its text has no fault
 abbrev pub said_call : Result Line LineFaultKind → Option Call
 said_call (Ok line) = Some (call_of line)
 said_call (Err kind) = None
 
--- These are the entries of these lines: in order, one of each line's call, and no others.
-abbrev pub AreEntriesOf : List Said → List Entry → Type 0
-AreEntriesOf lines entries = map (λ said. said_call said.says) lines
-    ≡ map (λ e. Some e.call) entries
+-- These are the calls of these lines: in order, one of each line, and no others.
+abbrev pub AreCallsOf : List Said → List Call → Type 0
+AreCallsOf lines made = map (λ said. said_call said.says) lines ≡ map (λ call. Some call) made
 
 -- whether the call is an addition
 abbrev pub is_addition : Call → Bool
@@ -53,15 +52,15 @@ abbrev pub is_import : Call → Bool
 is_import (calls.Import own clause) = true
 is_import call = false
 
--- how many of the entries are of such a call
-abbrev pub how_many : (Call → Bool) → List Entry → ℕ
-how_many is entries = length (filter (λ e. is e.call) entries)
+-- how many of the calls are of such a kind
+abbrev pub how_many : (Call → Bool) → List Call → ℕ
+how_many is made = length (filter is made)
 
--- The counts are how many of the entries are additions, deletions and imports.
-pub record AreCountsOf (entries : List Entry) (added deleted imported : ℕ) : Type 0 where
-  pub added_is : added ≡ how_many is_addition entries
-  pub deleted_is : deleted ≡ how_many is_deletion entries
-  pub imported_is : imported ≡ how_many is_import entries
+-- The counts are how many of the calls are additions, deletions and imports.
+pub record AreCountsOf (made : List Call) (added deleted imported : ℕ) : Type 0 where
+  pub added_is : added ≡ how_many is_addition made
+  pub deleted_is : deleted ≡ how_many is_deletion made
+  pub imported_is : imported ≡ how_many is_import made
 
 -- ---- how a stream ends
 
@@ -74,16 +73,17 @@ EndsBeside refuted rest (AtLine n (Fault kind)) = MeetsFault n kind rest
 EndsBeside refuted rest (AtLine n (Refused refusal)) = MeetsLine n rest
 EndsBeside refuted rest (AtLine n ReadFailed) = Unit {0}
 
--- The report is right of this stream, whose entries these are, on a book that is refuted or not. What its source gave meanwhile are its
--- lines: all of them where it ended, as the source has then, and the first ones else. The entries are those of its first lines. A read
--- failed exactly where that is how it ended. Where memory was refused to the reading of a line see IsRoomRefused.
+-- The report is right of this stream, on a book that is refuted or not, where these are the calls of the entries of its seat, in order.
+-- What its source gave meanwhile are its lines: all of them where it ended, as the source has then, and the first ones else. The calls
+-- are those of its first lines. A read failed exactly where that is how it ended. Where memory was refused to the reading of a line see
+-- IsRoomRefused.
 pub record IsStreamBeside {S : Type 0} (seen : S → SourceState) (refuted : Bool)
-    (entries : List Entry) (stream : S) (report : Report S) : Type 0 where
+    (made : List Call) (stream : S) (report : Report S) : Type 0 where
   pub text : List ℕ
   pub gave : HasGiven (seen stream) (seen report.source) text
   pub count : ℕ
-  pub enters : AreEntriesOf (take count (all_said MAX_VARIABLE text)) entries
-  pub counts : AreCountsOf entries report.added report.deleted report.imported
+  pub enters : AreCallsOf (take count (all_said MAX_VARIABLE text)) made
+  pub counts : AreCountsOf made report.added report.deleted report.imported
   pub ends : EndsBeside refuted (drop count (all_said MAX_VARIABLE text)) report.end
   pub failed_read : IfReadFailed report.end (FailsAt MAX_VARIABLE text count)
   pub no_room : IfRoomRefused report.end
@@ -91,14 +91,14 @@ pub record IsStreamBeside {S : Type 0} (seen : S → SourceState) (refuted : Boo
   pub ended : report.end ≡ Ended → HasEnded (seen report.source)
   pub failures : (seen report.source).failures ≡ failed_reads report.end
 
--- Each report is right of its stream, whose entries are those of its seat: this seat for the first, the next for the next.
+-- Each report is right of its stream, by the calls of its seat's entries: this seat for the first, the next for the next.
 abbrev pub RunBeside : {S : Type 0} → (S → SourceState) → Bool → List Entry → ℕ → List S
     → List (Report S) → Type 0
 RunBeside seen refuted history seat [] [] = Unit {0}
 RunBeside seen refuted history seat [] (report ∷ reports) = ⊥
 RunBeside seen refuted history seat (stream ∷ streams) [] = ⊥
 RunBeside seen refuted history seat (stream ∷ streams) (report ∷ reports) =
-    IsStreamBeside seen refuted (entries_of seat history) stream report
+    IsStreamBeside seen refuted (calls_of seat history) stream report
     × RunBeside seen refuted history (seat + 1) streams reports
 
 -- how many lines of a stream were accepted
@@ -129,17 +129,10 @@ pub record IsJointOutcome {S : Type 0} (seen : S → SourceState) (formula : For
   pub verified : outcome.verified
       ≡ (if refutes formula outcome.steps then Some formula else None)
 
--- ---- what the workers leave
-
--- The entries of the seat are others, or there is no verdict though the stream says so.
-abbrev pub IsDenied : {S : Type 0} → State → ℕ → List Entry → Report S → Type 0
-IsDenied s seat told report = (entries_of seat s.history ≢ told)
-    ⊎ ((report.end ≡ Stopped) × (has_verdict s ≡ false))
-
 -- ---- why there is no outcome
 
--- A run on a formula can't be confirmed: there is a stream with its report and the entries that were told of its lines, and a final state of
--- a book of the formula, in which the entries of the stream's seat are others, or which has no verdict though the stream says that it does.
+-- A run on a formula can't be confirmed: there is a final state of a book of the formula, and a stream with its report, right by the calls
+-- of its seat's entries in that history, which says that the verdict stood, though that state has none.
 pub record IsUnconfirmed {S : Type 0} (seen : S → SourceState) (formula : FormulaValue)
     (max_steps : ℕ) (streams : List S) : Type 0 where
   pub final : State
@@ -148,10 +141,10 @@ pub record IsUnconfirmed {S : Type 0} (seen : S → SourceState) (formula : Form
   pub seat : ℕ
   pub stream : S
   pub stream_is : slice_get streams seat ≡ Some stream
-  pub told : List Entry
   pub report : Report S
-  pub runs : IsStreamBeside seen true told stream report
-  pub denied : IsDenied final seat told report
+  pub runs : IsStreamBeside seen true (calls_of seat final.history) stream report
+  pub stopped : report.end ≡ Stopped
+  pub denied : has_verdict final ≡ false
 
 -- The run of the formula that the source gave can't be confirmed.
 pub record IsUnconfirmedRun {S : Type 0} (before after : SourceState) (seen : S → SourceState)

@@ -16,12 +16,11 @@ use crate::outcome::{Options, Outcome, RunFault};
 use crate::proving::prove;
 use crate::reading::read_formula;
 use lj_book::laws::{history_is_legal, live_is_the_replay};
-use lj_share::Gate;
+use lj_share::{Blank, Gate};
 use lj_text::{Sink, Source};
 use std::alloc::Global;
 use std::marker::Brand;
 use std::sync::Wait;
-use std::sync::ledger::Blank;
 use std::thread::Threads;
 
 /// Reads a formula, and runs the streams beside one another on one shared book of it, each under a seat of its own and by a
@@ -72,7 +71,7 @@ pub fn run_joint<
     let formula = read_formula(rt, alloc, formula)?;
     let clauses = formula.len() as u64;
     let seats = streams.len() + usize::from(closing.is_some());
-    let blank = Blank::new(seats as u64);
+    let blank = Blank::new(alloc, seats as u32)?;
     let (reports, book) = run_opened::<Brand, _, _, _>(
         rt,
         alloc,

@@ -1,7 +1,5 @@
 -- What is counted of a stream.
-use Rattle.std.specs.Prelude.{◌≡◌, ℕ, ◌+◌, List, [], ◌∷◌, ◌++◌}
-use Rattle.lj_book.specs.declared.entry.Call.{Call}
-use Rattle.lj_book.specs.declared.entry.Entry.{Entry}
+use Rattle.std.specs.Prelude.{ℕ, ◌+◌}
 use Rattle.lj_run.specs.declared.stream.Count.{Count}
 use Rattle.lj_run.specs.declared.stream.Count.TheVariants.{Addition, Deletion, Importing}
 use Rattle.lj_run.specs.declared.stream.Tally.{Tally}
@@ -24,9 +22,3 @@ with_end tally end = record tally { end = end }
 abbrev pub missed_at : ℕ → Miss → End
 missed_at at Failed = Line at ReadFailed
 missed_at at (AtFault fault) = Line fault.line (Fault fault.kind)
-
--- The entry that was told last is of this call, and stands behind those told before.
-pub record IsToldOf (call : Call) (before after : List Entry) : Type 0 where
-  pub entry : Entry
-  pub told_is : after ≡ before ++ entry ∷ []
-  pub call_is : entry.call ≡ call

@@ -1,13 +1,10 @@
 //! The run on one opening of the shared book.
-ghost use Rattle.std.specs.Prelude.{◌≡◌, ◌≢◌, ◌⊎◌, ◌≤◌, true, false, length, map, All, IfOk, IfErr, MatchBool};
-ghost use Rattle.std.specs.List.{zip, sum_by};
-ghost use Rattle.lj_share.specs.Entries.{entries_of};
-ghost use Rattle.lj_share.specs.Seats.{entries_made};
-ghost use Rattle.lj_run.specs.declared.outcome.End.TheVariants.{Stopped};
+ghost use Rattle.std.specs.Prelude.{◌≡◌, [], length, map, All, IfOk, IfErr};
+ghost use Rattle.std.specs.List.{zip, list_all, AllZip};
 ghost use Rattle.lj_text.specs.Streams.{source_state};
 ghost use Rattle.lj_run.specs.InTurn.{streams_by_seat};
-ghost use Rattle.lj_run.specs.Joint.{IsBookOfRun, IsStreamBeside, accepted_count};
-ghost use Rattle.lj_run.specs.inner.Joint.{IsBookless, HaveRun, AreConfirmed, SomeDenied};
+ghost use Rattle.lj_run.specs.Joint.{IsBookOfRun};
+ghost use Rattle.lj_run.specs.inner.Joint.{IsBookless, HasRun, is_confirmed};
 ghost use Rattle.lj_run.specs.Premise.{MayRunStreams};
 ghost use Rattle.lj_run.specs.Run.{has_verdict};
 
@@ -15,12 +12,11 @@ use crate::joint::worker::{Ran, run_worker};
 use crate::outcome::{End, Report, RunFault};
 use lj_book::Book;
 use lj_clause::{Formula, NoMemory};
-use lj_share::{Closed, Gate, Opening, Seat, Shared, Tokens};
+use lj_share::{Blank, Gate, Opening, Seat, Shared};
 use lj_text::Source;
 use std::alloc::{AllocError, Global};
 use std::snapshot::Snapshot;
 use std::sync::Wait;
-use std::sync::ledger::Blank;
 use std::thread::{self, Promise, Threads};
 
 /// Runs the streams on a new shared book of the formula, and gives their reports and the book.
@@ -45,6 +41,7 @@ pub(crate) fn run_opened<
     requires name { blank.name ≡ L.name }
     requires parts { (blank.parts ≡ L.parts)
         × (blank.parts ≡ length (streams_by_seat streams.items closing)) }
+    requires lists { blank.lists ≡ L.lists }
     requires formula { formula ≡ L.formula }
     requires seats { L.seats ≡ length (streams_by_seat streams.items closing) }
     requires limit { max_steps ≡ L.max_steps }
@@ -59,11 +56,11 @@ pub(crate) fn run_opened<
     let count = streams.len() + usize::from(closing.is_some());
     let (shared, seats) = Shared::<L>::open(alloc, blank, formula, count as u32, max_steps)?;
     let ran = run_all(rt, alloc, &shared, gate, seats, streams, closing)?;
-    let (seats, told, reports) = parted(alloc, ran)?;
+    let (seats, reports) = parted(alloc, ran)?;
     let Ok(closed) = shared.close(seats) else {
         unreachable!()
     };
-    if !all_confirmed(&closed, &told, &reports) {
+    if !are_confirmed(closed.book(), &reports) {
         return Err(RunFault::Unconfirmed);
     }
     Ok((reports, closed.into_book()))
@@ -85,14 +82,12 @@ fn run_all<
     closing: Option<S>,
 ) -> Result<Vec<Ran<L, S>>, NoMemory>
     requires seats { length seats.items ≡ length (streams_by_seat streams.items closing) }
-    requires fresh { All (λ seat. seat.count ≡ 0) seats.items }
+    requires fresh { All (λ seat. seat.calls ≡ []) seats.items }
     requires unfailed { All (λ stream. S.failures stream ≡ 0)
         (streams_by_seat streams.items closing) }
-    ensures ran { IfOk result (λ ran. HaveRun (source_state S.given S.ended S.rest S.failures)
-        (streams_by_seat streams.items closing) (map (λ r. r.told.entries) ran.items)
-        (map (λ r. r.report) ran.items)) }
-    ensures counted { IfOk result (λ ran. entries_made (map (λ r. r.seat) ran.items)
-        ≡ sum_by (λ r. accepted_count r.report) ran.items) }
+    ensures { IfOk result (λ ran. AllZip (λ job r. HasRun
+        (source_state S.given S.ended S.rest S.failures) job r.seat r.report)
+        (zip seats.items (streams_by_seat streams.items closing)) ran.items) }
 {
     let mut seats = seats;
     match closing {
@@ -123,14 +118,13 @@ fn jobs_of<L: Opening, S: Drop>(
     Ok(jobs)
 }
 
-/// What a worker on a thread of its own leaves: the report of the stream that it was given, and its tokens.
+/// What a worker on a thread of its own leaves of the seat and the stream that it was given.
 #[derive(Drop)]
-struct RunsBeside<S>(Snapshot<S>);
+struct RunsBeside<L: Opening, S>(Snapshot<(Seat<L>, S)>);
 
-impl<L: Opening, S: Source> Promise<Ran<L, S>> for RunsBeside<S> {
-    ghost kept_by = { λ promise ran. IsStreamBeside (source_state S.given S.ended S.rest S.failures)
-        true ran.told.entries promise.0.value ran.report
-        × (ran.seat.count ≡ accepted_count ran.report) };
+impl<L: Opening, S: Source> Promise<Ran<L, S>> for RunsBeside<L, S> {
+    ghost kept_by = { λ promise ran. HasRun (source_state S.given S.ended S.rest S.failures)
+        promise.0.value ran.seat ran.report };
 }
 
 /// Runs streams under their seats, each by a worker on a thread of its own. Where a thread is refused, it answers once the
@@ -147,30 +141,25 @@ fn run_beside<
     gate: &G,
     jobs: Vec<(Seat<L>, S)>,
 ) -> Result<Vec<Ran<L, S>>, NoMemory>
-    requires fresh { All (λ job. job.0.count ≡ 0) jobs.items }
+    requires fresh { All (λ job. job.0.calls ≡ []) jobs.items }
     requires unfailed { All (λ job. S.failures job.1 ≡ 0) jobs.items }
-    ensures ran { IfOk result (λ ran. HaveRun (source_state S.given S.ended S.rest S.failures)
-        (map (λ job. job.1) jobs.items) (map (λ r. r.told.entries) ran.items)
-        (map (λ r. r.report) ran.items)) }
-    ensures counted { IfOk result (λ ran. entries_made (map (λ r. r.seat) ran.items)
-        ≡ sum_by (λ r. accepted_count r.report) ran.items) }
+    ensures { IfOk result (λ ran. AllZip (λ job r. HasRun
+        (source_state S.given S.ended S.rest S.failures) job r.seat r.report)
+        jobs.items ran.items) }
 {
     let ran = thread::scope(
         thread::scope_env(),
         rt,
         move |scope| -> Result<Vec<Ran<L, S>>, AllocError>
-            requires { All (λ job. job.0.count ≡ 0) jobs.items
+            requires { All (λ job. job.0.calls ≡ []) jobs.items
                 × All (λ job. S.failures job.1 ≡ 0) jobs.items }
-            ensures ran { IfOk result (λ ran. HaveRun
-                (source_state S.given S.ended S.rest S.failures)
-                (map (λ job. job.1) jobs.items) (map (λ r. r.told.entries) ran.items)
-                (map (λ r. r.report) ran.items)) }
-            ensures counted { IfOk result (λ ran. entries_made (map (λ r. r.seat) ran.items)
-                ≡ sum_by (λ r. accepted_count r.report) ran.items) }
+            ensures { IfOk result (λ ran. AllZip (λ job r. HasRun
+                (source_state S.given S.ended S.rest S.failures) job r.seat r.report)
+                jobs.items ran.items) }
         {
             let mut workers = Vec::with_capacity(alloc, jobs.len())?;
             for job in jobs {
-                let promise = RunsBeside(Snapshot::of(&job.1));
+                let promise = RunsBeside(Snapshot::of(&job));
                 let work = move || run_worker(rt, alloc, shared, gate, job);
                 workers.push(scope.spawn_with(promise, work)?)?;
             }
@@ -180,56 +169,30 @@ fn run_beside<
     Ok(ran)
 }
 
-/// The seats, the tokens and the reports of streams that ran.
+/// The seats and the reports of streams that ran.
 fn parted<L: Opening, S: Drop>(
     alloc: Global,
     ran: Vec<Ran<L, S>>,
-) -> Result<(Vec<Seat<L>>, Vec<Tokens>, Vec<Report<S>>), NoMemory>
+) -> Result<(Vec<Seat<L>>, Vec<Report<S>>), NoMemory>
     ensures seats { IfOk result (λ parts. parts.0.items ≡ map (λ r. r.seat) ran.items) }
-    ensures told { IfOk result (λ parts. parts.1.items ≡ map (λ r. r.told) ran.items) }
-    ensures reports { IfOk result (λ parts. parts.2.items ≡ map (λ r. r.report) ran.items) }
+    ensures reports { IfOk result (λ parts. parts.1.items ≡ map (λ r. r.report) ran.items) }
 {
     let mut seats = Vec::new(alloc);
-    let mut tokens = Vec::new(alloc);
     let mut reports = Vec::new(alloc);
     for one in ran {
-        let Ran { seat, told, report } = one;
+        let Ran { seat, report } = one;
         seats.push(seat)?;
-        tokens.push(told)?;
         reports.push(report)?;
     }
-    Ok((seats, tokens, reports))
+    Ok((seats, reports))
 }
 
-/// Whether all that was told is confirmed: the history has of each seat just the entries of its tokens, and there is a
-/// verdict where a stream says so.
-fn all_confirmed<L: Opening, S>(
-    closed: &Closed<L>,
-    tokens: &[Tokens],
-    reports: &[Report<S>],
-) -> bool
-    requires same { length tokens.now ≡ length reports.now }
-    requires at_most { length reports.now ≤ 1024 }
-    ensures { MatchBool result
-        (AreConfirmed closed.now (map (λ t. t.entries) tokens.now) reports.now)
-        (SomeDenied closed.now (map (λ t. t.entries) tokens.now) reports.now) }
+/// Whether there is a verdict where a stream says so.
+fn are_confirmed<S>(book: &Book, reports: &[Report<S>]) -> bool
+    ensures { result ≡ list_all (λ r. is_confirmed (has_verdict book.now) r.end) reports.now }
 {
-    for seat in 0..reports.len() {
-        if !is_confirmed(closed, seat as u32, &tokens[seat], reports[seat].end) {
-            return false;
-        }
-    }
-    true
-}
-
-/// Whether the entries of a seat are those of these tokens, and there is a verdict where the stream ended by one.
-fn is_confirmed<L: Opening>(closed: &Closed<L>, seat: u32, told: &Tokens, end: End) -> bool
-    ensures { MatchBool result ((entries_of seat closed.now.history ≡ told.now.entries)
-        × (end ≡ Stopped → has_verdict closed.now ≡ true)) ((entries_of seat closed.now.history
-        ≢ told.now.entries) ⊎ ((end ≡ Stopped) × (has_verdict closed.now ≡ false))) }
-{
-    if !closed.confirm_tokens(seat, told) {
-        return false;
-    }
-    end != End::Stopped || closed.book().verdict().is_some()
+    let verdict = book.verdict().is_some();
+    reports
+        .iter()
+        .all(|report| verdict || report.end != End::Stopped)
 }

@@ -2,27 +2,25 @@
 ghost use Rattle.std.specs.Prelude.{◌≡◌, true, [], IfOk, OnOk, OnErr};
 ghost use Rattle.lj_text.specs.Streams.{source_state};
 ghost use Rattle.lj_share.specs.Entries.{call_of};
-ghost use Rattle.lj_share.specs.Seats.{counting_one};
-ghost use Rattle.lj_run.specs.Joint.{IsStreamBeside, accepted_count};
-ghost use Rattle.lj_run.specs.inner.Joint.{report_of};
+ghost use Rattle.lj_share.specs.Seats.{making};
+ghost use Rattle.lj_run.specs.Joint.{IsStreamBeside};
+ghost use Rattle.lj_run.specs.inner.Joint.{HasRun, report_of};
 ghost use Rattle.lj_run.specs.inner.Run.{IsCounted};
-ghost use Rattle.lj_run.specs.inner.Tally.{IsToldOf};
 
 use crate::outcome::{End, LineEnd, Report};
 use crate::reading::{PIECE, next_line};
 use crate::stream::{Count, Tally, missed};
 use lj_book::Refusal;
 use lj_clause::MAX_VARIABLE;
-use lj_share::{Gate, Opening, Seat, Shared, Tokens};
+use lj_share::{Gate, Opening, Seat, Shared};
 use lj_text::{Line, LineReader, Source};
 use std::alloc::Global;
 use std::sync::Wait;
 
-/// What comes of a stream: its seat, the tokens of its entries, and its report.
+/// What comes of a stream: its seat, which has the calls of its lines, and its report.
 #[derive(Drop)]
 pub(crate) struct Ran<L: Opening, S> {
     pub seat: Seat<L>,
-    pub told: Tokens,
     pub report: Report<S>,
 }
 
@@ -35,16 +33,12 @@ pub(crate) fn run_worker<L: Opening, R: Wait, S: Source, G: Gate>(
     job: (Seat<L>, S),
 ) -> Ran<L, S>
     requires unfailed { S.failures job.1 ≡ 0 }
-    requires fresh { job.0.count ≡ 0 }
-    ensures report { IsStreamBeside (source_state S.given S.ended S.rest S.failures) true
-        result.told.entries job.1 result.report }
-    ensures counted { result.seat.count ≡ accepted_count result.report }
+    requires fresh { job.0.calls ≡ [] }
+    ensures { HasRun (source_state S.given S.ended S.rest S.failures) job result.seat
+        result.report }
 {
     let (mut seat, mut source) = job;
-    let mut told = Tokens::new(alloc);
-    let tally = run_lines(rt, alloc, shared, gate, &mut seat, &mut source, &mut told);
-    // The last token takes less as words; where they are refused, it stays as it was told.
-    let _ = told.reserve();
+    let tally = run_lines(rt, alloc, shared, gate, &mut seat, &mut source);
     let report = Report {
         added: tally.added,
         deleted: tally.deleted,
@@ -52,10 +46,10 @@ pub(crate) fn run_worker<L: Opening, R: Wait, S: Source, G: Gate>(
         end: tally.end,
         source,
     };
-    Ran { seat, told, report }
+    Ran { seat, report }
 }
 
-/// Submits the lines of a source, one after another, until the verdict stands, the source ends or a line isn't accepted.
+/// Enters the lines of a source, one after another, until the verdict stands, the source ends or a line isn't accepted.
 fn run_lines<L: Opening, R: Wait, S: Source, G: Gate>(
     rt: &R,
     alloc: Global,
@@ -63,14 +57,12 @@ fn run_lines<L: Opening, R: Wait, S: Source, G: Gate>(
     gate: &G,
     seat: &mut Seat<L>,
     source: &mut S,
-    told: &mut Tokens,
 ) -> Tally
     requires unfailed { S.failures source.old ≡ 0 }
-    requires fresh { seat.old.count ≡ 0 }
-    requires empty { told.old.entries ≡ [] }
+    requires fresh { seat.old.calls ≡ [] }
     ensures report { IsStreamBeside (source_state S.given S.ended S.rest S.failures) true
-        told.new.entries source.old (report_of result source.new) }
-    ensures counted { seat.new.count ≡ accepted_count (report_of result source.new) }
+        seat.new.calls source.old (report_of result source.new) }
+    ensures number { seat.new.number ≡ seat.old.number }
 {
     let mut reader = LineReader::new(alloc, MAX_VARIABLE);
     let mut room = [0; PIECE];
@@ -90,7 +82,7 @@ fn run_lines<L: Opening, R: Wait, S: Source, G: Gate>(
             Ok(None) => return tally.ending(End::Ended),
             Err(miss) => return tally.ending(missed(miss, reader.at())),
         };
-        match enter(rt, shared, gate, seat, told, &line, reader.at()) {
+        match enter(rt, shared, gate, seat, &line, reader.at()) {
             Ok(count) => {
                 tally.count(count, seat.count());
                 reader.reuse(line);
@@ -103,26 +95,20 @@ fn run_lines<L: Opening, R: Wait, S: Source, G: Gate>(
     unreachable!()
 }
 
-/// Submits the line of this number, keeps its token, for which there is room before the line is handed in, and answers what
-/// the line is counted as.
+/// Enters the line of this number, and answers what it is counted as.
 fn enter<L: Opening, R: Wait, G: Gate>(
     rt: &R,
     shared: &Shared<L>,
     gate: &G,
     seat: &mut Seat<L>,
-    told: &mut Tokens,
     line: &Line,
     at: u64,
 ) -> Result<Count, Refusal>
-    ensures told { OnOk result (IsToldOf (call_of line.now) told.old.entries told.new.entries) }
     ensures count { IfOk result (IsCounted line.now) }
-    ensures counted { OnOk result (seat.new ≡ counting_one seat.old) }
-    ensures told_before { OnErr result (told.new.entries ≡ told.old.entries) }
+    ensures made { OnOk result (seat.new ≡ making (call_of line.now) seat.old) }
     ensures kept { OnErr result (seat.new ≡ seat.old) }
 {
-    told.reserve()?;
-    let token = shared.submit_at(rt, seat, line, at, gate)?;
-    told.push(token).unwrap();
+    shared.enter_at(rt, seat, line, at, gate)?;
     Ok(count_of(line))
 }
 

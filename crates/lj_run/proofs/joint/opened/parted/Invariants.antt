@@ -7,6 +7,5 @@ invariant-loop-one g l = record {
   goes : (goal.iterator-loop-one g).can_next l.one-iterator;
   finite : (goal.iterator-loop-one g).is_finite l.one-iterator;
   seats : l.seats.items ≡ map (λ r. r.seat) l.yielded;
-  tokens : l.tokens.items ≡ map (λ r. r.told) l.yielded;
   reports : l.reports.items ≡ map (λ r. r.report) l.yielded;
 }

@@ -5,8 +5,8 @@ use Rattle.lj_run.specs.inner.Joint.{report_of}
 use Rattle.lj_text.specs.LinesRead.{LinesRead}
 use Rattle.lj_run.specs.inner.Reading.{LineRead, LineMissed, MayRead}
 use Rattle.lj_run.specs.declared.stream.Tally.{Tally}
-use Rattle.lj_run.proofs.JointLemmas.{beside_stopped, beside_ended, beside_missed, beside_refused, submitted_on, counts_on, SubmittedTo}
-use Rattle.lj_run.proofs.RunLemmas.{count_more}
+use Rattle.lj_run.proofs.JointLemmas.{beside_stopped, beside_ended, beside_missed, beside_refused, entered_on, counts_on, EnteredTo}
+use Rattle.lj_run.specs.inner.Tally.{with_count}
 use Rattle.lj_run.proofs.joint.worker.run_lines.Goals as goal
 use Rattle.lj_clause.specs.declared.lit.TheConstants.{MAX_VARIABLE}
 
@@ -14,8 +14,8 @@ pub returns-then-is_some-clause-report : goal.returns-then-is_some-clause-report
 returns-then-is_some-clause-report g c =
     let seen = source_state g.S.Source.given g.S.Source.ended g.S.Source.rest g.S.Source.failures in
     let i = c.loop.invariant in
-    let run = beside_stopped seen c.args.source.now c.loop.source c.loop.told.entries c.loop.tally c.loop.reader i.runs i.counts i.unfailed in
-    subst (λ (t : Tally). IsStreamBeside seen true c.loop.told.entries c.args.source.now (report_of t c.loop.source)) (sym c.ending.ensures) run
+    let run = beside_stopped seen c.args.source.now c.loop.source c.loop.seat.calls c.loop.tally c.loop.reader i.runs i.counts i.unfailed in
+    subst (λ (t : Tally). IsStreamBeside seen true c.loop.seat.calls c.args.source.now (report_of t c.loop.source)) (sym c.ending.ensures) run
 
 pub returns-in-Ok-None-clause-report : goal.returns-in-Ok-None-clause-report
 returns-in-Ok-None-clause-report g c =
@@ -27,8 +27,8 @@ returns-in-Ok-None-clause-report g c =
     let new = c.next_line.new.reader in
     let told = subst (λ (o : Option _). LineRead c.loop.reader.max r.text r.handed new before after o) c.in-Ok-None.field-0-is (c.in-Ok-None.ensures.line r.text r.handed r.stands) in
     let read = subst (λ m. LineRead m r.text r.handed new before after None) i.max told in
-    let run = beside_ended seen c.args.source.now c.loop.source c.next_line.new.source c.loop.told.entries c.loop.tally c.loop.reader new r read i.counts c.in-Ok-None.ensures.unfailed in
-    subst (λ (t : Tally). IsStreamBeside seen true c.loop.told.entries c.args.source.now (report_of t c.next_line.new.source)) (sym c.ending-in-Ok-None.ensures) run
+    let run = beside_ended seen c.args.source.now c.loop.source c.next_line.new.source c.loop.seat.calls c.loop.tally c.loop.reader new r read i.counts c.in-Ok-None.ensures.unfailed in
+    subst (λ (t : Tally). IsStreamBeside seen true c.loop.seat.calls c.args.source.now (report_of t c.next_line.new.source)) (sym c.ending-in-Ok-None.ensures) run
 
 pub returns-in-Err-clause-report : goal.returns-in-Err-clause-report
 returns-in-Err-clause-report g c =
@@ -39,9 +39,9 @@ returns-in-Err-clause-report g c =
     let after = seen c.next_line.new.source in
     let told = subst (λ m. LineMissed m r.text r.handed c.next_line.new.reader.at before after c.in-Err.miss) i.max (c.in-Err.ensures.miss r.text r.handed r.stands) in
     let miss = subst (λ n. LineMissed MAX_VARIABLE r.text r.handed n before after c.in-Err.miss) (sym c.at.ensures) told in
-    let run = beside_missed seen c.args.source.now c.loop.source c.next_line.new.source c.loop.told.entries c.loop.tally c.loop.reader r c.at.result c.in-Err.miss miss i.counts c.in-Err.ensures.failures in
+    let run = beside_missed seen c.args.source.now c.loop.source c.next_line.new.source c.loop.seat.calls c.loop.tally c.loop.reader r c.at.result c.in-Err.miss miss i.counts c.in-Err.ensures.failures in
     let ended = c.ending-in-Err.ensures ∙ ap (λ e. record c.loop.tally { end = e }) c.missed.ensures in
-    subst (λ (t : Tally). IsStreamBeside seen true c.loop.told.entries c.args.source.now (report_of t c.next_line.new.source)) (sym ended) run
+    subst (λ (t : Tally). IsStreamBeside seen true c.loop.seat.calls c.args.source.now (report_of t c.next_line.new.source)) (sym ended) run
 
 pub returns-in-Err-enter-clause-report : goal.returns-in-Err-enter-clause-report
 returns-in-Err-enter-clause-report g c =
@@ -53,7 +53,7 @@ returns-in-Err-enter-clause-report g c =
     let new = c.next_line.new.reader in
     let told = subst (λ (o : Option _). LineRead c.loop.reader.max r.text r.handed new before after o) c.in-Ok-Some.field-0-is (c.in-Ok-Some.ensures.line r.text r.handed r.stands) in
     let read = subst (λ m. LineRead m r.text r.handed new before after (Some c.in-Ok-Some.line)) i.max told in
-    let run = beside_refused seen c.args.source.now c.loop.source c.next_line.new.source c.loop.told.entries c.loop.tally c.loop.reader new r c.in-Ok-Some.line c.in-Err-enter.refusal read i.counts c.in-Ok-Some.ensures.unfailed in
+    let run = beside_refused seen c.args.source.now c.loop.source c.next_line.new.source c.loop.seat.calls c.loop.tally c.loop.reader new r c.in-Ok-Some.line c.in-Err-enter.refusal read i.counts c.in-Ok-Some.ensures.unfailed in
     search rules
 
 pub loop-preserved : goal.loop-preserved
@@ -66,8 +66,9 @@ loop-preserved g c =
     let new = c.next_line.new.reader in
     let told = subst (λ (o : Option _). LineRead c.loop.reader.max r.text r.handed new before after o) c.in-Ok-Some.field-0-is (c.in-Ok-Some.ensures.line r.text r.handed r.stands) in
     let read = subst (λ m. LineRead m r.text r.handed new before after (Some c.in-Ok-Some.line)) i.max told in
-    let counts = counts_on c.loop.tally c.loop.told.entries c.enter.new.told.entries c.in-Ok-Some.line c.in-Ok.count c.in-Ok.ensures.count c.in-Ok.ensures.told i.counts in
-    let more = ap (λ (t : Tally). t.added + t.deleted + t.imported) c.count-in-Ok.ensures ∙ count_more c.loop.tally c.in-Ok.count in
+    let calls = ap (λ s. s.calls) c.in-Ok.ensures.made in
+    let counts = counts_on c.loop.tally c.loop.seat.calls c.in-Ok-Some.line c.in-Ok.count c.in-Ok.ensures.count i.counts in
+    let runs = entered_on c.loop.seat.calls c.in-Ok-Some.line c.loop.reader new (seen c.args.source.now) before after r read in
     record {
       goes = tt;
       finite = tt;
@@ -76,8 +77,9 @@ loop-preserved g c =
       ended = c.in-Ok-Some.ensures.ended;
       max = ap (λ (q : LinesRead). q.max) c.reuse.ensures ∙ c.in-Ok-Some.ensures.max ∙ i.max;
       room = search rules;
-      counted = ap (λ s. s.count) c.in-Ok.ensures.counted ∙ ap (λ n. n + 1) i.counted ∙ sym more;
-      counts = subst (λ (t : Tally). AreCountsOf c.enter.new.told.entries t.added t.deleted t.imported) (sym c.count-in-Ok.ensures) counts;
-      runs = subst (λ (q : LinesRead). SubmittedTo (seen c.args.source.now) after c.enter.new.told.entries q) (sym c.reuse.ensures)
-          (submitted_on c.loop.told.entries c.enter.new.told.entries c.in-Ok-Some.line c.loop.reader new (seen c.args.source.now) before after r read c.in-Ok.ensures.told);
+      number = ap (λ s. s.number) c.in-Ok.ensures.made ∙ i.number;
+      counts = subst (λ (t : Tally). AreCountsOf c.enter.new.seat.calls t.added t.deleted t.imported) (sym c.count-in-Ok.ensures)
+          (subst (λ made. AreCountsOf made (with_count c.loop.tally c.in-Ok.count).added (with_count c.loop.tally c.in-Ok.count).deleted (with_count c.loop.tally c.in-Ok.count).imported) (sym calls) counts);
+      runs = subst (λ (q : LinesRead). EnteredTo (seen c.args.source.now) after c.enter.new.seat.calls q) (sym c.reuse.ensures)
+          (subst (λ made. EnteredTo (seen c.args.source.now) after made new) (sym calls) runs);
     }

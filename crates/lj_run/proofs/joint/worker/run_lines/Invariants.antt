@@ -1,8 +1,8 @@
-use Rattle.std.proofs.Common.{◌≡◌, ◌+◌, true, length}
+use Rattle.std.proofs.Common.{◌≡◌, true, length}
 use Rattle.lj_text.specs.Streams.{source_state, HasEnded}
 use Rattle.lj_run.specs.Joint.{AreCountsOf}
 use Rattle.lj_run.specs.inner.Reading.{MayRead}
-use Rattle.lj_run.proofs.JointLemmas.{SubmittedTo}
+use Rattle.lj_run.proofs.JointLemmas.{EnteredTo}
 use Rattle.lj_run.proofs.joint.worker.run_lines.Given as goal
 use Rattle.lj_clause.specs.declared.lit.TheConstants.{MAX_VARIABLE}
 
@@ -17,7 +17,7 @@ invariant-loop g l =
       ended : l.ended ≡ true → HasEnded (seen l.source);
       max : l.reader.max ≡ MAX_VARIABLE;
       room : length l.room ≡ 65536;
-      counted : l.seat.count ≡ l.tally.added + l.tally.deleted + l.tally.imported;
-      counts : AreCountsOf l.told.entries l.tally.added l.tally.deleted l.tally.imported;
-      runs : SubmittedTo (seen l.fn.source) (seen l.source) l.told.entries l.reader;
+      number : l.seat.number ≡ l.fn.seat.number;
+      counts : AreCountsOf l.seat.calls l.tally.added l.tally.deleted l.tally.imported;
+      runs : EnteredTo (seen l.fn.source) (seen l.source) l.seat.calls l.reader;
     }

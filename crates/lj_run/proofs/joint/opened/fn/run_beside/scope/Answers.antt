@@ -1,13 +1,13 @@
-use Rattle.std.proofs.Common.{◌≡◌, ◌<◌, true, length, map, sym, ap, ◌∙◌, subst}
+use Rattle.std.proofs.Common.{◌≡◌, ◌<◌, [], length, map, sym, ap, ◌∙◌, subst}
 use Rattle.std.specs.Prelude.{slice_index_or}
+use Rattle.std.specs.List.{AllZip}
 use Rattle.std.proofs.lemmas.Option.{get_or_from_slice_get}
 use Rattle.std.proofs.lemmas.List.{map-id}
 use Rattle.std.proofs.lemmas.Iterator.Adapters.{YieldsList-from_vec}
 use Rattle.std.proofs.lemmas.Iterator.Consumers.{YieldsList-turn, YieldsList-end}
 use Rattle.lj_text.specs.Streams.{source_state}
-use Rattle.lj_run.specs.inner.Joint.{HaveRun}
-use Rattle.lj_run.specs.Joint.{IsStreamBeside, accepted_count}
-use Rattle.lj_run.proofs.JointRunLemmas.{got_below, got_below_as, have_run_each, made_each}
+use Rattle.lj_run.specs.inner.Joint.{HasRun}
+use Rattle.lj_run.proofs.JointRunLemmas.{got_below, zip_each}
 use Rattle.lj_run.proofs.joint.opened.fn.run_beside.scope.Goals as goal
 
 -- The worker's job is one of those that the run was given.
@@ -17,7 +17,7 @@ spawn_with-requires-clause-runs g c κs within = λ others bytes held made κs' 
     let list = YieldsList-from_vec c.captures.jobs.items gives.0 (gives.1 ∙ c.captures.jobs.ok.0) in
     let turn = YieldsList-turn list c.loop-job.yielded c.loop-job.job-iterator c.loop-job.yielded_by c.next.result c.next.new.self c.in-Some.job c.in-Some.is c.next.ensures.steps in
     let job = sym turn.1 in
-    (subst (λ j. g.S.Source.failures j.1 ≡ 0) job (c.requires.1 (length c.loop-job.yielded) c.in-Some.job turn.0), subst (λ j. j.0.count ≡ 0) job (c.requires.0 (length c.loop-job.yielded) c.in-Some.job turn.0))
+    (subst (λ j. g.S.Source.failures j.1 ≡ 0) job (c.requires.1 (length c.loop-job.yielded) c.in-Some.job turn.0), subst (λ j. j.0.calls ≡ []) job (c.requires.0 (length c.loop-job.yielded) c.in-Some.job turn.0))
 
 pub returns : goal.returns
 returns g c =
@@ -28,13 +28,8 @@ returns g c =
     let gives = c.into_iter-job-iterator.ensures.into_iter_gives in
     let list = YieldsList-from_vec c.captures.jobs.items gives.0 (gives.1 ∙ c.captures.jobs.ok.0) in
     let done = YieldsList-end list c.loop-job.yielded c.loop-job.job-iterator c.loop-job.yielded_by c.next.result c.next.new.self c.in-None.is c.next.ensures.steps in
-    let streams = c.loop-job.invariant.streams ∙ ap (map (λ job. job.1)) (sym (map-id c.loop-job.yielded) ∙ done.0) in
-    record {
-      ran = subst (λ ss. HaveRun seen ss (map (λ r. r.told.entries) rs) (map (λ r. r.report) rs)) streams (have_run_each seen (λ w. w.promise.0.value) (λ r. r.told.entries) (λ r. r.report) ws rs same (λ i w r a b.
-          let keeps = c.in_ok-join_promised.ensures.each i r (subst (λ n. i < n) (sym c.loop-job.workers.ok.0) (got_below ws i w a)) in
-          let handle = keeps.1.handle_is ∙ get_or_from_slice_get ws i w keeps.1.handle a in
-          subst (λ x. IsStreamBeside seen true x.told.entries w.promise.0.value x.report) (get_or_from_slice_get rs i r r b) (subst (λ h. IsStreamBeside seen true (slice_index_or rs i r).told.entries h.promise.0.value (slice_index_or rs i r).report) handle keeps.1.kept.0)));
-      counted = made_each (λ r. r.seat) (λ r. accepted_count r.report) rs (λ i r b.
-          let keeps = c.in_ok-join_promised.ensures.each i r (subst (λ n. i < n) (sym c.loop-job.workers.ok.0) (got_below_as ws rs same i r b)) in
-          subst (λ x. x.seat.count ≡ accepted_count x.report) (get_or_from_slice_get rs i r r b) keeps.1.kept.1);
-    }
+    let jobs = c.loop-job.invariant.jobs ∙ (sym (map-id c.loop-job.yielded) ∙ done.0) in
+    subst (λ js. AllZip (λ job r. HasRun seen job r.seat r.report) js rs) jobs (zip_each (λ job r. HasRun seen job r.seat r.report) (λ w. w.promise.0.value) ws rs same (λ i w r a b.
+        let keeps = c.in_ok-join_promised.ensures.each i r (subst (λ n. i < n) (sym c.loop-job.workers.ok.0) (got_below ws i w a)) in
+        let handle = keeps.1.handle_is ∙ get_or_from_slice_get ws i w keeps.1.handle a in
+        subst (λ x. HasRun seen w.promise.0.value x.seat x.report) (get_or_from_slice_get rs i r r b) (subst (λ h. HasRun seen h.promise.0.value (slice_index_or rs i r).seat (slice_index_or rs i r).report) handle keeps.1.kept)))
