@@ -2,14 +2,14 @@
 use Rattle.std.proofs.Common.{◌≡◌, ℕ, zero, suc, Bool, cond, List, [], ◌∷◌, ◌++◌, length, Option, None, Some, refl, sym, ap, ◌∙◌, subst, inl, inr, map, slice_get, slice_set, arith}
 use Rattle.std.specs.Prelude.{◌==◌, ◌⊎◌, All}
 use Rattle.std.proofs.lemmas.Bool.{eq-eqb}
-use Rattle.std.proofs.lemmas.List.{append-nil, map-append}
+use Rattle.std.proofs.lemmas.List.{append-nil, length-replicate, map-append}
 use Rattle.std.proofs.lemmas.List.Elements.{filter-append, All-head, All-tail}
 use Rattle.lj_clause.specs.ClauseMap.{FormulaValue}
 use Rattle.lj_book.specs.declared.entry.Call.{Call}
 use Rattle.lj_book.specs.declared.entry.Call.TheVariants as calls
 use Rattle.lj_book.specs.declared.entry.Entry.{Entry}
 use Rattle.lj_book.specs.Lookup.{least_number}
-use Rattle.lj_book.specs.State.{State, live}
+use Rattle.lj_book.specs.State.{State, live, opening}
 use Rattle.lj_book.specs.History.{after_entry, tables_after, with_found}
 use Rattle.lj_book.specs.Tables.{Table, Tables, with_table, without_seat}
 use Rattle.lj_share.specs.Entries.{entries_of, calls_of}
@@ -44,6 +44,14 @@ opened_on f seats max s t e is opened =
     let kept : IsOpenedAs f seats max (after_entry s e) = record { formula_is = opened.formula_is; seats_are = seats_kept s e.seat e.call ∙ opened.seats_are; limit_is = opened.limit_is } in
     subst (λ u. IsOpenedAs f seats max u) (sym is) kept
 
+-- a new book is that of its opening
+pub newly_opened : (f g : FormulaValue) (n seats m max : ℕ) (s : State) → s ≡ opening f n m → f ≡ g → n ≡ seats → m ≡ max → IsOpenedAs g seats max s
+newly_opened f g n seats m max s is formula many limit = record {
+  formula_is = ap (λ (u : State). u.formula) is ∙ formula;
+  seats_are = ap (λ (u : State). length u.tables) is ∙ length-replicate n _ ∙ many;
+  limit_is = ap (λ (u : State). u.max_steps) is ∙ limit;
+}
+
 -- ---- lists of calls
 
 -- the calls of the seat whose entry is put behind the others
@@ -62,39 +70,40 @@ calls-same es e seat other =
     ∙ append-nil (calls_of seat es)
 
 -- what stands in a list in which one place was set
-after_set : {A : Type 0} (xs : List A) (i k : ℕ) (y x : A) → slice_get (slice_set xs i y) k ≡ Some x → ((i ≡ k) × (x ≡ y)) ⊎ ((i ≡ k → ⊥) × (slice_get xs k ≡ Some x))
+pub after_set : {A : Type 0} (xs : List A) (i k : ℕ) (y x : A) → slice_get (slice_set xs i y) k ≡ Some x → ((i ≡ k) × (x ≡ y)) ⊎ ((i ≡ k → ⊥) × (slice_get xs k ≡ Some x))
 after_set [] i k y x h = absurd cc
 after_set (z ∷ xs) zero zero y x h = inl (refl, sym (some_same y x h))
 after_set (z ∷ xs) zero (suc k) y x h = inr ((λ e. let no : ⊥ = omega (arith, e) in no), h)
 after_set (z ∷ xs) (suc i) zero y x h = inr ((λ e. let no : ⊥ = omega (arith, e) in no), h)
 after_set (z ∷ xs) (suc i) (suc k) y x h =
-    elim after_set xs i k y x h [
+    elim (after_set xs i k y x h) [
       | inl p ↦ inl (ap suc p.0, p.1)
       | inr p ↦ inr ((λ e. p.0 (let less : i ≡ k = omega (arith, e) in less)), p.1)
     ]
 
 -- the history has one call more than the lists
-pub one_more : (s t : State) (e : Entry) (lists : List (List Call)) → t ≡ after_entry s e → AreListsOf s.history lists → HasOneMore e.seat lists t.history e.call
-one_more s t e lists is listed before at =
-    ap (λ (u : State). calls_of e.seat u.history) is ∙ calls-more s.history e ∙ ap (λ (calls : List Call). calls ++ e.call ∷ []) (sym (listed e.seat before at))
+pub one_more : (s t : State) (e : Entry) (seat : ℕ) (lists : List (List Call)) → e.seat ≡ seat → t ≡ after_entry s e → AreListsOf s.history lists → HasOneMore seat lists t.history e.call
+one_more s t e seat lists same is listed =
+    subst (λ (n : ℕ). HasOneMore n lists t.history e.call) same (λ before at.
+    ap (λ (u : State). calls_of e.seat u.history) is ∙ calls-more s.history e ∙ ap (λ (calls : List Call). calls ++ e.call ∷ []) (sym (listed e.seat before at)))
 
 -- the lists after the entry
 lists_on : (s t : State) (e : Entry) (lists after : List (List Call)) → t ≡ after_entry s e → after ≡ slice_set lists e.seat (calls_of e.seat t.history) → AreListsOf s.history lists → AreListsOf t.history after
 lists_on s t e lists after is set listed seat calls at =
-    elim after_set lists e.seat seat (calls_of e.seat t.history) calls (ap (λ (ls : List (List Call)). slice_get ls seat) (sym set) ∙ at) [
+    elim (after_set lists e.seat seat (calls_of e.seat t.history) calls (ap (λ (ls : List (List Call)). slice_get ls seat) (sym set) ∙ at)) [
       | inl p ↦ p.1 ∙ ap (λ (n : ℕ). calls_of n t.history) p.0
       | inr p ↦ listed seat calls p.1 ∙ sym (ap (λ (u : State). calls_of seat u.history) is ∙ calls-same s.history e seat p.0)
     ]
 
 -- what lies under the lock after an entry that its ledger and its lists count
-pub desk_on : (f : FormulaValue) (seats max : ℕ) (s t : State) (e : Entry) (lists after : List (List Call)) (before total parts amount : ℕ) → t ≡ after_entry s e → total ≡ length t.history → after ≡ slice_set lists e.seat (calls_of e.seat t.history)
+pub desk_on : (f : FormulaValue) (seats max : ℕ) (s t : State) (e : Entry) (seat : ℕ) (lists after : List (List Call)) (before total parts amount : ℕ) → e.seat ≡ seat → t ≡ after_entry s e → total ≡ length t.history → after ≡ slice_set lists seat (calls_of seat t.history)
     → IsDesk f seats max s lists before parts amount → IsDesk f seats max t after total parts amount
-desk_on f seats max s t e lists after before total parts amount is counted set d = record {
+desk_on f seats max s t e seat lists after before total parts amount same is counted set d = record {
   opened = opened_on f seats max s t e is d.opened;
   counted = sym counted;
   no_part = d.no_part;
   no_amount = d.no_amount;
-  listed = lists_on s t e lists after is set d.listed;
+  listed = lists_on s t e lists after is (set ∙ ap (λ (n : ℕ). slice_set lists n (calls_of n t.history)) (sym same)) d.listed;
 }
 
 -- what lies under the lock where the book stayed

@@ -46,7 +46,7 @@ impl Blank {
     {
         let mut desk = Vec::new(alloc);
         let mut copies = Vec::new(alloc);
-        for _ in 0..seats {
+        for _seat in 0..seats {
             let (here, there) = new_copies();
             desk.push(here)?;
             copies.push(there)?;

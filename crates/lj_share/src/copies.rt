@@ -4,9 +4,10 @@ ghost use Rattle.std.specs.Coded.{coded_list};
 ghost use Rattle.lj_book.specs.declared.entry.Call.{Call};
 ghost use Rattle.lj_book.specs.inner.Codes.{call_code};
 ghost use Rattle.lj_share.specs.Entries.{calls_of};
+ghost use Rattle.lj_share.specs.inner.Copies.{desk_copy_owns, seat_copy_owns};
 
 use lj_book::Book;
-use std::marker::Model;
+use std::marker::{Model, Send};
 
 /// The copy that stands under the lock. It takes no memory.
 #[derive(Debug, Drop)]
@@ -16,8 +17,6 @@ pub(crate) struct DeskCopy {
 }
 
 impl Model for DeskCopy {
-    ghost use Rattle.lj_share.specs.inner.Copies.{desk_copy_owns};
-
     ghost also_owns = { λ c. desk_copy_owns c.name c.calls };
 }
 
@@ -29,8 +28,6 @@ pub(crate) struct SeatCopy {
 }
 
 impl Model for SeatCopy {
-    ghost use Rattle.lj_share.specs.inner.Copies.{seat_copy_owns};
-
     ghost also_owns = { λ c. seat_copy_owns c.name c.calls };
 }
 
@@ -45,6 +42,7 @@ pub(crate) fn new_copies() -> (DeskCopy, SeatCopy)
 
 impl DeskCopy {
     /// Both copies become the calls that the book's history has of this seat.
+    #[inline(always)]
     pub(crate) fn follow(&mut self, other: &mut SeatCopy, book: &Book, seat: u32)
         requires { other.old.name ≡ self.old.name }
         ensures agree { other.old.calls ≡ self.old.calls }

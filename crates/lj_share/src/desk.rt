@@ -259,9 +259,7 @@ impl<L: Opening> Desk<L> {
         } = self;
         match book.adopt_telling(seat.number(), own, joint) {
             Ok((_, entry)) => {
-                if let Some(clause) = book.clause(joint) {
-                    seat.bind(own, joint, &clause);
-                }
+                bind_live(book, seat, own, joint);
                 seat.count_one(entries, lists, book);
                 Ok(Told { entry })
             }
@@ -290,6 +288,15 @@ impl<L: Opening> Desk<L> {
             }
             Err(refusal) => Err(refusal),
         }
+    }
+}
+
+/// Takes up the live clause of a joint number that the seat's own number was bound to.
+fn bind_live<L: Opening>(book: &Book, seat: &mut Seat<L>, own: u64, joint: u64)
+    ensures { seat.new ≡ seat.old }
+{
+    if let Some(clause) = book.clause(joint) {
+        seat.bind(own, joint, &clause);
     }
 }
 

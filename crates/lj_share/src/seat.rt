@@ -98,6 +98,8 @@ impl<L: Opening> Seat<L> {
         entries.add(&mut self.share, 1);
         entries.audit(&mut self.share);
         lists.follow(&mut self.copy, book, self.number);
+        let made = book.history_len();
+        prove!(self.count < made);
         self.count += 1;
     }
 

@@ -1,5 +1,5 @@
 //! The shared book.
-ghost use Rattle.std.specs.Prelude.{◌≡◌, ◌==◌, ◌+◌, ◌<◌, [], length, map, drop, All, is_ok, OnOk, OnErr, OnSome, IfOk, IfErr, IfSome, None, Ok, Err};
+ghost use Rattle.std.specs.Prelude.{◌≡◌, ◌==◌, ◌+◌, ◌<◌, [], length, map, drop, All, is_ok, OnOk, OnErr, OnSome, IfOk, IfErr, IfSome, None, Ok, Err, true, false};
 ghost use Rattle.lj_clause.specs.Truth.{IsUnsatisfiable};
 ghost use Rattle.lj_book.specs.declared.entry.Call.TheVariants as calls;
 ghost use Rattle.lj_book.specs.History.{IsReached};

@@ -1,10 +1,21 @@
-use Rattle.lj_share.proofs.Opened.{desk_on, desk_kept}
+use Rattle.std.proofs.Common.{sym, ap, ◌∙◌}
+use Rattle.lj_share.proofs.Opened.{desk_on, desk_kept, one_more}
 use Rattle.lj_share.proofs.desk.Desk.commit.Goals.{in-Ok, in-Err}
 use Rattle.lj_share.proofs.desk.Desk.commit.Goals as goal
+
+pub count_one-requires-clause-one : goal.count_one-requires-clause-one
+count_one-requires-clause-one g c = (_, one_more _ _ _ _ _ c.requires c.in-Ok.ensures.ok c.self.invariant.listed)
+
+pub returns-clause-made : goal.returns-clause-made
+returns-clause-made g c =
+    elim c.match-commit_telling.branch [
+      | in-Ok w ↦ rw (w.result-is, w.seat-is) (w.count_one.ensures.seat _ (one_more _ _ _ _ _ c.requires w.in-Ok.ensures.ok c.self.invariant.listed))
+      | in-Err w ↦ rw w.result-is tt
+    ]
 
 pub invariant_of-self : goal.invariant_of-self
 invariant_of-self g c =
     elim c.match-commit_telling.branch [
-      | in-Ok w ↦ rw w.self-inside-is (desk_on _ _ _ _ _ _ _ _ _ _ w.in-Ok.ensures.ok w.tell.ensures.entries c.self.invariant)
-      | in-Err w ↦ rw w.self-inside-is (desk_kept _ _ _ _ _ _ _ _ w.in-Err.ensures.err c.self.invariant)
+      | in-Ok w ↦ rw w.self-inside-is (desk_on _ _ _ _ _ _ _ _ _ _ _ _ _ c.requires w.in-Ok.ensures.ok w.count_one.ensures.entries w.count_one.ensures.lists c.self.invariant)
+      | in-Err w ↦ rw w.self-inside-is (desk_kept _ _ _ _ _ _ _ _ _ w.in-Err.ensures.err c.self.invariant)
     ]

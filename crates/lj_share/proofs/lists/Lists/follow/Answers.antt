@@ -1,0 +1,29 @@
+use Rattle.std.proofs.Common.{List, Some, slice_set, sym, ap, ◌∙◌, arith}
+use Rattle.std.specs.Prelude.{slice_get}
+use Rattle.lj_book.specs.declared.entry.Call.{Call}
+use Rattle.lj_share.specs.Entries.{calls_of}
+use Rattle.lj_share.proofs.ListLaws.{lists_of, place_within, name_at, list_at, names_kept, list_set}
+use Rattle.lj_share.proofs.lists.Lists.follow.Goals as goal
+
+pub index_mut-requires : goal.index_mut-requires
+index_mut-requires g c =
+    let within = place_within c.self.inside.copies.items g.L.Opening.lists c.args.seat c.args.copy.now.name c.self.invariant c.requires in
+    omega (arith, within, c.self.inside.copies.ok.0)
+
+pub follow-requires : goal.follow-requires
+follow-requires g c = name_at c.self.inside.copies.items g.L.Opening.lists c.args.seat c.args.copy.now.name c.index_mut.result.now c.self.invariant c.requires c.index_mut.ensures.value
+
+pub invariant_of-self : goal.invariant_of-self
+invariant_of-self g c = names_kept c.self.inside.copies.items g.L.Opening.lists c.args.seat c.index_mut.result.now c.follow.new.self c.self.invariant c.index_mut.ensures.value c.follow.ensures.names.0
+
+pub returns-clause-agree : goal.returns-clause-agree
+returns-clause-agree g c =
+    ap (λ (ls : List (List Call)). slice_get ls c.args.seat) (sym c.self.view_is)
+    ∙ list_at c.self.inside.copies.items g.L.Opening.lists c.args.seat c.args.copy.now.name c.index_mut.result.now c.self.invariant c.requires c.index_mut.ensures.value
+    ∙ ap Some (sym c.follow.ensures.agree)
+
+pub returns-clause-desk : goal.returns-clause-desk
+returns-clause-desk g c =
+    list_set c.self.inside.copies.items c.args.seat c.follow.new.self
+    ∙ ap (slice_set (lists_of c.self.inside.copies.items) c.args.seat) c.follow.ensures.desk
+    ∙ ap (λ (ls : List (List Call)). slice_set ls c.args.seat (calls_of c.args.seat c.args.book.now.history)) c.self.view_is
