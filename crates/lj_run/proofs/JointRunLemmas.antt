@@ -56,7 +56,7 @@ numbered_more k (x ∷ xs) s are here = (are.0, numbered_more (k + 1) xs s are.1
 
 new_numbered : (n : ℕ) → AreNumbered 0 (new_seats n)
 new_numbered zero = tt
-new_numbered (suc n) = numbered_more 0 (new_seats n) (new_seat n) (new_numbered n) (sym (length-new_seats n))
+new_numbered (suc n) = numbered_more 0 (new_seats n) (new_seat n) (new_numbered n) (sym (length-new_seats n) ∙ sym (zero-add (length (new_seats n))))
 
 -- ---- workers
 
@@ -93,11 +93,12 @@ module _ {S R : Type 0} (seen : S → SourceState) (seat : R → SeatValue) (rep
       let later = All-tail (λ (t : SeatValue). calls_of t.number history ≡ t.calls) (seat r) (map seat rs) calls in
       (subst (λ made. IsStreamBeside seen true made x (report r)) here ran.0.0, beside_from history (k + 1) ss xs rs (omega (arith, same)) are.1 ran.1 later)
 
-  -- the run of streams under new seats
-  pub beside_of : (history : List Entry) (n : ℕ) (seats : List SeatValue) (streams : List S) (rs : List R) → seats ≡ new_seats n → n ≡ length streams
-      → AllZip (λ job r. HasRun seen job (seat r) (report r)) (zip seats streams) rs → HasCallsOf history (map seat rs) → RunBeside seen true history 0 streams (map report rs)
-  beside_of history n seats streams rs new many ran calls =
-      beside_from history 0 (new_seats n) streams rs (length-new_seats n ∙ many) (new_numbered n) (subst (λ ss. AllZip (λ job r. HasRun seen job (seat r) (report r)) (zip ss streams) rs) new ran) calls
+  -- the run of streams under new seats, by what they left
+  pub beside_of : (history : List Entry) (n : ℕ) (seats : List SeatValue) (streams : List S) (rs : List R) (left : List SeatValue) (reports : List (Report S)) → seats ≡ new_seats n → n ≡ length streams
+      → AllZip (λ job r. HasRun seen job (seat r) (report r)) (zip seats streams) rs → left ≡ map seat rs → reports ≡ map report rs → HasCallsOf history left → RunBeside seen true history 0 streams reports
+  beside_of history n seats streams rs left reports new many ran seats_are reports_are calls =
+      subst (RunBeside seen true history 0 streams) (sym reports_are)
+      (beside_from history 0 (new_seats n) streams rs (length-new_seats n ∙ many) (new_numbered n) (subst (λ ss. AllZip (λ job r. HasRun seen job (seat r) (report r)) (zip ss streams) rs) new ran) (subst (HasCallsOf history) seats_are calls))
 
 -- ---- confirmed streams
 
@@ -143,12 +144,12 @@ module _ {S : Type 0} (seen : S → SourceState) where
       (stream_confirmed verdict (calls_of k history) x r ran.0 both.0, run_confirmed verdict history (k + 1) xs rs ran.1 both.1)
 
   pub book_of_run : (f : FormulaValue) (max : ℕ) (streams : List S) (reports : List (Report S)) (s : State) → IsOpenedAs f (length streams) max s → IsReached s → length s.history ≡ sum_by accepted_count reports
-      → RunBeside seen true s.history 0 streams reports → true ≡ list_all (λ (r : Report S). is_confirmed (has_verdict s) r.end) reports → IsBookOfRun seen f max streams (has_verdict s) reports s
+      → RunBeside seen true s.history 0 streams reports → list_all (λ (r : Report S). is_confirmed (has_verdict s) r.end) reports ≡ true → IsBookOfRun seen f max streams (has_verdict s) reports s
   book_of_run f max streams reports s opened legal counted ran all = record {
     opened = opened;
     legal = legal;
     counted = counted;
-    runs = run_confirmed (has_verdict s) s.history 0 streams reports ran (sym all);
+    runs = run_confirmed (has_verdict s) s.history 0 streams reports ran all;
   }
 
   -- a stream that isn't confirmed, of those from this seat on
@@ -169,9 +170,9 @@ module _ {S : Type 0} (seen : S → SourceState) where
       ] refl all
 
   pub unconfirmed : (f : FormulaValue) (max : ℕ) (streams : List S) (reports : List (Report S)) (s : State) → IsOpenedAs f (length streams) max s → IsReached s → RunBeside seen true s.history 0 streams reports
-      → false ≡ list_all (λ (r : Report S). is_confirmed (has_verdict s) r.end) reports → IsUnconfirmed seen f max streams
+      → list_all (λ (r : Report S). is_confirmed (has_verdict s) r.end) reports ≡ false → IsUnconfirmed seen f max streams
   unconfirmed f max streams reports s opened legal ran all =
-      let d = denied_stream (has_verdict s) s.history 0 streams reports ran (sym all) in
+      let d = denied_stream (has_verdict s) s.history 0 streams reports ran all in
       record {
         final = s;
         opened = opened;
@@ -253,6 +254,6 @@ opened_by f f' n n' m m' s formula seats limit is =
     record { formula_is = is.formula_is ∙ sym formula; seats_are = is.seats_are ∙ seats; limit_is = is.limit_is ∙ sym limit }
 
 -- how many streams there are with the closing one
-pub streams_counted : {S : Type 0} (streams : List S) (closing : Option S) → length (streams_by_seat streams closing) ≡ length streams + from_bool (is_some closing)
-streams_counted streams None = omega arith
-streams_counted streams (Some x) = length-append streams (x ∷ [])
+pub streams_counted : {S : Type 0} (streams : List S) (closing : Option S) (many last : ℕ) → many ≡ length streams → last ≡ from_bool (is_some closing) → many + last ≡ length (streams_by_seat streams closing)
+streams_counted streams None many last len one = omega (arith, len, one)
+streams_counted streams (Some x) many last len one = omega (arith, len, one, length-append streams (x ∷ []))

@@ -1,9 +1,8 @@
-use Rattle.std.proofs.Common.{rules, ◌≡◌, ◌+◌, [], length, map, sym, ap, ◌∙◌, subst, arith}
-use Rattle.std.specs.Prelude.{All, is_some}
-use Rattle.std.specs.Int.{from_bool}
-use Rattle.std.specs.List.{list_all}
+use Rattle.std.proofs.Common.{rules, ◌≡◌, ◌+◌, [], length, sym, ap, ◌∙◌, subst}
+use Rattle.std.specs.Prelude.{All}
+use Rattle.std.specs.List.{zip, sum_by, list_all}
 use Rattle.lj_text.specs.Streams.{source_state}
-use Rattle.lj_share.specs.Seats.{SeatValue, HasCallsOf, IsOpenedAs, entries_made}
+use Rattle.lj_share.specs.Seats.{SeatValue, entries_made}
 use Rattle.lj_run.specs.InTurn.{streams_by_seat}
 use Rattle.lj_run.specs.inner.Joint.{is_confirmed}
 use Rattle.lj_run.specs.Joint.{IsBookOfRun, accepted_count}
@@ -13,9 +12,7 @@ use Rattle.lj_run.proofs.joint.opened.run_opened.Goals as goal
 
 pub run_all-requires-clause-seats : goal.run_all-requires-clause-seats
 run_all-requires-clause-seats g c = λ κs lives.
-    let len : c.len.result ≡ length c.args.streams.items = search rules in
-    let last : c.from.result ≡ from_bool (is_some c.args.closing) = search rules in
-    let many : c.len.result + c.from.result ≡ length (streams_by_seat c.args.streams.items c.args.closing) = omega (arith, len, last, streams_counted c.args.streams.items c.args.closing) in
+    let many = streams_counted c.args.streams.items c.args.closing c.len.result c.from.result (search rules) (search rules) in
     ap length c.in_ok-shared.ensures.seats ∙ length-new_seats (c.len.result + c.from.result) ∙ many
 
 pub run_all-requires-clause-fresh : goal.run_all-requires-clause-fresh
@@ -26,9 +23,7 @@ unreachable-requires g c =
     let seen = source_state g.S.Source.given g.S.Source.ended g.S.Source.rest g.S.Source.failures in
     let streams = streams_by_seat c.args.streams.items c.args.closing in
     let n = c.len.result + c.from.result in
-    let len : c.len.result ≡ length c.args.streams.items = search rules in
-    let last : c.from.result ≡ from_bool (is_some c.args.closing) = search rules in
-    let many : n ≡ length streams = omega (arith, len, last, streams_counted c.args.streams.items c.args.closing) in
+    let many = streams_counted c.args.streams.items c.args.closing c.len.result c.from.result (search rules) (search rules) in
     let seats = ap length c.in_ok-shared.ensures.seats ∙ length-new_seats n ∙ many in
     let ran = as_many_ran seen (λ r. r.seat) (λ r. r.report) c.in_ok-shared.seats.items streams c.in_ok-ran.ran.items seats c.in_ok-ran.ensures in
     no_other_test (length c.in_ok-seats.seats.items) g.L.Opening.seats (ap length c.in_ok-seats.ensures.seats ∙ ran ∙ sym c.requires.seats) c.in_default.ensures.all
@@ -37,16 +32,27 @@ pub returns-then-not-are_confirmed-clause-fault : goal.returns-then-not-are_conf
 returns-then-not-are_confirmed-clause-fault g c =
     let seen = source_state g.S.Source.given g.S.Source.ended g.S.Source.rest g.S.Source.failures in
     let streams = streams_by_seat c.args.streams.items c.args.closing in
-    let rs = c.in_ok-ran.ran.items in
+    let reports = c.in_ok-seats.reports.items in
     let s = c.in-Ok.closed in
-    let n = c.len.result + c.from.result in
-    let len : c.len.result ≡ length c.args.streams.items = search rules in
-    let last : c.from.result ≡ from_bool (is_some c.args.closing) = search rules in
-    let many : n ≡ length streams = omega (arith, len, last, streams_counted c.args.streams.items c.args.closing) in
+    let many = streams_counted c.args.streams.items c.args.closing c.len.result c.from.result (search rules) (search rules) in
     let opened = opened_by g.L.Opening.formula c.args.formula g.L.Opening.seats (length streams) g.L.Opening.max_steps c.args.max_steps s c.requires.formula c.requires.seats c.requires.limit c.book.ensures.opened in
-    let calls = subst (HasCallsOf s.history) c.in_ok-seats.ensures.seats c.in-Ok.ensures.calls in
-    let ran = beside_of seen (λ r. r.seat) (λ r. r.report) s.history n c.in_ok-shared.seats.items streams rs c.in_ok-shared.ensures.seats many c.in_ok-ran.ensures calls in
-    ?
+    let ran = beside_of seen (λ r. r.seat) (λ r. r.report) s.history (c.len.result + c.from.result) c.in_ok-shared.seats.items streams c.in_ok-ran.ran.items c.in_ok-seats.seats.items reports
+        c.in_ok-shared.ensures.seats many c.in_ok-ran.ensures c.in_ok-seats.ensures.seats c.in_ok-seats.ensures.reports c.in-Ok.ensures.calls in
+    let told = ap (λ b. list_all (λ r. is_confirmed (has_verdict b) r.end) reports) (sym c.book.ensures.book) ∙ ap (list_all (λ r. is_confirmed (has_verdict c.book.result.now) r.end)) (sym c.deref.ensures.value) ∙ sym c.are_confirmed.ensures in
+    unconfirmed seen c.args.formula c.args.max_steps streams reports s opened c.in-Ok.ensures.legal ran (told ∙ c.if-not-are_confirmed.true)
 
 pub returns-clause-ran : goal.returns-clause-ran
-returns-clause-ran g c = ?
+returns-clause-ran g c =
+    let seen = source_state g.S.Source.given g.S.Source.ended g.S.Source.rest g.S.Source.failures in
+    let streams = streams_by_seat c.args.streams.items c.args.closing in
+    let reports = c.in_ok-seats.reports.items in
+    let s = c.in-Ok.closed in
+    let many = streams_counted c.args.streams.items c.args.closing c.len.result c.from.result (search rules) (search rules) in
+    let opened = opened_by g.L.Opening.formula c.args.formula g.L.Opening.seats (length streams) g.L.Opening.max_steps c.args.max_steps s c.requires.formula c.requires.seats c.requires.limit c.book.ensures.opened in
+    let ran = beside_of seen (λ r. r.seat) (λ r. r.report) s.history (c.len.result + c.from.result) c.in_ok-shared.seats.items streams c.in_ok-ran.ran.items c.in_ok-seats.seats.items reports
+        c.in_ok-shared.ensures.seats many c.in_ok-ran.ensures c.in_ok-seats.ensures.seats c.in_ok-seats.ensures.reports c.in-Ok.ensures.calls in
+    let counted = c.in-Ok.ensures.entries ∙ ap entries_made c.in_ok-seats.ensures.seats ∙ entries_counted seen (λ r. r.seat) (λ r. r.report) (zip c.in_ok-shared.seats.items streams) c.in_ok-ran.ran.items c.in_ok-ran.ensures
+        ∙ ap (sum_by accepted_count) (sym c.in_ok-seats.ensures.reports) in
+    let told = ap (λ b. list_all (λ r. is_confirmed (has_verdict b) r.end) reports) (sym c.book.ensures.book) ∙ ap (list_all (λ r. is_confirmed (has_verdict c.book.result.now) r.end)) (sym c.deref.ensures.value) ∙ sym c.are_confirmed.ensures in
+    let book = book_of_run seen c.args.formula c.args.max_steps streams reports s opened c.in-Ok.ensures.legal counted ran (told ∙ c.if-not-are_confirmed.false) in
+    subst (λ b. IsBookOfRun seen c.args.formula c.args.max_steps streams (has_verdict b) reports b) (sym c.into_book.ensures.book) book
