@@ -4,8 +4,8 @@
 # half as many of what its lines are made of.
 #   hostile.sh PATH-OF-LRATJOIN
 # Each stream is made of lines of one kind, and none adds the empty clause: first one stream in turn, and then the same stream
-# twice on threads. Then come formulas of one kind of clause, with an empty stream, and last 64 streams of a
-# line or none over one formula. In these the bytes are for each byte of the formula's text.
+# twice on threads. Then come the same stream many times on threads, formulas of one kind of clause, with an empty stream, and
+# last 64 streams of a line or none over one formula. In these the bytes are for each byte of the formula's text.
 # A stream's row is wrong above 8 bytes for a byte; a formula's row has no such limit. Each row is wrong above 2.6 times as
 # long as its half: a time is that of a whole process, the least of three, each in turn, and of nine where it is wrong after
 # three; none is told where the whole takes less than 0.2 s. The rows that are wrong are named in the last line, and the status
@@ -185,18 +185,23 @@ for few in 2 3 4; do
         "BEGIN { for (i = 1; i <= n; i++) print i + $few \" 1 0 0\" }"
 done
 
-# Two rows of RAT lines for pivots whose candidates, so many, are clauses that stand for a hundred pivots: so many lines for each
-# pivot, the second behind one more such clause where a word more asks for it. What the formula takes is counted, and its text.
+# A clause that stands for a hundred pivots, in awk, and a formula of so many such clauses for each hundred.
+clause='function clause(block, head) { printf "%s1 -1", head; for (j = 2; j < 102; j++) printf " -%d", 100 * block + j }'
+asked() {
+    echo "BEGIN {
+        print \"p cnf \" n + 1, $1 * n / 100
+        for (block = 0; block < n / 100; block++)
+            for (i = 0; i < $1; i++) { clause(block, \"\"); print \" 0\" } }
+        $clause"
+}
+
+# Two rows of RAT lines for pivots whose candidates, so many, are such clauses: so many lines for each pivot, the second behind
+# one more such clause where a word more asks for it. What the formula takes is counted, and its text.
 pivots() {
-    local candidates=$1 count=$2 times=$3 more=${4:-} name clause
+    local candidates=$1 count=$2 times=$3 more=${4:-} name
     name="RAT lines for pivots of $candidates candidates, $times for each"
     if [ "$more" ]; then name="$name, a clause more between"; fi
-    clause='function clause(block, head) { printf "%s1 -1", head; for (j = 2; j < 102; j++) printf " -%d", 100 * block + j }'
-    stream "$name, with the formula" "BEGIN {
-        print \"p cnf \" n + 1, $candidates * n / 100
-        for (block = 0; block < n / 100; block++)
-            for (i = 0; i < $candidates; i++) { clause(block, \"\"); print \" 0\" } }
-        $clause" "$count" \
+    stream "$name, with the formula" "$(asked "$candidates")" "$count" \
         "BEGIN {
         m = $candidates * n / 100
         for (time = 0; time < $times; time++) {
@@ -212,19 +217,28 @@ pivots 100 10000 1
 pivots 20 20000 2 more
 pivots 5 60000 2 more
 
-# A row of a stream that 64 seats have, on threads: its name, its formula, a count and its text.
+# A row of a stream that so many seats have, on threads: their number, its name, its formula, a count and its text. The sixth
+# word is as that of `stream`.
 crowd() {
-    local name=$1 formula=$2 count=$3 text=$4 lines
+    local seats=$1 name=$2 formula=$3 count=$4 text=$5 other=${6:-} bytes=0 lines_half lines_whole
     make half "$((count / 2))" "$formula" "$text"
     make whole "$count" "$formula" "$text"
-    lines=$(wc -l < whole)
-    empty() { run 0 whole.cnf $(printf 'nothing %.0s' {1..64}); }
-    half() { run "$lines" half.cnf $(printf 'half %.0s' {1..64}); }
-    whole() { run "$lines" whole.cnf $(printf 'whole %.0s' {1..64}); }
-    row "$name" 8 "$((64 * $(wc -c < whole)))"
+    if [ "$other" ]; then bytes=$(wc -c < whole.cnf); fi
+    other=${other:-whole.cnf}
+    lines_half=$(wc -l < half)
+    lines_whole=$(wc -l < whole)
+    empty() { run 0 "$other" $(yes nothing | head -n "$seats"); }
+    half() { run "$lines_half" half.cnf $(yes half | head -n "$seats"); }
+    whole() { run "$lines_whole" whole.cnf $(yes whole | head -n "$seats"); }
+    row "$name" 8 "$((bytes + seats * $(wc -c < whole)))"
 }
 
-crowd '64 streams of a line of 65,536 hints' few.cnf 65536 'BEGIN { printf "2 3 0"; for (i = 0; i < n; i++) printf " 1"; print " 0" }'
+crowd 64 '64 streams of a line of 65,536 hints' few.cnf 65536 \
+    'BEGIN { printf "2 3 0"; for (i = 0; i < n; i++) printf " 1"; print " 0" }'
+for candidates in 4 20 100; do
+    crowd 16 "16 streams of a RAT line for each pivot of $candidates candidates, with the formula" "$(asked "$candidates")" 10000 \
+        "BEGIN { for (i = 2; i < n + 2; i++) print i + $candidates * n / 100 - 1, i, \"0 0\" }" few.cnf
+done
 
 # A row of a formula, with an empty stream: its name, a count and its text.
 formula() {

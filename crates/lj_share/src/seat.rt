@@ -81,12 +81,7 @@ impl<L: Opening> Seat<L> {
 
     /// Counts an entry more, which was just made through it: here, in the ledger, and in both copies of the list of its
     /// calls.
-    pub(crate) fn count_one(
-        &mut self,
-        entries: &mut Tally<L>,
-        lists: &mut Lists<L>,
-        book: &Book,
-    )
+    pub(crate) fn count_one(&mut self, entries: &mut Tally<L>, lists: &mut Lists<L>, book: &Book)
         requires made { entries.old.total + 1 ≡ length book.now.history }
         requires one { (call : Call) × HasOneMore self.old.number lists.old book.now.history call }
         ensures seat { (call : Call) → HasOneMore self.old.number lists.old book.now.history call

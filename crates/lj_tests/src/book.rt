@@ -2,7 +2,6 @@
 mod calls;
 mod candidates;
 mod events;
-mod logs;
 
 use crate::tables::{Line, ListedStep, addition, assert_entries, clause, formula};
 use lj_book::{Book, Event, Reply};

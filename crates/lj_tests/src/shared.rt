@@ -4,7 +4,7 @@ mod provers;
 
 use crate::tables::{Line, ListedStep, addition, assert_numbers, assert_step, clause};
 use lj_book::{Call, Entry, Refusal};
-use lj_share::{Closed, Opening, Seat, Shared, Tokens, Told};
+use lj_share::{Closed, NoGate, Opening, Seat, Shared, Told};
 use lj_text::{Boxed, Line as ProofLine, Numbers};
 use std::alloc::Global;
 use std::process::Abort;
@@ -24,14 +24,8 @@ enum Called<'a> {
 /// A seat's call, and the step of its entry or its refusal.
 type Row<'a> = (u32, Called<'a>, Result<ListedStep<'a>, Refusal>);
 
-/// Makes the call for the seat.
-fn call<L: Opening, R: Wait>(
-    rt: &R,
-    alloc: Global,
-    shared: &Shared<L>,
-    seat: &mut Seat<L>,
-    called: &Called,
-) -> Result<Told, Refusal> {
+/// The line that is submitted for the call, if one is.
+fn line_of(alloc: Global, called: &Called) -> Result<Option<ProofLine>, Refusal> {
     let line = match called {
         Called::Add(line) => ProofLine::Add(Boxed::new(alloc, addition(alloc, line)?)?),
         Called::Drop(numbers) => {
@@ -41,10 +35,39 @@ fn call<L: Opening, R: Wait>(
             number: *number,
             clause: Boxed::new(alloc, clause(alloc, lits)?)?,
         },
-        Called::Adopt(own, joint) => return shared.adopt(rt, seat, *own, *joint),
-        Called::Leave => return shared.leave(rt, seat),
+        Called::Adopt(_, _) | Called::Leave => return Ok(None),
     };
-    shared.submit(rt, seat, &line)
+    Ok(Some(line))
+}
+
+/// Makes the call for the seat.
+fn call<L: Opening, R: Wait>(
+    rt: &R,
+    alloc: Global,
+    shared: &Shared<L>,
+    seat: &mut Seat<L>,
+    called: &Called,
+) -> Result<Told, Refusal> {
+    match (line_of(alloc, called)?, called) {
+        (Some(line), _) => shared.submit(rt, seat, &line),
+        (None, Called::Adopt(own, joint)) => shared.adopt(rt, seat, *own, *joint),
+        (None, _) => shared.leave(rt, seat),
+    }
+}
+
+/// The same without a token, if the call is a line.
+fn call_untold<L: Opening, R: Wait>(
+    rt: &R,
+    alloc: Global,
+    shared: &Shared<L>,
+    seat: &mut Seat<L>,
+    called: &Called,
+) -> Result<(), Refusal> {
+    if let Some(line) = line_of(alloc, called)? {
+        return shared.enter_at(rt, seat, &line, 1, &NoGate);
+    }
+    call(rt, alloc, shared, seat, called)?;
+    Ok(())
 }
 
 /// Asserts that the entry is of this seat, this call and this step.
@@ -101,25 +124,4 @@ fn assert_confirmed<L: Opening>(
         assert!(rt; !closed.confirm(seat, tokens));
         tokens.swap(0, 1);
     }
-}
-
-/// Asserts that the seat's tokens are confirmed once all are kept, and not before, nor with two exchanged.
-fn assert_kept_confirmed<L: Opening>(
-    rt: &impl Abort,
-    alloc: Global,
-    closed: &Closed<L>,
-    seat: u32,
-    tokens: Vec<Told>,
-    in_order: bool,
-) -> Result<(), Fail> {
-    let mut kept = Tokens::new(alloc);
-    for told in tokens {
-        assert!(rt; !closed.confirm_tokens(seat, &kept));
-        kept.reserve()?;
-        kept.push(told)?;
-    }
-    assert!(rt; closed.confirm_tokens(seat, &kept) == in_order);
-    kept.reserve()?;
-    assert!(rt; closed.confirm_tokens(seat, &kept) == in_order);
-    Ok(())
 }

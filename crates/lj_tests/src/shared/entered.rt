@@ -1,16 +1,15 @@
 //! Lists of calls on a shared book.
 ghost use Rattle.std.specs.Prelude.{◌≡◌, ◌<◌};
 
-use crate::shared::{Called, Row, assert_confirmed, assert_entry, assert_kept_confirmed, call};
+use crate::shared::{Called, Row, assert_confirmed, assert_entry, call, call_untold};
 use crate::tables::{BINARY, Line, ListedStep, formula};
 use lj_book::{Book, Refusal};
 use lj_clause::Formula;
-use lj_share::{Closed, Opening, Seat, Shared, Told};
+use lj_share::{Blank, Closed, Opening, Seat, Shared, Told};
 use std::alloc::Global;
 use std::marker::Brand;
 use std::process::Abort;
 use std::sync::Wait;
-use std::sync::ledger::Blank;
 use std::test::Fail;
 
 /// The formula's clauses, the number of seats, what they call, and the place of the verdict.
@@ -218,10 +217,82 @@ fn entered(rt: HostRuntime) -> Result<(), Fail> {
         let alloc = rt.alloc();
         let formula = formula(&rt, alloc, clauses)?;
         assert!(&rt; *seats > 0);
-        let blank = Blank::new(u64::from(*seats));
+        let blank = Blank::new(alloc, *seats)?;
         enter::<Brand, _>(&rt, alloc, blank, formula, *seats, script, *verdict)?;
     }
     Ok(())
+}
+
+#[test]
+fn entered_without_tokens(rt: HostRuntime) -> Result<(), Fail> {
+    for example in &EXAMPLES {
+        let (clauses, seats, script, _) = example;
+        let alloc = rt.alloc();
+        let formula = formula(&rt, alloc, clauses)?;
+        assert!(&rt; *seats > 0);
+        let blank = Blank::new(alloc, *seats)?;
+        enter_untold::<Brand, _>(&rt, alloc, blank, formula, *seats, script)?;
+    }
+    Ok(())
+}
+
+/// Opens a book for the seats, makes the calls in their order without tokens, closes the book and looks at it.
+fn enter_untold<L: Opening, R: Wait + Abort>(
+    rt: &R,
+    alloc: Global,
+    blank: Blank,
+    formula: Formula,
+    number: u32,
+    script: &[Row],
+) -> Result<(), Fail>
+    requires name { blank.name ≡ L.name }
+    requires parts { (blank.parts ≡ L.parts) × (blank.parts ≡ number) }
+    requires lists { blank.lists ≡ L.lists }
+    requires formula { formula ≡ L.formula }
+    requires seats { (0 < number) × (number ≡ L.seats) }
+    requires limit { L.max_steps ≡ 9 }
+{
+    let (shared, mut seats) = Shared::<L>::open(alloc, blank, formula, number, 9)?;
+    for row in script {
+        make_untold(rt, alloc, &shared, &mut seats, row)?;
+    }
+    assert_closed_untold(rt, alloc, shared, seats, script)
+}
+
+/// Makes a row's call without a token, and sees whether it is refused.
+fn make_untold<L: Opening, R: Wait + Abort>(
+    rt: &R,
+    alloc: Global,
+    shared: &Shared<L>,
+    seats: &mut [Seat<L>],
+    row: &Row,
+) -> Result<(), Fail> {
+    let (number, called, wanted) = row;
+    let Some(seat) = seats.get_mut(*number as usize) else {
+        panic!(rt; "no seat");
+    };
+    match (call_untold(rt, alloc, shared, seat, called), wanted) {
+        (Ok(()), Ok(_)) => {}
+        (Err(refusal), Err(wanted)) => assert!(rt; refusal == *wanted),
+        _ => panic!(rt; "another answer"),
+    }
+    Ok(())
+}
+
+/// Closes the book, and asserts what its history is.
+fn assert_closed_untold<L: Opening>(
+    rt: &impl Abort,
+    alloc: Global,
+    shared: Shared<L>,
+    seats: Vec<Seat<L>>,
+    script: &[Row],
+) -> Result<(), Fail>
+    requires { L.parts ≡ L.seats }
+{
+    let Ok(closed) = shared.close(seats) else {
+        panic!(rt; "not closed");
+    };
+    assert_history(rt, alloc, closed.book(), script)
 }
 
 /// Opens a book for the seats, makes the calls in their order, closes the book and looks at it.
@@ -236,6 +307,7 @@ fn enter<L: Opening, R: Wait + Abort>(
 ) -> Result<(), Fail>
     requires name { blank.name ≡ L.name }
     requires parts { (blank.parts ≡ L.parts) × (blank.parts ≡ number) }
+    requires lists { blank.lists ≡ L.lists }
     requires formula { formula ≡ L.formula }
     requires seats { (0 < number) × (number ≡ L.seats) }
     requires limit { L.max_steps ≡ 9 }
@@ -277,7 +349,8 @@ fn assert_closed<L: Opening>(
         panic!(rt; "not closed");
     };
     assert_history(rt, alloc, closed.book(), script)?;
-    assert_all_confirmed(rt, alloc, &closed, tokens)
+    assert_all_confirmed(rt, &closed, tokens);
+    Ok(())
 }
 
 /// An empty list of tokens for each seat.
@@ -305,23 +378,12 @@ fn assert_counted<L: Opening>(
     Ok(())
 }
 
-/// Asserts that each seat's tokens are confirmed, every other one's with the first two exchanged once it is.
-fn assert_all_confirmed<L: Opening>(
-    rt: &impl Abort,
-    alloc: Global,
-    closed: &Closed<L>,
-    tokens: Vec<Vec<Told>>,
-) -> Result<(), Fail> {
+/// Asserts that each seat's tokens are confirmed.
+fn assert_all_confirmed<L: Opening>(rt: &impl Abort, closed: &Closed<L>, tokens: Vec<Vec<Told>>) {
     for (seat, of_seat) in (0..u32::MAX).zip(tokens) {
         let mut of_seat = of_seat;
         assert_confirmed(rt, closed, seat, &mut of_seat);
-        let exchanged = seat % 2 == 1 && of_seat.len() > 1;
-        if exchanged {
-            of_seat.swap(0, 1);
-        }
-        assert_kept_confirmed(rt, alloc, closed, seat, of_seat, !exchanged)?;
     }
-    Ok(())
 }
 
 /// Makes a row's call, sees that its token shows its entry, or that it is refused, and keeps the token.

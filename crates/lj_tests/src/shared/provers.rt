@@ -5,13 +5,12 @@ use crate::tables::{self, BINARY, clause, formula};
 use lj_book::Refusal;
 use lj_clause::{Formula, NoMemory};
 use lj_hint::{Marks, Receipt, Tested};
-use lj_share::{Opening, Seat, SeatsOut, Shared};
+use lj_share::{Blank, Opening, Seat, SeatsOut, Shared};
 use lj_text::{Boxed, Line, Numbers};
 use std::alloc::Global;
 use std::marker::Brand;
 use std::process::Abort;
 use std::sync::Wait;
-use std::sync::ledger::Blank;
 use std::test::Fail;
 use std::thread::{Threads, join};
 
@@ -29,7 +28,7 @@ fn import(alloc: Global, number: u64, literals: &[i32]) -> Result<Line, NoMemory
 #[test]
 fn a_book_of_two_seats_is_closed_with_both(rt: HostRuntime) -> Result<(), Fail> {
     let formula = formula(&rt, rt.alloc(), &BINARY)?;
-    close_with_one::<Brand, _>(&rt, rt.alloc(), Blank::new(2), formula)
+    close_with_one::<Brand, _>(&rt, rt.alloc(), Blank::new(rt.alloc(), 2)?, formula)
 }
 
 fn close_with_one<L: Opening, R: Abort>(
@@ -40,6 +39,7 @@ fn close_with_one<L: Opening, R: Abort>(
 ) -> Result<(), Fail>
     requires name { blank.name ≡ L.name }
     requires parts { (blank.parts ≡ L.parts) × (blank.parts ≡ 2) }
+    requires lists { blank.lists ≡ L.lists }
     requires formula { formula ≡ L.formula }
     requires seats { L.seats ≡ 2 }
     requires limit { L.max_steps ≡ 9 }
@@ -70,7 +70,7 @@ fn assert_closed_with_both<L: Opening>(
 #[test]
 fn a_stale_receipt_comes_back(rt: HostRuntime) -> Result<(), Fail> {
     let formula = formula(&rt, rt.alloc(), &[&[-1]])?;
-    commit_stale::<Brand, _>(&rt, rt.alloc(), Blank::new(1), formula)
+    commit_stale::<Brand, _>(&rt, rt.alloc(), Blank::new(rt.alloc(), 1)?, formula)
 }
 
 fn commit_stale<L: Opening, R: Wait + Abort>(
@@ -81,6 +81,7 @@ fn commit_stale<L: Opening, R: Wait + Abort>(
 ) -> Result<(), Fail>
     requires name { blank.name ≡ L.name }
     requires parts { (blank.parts ≡ L.parts) × (blank.parts ≡ 1) }
+    requires lists { blank.lists ≡ L.lists }
     requires formula { formula ≡ L.formula }
     requires seats { L.seats ≡ 1 }
     requires limit { L.max_steps ≡ 9 }
@@ -141,7 +142,7 @@ fn assert_stale<L: Opening, R: Wait + Abort>(
 #[test]
 fn two_provers_refute_the_binary_clauses(rt: HostRuntime) -> Result<(), Fail> {
     let formula = formula(&rt, rt.alloc(), &BINARY)?;
-    refute::<Brand, _>(&rt, rt.alloc(), Blank::new(3), formula)
+    refute::<Brand, _>(&rt, rt.alloc(), Blank::new(rt.alloc(), 3)?, formula)
 }
 
 fn refute<L: Opening + Send + Sync, R: Threads + Wait + Abort + Sync>(
@@ -152,6 +153,7 @@ fn refute<L: Opening + Send + Sync, R: Threads + Wait + Abort + Sync>(
 ) -> Result<(), Fail>
     requires name { blank.name ≡ L.name }
     requires parts { (blank.parts ≡ L.parts) × (blank.parts ≡ 3) }
+    requires lists { blank.lists ≡ L.lists }
     requires formula { formula ≡ L.formula }
     requires seats { L.seats ≡ 3 }
     requires limit { L.max_steps ≡ 9 }
