@@ -4,6 +4,7 @@ pub mod Literals
 pub mod Turns
 pub mod LiteralSets
 pub mod ShortLists
+pub mod InOrder
 pub mod Searches
 pub mod Formulas
 pub mod Lemmas

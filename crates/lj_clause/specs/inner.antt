@@ -3,3 +3,4 @@ pub mod Literal
 pub mod LitCode
 pub mod Codes
 pub mod LiteralList
+pub mod InOrder

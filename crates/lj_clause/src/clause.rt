@@ -1,11 +1,12 @@
 //! Clauses.
-ghost use Rattle.std.specs.Prelude.{◌≡◌, ◌↔◌, IsTrue, IfOk};
+ghost use Rattle.std.specs.Prelude.{◌≡◌, ◌↔◌, IsTrue, IfOk, OnOk, OnErr};
 ghost use Rattle.std.specs.List.Sorted.{IsStrictlySortedBy};
 ghost use Rattle.lj_clause.specs.Literal.{lit_cmp};
 ghost use Rattle.lj_clause.specs.LiteralSet.{holds, literals, from_literals};
 ghost use Rattle.lj_clause.specs.inner.LiteralList.{literals_in};
 
 use crate::clause_view::ClauseView;
+use crate::in_order::{eight_in_order, three_in_order};
 use crate::lit::Lit;
 use crate::literal_list::LiteralList;
 use crate::memory::NoMemory;
@@ -65,6 +66,52 @@ impl Clause {
             None => many(alloc, lits)?,
         };
         Ok(Clause { lits })
+    }
+
+    /// Becomes the set of these literals, whatever their order and repeats, in the memory that it has, where it can. Takes
+    /// linear time where more than eight literals stand in order, O(n log n) time where they don't, and constant time for others.
+    ///
+    /// # Errors
+    /// [`NoMemory`] where a growth was refused, and then nothing has changed.
+    #[inline(always)]
+    pub fn put(&mut self, alloc: Global, lits: &mut Vec<Lit>) -> Result<(), NoMemory>
+        ensures ok { OnOk result (self.new ≡ from_literals lits.old.items) }
+        ensures err { OnErr result (self.new ≡ self.old) }
+    {
+        let count = lits.len();
+        if count > 3 {
+            return self.put_more(alloc, lits);
+        }
+        if let Some(three) = three_in_order(lits) {
+            self.lits.put_few(count, three);
+            return Ok(());
+        }
+        self.put_any(alloc, lits)
+    }
+
+    /// The same of more than three.
+    #[inline(never)]
+    fn put_more(&mut self, alloc: Global, lits: &mut Vec<Lit>) -> Result<(), NoMemory>
+        ensures ok { OnOk result (self.new ≡ from_literals lits.old.items) }
+        ensures err { OnErr result (self.new ≡ self.old) }
+    {
+        let count = lits.len();
+        if count <= 8 {
+            if let Some(eight) = eight_in_order(lits) {
+                return self.lits.put_eight(alloc, count, eight);
+            }
+        }
+        self.put_any(alloc, lits)
+    }
+
+    /// The same of any.
+    #[inline(never)]
+    fn put_any(&mut self, alloc: Global, lits: &mut Vec<Lit>) -> Result<(), NoMemory>
+        ensures ok { OnOk result (self.new ≡ from_literals lits.old.items) }
+        ensures err { OnErr result (self.new ≡ self.old) }
+    {
+        self.lits = many(alloc, lits)?;
+        Ok(())
     }
 
     /// The set of these literals, which are in strict order. Takes O(n) time.

@@ -1,5 +1,5 @@
 //! Lemmas.
-ghost use Rattle.std.specs.Prelude.{◌≡◌, IfOk};
+ghost use Rattle.std.specs.Prelude.{◌≡◌, IfOk, OnOk, OnErr};
 ghost use Rattle.lj_clause.specs.Lemma.{lemma_of, IsLemma};
 
 use crate::clause::Clause;
@@ -43,18 +43,20 @@ impl Lemma {
         })
     }
 
-    /// The same of a list that may lose its order. It takes no memory for the list. Takes linear time where the literals stand
-    /// in order, and O(n log n) time otherwise.
+    /// Becomes the lemma of these literals, in the memory that it has, where it can. The list may lose its order. Takes linear
+    /// time where more than eight literals stand in order, O(n log n) time where they don't, and constant time for others.
     ///
     /// # Errors
-    /// [`NoMemory`] where a growth was refused.
+    /// [`NoMemory`] where a growth was refused, and then nothing has changed.
     #[inline(always)]
-    pub fn from_room(alloc: Global, lits: &mut Vec<Lit>) -> Result<Lemma, NoMemory>
-        ensures { IfOk result (λ lemma. lemma ≡ lemma_of lits.old.items) }
+    pub fn put(&mut self, alloc: Global, lits: &mut Vec<Lit>) -> Result<(), NoMemory>
+        ensures ok { OnOk result (self.new ≡ lemma_of lits.old.items) }
+        ensures err { OnErr result (self.new ≡ self.old) }
     {
         let pivot = lits.first().copied();
-        let clause = Clause::from_room(alloc, lits)?;
-        Ok(Lemma { clause, pivot })
+        self.clause.put(alloc, lits)?;
+        self.pivot = pivot;
+        Ok(())
     }
 
     /// The set of its literals. Takes constant time.

@@ -7,6 +7,7 @@ mod clause;
 mod clause_view;
 pub mod examples;
 mod formula;
+mod in_order;
 pub mod laws;
 mod lemma;
 mod lit;

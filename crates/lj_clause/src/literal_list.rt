@@ -1,5 +1,5 @@
 //! Lists of literals that short ones have in themselves.
-ghost use Rattle.std.specs.Prelude.{◌≡◌, ◌≤◌, [], ◌∷◌, length, take, IfOk, IfSome};
+ghost use Rattle.std.specs.Prelude.{◌≡◌, ◌≤◌, [], ◌∷◌, length, take, IfOk, IfSome, OnOk, OnErr};
 ghost use Rattle.std.specs.declared.cmp.Ordering.TheVariants.{Less};
 ghost use Rattle.std.specs.List.Sorted.{IsStrictlySortedBy};
 ghost use Rattle.lj_clause.specs.Literal.{lit_cmp};
@@ -71,6 +71,50 @@ impl LiteralList {
             }),
             _ => Ok(LiteralList::Many(Arc::new(alloc, Vec::from_slice(alloc, lits)?)?)),
         }
+    }
+
+    /// Becomes the list of the first of three literals, so many. Takes constant time.
+    #[inline(always)]
+    pub fn put_few(&mut self, size: usize, few: [Lit; 3])
+        requires { size ≤ 3 }
+        ensures { literals_in self.new ≡ take size few }
+    {
+        if let LiteralList::Few { lits, .. } = self {
+            *lits = few;
+            if let LiteralList::Few { count, .. } = self {
+                *count = size as u8;
+            }
+            return;
+        }
+        *self = LiteralList::Few {
+            count: size as u8,
+            lits: few,
+        };
+    }
+
+    /// Becomes the list of the first of eight literals, so many, in the block of memory that it has, where nobody shares it.
+    /// Takes constant time.
+    ///
+    /// # Errors
+    /// [`NoMemory`] where a growth was refused, and then nothing has changed.
+    #[inline(always)]
+    pub fn put_eight(&mut self, alloc: Global, size: usize, eight: [Lit; 8]) -> Result<(), NoMemory>
+        requires { size ≤ 8 }
+        ensures ok { OnOk result (literals_in self.new ≡ take size eight) }
+        ensures err { OnErr result (literals_in self.new ≡ literals_in self.old) }
+    {
+        if let LiteralList::Eight { count, lits } = self {
+            if let Some(room) = Arc::get_mut(lits) {
+                *room = eight;
+                *count = size as u8;
+                return Ok(());
+            }
+        }
+        *self = LiteralList::Eight {
+            count: size as u8,
+            lits: Arc::new(alloc, eight)?,
+        };
+        Ok(())
     }
 
     /// The literals, in order. Takes constant time.

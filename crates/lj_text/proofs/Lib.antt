@@ -14,6 +14,7 @@ mod ReaderLemmas
 pub mod StandLemmas
 mod TakeLemmas
 mod ShortLemmas
+mod WindowLemmas
 mod TokenLemmas
 pub mod Fronts
 pub mod WritingLemmas

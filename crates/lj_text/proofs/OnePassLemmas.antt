@@ -1,18 +1,18 @@
 -- A line that is read in one pass, from its parts.
-use Rattle.std.proofs.Common.{◌≡◌, Bool, ℕ, zero, suc, ◌-◌, ◌<◌, ◌≤◌, ◌≢◌, ◌==◌, ◌||◌, true, false, cond, List, [], ◌∷◌, ◌++◌, length, get_or, take, drop, map, refl, sym, ap, ◌∙◌, subst, append_assoc, inl, inr, arith}
+use Rattle.std.proofs.Common.{◌≡◌, ℕ, ◌-◌, ◌≤◌, ◌≢◌, ◌==◌, true, false, cond, List, [], ◌∷◌, ◌++◌, length, get_or, take, drop, map, refl, sym, ap, ◌∙◌, subst, append_assoc, arith}
 use Rattle.std.proofs.lemmas.Bool.Decides.{nat_tests}
 use Rattle.std.proofs.lemmas.List.{append-nil, take_all}
 use Rattle.std.proofs.lemmas.List.Elements.{All-cons}
 use Rattle.std.proofs.lemmas.List.Splits.{slice_split-cons_no}
 use Rattle.std.specs.List.{filter, onto_first, slice_split}
-use Rattle.std.specs.Char.{is_ascii_digit}
-use Rattle.std.specs.Prelude.{Option, Some, None, Result, Ok, Err, ℤ, pos, option_and_then, option_map, ◌⊎◌}
+use Rattle.std.specs.Prelude.{Option, Some, None, Result, Ok, Err, ℤ, pos}
 use Rattle.lj_clause.specs.Rat.{HintGroup}
-use Rattle.lj_clause.specs.Lemma.{LemmaValue, lemma_of}
+use Rattle.lj_clause.specs.Lemma.{lemma_of}
 use Rattle.lj_text.specs.declared.line.Line.{Line}
 use Rattle.lj_text.specs.declared.line.Line.TheVariants.{Add}
 use Rattle.lj_text.specs.declared.lines.fault.LineFaultKind.{LineFaultKind}
-use Rattle.lj_text.specs.Bytes.{begins, digits_value, is_blank, is_filled, is_silent, negative, number_of, rest_of, tokens_of}
+use Rattle.lj_text.specs.Bytes.{begins, is_blank, is_filled, number_of, tokens_of}
+use Rattle.lj_text.specs.declared.line.Addition.{Addition}
 use Rattle.lj_text.specs.Lines.{addition_of, after_first, after_number, after_zero, deletion_of, greatest, hints_of, import_of, is_letter, line_of, literals_then, numbers_of, then_read, with_read}
 use Rattle.lj_text.specs.LinesRead.{HasNoLineEnd}
 use Rattle.lj_text.specs.inner.LineReading.{behind_hints, behind_literals, behind_numbers, line_said, words_of}
@@ -83,10 +83,10 @@ byte-token b tail some =
     tokens-first (b ∷ []) 32 tail refl (All-cons (λ x. is_blank x ≡ false) b [] some (λ k d lt. absurd (omega arith))) refl ∙ ap (λ ts. (b ∷ []) ∷ ts) (tokens-blank 32 tail refl)
 
 -- literals, their 0, and then the hints and groups
-pub addition-line : (max number : ℕ) (old : List ℤ) (bytes : List ℕ) (lits : List ℤ) (rest proof after : List ℕ) (lemma : LemmaValue) (hints : List ℕ) (groups : List HintGroup) → old ≡ [] → AreLiteralsAhead max old bytes lits rest
-    → rest ≡ 48 ∷ 32 ∷ proof → BeginsByLine (λ line. hints_of true (words_of line) ≡ Ok (hints, groups)) proof after → lemma ≡ lemma_of lits
-    → BeginsByLine (λ line. addition_of max true number (words_of line) ≡ Ok (Add (record { number = number; lemma = lemma; hints = hints; groups = groups }))) bytes after
-addition-line max number old bytes lits rest proof after lemma hints groups none n zero_ahead p is =
+pub addition-line : (max number : ℕ) (old : List ℤ) (bytes : List ℕ) (lits : List ℤ) (rest proof after : List ℕ) (place : Addition) → old ≡ [] → AreLiteralsAhead max old bytes lits rest
+    → rest ≡ 48 ∷ 32 ∷ proof → BeginsByLine (λ line. hints_of true (words_of line) ≡ Ok (place.hints, place.groups)) proof after → place.number ≡ number → place.lemma ≡ lemma_of lits
+    → BeginsByLine (λ line. addition_of max true number (words_of line) ≡ Ok (Add place)) bytes after
+addition-line max number old bytes lits rest proof after place none n zero_ahead p under is =
     let tail : List ℕ = 48 ∷ 32 ∷ p.line in
     let words : words_of tail ≡ Some (pos 0) ∷ words_of p.line = ap (λ ts. map number_of ts) (byte-token 48 p.line refl) in
     let literals : literals_then max true (words_of (n.front ++ tail)) ≡ Ok (lits, words_of p.line) =
@@ -98,7 +98,8 @@ addition-line max number old bytes lits rest proof after lemma hints groups none
       none_within = none-in-both n.front tail n.none_within (before-more 48 (32 ∷ p.line) refl (before-more 32 p.line refl p.none_within));
       right = ap (λ (r : Result (List ℤ × List (Option ℤ)) LineFaultKind). then_read r (λ r. with_read (λ h. Add (record { number = number; lemma = lemma_of r.0; hints = h.0; groups = h.1 })) (hints_of true r.1))) literals
           ∙ ap (λ (h : Result (List ℕ × List HintGroup) LineFaultKind). with_read (λ h. Add (record { number = number; lemma = lemma_of lits; hints = h.0; groups = h.1 })) h) p.right
-          ∙ ap (λ l. Ok (Add (record { number = number; lemma = l; hints = hints; groups = groups }))) (sym is);
+          ∙ ap (λ l. Ok (Add (record { number = number; lemma = l; hints = place.hints; groups = place.groups }))) (sym is)
+          ∙ ap (λ k. Ok (Add (record { number = k; lemma = place.lemma; hints = place.hints; groups = place.groups }))) (sym under);
     }
 
 -- a number begins with no `c`

@@ -1,13 +1,14 @@
 -- Numbers of few digits at the front of a line.
-use Rattle.std.proofs.Common.{◌≡◌, Bool, ℕ, zero, suc, ◌+◌, ◌-◌, ◌*◌, ◌^◌, ◌<◌, ◌≤◌, ◌≢◌, ◌==◌, true, false, cond, ◌&&◌, List, [], ◌∷◌, ◌++◌, length, get_or, take, drop, take-take, map, refl, sym, ap, ◌∙◌, subst, append_assoc, arith}
+use Rattle.std.proofs.Common.{◌≡◌, Bool, ℕ, zero, suc, ◌+◌, ◌-◌, ◌*◌, ◌^◌, ◌<◌, ◌≤◌, ◌≢◌, ◌==◌, true, false, ◌&&◌, List, [], ◌∷◌, ◌++◌, length, get_or, take, drop, take-take, map, refl, sym, ap, ◌∙◌, subst, append_assoc, arith}
 use Rattle.std.proofs.lemmas.Bool.{and_parts}
 use Rattle.std.proofs.lemmas.Bool.Decides.{nat_tests}
-use Rattle.std.proofs.lemmas.List.{take-append-drop, get_or-take}
+use Rattle.std.proofs.lemmas.List.{length-take-le, drop-append-le, take-append-drop, get_or-take}
 use Rattle.std.proofs.lemmas.List.Elements.{All-append, All-cons}
 use Rattle.std.proofs.lemmas.List.Folds.{list_all-append}
 use Rattle.std.proofs.Math.Nat.{pow-succ', pow-le-pow_right}
 use Rattle.std.proofs.Math.Seq.{take-suc, drop-cons}
 use Rattle.std.specs.List.{list_all}
+use Rattle.std.specs.Array.{IsFirstChunk}
 use Rattle.std.specs.Char.{is_ascii_digit}
 use mir.Val.{bool_byte}
 use Rattle.std.specs.Prelude.{Option, Some, Result, Ok, Err, ℤ, pos, neg_ℤ, unsigned_abs}
@@ -49,7 +50,7 @@ short-step bytes i value next lt d e digit so_far =
       small = omega (arith, e, so_far.small, digit, power-more i);
     })
 
-filled-front : (bytes : List ℕ) (i : ℕ) → 0 < i → 0 < length bytes → is_filled (take i bytes) ≡ true
+pub filled-front : (bytes : List ℕ) (i : ℕ) → 0 < i → 0 < length bytes → is_filled (take i bytes) ≡ true
 filled-front [] i some lt = absurd (omega arith)
 filled-front (b ∷ bytes) zero some lt = absurd (omega arith)
 filled-front (b ∷ bytes) (suc i) some lt = refl
@@ -205,6 +206,38 @@ numbers-more old bytes new rest value after some few t so_far =
 pub numbers-read : (old bytes new rest : List ℕ) → AreNumbersAhead old bytes new rest → IsReadOn old bytes new rest
 numbers-read old bytes new rest n = let P : List ℕ → Type 0 = λ bs. IsReadOn old bs new rest in subst P (sym n.bytes_is) (n.read rest)
 
+-- numbers behind numbers
+pub numbers-both : (old bytes middle rest new last : List ℕ) → AreNumbersAhead old bytes middle rest → AreNumbersAhead middle rest new last → AreNumbersAhead old bytes new last
+numbers-both old bytes middle rest new last a b = record {
+  front = a.front ++ b.front;
+  bytes_is = a.bytes_is ∙ ap (λ r. a.front ++ r) b.bytes_is ∙ sym (append_assoc a.front b.front last);
+  none_within = none-in-both a.front b.front a.none_within b.none_within;
+  read = λ tail.
+      let P : List ℕ → Type 0 = λ bs. IsReadOn old bs new tail in
+      let one = a.read (b.front ++ tail) in
+      let two = b.read tail in
+      subst P (sym (append_assoc a.front b.front tail)) (record { hints = λ ended. two.hints ended ∙ one.hints ended; numbers = λ ended. two.numbers ended ∙ one.numbers ended });
+}
+
+-- what a window's bytes leave, and the bytes behind it
+left-behind : (bytes window : List ℕ) (n : ℕ) → n ≤ length window → IsFirstChunk bytes window 80 → (front : List ℕ) → window ≡ front ++ drop n window → bytes ≡ front ++ drop n bytes
+left-behind bytes window n few cut front is =
+    let whole : bytes ≡ window ++ drop 80 bytes = sym (take-append-drop 80 bytes) ∙ ap (λ w. w ++ drop 80 bytes) (sym cut.same) in
+    let left : drop n bytes ≡ drop n window ++ drop 80 bytes = ap (drop n) whole ∙ drop-append-le n window (drop 80 bytes) few in
+    whole ∙ ap (λ w. w ++ drop 80 bytes) is ∙ append_assoc front (drop n window) (drop 80 bytes) ∙ ap (λ r. front ++ r) (sym left)
+
+pub numbers-on : (old bytes middle rest window new after : List ℕ) (n : ℕ) → AreNumbersAhead old bytes middle rest → IsFirstChunk rest window 80 → AreNumbersAhead middle window new (drop n window) → n ≤ 65 → after ≡ drop n rest
+    → AreNumbersAhead old bytes new after
+numbers-on old bytes middle rest window new after n so_far cut more few is =
+    let long : n ≤ length window = omega (arith, few, ap length cut.same, length-take-le 80 rest cut.enough) in
+    let P : List ℕ → Type 0 = λ r. AreNumbersAhead old bytes new r in
+    subst P (sym is) (numbers-both old bytes middle rest new (drop n rest) so_far (record {
+      front = more.front;
+      bytes_is = left-behind rest window n long cut more.front more.bytes_is;
+      none_within = more.none_within;
+      read = more.read;
+    }))
+
 -- Literals behind others.
 literals-one : (front : List ℤ) (lit : ℤ) (read : Result (List ℤ × List (Option ℤ)) LineFaultKind) → behind_literals front (with_read (λ r. (lit ∷ r.0, r.1)) read) ≡ behind_literals (front ++ lit ∷ []) read
 literals-one front lit (Ok r) = ap (λ ls. Ok (ls, r.1)) (sym (append_assoc front (lit ∷ []) r.0))
@@ -241,3 +274,25 @@ literals-more max old bytes new rest variable sign after some few ahead so_far =
 pub literals-read : (max : ℕ) (old : List ℤ) (bytes : List ℕ) (new : List ℤ) (rest : List ℕ) → AreLiteralsAhead max old bytes new rest → (ended : Bool)
     → behind_literals new (literals_then max ended (words_of rest)) ≡ behind_literals old (literals_then max ended (words_of bytes))
 literals-read max old bytes new rest n ended = n.read ended rest ∙ ap (λ bs. behind_literals old (literals_then max ended (words_of bs))) (sym n.bytes_is)
+
+-- literals behind literals
+pub literals-both : (max : ℕ) (old : List ℤ) (bytes : List ℕ) (middle : List ℤ) (rest : List ℕ) (new : List ℤ) (last : List ℕ) → AreLiteralsAhead max old bytes middle rest → AreLiteralsAhead max middle rest new last → AreLiteralsAhead max old bytes new last
+literals-both max old bytes middle rest new last a b = record {
+  front = a.front ++ b.front;
+  bytes_is = a.bytes_is ∙ ap (λ r. a.front ++ r) b.bytes_is ∙ sym (append_assoc a.front b.front last);
+  none_within = none-in-both a.front b.front a.none_within b.none_within;
+  read = λ ended tail.
+      b.read ended tail ∙ a.read ended (b.front ++ tail) ∙ ap (λ bs. behind_literals old (literals_then max ended (words_of bs))) (sym (append_assoc a.front b.front tail));
+}
+
+pub literals-on : (max : ℕ) (old : List ℤ) (bytes : List ℕ) (middle : List ℤ) (rest window : List ℕ) (new : List ℤ) (after : List ℕ) (n : ℕ) → AreLiteralsAhead max old bytes middle rest → IsFirstChunk rest window 80
+    → AreLiteralsAhead max middle window new (drop n window) → n ≤ 65 → after ≡ drop n rest → AreLiteralsAhead max old bytes new after
+literals-on max old bytes middle rest window new after n so_far cut more few is =
+    let long : n ≤ length window = omega (arith, few, ap length cut.same, length-take-le 80 rest cut.enough) in
+    let P : List ℕ → Type 0 = λ r. AreLiteralsAhead max old bytes new r in
+    subst P (sym is) (literals-both max old bytes middle rest new (drop n rest) so_far (record {
+      front = more.front;
+      bytes_is = left-behind rest window n long cut more.front more.bytes_is;
+      none_within = more.none_within;
+      read = more.read;
+    }))

@@ -5,6 +5,7 @@ pub mod LinesHeld
 pub mod Looking
 pub mod HeldNumbers
 pub mod ShortNumbers
+pub mod Windows
 pub mod CnfReading
 pub mod CnfResuming
 pub mod CnfHeld

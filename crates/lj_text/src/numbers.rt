@@ -1,10 +1,10 @@
 //! Lists of clause numbers.
-ghost use Rattle.std.specs.Prelude.{◌≡◌, ◌==◌, ◌<◌, ◌≤◌, ◌∷◌, ◌++◌, ◌↔◌, ◌⊎◌, IsTrue, [], length, take, drop, slice_get, slice_index, vec_capacity, IfOk, IfSome, OnOk, OnErr};
+ghost use Rattle.std.specs.Prelude.{◌≡◌, true, ◌==◌, ◌<◌, ◌≤◌, ◌∷◌, ◌++◌, ◌↔◌, ◌⊎◌, IsTrue, [], length, take, drop, slice_get, slice_index, vec_capacity, IfOk, IfSome, OnOk, OnErr};
 ghost use Rattle.lj_text.specs.inner.Numbers.{numbers_in, numbers_left};
 ghost use Rattle.lj_text.specs.inner.LineReading.{IsReadOn};
 ghost use Rattle.lj_text.specs.inner.ShortNumbers.{AreNumbersAhead};
 
-use crate::bytes::short_number;
+use crate::bytes::{WINDOW, number_within, short_number, spaces_in};
 use crate::few_numbers::{FEW, FewNumbers};
 use crate::lent_mixed::LentMixed;
 use crate::mixed_numbers::{MixedNumbers, are_short};
@@ -411,6 +411,49 @@ impl Numbers {
 fn short_numbers<'a>(numbers: &mut Vec<u32>, bytes: &'a [u8]) -> &'a [u8]
     ensures ahead { AreNumbersAhead numbers.old.items bytes.now numbers.new.items result.now }
     ensures read { IsReadOn numbers.old.items bytes.now numbers.new.items result.now }
+    ensures within { length result.now ≤ length bytes.now }
+{
+    let mut rest = bytes;
+    while let Some(window) = rest.first_chunk::<WINDOW>() {
+        let (count, goes_on) = numbers_within(numbers, window);
+        let (_, after) = rest.split_at(count);
+        if !goes_on {
+            return after;
+        }
+        rest = after;
+    }
+    last_numbers(numbers, rest)
+}
+
+/// The same of those that end within a window: how many bytes they take, and whether there are any and nothing else stops
+/// them.
+#[inline(always)]
+fn numbers_within(numbers: &mut Vec<u32>, window: &[u8; WINDOW]) -> (usize, bool)
+    ensures ahead { AreNumbersAhead numbers.old.items window.now numbers.new.items
+        (drop result.0 window.now) }
+    ensures within { result.0 ≤ 65 }
+    ensures goes_on { result.1 ≡ true → 0 < result.0 }
+{
+    let mut spaces = spaces_in(window);
+    let mut start = 0;
+    while spaces != 0 {
+        let end = spaces.trailing_zeros() as usize;
+        let Some(number) = number_within(window, start, end) else {
+            return (start, false);
+        };
+        if number == 0 || numbers.push(number).is_err() {
+            return (start, false);
+        }
+        start = end + 1;
+        spaces &= spaces - 1;
+    }
+    (start, start != 0)
+}
+
+/// The same where fewer bytes follow than a window has.
+#[inline(never)]
+fn last_numbers<'a>(numbers: &mut Vec<u32>, bytes: &'a [u8]) -> &'a [u8]
+    ensures ahead { AreNumbersAhead numbers.old.items bytes.now numbers.new.items result.now }
     ensures within { length result.now ≤ length bytes.now }
 {
     let mut rest = bytes;

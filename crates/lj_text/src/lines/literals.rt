@@ -1,5 +1,5 @@
 //! Lists of literals.
-ghost use Rattle.std.specs.Prelude.{◌≡◌, ◌≤◌, Bool, length};
+ghost use Rattle.std.specs.Prelude.{◌≡◌, ◌<◌, ◌≤◌, Bool, true, length, drop};
 ghost use Rattle.lj_text.specs.Lines.{literals_then};
 ghost use Rattle.lj_text.specs.inner.LineReading.{Gives, behind_literals, words_of};
 ghost use Rattle.lj_text.specs.inner.ShortNumbers.{AreLiteralsAhead};
@@ -7,7 +7,7 @@ ghost use Rattle.lj_clause.specs.declared.lit.TheConstants.{MAX_VARIABLE};
 
 use super::closing::cut_short;
 use super::fault::LineFaultKind;
-use crate::bytes::{Word, next_word, short_integer};
+use crate::bytes::{WINDOW, Word, next_word, number_within, short_integer, spaces_in};
 use lj_clause::Lit;
 
 /// Takes the short literals at the front behind the others, and answers what follows them. Takes time linear in the bytes
@@ -20,6 +20,57 @@ pub(super) fn short_literals<'a>(literals: &mut Vec<Lit>, max: u32, bytes: &'a [
     ensures read { (ended : Bool)
         → behind_literals literals.new.items (literals_then max ended (words_of result.now))
         ≡ behind_literals literals.old.items (literals_then max ended (words_of bytes.now)) }
+    ensures within { length result.now ≤ length bytes.now }
+{
+    let mut rest = bytes;
+    while let Some(window) = rest.first_chunk::<WINDOW>() {
+        let (count, goes_on) = literals_within(literals, max, window);
+        let (_, after) = rest.split_at(count);
+        if !goes_on {
+            return after;
+        }
+        rest = after;
+    }
+    last_literals(literals, max, rest)
+}
+
+/// The same of those that end within a window: how many bytes they take, and whether there are any and nothing else stops
+/// them.
+#[inline(always)]
+fn literals_within(literals: &mut Vec<Lit>, max: u32, window: &[u8; WINDOW]) -> (usize, bool)
+    requires { max ≤ MAX_VARIABLE }
+    ensures ahead { AreLiteralsAhead max literals.old.items window.now
+        literals.new.items (drop result.0 window.now) }
+    ensures within { result.0 ≤ 65 }
+    ensures goes_on { result.1 ≡ true → 0 < result.0 }
+{
+    let mut spaces = spaces_in(window);
+    let mut start = 0;
+    while spaces != 0 {
+        let end = spaces.trailing_zeros() as usize;
+        let negative = window[start] == b'-';
+        let digits = start + usize::from(negative);
+        let Some(variable) = number_within(window, digits, end) else {
+            return (start, false);
+        };
+        if variable == 0 || variable > max {
+            return (start, false);
+        }
+        if literals.push(Lit::of(variable, negative)).is_err() {
+            return (start, false);
+        }
+        start = end + 1;
+        spaces &= spaces - 1;
+    }
+    (start, start != 0)
+}
+
+/// The same where fewer bytes follow than a window has.
+#[inline(never)]
+fn last_literals<'a>(literals: &mut Vec<Lit>, max: u32, bytes: &'a [u8]) -> &'a [u8]
+    requires { max ≤ MAX_VARIABLE }
+    ensures ahead { AreLiteralsAhead max literals.old.items bytes.now
+        literals.new.items result.now }
     ensures within { length result.now ≤ length bytes.now }
 {
     let mut rest = bytes;

@@ -2,7 +2,7 @@
 ghost use Rattle.std.specs.Prelude.{◌≡◌, ◌<◌, ◌≤◌, Ok, Some, length, true, IfSome};
 ghost use Rattle.lj_text.specs.Bytes.{tokens_of};
 ghost use Rattle.lj_text.specs.Lines.{addition_of, deletion_of, hints_of, numbers_of};
-ghost use Rattle.lj_text.specs.declared.line.Line.TheVariants.{Add};
+ghost use Rattle.lj_clause.specs.Lemma.{lemma_of};
 ghost use Rattle.lj_text.specs.inner.LineReading.{line_said, words_of};
 ghost use Rattle.lj_text.specs.inner.ShortNumbers.{BeginsByLine, BeginsNumber};
 ghost use Rattle.lj_clause.specs.declared.lit.TheConstants.{MAX_VARIABLE};
@@ -16,7 +16,6 @@ use crate::bytes::short_number;
 use crate::groups::Groups;
 use crate::line::{Addition, Line};
 use crate::numbers::Numbers;
-use lj_clause::Lemma;
 
 /// Reads the hints and groups at the front up to their line's end, and answers what follows it: none where they are at
 /// fault, or no line feed follows, or memory was refused.
@@ -64,33 +63,27 @@ fn numbers_at_front<'a>(numbers: &mut Numbers, bytes: &'a [u8]) -> Option<&'a [u
     }
 }
 
-/// Writes the literals, hints and groups at the front into a place, up to their line's end, and answers what follows it:
-/// none as above.
+/// Writes an addition into a place: the literals that were read, and the hints and groups at the front, up to their line's
+/// end. Answers what follows that: none as above.
 #[inline(always)]
 fn write_at_front<'a>(
     place: &mut Addition,
     room: &mut Room,
-    max: u32,
     number: u64,
     bytes: &'a [u8],
 ) -> Option<&'a [u8]>
-    requires { max ≤ MAX_VARIABLE }
+    ensures number { IfSome result (λ _. place.new.number ≡ number) }
+    ensures lemma { IfSome result (λ _. place.new.lemma ≡ lemma_of room.old.literals.items) }
     ensures read { IfSome result (λ after. BeginsByLine
-        (λ line. addition_of max true number (words_of line) ≡ Ok (Add place.new))
+        (λ line. hints_of true (words_of line) ≡ Ok (place.new.hints, place.new.groups))
         bytes.now after.now) }
     ensures shorter { IfSome result (λ after. length after.now < length bytes.now) }
 {
-    room.literals.clear();
-    let rest = short_literals(&mut room.literals, max, bytes);
-    let [b'0', b' ', proof @ ..] = rest else {
+    let after = proof_at_front(&mut place.hints, &mut place.groups, &mut room.hints, bytes)?;
+    if place.lemma.put(room.alloc, &mut room.literals).is_err() {
         return None;
-    };
-    let after = proof_at_front(&mut place.hints, &mut place.groups, &mut room.hints, proof)?;
-    let Ok(lemma) = Lemma::from_room(room.alloc, &mut room.literals) else {
-        return None;
-    };
+    }
     place.number = number;
-    place.lemma = lemma;
     Some(after)
 }
 
@@ -108,13 +101,18 @@ fn addition_at_front<'a>(
         bytes.now found.1.now) }
     ensures shorter { IfSome result (λ found. length found.1.now < length bytes.now) }
 {
+    room.literals.clear();
+    let rest = short_literals(&mut room.literals, max, bytes);
+    let [b'0', b' ', proof @ ..] = rest else {
+        return None;
+    };
     let Ok(mut place) = room.addition() else {
         return None;
     };
-    match write_at_front(&mut place, room, max, number, bytes) {
+    match write_at_front(&mut place, room, number, proof) {
         Some(after) => Some((Line::Add(Boxed::from_box(place)), after)),
         None => {
-            room.addition = Some(place);
+            room.take_back(place);
             None
         }
     }

@@ -1,7 +1,8 @@
 //! One whole line.
 ghost use Rattle.std.specs.Prelude.{◌≡◌, ◌≤◌, ◌∷◌, IfErr, IfOk, IsOk, List, OnErr, Some, pos, true, false, ℕ};
 ghost use Rattle.lj_text.specs.Bytes.{number_of, tokens_of, is_silent};
-ghost use Rattle.lj_text.specs.Lines.{addition_of, deletion_of, import_of, after_zero, after_number, greatest, line_of};
+ghost use Rattle.lj_clause.specs.Lemma.{lemma_of};
+ghost use Rattle.lj_text.specs.Lines.{addition_of, hints_of, with_read, deletion_of, import_of, after_zero, after_number, greatest, line_of};
 ghost use Rattle.lj_text.specs.inner.LineReading.{Gives, IsLineTold, words_of, line_said};
 ghost use Rattle.lj_text.specs.LinesRead.{is_line_no_memory};
 ghost use Rattle.lj_text.specs.declared.line.Line.TheVariants.{Add};
@@ -17,7 +18,7 @@ use super::room::Room;
 use crate::boxed::Boxed;
 use crate::bytes::{Word, after_blanks, first_word, next_token, short_number, word_of};
 use crate::line::{Addition, Line};
-use lj_clause::{Clause, Lemma};
+use lj_clause::Clause;
 
 /// The literals, hints and groups of an addition.
 fn addition(
@@ -30,34 +31,33 @@ fn addition(
     requires { max ≤ MAX_VARIABLE }
     ensures { Gives (λ line. line) result (addition_of max ended number (words_of bytes.now)) }
 {
+    let rest = read_literals(&mut room.literals, max, ended, bytes)?;
     let mut place = room.addition()?;
-    write_addition(&mut place, room, max, ended, number, bytes)?;
+    write_addition(&mut place, room, ended, number, rest)?;
     Ok(Line::Add(Boxed::from_box(place)))
 }
 
-/// Writes the literals, hints and groups of an addition into a place.
+/// Writes an addition into a place: the literals that were read, and its hints and groups.
 fn write_addition(
     place: &mut Addition,
     room: &mut Room,
-    max: u32,
     ended: bool,
     number: u64,
     bytes: &[u8],
 ) -> Result<(), LineFaultKind>
-    requires { max ≤ MAX_VARIABLE }
-    ensures { Gives (λ _. Add place.new) result
-        (addition_of max ended number (words_of bytes.now)) }
+    ensures { Gives (λ _. Add place.new) result (with_read
+        (λ read. Add (record { number = number; lemma = lemma_of room.old.literals.items; hints = read.0; groups = read.1 }))
+        (hints_of ended (words_of bytes.now))) }
 {
-    let rest = read_literals(&mut room.literals, max, ended, bytes)?;
     read_proof(
         &mut place.hints,
         &mut place.groups,
         &mut room.hints,
         ended,
-        rest,
+        bytes,
     )?;
+    place.lemma.put(room.alloc, &mut room.literals)?;
     place.number = number;
-    place.lemma = Lemma::from_room(room.alloc, &mut room.literals)?;
     Ok(())
 }
 

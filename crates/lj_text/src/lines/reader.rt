@@ -221,7 +221,7 @@ impl LineReader {
                 let mut place = addition.into_box();
                 place.hints.let_go_of_many();
                 place.groups.let_go_of_many();
-                self.room.addition = Some(place);
+                self.room.take_back(place);
             }
             Line::Delete(numbers) => {
                 let mut place = numbers.into_box();

@@ -1,10 +1,14 @@
 //! Room for what a line says.
+ghost use Rattle.std.specs.Prelude.{◌≡◌};
 
 use crate::groups::Groups;
 use crate::line::Addition;
 use crate::numbers::Numbers;
 use lj_clause::{Lemma, Lit, NoMemory};
 use std::alloc::Global;
+
+/// How many literals a lemma has at most that takes no memory for them.
+const FEW: usize = 3;
 
 /// Room for the literals and the numbers of a line, which is used again for the next line.
 #[derive(Debug, Drop)]
@@ -13,8 +17,10 @@ pub(super) struct Room {
     pub literals: Vec<Lit>,
     /// The hints of a group.
     pub hints: Numbers,
-    /// Where the next addition is written, if there is a place.
-    pub addition: Option<Box<Addition>>,
+    /// Where the next addition of up to three literals is written, if there is a place.
+    short: Option<Box<Addition>>,
+    /// Where the next one of more is, whose literals stand in memory of their own.
+    long: Option<Box<Addition>>,
     /// Where the next deletion is written, if there is a place.
     pub deletion: Option<Box<Numbers>>,
 }
@@ -26,17 +32,35 @@ impl Room {
             alloc,
             literals: Vec::new(alloc),
             hints: Numbers::from_short(Vec::new(alloc)),
-            addition: None,
+            short: None,
+            long: None,
             deletion: None,
         }
     }
 
-    /// A place for an addition, with whatever stands there. Takes constant time.
+    /// A place for an addition of the literals that were read, with whatever stands there. Takes constant time.
     #[inline(always)]
-    pub fn addition(&mut self) -> Result<Box<Addition>, NoMemory> {
-        match self.addition.take() {
+    pub fn addition(&mut self) -> Result<Box<Addition>, NoMemory>
+        ensures { self.new.literals ≡ self.old.literals }
+    {
+        let place = if self.literals.len() > FEW {
+            self.long.take()
+        } else {
+            self.short.take()
+        };
+        match place {
             Some(place) => Ok(place),
             None => new_addition(self.alloc),
+        }
+    }
+
+    /// Takes a place back for additions to come whose literals are few as its own are, or many as those. Takes constant time.
+    #[inline(always)]
+    pub fn take_back(&mut self, place: Box<Addition>) {
+        if place.lemma.clause().lits().len() > FEW {
+            self.long = Some(place);
+        } else {
+            self.short = Some(place);
         }
     }
 

@@ -1,15 +1,25 @@
-use Rattle.std.proofs.Common.{List, ℕ, [], ◌∷◌, ◌++◌, cond, ◌∙◌, ap, sym, subst, arith}
-use Rattle.lj_text.specs.inner.ShortNumbers.{AreNumbersAhead}
-use Rattle.lj_text.proofs.ShortLemmas.{numbers-more}
+use Rattle.std.proofs.Common.{arith}
+use Rattle.lj_text.proofs.ShortLemmas.{numbers-both, numbers-on, numbers-read}
 use Rattle.lj_text.proofs.numbers.short_numbers.Goals as goal
 
-pub loop-number-preserved : goal.loop-number-preserved
-loop-number-preserved c =
-    let l = c.loop-number in
-    let e = c.in-Some.ensures in
-    let more : List ℕ = l.numbers.items ++ c.in-Some.number ∷ [] in
-    let P : List ℕ → Type 0 = λ items. AreNumbersAhead c.args.numbers.now.items c.args.bytes.now items c.in-Some.after.now in (
-      subst P (sym (c.push.ensures.items ∙ ap (λ ok. cond ok more l.numbers.items) c.if-is_err.ensures.negation))
-          (numbers-more c.args.numbers.now.items c.args.bytes.now l.numbers.items l.rest.now c.in-Some.number c.in-Some.after.now c.if-number-eq0.false (omega (arith, e.small)) e.number l.invariant.0),
-      omega (arith, e.shorter, l.invariant.1),
+pub returns-then-not-goes_on-clause-ahead : goal.returns-then-not-goes_on-clause-ahead
+returns-then-not-goes_on-clause-ahead c =
+    let n = c.numbers_within-count in
+    numbers-on c.args.numbers.now.items c.args.bytes.now c.loop-window.numbers.items c.loop-window.rest.now c.in-Some.window.now n.new.numbers.items c.split_at.result.1.now n.result.0 c.loop-window.invariant.0 c.in-Some.ensures.cases n.ensures.ahead n.ensures.within c.split_at.ensures.back
+
+pub returns-then-not-goes_on-clause-read : goal.returns-then-not-goes_on-clause-read
+returns-then-not-goes_on-clause-read c =
+    let n = c.numbers_within-count in
+    numbers-read c.args.numbers.now.items c.args.bytes.now n.new.numbers.items c.split_at.result.1.now
+    (numbers-on c.args.numbers.now.items c.args.bytes.now c.loop-window.numbers.items c.loop-window.rest.now c.in-Some.window.now n.new.numbers.items c.split_at.result.1.now n.result.0 c.loop-window.invariant.0 c.in-Some.ensures.cases n.ensures.ahead n.ensures.within c.split_at.ensures.back)
+
+pub loop-window-preserved : goal.loop-window-preserved
+loop-window-preserved c =
+    let n = c.numbers_within-count in (
+      numbers-on c.args.numbers.now.items c.args.bytes.now c.loop-window.numbers.items c.loop-window.rest.now c.in-Some.window.now n.new.numbers.items c.split_at.result.1.now n.result.0 c.loop-window.invariant.0 c.in-Some.ensures.cases n.ensures.ahead n.ensures.within c.split_at.ensures.back,
+      omega (arith, c.split_at.ensures.back_len, c.loop-window.invariant.1),
     )
+
+pub returns-clause-ahead : goal.returns-clause-ahead
+returns-clause-ahead c =
+    numbers-both c.args.numbers.now.items c.args.bytes.now c.loop-window.numbers.items c.loop-window.rest.now c.last_numbers.new.numbers.items c.last_numbers.result.now c.loop-window.invariant.0 c.last_numbers.ensures.ahead

@@ -1,5 +1,5 @@
-use Rattle.std.proofs.Common.{◌==◌, ◌∙◌, ap, arith}
-use Rattle.std.proofs.Common.{drop, ℕ}
+use Rattle.std.proofs.Common.{◌==◌, ◌∙◌, ap}
+use Rattle.std.proofs.Common.{drop}
 use Rattle.lj_text.proofs.ShortLemmas.{integer-ahead}
 use Rattle.lj_text.proofs.bytes.short_numbers.short_integer.Goals as goal
 

@@ -1,0 +1,346 @@
+-- Numbers of few digits by words of eight bytes.
+use Rattle.std.proofs.Common.{Fits, w8, ◌⊎◌, inl, inr, ◌≡◌, Bool, ℕ, zero, suc, ◌+◌, ◌-◌, ◌*◌, ◌/◌, ◌%◌, ◌^◌, ◌<◌, ◌≤◌, ◌==◌, true, cond, ◌&&◌, bit_and, bit_or, List, [], ◌∷◌, ◌++◌, length, get_or, take, drop, map, refl, sym, ap, ◌∙◌, subst, arith}
+use Rattle.std.proofs.lemmas.List.{take-take, map-append, length-map, length-append, length-replicate, length-take-le, take-append-drop}
+use Rattle.std.specs.List.{list_all}
+use Rattle.std.specs.Char.{is_ascii_digit}
+use Rattle.lj_text.specs.inner.ShortNumbers.{IsShortNumber}
+use Rattle.lj_text.specs.Bytes.{decimal_value}
+use Rattle.lj_text.proofs.ShortLemmas.{filled-front}
+use Rattle.std.specs.Prelude.{replicate, nat_le}
+use Rattle.std.specs.Int.RustNames.{bit_xor}
+use Rattle.std.proofs.lemmas.Bool.{and_parts, cases_lt}
+use Rattle.std.proofs.lemmas.Bool.Decides.{nat_tests}
+use Rattle.std.proofs.lemmas.Nat.{and_block, or_block, xor_block, and_mask, or_lt, and_shr, or_shr, xor_lt}
+use Rattle.std.proofs.Math.Seq.{drop-cons}
+use Rattle.std.proofs.Math.Nat.{pow-succ', mul_assoc, mul-le-mul_right}
+use Rattle.lj_text.specs.inner.Windows.{word_of, number_in, AreBytes, AreCounts}
+
+-- ---- tests of each byte
+abbrev all-below : (ℕ → Bool) → ℕ → Bool
+all-below p zero = true
+all-below p (suc n) = p n && all-below p n
+
+at-or-below : (p : ℕ → Bool) (n k : ℕ) → k < suc n → p n ≡ true → (k < n → p k ≡ true) → (k < n) ⊎ (n ≤ k) → p k ≡ true
+at-or-below p n k lt last before (inl less) = before less
+at-or-below p n k lt last before (inr le) = let is : n ≡ k = omega (arith, lt, le) in subst (λ m. p m ≡ true) is last
+
+below-passes : (p : ℕ → Bool) (n k : ℕ) → all-below p n ≡ true → k < n → p k ≡ true
+below-passes p zero k e lt = absurd (omega arith)
+below-passes p (suc n) k e lt =
+    let parts = and_parts (p n) (all-below p n) e in
+    at-or-below p n k lt parts.0 (λ less. below-passes p n k parts.1 less) (cases_lt k n)
+
+-- ---- the first eight of a list
+step-at : (xs : List ℕ) (n i j : ℕ) → j ≡ i + 1 → i < length xs → take (suc n) (drop i xs) ≡ get_or xs i 0 ∷ take n (drop j xs)
+step-at xs n i j e lt =
+    let next : suc i ≡ j = omega (arith, e) in
+    ap (take (suc n)) (drop-cons xs i 0 lt) ∙ ap (λ k. get_or xs i 0 ∷ take n (drop k xs)) next
+
+pub eight-at : (xs : List ℕ) (i : ℕ) → i + 8 ≤ length xs
+    → take 8 (drop i xs) ≡ get_or xs i 0 ∷ get_or xs (i + 1) 0 ∷ get_or xs (i + 2) 0 ∷ get_or xs (i + 3) 0 ∷ get_or xs (i + 4) 0 ∷ get_or xs (i + 5) 0 ∷ get_or xs (i + 6) 0 ∷ get_or xs (i + 7) 0 ∷ []
+eight-at xs i le =
+    step-at xs 7 i (i + 1) refl (omega (arith, le)) ∙ ap (λ t. get_or xs i 0 ∷ t)
+    (step-at xs 6 (i + 1) (i + 2) (omega arith) (omega (arith, le)) ∙ ap (λ t. get_or xs (i + 1) 0 ∷ t)
+    (step-at xs 5 (i + 2) (i + 3) (omega arith) (omega (arith, le)) ∙ ap (λ t. get_or xs (i + 2) 0 ∷ t)
+    (step-at xs 4 (i + 3) (i + 4) (omega arith) (omega (arith, le)) ∙ ap (λ t. get_or xs (i + 3) 0 ∷ t)
+    (step-at xs 3 (i + 4) (i + 5) (omega arith) (omega (arith, le)) ∙ ap (λ t. get_or xs (i + 4) 0 ∷ t)
+    (step-at xs 2 (i + 5) (i + 6) (omega arith) (omega (arith, le)) ∙ ap (λ t. get_or xs (i + 5) 0 ∷ t)
+    (step-at xs 1 (i + 6) (i + 7) (omega arith) (omega (arith, le)) ∙ ap (λ t. get_or xs (i + 6) 0 ∷ t)
+    (step-at xs 0 (i + 7) (i + 8) (omega arith) (omega (arith, le)))))))))
+
+-- ---- a word's bytes against another's
+abbrev aboves : ℕ → ℕ
+aboves zero = 0
+aboves (suc k) = 118 + 256 * aboves k
+
+abbrev uppers : ℕ → ℕ
+uppers zero = 0
+uppers (suc k) = 128 + 256 * uppers k
+
+abbrev zeros : ℕ → ℕ
+zeros zero = 0
+zeros (suc k) = 48 + 256 * zeros k
+
+and-byte : (r s a b : ℕ) → r < 256 → s < 256 → bit_and (r + 256 * a) (s + 256 * b) ≡ bit_and r s + 256 * bit_and a b
+and-byte r s a b lr ls =
+    let left : r + 256 * a ≡ a * 256 + r = omega arith in
+    let right : s + 256 * b ≡ b * 256 + s = omega arith in
+    ap (λ x. bit_and x (s + 256 * b)) left ∙ ap (λ x. bit_and (a * 256 + r) x) right ∙ and_block 8 a b r s lr ls ∙ omega arith
+
+or-byte : (r s a b : ℕ) → r < 256 → s < 256 → bit_or (r + 256 * a) (s + 256 * b) ≡ bit_or r s + 256 * bit_or a b
+or-byte r s a b lr ls =
+    let left : r + 256 * a ≡ a * 256 + r = omega arith in
+    let right : s + 256 * b ≡ b * 256 + s = omega arith in
+    ap (λ x. bit_or x (s + 256 * b)) left ∙ ap (λ x. bit_or (a * 256 + r) x) right ∙ or_block 8 a b r s lr ls ∙ omega arith
+
+xor-byte : (r s a b : ℕ) → r < 256 → s < 256 → bit_xor (r + 256 * a) (s + 256 * b) ≡ bit_xor r s + 256 * bit_xor a b
+xor-byte r s a b lr ls =
+    let left : r + 256 * a ≡ a * 256 + r = omega arith in
+    let right : s + 256 * b ≡ b * 256 + s = omega arith in
+    ap (λ x. bit_xor x (s + 256 * b)) left ∙ ap (λ x. bit_xor (a * 256 + r) x) right ∙ xor_block 8 a b r s lr ls ∙ omega arith
+
+-- a byte less 48, as far as it is a digit
+abbrev pub less_zero : ℕ → ℕ
+less_zero b = bit_xor b 48
+
+xored : (bs : List ℕ) → AreBytes bs → bit_xor (word_of bs) (zeros (length bs)) ≡ word_of (map less_zero bs)
+xored [] all = refl
+xored (b ∷ bs) all = xor-byte b 48 (word_of bs) (zeros (length bs)) all.0 (omega arith) ∙ ap (λ w. less_zero b + 256 * w) (xored bs all.1)
+
+-- ---- each byte is at most 9
+abbrev low-test : ℕ → Bool
+low-test r = cond (bit_and (bit_or ((r + 118) % 256) r) 128 == 0) (nat_le r 9) true
+
+low-passes : (r : ℕ) → r < 256 → low-test r ≡ true
+low-passes r lt = below-passes low-test 256 r refl lt
+
+low-at-most : (r : ℕ) → r < 256 → bit_and (bit_or ((r + 118) % 256) r) 128 ≡ 0 → r ≤ 9
+low-at-most r lt none =
+    let passes : nat_le r 9 ≡ true = sym (ap (λ x. cond (x == 0) (nat_le r 9) true) none) ∙ low-passes r lt in
+    grind (arith, nat_tests, passes)
+
+nine : (bs : List ℕ) (z : ℕ) → AreBytes bs → z ≡ word_of bs + aboves (length bs) → bit_and (bit_or z (word_of bs)) (uppers (length bs)) ≡ 0 → AreCounts bs
+nine [] z all e none = tt
+nine (r ∷ bs) z all e none =
+    let a : ℕ = word_of bs in
+    let s : ℕ = (r + 118) % 256 in
+    let t : ℕ = a + aboves (length bs) + (r + 118) / 256 in
+    let byte : s < 256 = omega arith in
+    let z-is : z ≡ s + 256 * t = omega (arith, e) in
+    let parts : bit_or z (r + 256 * a) ≡ bit_or s r + 256 * bit_or t a = ap (λ x. bit_or x (r + 256 * a)) z-is ∙ or-byte s r t a byte all.0 in
+    let cut : bit_and (bit_or s r + 256 * bit_or t a) (128 + 256 * uppers (length bs)) ≡ bit_and (bit_or s r) 128 + 256 * bit_and (bit_or t a) (uppers (length bs)) =
+    and-byte (bit_or s r) 128 (bit_or t a) (uppers (length bs)) (or_lt 8 s r byte all.0) (omega arith) in
+    let sum : bit_and (bit_or s r) 128 + 256 * bit_and (bit_or t a) (uppers (length bs)) ≡ 0 =
+    sym cut ∙ ap (λ x. bit_and x (128 + 256 * uppers (length bs))) (sym parts) ∙ none in
+    let low : bit_and (bit_or s r) 128 ≡ 0 = omega (arith, sum) in
+    let high : bit_and (bit_or t a) (uppers (length bs)) ≡ 0 = omega (arith, sum) in
+    let few : r ≤ 9 = low-at-most r all.0 low in
+    let t-is : t ≡ a + aboves (length bs) = omega (arith, few) in
+    (few, nine bs t all.1 t-is high)
+
+top-clear : (x y : ℕ) → x < 2 → y < 2 → bit_and (bit_or x y) 1 ≡ 0 → y ≡ 0
+top-clear x zero lx ly e = refl
+top-clear zero (suc zero) lx ly e = absurd (omega (arith, e))
+top-clear (suc zero) (suc zero) lx ly e = absurd (omega (arith, e))
+top-clear (suc (suc x)) (suc zero) lx ly e = absurd (omega arith)
+top-clear x (suc (suc y)) lx ly e = absurd (omega arith)
+
+pub all-digits : (word : ℕ) → word < 18446744073709551616 → bit_and (bit_or ((word + 8536140394893047414) % 18446744073709551616) word) 9259542123273814144 ≡ 0
+    → (bs : List ℕ) → length bs ≡ 8 → AreBytes bs → word ≡ word_of bs → AreCounts bs
+all-digits word fits none bs eight all is =
+    let z : ℕ = (word + 8536140394893047414) % 18446744073709551616 in
+    let shifted : bit_and (bit_or (z / 2 ^ 63) (word / 2 ^ 63)) 1 ≡ 0 =
+    ap (λ o. bit_and o 1) (sym (or_shr z word 63)) ∙ sym (and_shr (bit_or z word) 9259542123273814144 63) ∙ ap (λ x. x / 2 ^ 63) none in
+    let top : word / 2 ^ 63 ≡ 0 = top-clear (z / 2 ^ 63) (word / 2 ^ 63) (omega arith) (omega (arith, fits)) shifted in
+    let unwrapped : z ≡ word + 8536140394893047414 = omega (arith, top) in
+    nine bs z all (unwrapped ∙ ap (λ w. w + 8536140394893047414) is ∙ ap (λ n. word_of bs + aboves n) (sym eight))
+    (ap (λ n. bit_and (bit_or z (word_of bs)) (uppers n)) eight ∙ ap (λ w. bit_and (bit_or z w) 9259542123273814144) (sym is) ∙ none)
+
+-- ---- the value of eight digits
+and-two : (r s a b : ℕ) → r < 65536 → s < 65536 → bit_and (r + 65536 * a) (s + 65536 * b) ≡ bit_and r s + 65536 * bit_and a b
+and-two r s a b lr ls =
+    let left : r + 65536 * a ≡ a * 65536 + r = omega arith in
+    let right : s + 65536 * b ≡ b * 65536 + s = omega arith in
+    ap (λ x. bit_and x (s + 65536 * b)) left ∙ ap (λ x. bit_and (a * 65536 + r) x) right ∙ and_block 16 a b r s lr ls ∙ omega arith
+
+and-four : (r s a b : ℕ) → r < 4294967296 → s < 4294967296 → bit_and (r + 4294967296 * a) (s + 4294967296 * b) ≡ bit_and r s + 4294967296 * bit_and a b
+and-four r s a b lr ls =
+    let left : r + 4294967296 * a ≡ a * 4294967296 + r = omega arith in
+    let right : s + 4294967296 * b ≡ b * 4294967296 + s = omega arith in
+    ap (λ x. bit_and x (s + 4294967296 * b)) left ∙ ap (λ x. bit_and (a * 4294967296 + r) x) right ∙ and_block 32 a b r s lr ls ∙ omega arith
+
+low-byte : (c q : ℕ) → c < 256 → bit_and (c + 256 * q) 255 ≡ c
+low-byte c q lt = and_mask (c + 256 * q) 8 ∙ omega (arith, lt)
+
+low-two : (c q : ℕ) → c < 65536 → bit_and (c + 65536 * q) 65535 ≡ c
+low-two c q lt = and_mask (c + 65536 * q) 16 ∙ omega (arith, lt)
+
+-- the first and every other byte of four pairs
+masked-pairs : (c0 c1 c2 c3 q0 q1 q2 q3 : ℕ) → c0 < 256 → c1 < 256 → c2 < 256 → c3 < 256 → q0 < 256 → q1 < 256 → q2 < 256 → q3 < 256
+    → bit_and ((c0 + 256 * q0) + 65536 * ((c1 + 256 * q1) + 65536 * ((c2 + 256 * q2) + 65536 * (c3 + 256 * q3)))) 71777214294589695 ≡ c0 + 65536 * (c1 + 65536 * (c2 + 65536 * c3))
+masked-pairs c0 c1 c2 c3 q0 q1 q2 q3 l0 l1 l2 l3 m0 m1 m2 m3 =
+    and-two (c0 + 256 * q0) 255 ((c1 + 256 * q1) + 65536 * ((c2 + 256 * q2) + 65536 * (c3 + 256 * q3))) 1095233372415 (omega (arith, l0, m0)) (omega arith)
+    ∙ ap (λ x. bit_and (c0 + 256 * q0) 255 + 65536 * x) (and-two (c1 + 256 * q1) 255 ((c2 + 256 * q2) + 65536 * (c3 + 256 * q3)) 16711935 (omega (arith, l1, m1)) (omega arith))
+    ∙ ap (λ x. bit_and (c0 + 256 * q0) 255 + 65536 * (bit_and (c1 + 256 * q1) 255 + 65536 * x)) (and-two (c2 + 256 * q2) 255 (c3 + 256 * q3) 255 (omega (arith, l2, m2)) (omega arith))
+    ∙ omega (arith, low-byte c0 q0 l0, low-byte c1 q1 l1, low-byte c2 q2 l2, low-byte c3 q3 l3)
+
+masked-fours : (c0 c1 q0 q1 : ℕ) → c0 < 65536 → c1 < 65536 → q0 < 65536 → q1 < 65536
+    → bit_and ((c0 + 65536 * q0) + 4294967296 * (c1 + 65536 * q1)) 281470681808895 ≡ c0 + 4294967296 * c1
+masked-fours c0 c1 q0 q1 l0 l1 m0 m1 =
+    and-four (c0 + 65536 * q0) 65535 (c1 + 65536 * q1) 65535 (omega (arith, l0, m0)) (omega arith)
+    ∙ omega (arith, low-two c0 q0 l0, low-two c1 q1 l1)
+
+pub value-is : (counts : List ℕ) → length counts ≡ 8 → AreCounts counts → (word pairs fours : ℕ) → word ≡ word_of counts
+    → pairs ≡ bit_and ((word * 10 % 18446744073709551616 + word / 256) % 18446744073709551616) 71777214294589695
+    → fours ≡ bit_and ((pairs * 100 % 18446744073709551616 + pairs / 65536) % 18446744073709551616) 281470681808895
+    → ((fours * 10000 % 18446744073709551616 + fours / 4294967296) % 18446744073709551616) % 4294967296 ≡ number_in counts
+value-is (d0 ∷ d1 ∷ d2 ∷ d3 ∷ d4 ∷ d5 ∷ d6 ∷ d7 ∷ []) eight all word pairs fours is is-pairs is-fours =
+    let l0 : d0 ≤ 9 = all.0 in
+    let l1 : d1 ≤ 9 = all.1.0 in
+    let l2 : d2 ≤ 9 = all.1.1.0 in
+    let l3 : d3 ≤ 9 = all.1.1.1.0 in
+    let l4 : d4 ≤ 9 = all.1.1.1.1.0 in
+    let l5 : d5 ≤ 9 = all.1.1.1.1.1.0 in
+    let l6 : d6 ≤ 9 = all.1.1.1.1.1.1.0 in
+    let l7 : d7 ≤ 9 = all.1.1.1.1.1.1.1.0 in
+    let tenfold : (word * 10 % 18446744073709551616 + word / 256) % 18446744073709551616
+    ≡ ((10 * d0 + d1) + 256 * (10 * d1 + d2)) + 65536 * (((10 * d2 + d3) + 256 * (10 * d3 + d4)) + 65536 * (((10 * d4 + d5) + 256 * (10 * d5 + d6)) + 65536 * ((10 * d6 + d7) + 256 * (10 * d7)))) =
+    omega (arith, is, l0, l1, l2, l3, l4, l5, l6, l7) in
+    let paired : pairs ≡ (10 * d0 + d1) + 65536 * ((10 * d2 + d3) + 65536 * ((10 * d4 + d5) + 65536 * (10 * d6 + d7))) =
+    is-pairs ∙ ap (λ x. bit_and x 71777214294589695) tenfold
+    ∙ masked-pairs (10 * d0 + d1) (10 * d2 + d3) (10 * d4 + d5) (10 * d6 + d7) (10 * d1 + d2) (10 * d3 + d4) (10 * d5 + d6) (10 * d7)
+    (omega (arith, l0, l1)) (omega (arith, l2, l3)) (omega (arith, l4, l5)) (omega (arith, l6, l7)) (omega (arith, l1, l2)) (omega (arith, l3, l4)) (omega (arith, l5, l6)) (omega (arith, l7)) in
+    let hundredfold : (pairs * 100 % 18446744073709551616 + pairs / 65536) % 18446744073709551616
+    ≡ ((100 * (10 * d0 + d1) + (10 * d2 + d3)) + 65536 * (100 * (10 * d2 + d3) + (10 * d4 + d5))) + 4294967296 * ((100 * (10 * d4 + d5) + (10 * d6 + d7)) + 65536 * (100 * (10 * d6 + d7))) =
+    omega (arith, paired, l0, l1, l2, l3, l4, l5, l6, l7) in
+    let grouped : fours ≡ (100 * (10 * d0 + d1) + (10 * d2 + d3)) + 4294967296 * (100 * (10 * d4 + d5) + (10 * d6 + d7)) =
+    is-fours ∙ ap (λ x. bit_and x 281470681808895) hundredfold
+    ∙ masked-fours (100 * (10 * d0 + d1) + (10 * d2 + d3)) (100 * (10 * d4 + d5) + (10 * d6 + d7)) (100 * (10 * d2 + d3) + (10 * d4 + d5)) (100 * (10 * d6 + d7))
+    (omega (arith, l0, l1, l2, l3)) (omega (arith, l4, l5, l6, l7)) (omega (arith, l2, l3, l4, l5)) (omega (arith, l6, l7)) in
+    omega (arith, grouped, l0, l1, l2, l3, l4, l5, l6, l7)
+value-is [] eight all word pairs fours is is-pairs is-fours = absurd (omega arith)
+value-is (d0 ∷ []) eight all word pairs fours is is-pairs is-fours = absurd (omega arith)
+value-is (d0 ∷ d1 ∷ []) eight all word pairs fours is is-pairs is-fours = absurd (omega arith)
+value-is (d0 ∷ d1 ∷ d2 ∷ []) eight all word pairs fours is is-pairs is-fours = absurd (omega arith)
+value-is (d0 ∷ d1 ∷ d2 ∷ d3 ∷ []) eight all word pairs fours is is-pairs is-fours = absurd (omega arith)
+value-is (d0 ∷ d1 ∷ d2 ∷ d3 ∷ d4 ∷ []) eight all word pairs fours is is-pairs is-fours = absurd (omega arith)
+value-is (d0 ∷ d1 ∷ d2 ∷ d3 ∷ d4 ∷ d5 ∷ []) eight all word pairs fours is is-pairs is-fours = absurd (omega arith)
+value-is (d0 ∷ d1 ∷ d2 ∷ d3 ∷ d4 ∷ d5 ∷ d6 ∷ []) eight all word pairs fours is is-pairs is-fours = absurd (omega arith)
+value-is (d0 ∷ d1 ∷ d2 ∷ d3 ∷ d4 ∷ d5 ∷ d6 ∷ d7 ∷ d8 ∷ ds) eight all word pairs fours is is-pairs is-fours = absurd (omega arith)
+
+-- ---- a word moved up, so that its last digit stands in the last byte
+word-append : (xs ys : List ℕ) → word_of (xs ++ ys) ≡ word_of xs + 256 ^ length xs * word_of ys
+word-append [] ys = omega arith
+word-append (x ∷ xs) ys =
+    let power : 256 ^ suc (length xs) ≡ 256 * 256 ^ length xs = pow-succ' 256 (length xs) in
+    let product : 256 ^ suc (length xs) * word_of ys ≡ 256 * (256 ^ length xs * word_of ys) = ap (λ p. p * word_of ys) power ∙ mul_assoc 256 (256 ^ length xs) (word_of ys) in
+    omega (arith, word-append xs ys, product)
+
+word-below : (xs : List ℕ) → AreBytes xs → word_of xs < 256 ^ length xs
+word-below [] all = omega arith
+word-below (x ∷ xs) all = omega (arith, all.0, word-below xs all.1, pow-succ' 256 (length xs))
+
+zeros-before : (k : ℕ) (xs : List ℕ) → word_of (replicate k 0 ++ xs) ≡ 256 ^ k * word_of xs
+zeros-before zero xs = omega arith
+zeros-before (suc k) xs =
+    let product : 256 ^ suc k * word_of xs ≡ 256 * (256 ^ k * word_of xs) = ap (λ p. p * word_of xs) (pow-succ' 256 k) ∙ mul_assoc 256 (256 ^ k) (word_of xs) in
+    omega (arith, zeros-before k xs, product)
+
+moved-by : (k a y : ℕ) → k < 8 → a < 256 ^ (8 - k) → ((a + 256 ^ (8 - k) * y) * 2 ^ (8 * k)) % 18446744073709551616 ≡ 256 ^ k * a
+moved-by zero a y few lt = omega (arith, lt)
+moved-by (suc zero) a y few lt = omega (arith, lt)
+moved-by (suc (suc zero)) a y few lt = omega (arith, lt)
+moved-by (suc (suc (suc zero))) a y few lt = omega (arith, lt)
+moved-by (suc (suc (suc (suc zero)))) a y few lt = omega (arith, lt)
+moved-by (suc (suc (suc (suc (suc zero))))) a y few lt = omega (arith, lt)
+moved-by (suc (suc (suc (suc (suc (suc zero)))))) a y few lt = omega (arith, lt)
+moved-by (suc (suc (suc (suc (suc (suc (suc zero))))))) a y few lt = omega (arith, lt)
+moved-by (suc (suc (suc (suc (suc (suc (suc (suc k)))))))) a y few lt = absurd (omega arith)
+
+moved-up : (xs ys : List ℕ) (k : ℕ) → AreBytes xs → k < 8 → length xs ≡ 8 - k → (word_of (xs ++ ys) * 2 ^ (8 * k)) % 18446744073709551616 ≡ word_of (replicate k 0 ++ xs)
+moved-up xs ys k all few long =
+    ap (λ w. (w * 2 ^ (8 * k)) % 18446744073709551616) (word-append xs ys ∙ ap (λ n. word_of xs + 256 ^ n * word_of ys) long)
+    ∙ moved-by k (word_of xs) (word_of ys) few (subst (λ n. word_of xs < 256 ^ n) long (word-below xs all))
+    ∙ sym (zeros-before k xs)
+
+-- ---- the number in a window
+bytes-take : (n : ℕ) (bs : List ℕ) → AreBytes bs → AreBytes (take n bs)
+bytes-take zero bs all = tt
+bytes-take (suc n) [] all = tt
+bytes-take (suc n) (b ∷ bs) all = (all.0, bytes-take n bs all.1)
+
+bytes-drop : (n : ℕ) (bs : List ℕ) → AreBytes bs → AreBytes (drop n bs)
+bytes-drop zero bs all = all
+bytes-drop (suc n) [] all = tt
+bytes-drop (suc n) (b ∷ bs) all = bytes-drop n bs all.1
+
+bytes-of : (bs : List ℕ) → ((i : ℕ) → Fits w8 (get_or bs i 0)) → AreBytes bs
+bytes-of [] fit = tt
+bytes-of (b ∷ bs) fit = ((fit 0).fits, bytes-of bs (λ i. fit (suc i)))
+
+pub bytes-at : (bs : List ℕ) (start : ℕ) → ((i : ℕ) → Fits w8 (get_or bs i 0)) → AreBytes (take 8 (drop start bs))
+bytes-at bs start fit = bytes-take 8 (drop start bs) (bytes-drop start bs (bytes-of bs fit))
+
+bytes-less : (bs : List ℕ) → AreBytes bs → AreBytes (map less_zero bs)
+bytes-less [] all = tt
+bytes-less (b ∷ bs) all = (xor_lt 8 b 48 all.0 (omega arith), bytes-less bs all.1)
+
+bytes-behind : (k : ℕ) (bs : List ℕ) → AreBytes bs → AreBytes (replicate k 0 ++ bs)
+bytes-behind zero bs all = all
+bytes-behind (suc k) bs all = (omega arith, bytes-behind k bs all)
+
+counts-behind : (k : ℕ) (ds : List ℕ) → AreCounts (replicate k 0 ++ ds) → AreCounts ds
+counts-behind zero ds all = all
+counts-behind (suc k) ds all = counts-behind k ds all.1
+
+number-behind : (k : ℕ) (ds : List ℕ) → number_in (replicate k 0 ++ ds) ≡ number_in ds
+number-behind zero ds = refl
+number-behind (suc k) ds = omega (arith, number-behind k ds)
+
+number-below : (ds : List ℕ) → AreCounts ds → number_in ds < 10 ^ length ds
+number-below [] all = omega arith
+number-below (d ∷ ds) all =
+    let most : d * 10 ^ length ds ≤ 9 * 10 ^ length ds = mul-le-mul_right (10 ^ length ds) all.0 in
+    omega (arith, most, number-below ds all.1, pow-succ' 10 (length ds))
+
+abbrev digit-test : ℕ → Bool
+digit-test b = cond (nat_le (less_zero b) 9) (is_ascii_digit b && (less_zero b == b - 48)) true
+
+digit-passes : (b : ℕ) → b < 256 → digit-test b ≡ true
+digit-passes b lt = below-passes digit-test 256 b refl lt
+
+digit-of : (b : ℕ) → b < 256 → less_zero b ≤ 9 → (is_ascii_digit b ≡ true) × (less_zero b ≡ b - 48)
+digit-of b lt few =
+    let yes : nat_le (less_zero b) 9 ≡ true = grind (arith, nat_tests, few) in
+    let both : (is_ascii_digit b && (less_zero b == b - 48)) ≡ true = sym (ap (λ t. cond t (is_ascii_digit b && (less_zero b == b - 48)) true) yes) ∙ digit-passes b lt in
+    let parts = and_parts (is_ascii_digit b) (less_zero b == b - 48) both in
+    (parts.0, grind (arith, nat_tests, parts.1))
+
+decimal-of : (bs : List ℕ) → AreBytes bs → AreCounts (map less_zero bs) → (list_all is_ascii_digit bs ≡ true) × (number_in (map less_zero bs) ≡ decimal_value bs)
+decimal-of [] all counts = (refl, refl)
+decimal-of (b ∷ bs) all counts =
+    let first = digit-of b all.0 counts.0 in
+    let rest = decimal-of bs all.1 counts.1 in (
+      ap (λ t. t && list_all is_ascii_digit bs) first.0 ∙ rest.0,
+      ap (λ n. less_zero b * 10 ^ n + number_in (map less_zero bs)) (length-map bs less_zero) ∙ ap (λ d. d * 10 ^ length bs + number_in (map less_zero bs)) first.1 ∙ ap (λ n. (b - 48) * 10 ^ length bs + n) rest.1,
+    )
+
+pub within : (bytes : List ℕ) (n value : ℕ) → AreBytes (take 8 bytes) → 8 ≤ length bytes → n < length bytes → 0 < n → n ≤ 8 → get_or bytes n 0 ≡ 32
+    → ((digits : List ℕ) → length digits ≡ 8 → AreBytes digits → (bit_xor (word_of (take 8 bytes)) 3472328296227680304 * 2 ^ (64 - 8 * n)) % 18446744073709551616 ≡ word_of digits → AreCounts digits)
+    → ((counts : List ℕ) → length counts ≡ 8 → AreCounts counts → (bit_xor (word_of (take 8 bytes)) 3472328296227680304 * 2 ^ (64 - 8 * n)) % 18446744073709551616 ≡ word_of counts → value ≡ number_in counts)
+    → IsShortNumber bytes value (drop (n + 1) bytes)
+within bytes n value all room long some few space told number =
+    let whole : List ℕ = take 8 bytes in
+    let front : List ℕ = take n bytes in
+    let k : ℕ = 8 - n in
+    let xs : List ℕ = map less_zero front in
+    let ys : List ℕ = map less_zero (drop n whole) in
+    let inner : take n whole ≡ front = take-take n 8 bytes few in
+    let split : map less_zero whole ≡ xs ++ ys =
+    ap (map less_zero) (sym (take-append-drop n whole)) ∙ map-append less_zero (take n whole) (drop n whole) ∙ ap (λ t. map less_zero t ++ ys) inner in
+    let eight : length whole ≡ 8 = length-take-le 8 bytes room in
+    let plain : bit_xor (word_of whole) 3472328296227680304 ≡ word_of (xs ++ ys) =
+    ap (λ m. bit_xor (word_of whole) (zeros m)) (sym eight) ∙ xored whole all ∙ ap word_of split in
+    let bytes-front : AreBytes front = subst AreBytes inner (bytes-take n whole all) in
+    let bytes-xs : AreBytes xs = bytes-less front bytes-front in
+    let long-xs : length xs ≡ n = length-map front less_zero ∙ length-take-le n bytes (omega (arith, long)) in
+    let up : 64 - 8 * n ≡ 8 * k = omega (arith, few) in
+    let counted : length xs ≡ 8 - k = omega (arith, long-xs, few) in
+    let word-is : (bit_xor (word_of whole) 3472328296227680304 * 2 ^ (64 - 8 * n)) % 18446744073709551616 ≡ word_of (replicate k 0 ++ xs) =
+    ap (λ w. (w * 2 ^ (64 - 8 * n)) % 18446744073709551616) plain ∙ ap (λ m. (word_of (xs ++ ys) * 2 ^ m) % 18446744073709551616) up
+    ∙ moved-up xs ys k bytes-xs (omega (arith, some)) counted in
+    let filled : length (replicate k 0 ++ xs) ≡ 8 = omega (arith, length-append (replicate k 0) xs, length-replicate {A = ℕ} k 0, long-xs, few) in
+    let counts : AreCounts (replicate k 0 ++ xs) = told (replicate k 0 ++ xs) filled (bytes-behind k xs bytes-xs) word-is in
+    let value-of : value ≡ number_in (replicate k 0 ++ xs) = number (replicate k 0 ++ xs) filled counts word-is in
+    let decimal = decimal-of front bytes-front (counts-behind k xs counts) in
+    let below : number_in (replicate k 0 ++ xs) < 10 ^ 8 = subst (λ m. number_in (replicate k 0 ++ xs) < 10 ^ m) filled (number-below (replicate k 0 ++ xs) counts) in
+    let found : IsShortNumber bytes value (drop (suc n) bytes) = record {
+      digits = front;
+      some = filled-front bytes n some (omega (arith, long));
+      are_digits = decimal.0;
+      value_is = value-of ∙ number-behind k xs ∙ decimal.1;
+      small = omega (arith, value-of, below);
+      bytes_is = sym (take-append-drop n bytes) ∙ ap (λ r. front ++ r) (drop-cons bytes n 0 long) ∙ ap (λ b. front ++ b ∷ drop (suc n) bytes) space;
+    } in
+    let next : suc n ≡ n + 1 = omega arith in
+    subst (λ m. IsShortNumber bytes value (drop m bytes)) next found

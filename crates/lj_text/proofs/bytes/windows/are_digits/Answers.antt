@@ -1,0 +1,7 @@
+use Rattle.std.proofs.Common.{arith}
+use Rattle.std.proofs.lemmas.Bool.Decides.{nat_tests}
+use Rattle.lj_text.proofs.WindowLemmas.{all-digits}
+use Rattle.lj_text.proofs.bytes.windows.are_digits.Goals as goal
+
+pub returns : goal.returns
+returns c = λ yes. all-digits c.args.word c.ranges.word.fits (grind (arith, nat_tests, yes))

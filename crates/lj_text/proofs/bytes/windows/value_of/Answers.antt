@@ -1,0 +1,7 @@
+use Rattle.std.proofs.Common.{refl, ◌∙◌}
+use Rattle.std.proofs.lemmas.Nat.{and_mask}
+use Rattle.lj_text.proofs.WindowLemmas.{value-is}
+use Rattle.lj_text.proofs.bytes.windows.value_of.Goals as goal
+
+pub returns : goal.returns
+returns c = λ counts eight all is. and_mask _ 32 ∙ value-is counts eight all c.args.digits _ _ is refl refl

@@ -1,0 +1,97 @@
+//! Numbers of few digits in a window of a line's bytes: where they end is looked for once for all of them, so that none waits
+//! for the one before, and no branch asks how many digits a number has.
+ghost use Rattle.std.specs.Prelude.{◌≡◌, ◌+◌, ◌<◌, ◌≤◌, ℕ, List, length, take, drop, true, IfSome};
+ghost use Rattle.lj_text.specs.inner.ShortNumbers.{IsShortNumber};
+ghost use Rattle.lj_text.specs.inner.Windows.{AreBytes, AreCounts, number_in, word_of};
+
+use std::simd::prelude::*;
+
+/// How many bytes a window has: those where numbers end, and behind them the bytes that a word takes with the last one.
+pub(crate) const WINDOW: usize = 80;
+
+/// A 0 in each of a word's eight bytes.
+const ZEROS: u64 = 0x3030_3030_3030_3030;
+
+/// What takes a byte to its upper half where it is above 9.
+const ABOVE: u64 = 0x7676_7676_7676_7676;
+
+/// The bytes' upper halves.
+const UPPER: u64 = 0x8080_8080_8080_8080;
+
+/// The first and every other byte of a word.
+const PAIRS: u64 = 0x00ff_00ff_00ff_00ff;
+
+/// The first and every other two bytes of a word.
+const FOURS: u64 = 0x0000_ffff_0000_ffff;
+
+/// The lower four bytes of a word.
+const LOWER: u64 = 0xffff_ffff;
+
+/// Which of the window's first 64 bytes are spaces, as the bits of a word from the lowest on. Whoever reads a number that ends
+/// there asks the window again, so nothing is promised.
+#[inline(always)]
+pub(crate) fn spaces_in(window: &[u8; WINDOW]) -> u64 {
+    u8x64::from_slice(window)
+        .simd_eq(u8x64::splat(b' '))
+        .to_bitmask()
+}
+
+/// The eight bytes from a place on, the first of them the lowest of the word.
+#[inline(always)]
+fn word_at(window: &[u8], start: usize) -> u64
+    requires { start + 8 ≤ length window.now }
+    ensures word { result ≡ word_of (take 8 (drop start window.now)) }
+    ensures bytes { AreBytes (take 8 (drop start window.now)) }
+{
+    u64::from_le_bytes([
+        window[start],
+        window[start + 1],
+        window[start + 2],
+        window[start + 3],
+        window[start + 4],
+        window[start + 5],
+        window[start + 6],
+        window[start + 7],
+    ])
+}
+
+/// Whether each byte of a word is at most 9.
+#[inline(always)]
+fn are_digits(word: u64) -> bool
+    ensures { result ≡ true → (bytes : List ℕ) → length bytes ≡ 8 → AreBytes bytes
+        → word ≡ word_of bytes → AreCounts bytes }
+{
+    (word.wrapping_add(ABOVE) | word) & UPPER == 0
+}
+
+/// The number with these eight digits, the first of them the lowest byte.
+#[inline(always)]
+fn value_of(digits: u64) -> u32
+    ensures { (counts : List ℕ) → length counts ≡ 8 → AreCounts counts
+        → digits ≡ word_of counts → result ≡ number_in counts }
+{
+    let pairs = digits.wrapping_mul(10).wrapping_add(digits >> 8) & PAIRS;
+    let fours = pairs.wrapping_mul(100).wrapping_add(pairs >> 16) & FOURS;
+    let value = fours.wrapping_mul(10_000).wrapping_add(fours >> 32) & LOWER;
+    value as u32
+}
+
+/// The number from one place to the next, which has at most eight digits and ends there at a space: none where anything
+/// else stands there. Takes constant time.
+#[inline(always)]
+pub(crate) fn number_within(window: &[u8; WINDOW], start: usize, end: usize) -> Option<u32>
+    requires { (start + 8 ≤ length window.now) × (end < length window.now) }
+    ensures number { IfSome result
+        (λ value. IsShortNumber (drop start window.now) value (drop (end + 1) window.now)) }
+{
+    let count = end.wrapping_sub(start);
+    if count.wrapping_sub(1) > 7 || window[end] != b' ' {
+        return None;
+    }
+    let digits = (word_at(window, start) ^ ZEROS) << (64 - 8 * count);
+    if are_digits(digits) {
+        Some(value_of(digits))
+    } else {
+        None
+    }
+}
