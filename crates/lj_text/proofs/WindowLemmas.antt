@@ -13,7 +13,7 @@ use Rattle.std.proofs.lemmas.Bool.Decides.{nat_tests}
 use Rattle.std.proofs.lemmas.Nat.{and_block, or_block, xor_block, and_mask, or_lt, and_shr, or_shr, xor_lt}
 use Rattle.std.proofs.Math.Seq.{drop-cons}
 use Rattle.std.proofs.Math.Nat.{pow-succ', mul_assoc, mul-le-mul_right}
-use Rattle.lj_text.specs.inner.Windows.{word_of, number_in, AreBytes, AreCounts}
+use Rattle.lj_text.specs.inner.Windows.{word_of, number_of_counts, AreBytes, AreCounts}
 
 -- ---- tests of each byte
 abbrev all-below : (ℕ → Bool) → ℕ → Bool
@@ -173,7 +173,7 @@ masked-fours c0 c1 q0 q1 l0 l1 m0 m1 =
 pub value-is : (counts : List ℕ) → length counts ≡ 8 → AreCounts counts → (word pairs fours : ℕ) → word ≡ word_of counts
     → pairs ≡ bit_and ((word * 10 % 18446744073709551616 + word / 256) % 18446744073709551616) 71777214294589695
     → fours ≡ bit_and ((pairs * 100 % 18446744073709551616 + pairs / 65536) % 18446744073709551616) 281470681808895
-    → ((fours * 10000 % 18446744073709551616 + fours / 4294967296) % 18446744073709551616) % 4294967296 ≡ number_in counts
+    → ((fours * 10000 % 18446744073709551616 + fours / 4294967296) % 18446744073709551616) % 4294967296 ≡ number_of_counts counts
 value-is (d0 ∷ d1 ∷ d2 ∷ d3 ∷ d4 ∷ d5 ∷ d6 ∷ d7 ∷ []) eight all word pairs fours is is-pairs is-fours =
     let l0 : d0 ≤ 9 = all.0 in
     let l1 : d1 ≤ 9 = all.1.0 in
@@ -273,11 +273,11 @@ counts-behind : (k : ℕ) (ds : List ℕ) → AreCounts (replicate k 0 ++ ds) �
 counts-behind zero ds all = all
 counts-behind (suc k) ds all = counts-behind k ds all.1
 
-number-behind : (k : ℕ) (ds : List ℕ) → number_in (replicate k 0 ++ ds) ≡ number_in ds
+number-behind : (k : ℕ) (ds : List ℕ) → number_of_counts (replicate k 0 ++ ds) ≡ number_of_counts ds
 number-behind zero ds = refl
 number-behind (suc k) ds = omega (arith, number-behind k ds)
 
-number-below : (ds : List ℕ) → AreCounts ds → number_in ds < 10 ^ length ds
+number-below : (ds : List ℕ) → AreCounts ds → number_of_counts ds < 10 ^ length ds
 number-below [] all = omega arith
 number-below (d ∷ ds) all =
     let most : d * 10 ^ length ds ≤ 9 * 10 ^ length ds = mul-le-mul_right (10 ^ length ds) all.0 in
@@ -296,18 +296,18 @@ digit-of b lt few =
     let parts = and_parts (is_ascii_digit b) (less_zero b == b - 48) both in
     (parts.0, grind (arith, nat_tests, parts.1))
 
-decimal-of : (bs : List ℕ) → AreBytes bs → AreCounts (map less_zero bs) → (list_all is_ascii_digit bs ≡ true) × (number_in (map less_zero bs) ≡ decimal_value bs)
+decimal-of : (bs : List ℕ) → AreBytes bs → AreCounts (map less_zero bs) → (list_all is_ascii_digit bs ≡ true) × (number_of_counts (map less_zero bs) ≡ decimal_value bs)
 decimal-of [] all counts = (refl, refl)
 decimal-of (b ∷ bs) all counts =
     let first = digit-of b all.0 counts.0 in
     let rest = decimal-of bs all.1 counts.1 in (
       ap (λ t. t && list_all is_ascii_digit bs) first.0 ∙ rest.0,
-      ap (λ n. less_zero b * 10 ^ n + number_in (map less_zero bs)) (length-map bs less_zero) ∙ ap (λ d. d * 10 ^ length bs + number_in (map less_zero bs)) first.1 ∙ ap (λ n. (b - 48) * 10 ^ length bs + n) rest.1,
+      ap (λ n. less_zero b * 10 ^ n + number_of_counts (map less_zero bs)) (length-map bs less_zero) ∙ ap (λ d. d * 10 ^ length bs + number_of_counts (map less_zero bs)) first.1 ∙ ap (λ n. (b - 48) * 10 ^ length bs + n) rest.1,
     )
 
 pub within : (bytes : List ℕ) (n value : ℕ) → AreBytes (take 8 bytes) → 8 ≤ length bytes → n < length bytes → 0 < n → n ≤ 8 → get_or bytes n 0 ≡ 32
     → ((digits : List ℕ) → length digits ≡ 8 → AreBytes digits → (bit_xor (word_of (take 8 bytes)) 3472328296227680304 * 2 ^ (64 - 8 * n)) % 18446744073709551616 ≡ word_of digits → AreCounts digits)
-    → ((counts : List ℕ) → length counts ≡ 8 → AreCounts counts → (bit_xor (word_of (take 8 bytes)) 3472328296227680304 * 2 ^ (64 - 8 * n)) % 18446744073709551616 ≡ word_of counts → value ≡ number_in counts)
+    → ((counts : List ℕ) → length counts ≡ 8 → AreCounts counts → (bit_xor (word_of (take 8 bytes)) 3472328296227680304 * 2 ^ (64 - 8 * n)) % 18446744073709551616 ≡ word_of counts → value ≡ number_of_counts counts)
     → IsShortNumber bytes value (drop (n + 1) bytes)
 within bytes n value all room long some few space told number =
     let whole : List ℕ = take 8 bytes in
@@ -331,9 +331,9 @@ within bytes n value all room long some few space told number =
     ∙ moved-up xs ys k bytes-xs (omega (arith, some)) counted in
     let filled : length (replicate k 0 ++ xs) ≡ 8 = omega (arith, length-append (replicate k 0) xs, length-replicate {A = ℕ} k 0, long-xs, few) in
     let counts : AreCounts (replicate k 0 ++ xs) = told (replicate k 0 ++ xs) filled (bytes-behind k xs bytes-xs) word-is in
-    let value-of : value ≡ number_in (replicate k 0 ++ xs) = number (replicate k 0 ++ xs) filled counts word-is in
+    let value-of : value ≡ number_of_counts (replicate k 0 ++ xs) = number (replicate k 0 ++ xs) filled counts word-is in
     let decimal = decimal-of front bytes-front (counts-behind k xs counts) in
-    let below : number_in (replicate k 0 ++ xs) < 10 ^ 8 = subst (λ m. number_in (replicate k 0 ++ xs) < 10 ^ m) filled (number-below (replicate k 0 ++ xs) counts) in
+    let below : number_of_counts (replicate k 0 ++ xs) < 10 ^ 8 = subst (λ m. number_of_counts (replicate k 0 ++ xs) < 10 ^ m) filled (number-below (replicate k 0 ++ xs) counts) in
     let found : IsShortNumber bytes value (drop (suc n) bytes) = record {
       digits = front;
       some = filled-front bytes n some (omega (arith, long));

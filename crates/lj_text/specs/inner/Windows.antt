@@ -8,9 +8,9 @@ word_of [] = 0
 word_of (b ∷ bs) = b + 256 * word_of bs
 
 -- the number with these digits, the highest first
-abbrev pub number_in : List ℕ → ℕ
-number_in [] = 0
-number_in (d ∷ ds) = d * 10 ^ length ds + number_in ds
+abbrev pub number_of_counts : List ℕ → ℕ
+number_of_counts [] = 0
+number_of_counts (d ∷ ds) = d * 10 ^ length ds + number_of_counts ds
 
 -- what a byte holds
 abbrev pub AreBytes : List ℕ → Type 0

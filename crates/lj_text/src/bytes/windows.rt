@@ -2,7 +2,7 @@
 //! for the one before, and no branch asks how many digits a number has.
 ghost use Rattle.std.specs.Prelude.{◌≡◌, ◌+◌, ◌<◌, ◌≤◌, ℕ, List, length, take, drop, true, IfSome};
 ghost use Rattle.lj_text.specs.inner.ShortNumbers.{IsShortNumber};
-ghost use Rattle.lj_text.specs.inner.Windows.{AreBytes, AreCounts, number_in, word_of};
+ghost use Rattle.lj_text.specs.inner.Windows.{AreBytes, AreCounts, number_of_counts, word_of};
 
 use std::simd::prelude::*;
 
@@ -68,7 +68,7 @@ fn are_digits(word: u64) -> bool
 #[inline(always)]
 fn value_of(digits: u64) -> u32
     ensures { (counts : List ℕ) → length counts ≡ 8 → AreCounts counts
-        → digits ≡ word_of counts → result ≡ number_in counts }
+        → digits ≡ word_of counts → result ≡ number_of_counts counts }
 {
     let pairs = digits.wrapping_mul(10).wrapping_add(digits >> 8) & PAIRS;
     let fours = pairs.wrapping_mul(100).wrapping_add(pairs >> 16) & FOURS;
