@@ -37,7 +37,7 @@ returns-then-not-are_confirmed-clause-fault g c =
     let many = streams_counted c.args.streams.items c.args.closing c.len.result c.from.result (search rules) (search rules) in
     let opened = opened_by g.L.Opening.formula c.args.formula g.L.Opening.seats (length streams) g.L.Opening.max_steps c.args.max_steps s c.requires.formula c.requires.seats c.requires.limit c.book.ensures.opened in
     let ran = beside_of seen (λ r. r.seat) (λ r. r.report) s.history (c.len.result + c.from.result) c.in_ok-shared.seats.items streams c.in_ok-ran.ran.items c.in_ok-seats.seats.items reports
-        c.in_ok-shared.ensures.seats many c.in_ok-ran.ensures c.in_ok-seats.ensures.seats c.in_ok-seats.ensures.reports c.in-Ok.ensures.calls in
+    c.in_ok-shared.ensures.seats many c.in_ok-ran.ensures c.in_ok-seats.ensures.seats c.in_ok-seats.ensures.reports c.in-Ok.ensures.calls in
     let told = ap (λ b. list_all (λ r. is_confirmed (has_verdict b) r.end) reports) (sym c.book.ensures.book) ∙ ap (list_all (λ r. is_confirmed (has_verdict c.book.result.now) r.end)) (sym c.deref.ensures.value) ∙ sym c.are_confirmed.ensures in
     unconfirmed seen c.args.formula c.args.max_steps streams reports s opened c.in-Ok.ensures.legal ran (told ∙ c.if-not-are_confirmed.true)
 
@@ -50,9 +50,9 @@ returns-clause-ran g c =
     let many = streams_counted c.args.streams.items c.args.closing c.len.result c.from.result (search rules) (search rules) in
     let opened = opened_by g.L.Opening.formula c.args.formula g.L.Opening.seats (length streams) g.L.Opening.max_steps c.args.max_steps s c.requires.formula c.requires.seats c.requires.limit c.book.ensures.opened in
     let ran = beside_of seen (λ r. r.seat) (λ r. r.report) s.history (c.len.result + c.from.result) c.in_ok-shared.seats.items streams c.in_ok-ran.ran.items c.in_ok-seats.seats.items reports
-        c.in_ok-shared.ensures.seats many c.in_ok-ran.ensures c.in_ok-seats.ensures.seats c.in_ok-seats.ensures.reports c.in-Ok.ensures.calls in
+    c.in_ok-shared.ensures.seats many c.in_ok-ran.ensures c.in_ok-seats.ensures.seats c.in_ok-seats.ensures.reports c.in-Ok.ensures.calls in
     let counted = c.in-Ok.ensures.entries ∙ ap entries_made c.in_ok-seats.ensures.seats ∙ entries_counted seen (λ r. r.seat) (λ r. r.report) (zip c.in_ok-shared.seats.items streams) c.in_ok-ran.ran.items c.in_ok-ran.ensures
-        ∙ ap (sum_by accepted_count) (sym c.in_ok-seats.ensures.reports) in
+    ∙ ap (sum_by accepted_count) (sym c.in_ok-seats.ensures.reports) in
     let told = ap (λ b. list_all (λ r. is_confirmed (has_verdict b) r.end) reports) (sym c.book.ensures.book) ∙ ap (list_all (λ r. is_confirmed (has_verdict c.book.result.now) r.end)) (sym c.deref.ensures.value) ∙ sym c.are_confirmed.ensures in
     let book = book_of_run seen c.args.formula c.args.max_steps streams reports s opened c.in-Ok.ensures.legal counted ran (told ∙ c.if-not-are_confirmed.false) in
     subst (λ b. IsBookOfRun seen c.args.formula c.args.max_steps streams (has_verdict b) reports b) (sym c.into_book.ensures.book) book

@@ -1,11 +1,13 @@
-use Rattle.std.proofs.Common.{rules, ◌+◌, true, Option, Some, None, sym, ap, ◌∙◌, subst}
+use Rattle.std.proofs.Common.{rules, true, [], ◌∷◌, length, length-append, take, Option, Some, None, sym, ap, ◌∙◌, subst, arith}
+use Rattle.lj_text.specs.Lines.{all_said}
+use Rattle.lj_share.specs.Entries.{call_of}
 use Rattle.lj_text.specs.Streams.{source_state}
 use Rattle.lj_run.specs.Joint.{IsStreamBeside, AreCountsOf}
 use Rattle.lj_run.specs.inner.Joint.{report_of}
 use Rattle.lj_text.specs.LinesRead.{LinesRead}
 use Rattle.lj_run.specs.inner.Reading.{LineRead, LineMissed, MayRead}
 use Rattle.lj_run.specs.declared.stream.Tally.{Tally}
-use Rattle.lj_run.proofs.JointLemmas.{beside_stopped, beside_ended, beside_missed, beside_refused, entered_on, counts_on, EnteredTo}
+use Rattle.lj_run.proofs.JointLemmas.{beside_stopped, beside_ended, beside_missed, beside_refused, entered_on, counts_on, as_many_counted, EnteredTo}
 use Rattle.lj_run.specs.inner.Tally.{with_count}
 use Rattle.lj_run.proofs.joint.worker.run_lines.Goals as goal
 use Rattle.lj_clause.specs.declared.lit.TheConstants.{MAX_VARIABLE}
@@ -55,6 +57,15 @@ returns-in-Err-enter-clause-report g c =
     let read = subst (λ m. LineRead m r.text r.handed new before after (Some c.in-Ok-Some.line)) i.max told in
     let run = beside_refused seen c.args.source.now c.loop.source c.next_line.new.source c.loop.seat.calls c.loop.tally c.loop.reader new r c.in-Ok-Some.line c.in-Err-enter.refusal read i.counts c.in-Ok-Some.ensures.unfailed in
     search rules
+
+pub count-requires-in-Ok : goal.count-requires-in-Ok
+count-requires-in-Ok g c =
+    let i = c.loop.invariant in
+    let so_far = as_many_counted (take i.runs.handed (all_said MAX_VARIABLE i.runs.text)) c.loop.seat.calls c.loop.tally.added c.loop.tally.deleted c.loop.tally.imported i.runs.enters i.counts in
+    let calls = ap (λ s. length s.calls) c.in-Ok.ensures.made in
+    let more = length-append c.loop.seat.calls (call_of c.in-Ok-Some.line ∷ []) in
+    let entries = c.count.ensures in
+    omega (arith, so_far, calls, more, entries)
 
 pub loop-preserved : goal.loop-preserved
 loop-preserved g c =
