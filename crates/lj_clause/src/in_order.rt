@@ -1,6 +1,5 @@
 //! Few literals, put in order without a branch, since nothing foretells their order.
-ghost use Rattle.std.specs.Prelude.{◌≡◌, ◌+◌, ◌-◌, ◌<◌, ◌≤◌, ◌++◌, ℕ, true, IsPermutation, length, take, get_or, slice_index, IfSome};
-ghost use Rattle.std.specs.declared.cmp.Ordering.TheVariants.{Less};
+ghost use Rattle.std.specs.Prelude.{◌≡◌, ◌<◌, ◌≤◌, true, IsPermutation, length, take, IfSome};
 ghost use Rattle.std.specs.List.Sorted.{IsStrictlySortedBy};
 ghost use Rattle.lj_clause.specs.Literal.{lit_cmp};
 ghost use Rattle.lj_clause.specs.LiteralSet.{from_literals};

@@ -3,7 +3,7 @@ ghost use Rattle.std.specs.Prelude.{◌≡◌};
 
 use crate::groups::Groups;
 use crate::line::Addition;
-use crate::numbers::Numbers;
+use crate::numbers::{MANY, Numbers};
 use lj_clause::{Lemma, Lit, NoMemory};
 use std::alloc::Global;
 
@@ -54,13 +54,15 @@ impl Room {
         }
     }
 
-    /// Takes a place back for additions to come whose literals are few as its own are, or many as those. Takes constant time.
+    /// Takes a place back for additions to come whose literals are few as its own are, or many as those; lets go of one of
+    /// very many. Takes constant time.
     #[inline(always)]
     pub fn take_back(&mut self, place: Box<Addition>) {
-        if place.lemma.clause().lits().len() > FEW {
-            self.long = Some(place);
-        } else {
+        let count = place.lemma.clause().lits().len();
+        if count <= FEW {
             self.short = Some(place);
+        } else if count <= MANY {
+            self.long = Some(place);
         }
     }
 
