@@ -1,8 +1,7 @@
-use Rattle.std.proofs.Common.{◌≡◌, ℕ, ◌+◌, List, [], ◌∷◌, length, Some, subst, sym, ap, ◌∙◌, arith}
+use Rattle.std.proofs.Common.{length, Some, subst, sym, ap, ◌∙◌, arith}
 use Rattle.std.specs.Prelude.{slice_get}
-use Rattle.lj_book.specs.declared.entry.Call.{Call}
-use Rattle.lj_share.specs.Seats.{SeatValue, entries_made, HasCallsOf}
-use Rattle.lj_share.proofs.ListLaws.{lists_same, calls_on, no_seats}
+use Rattle.lj_share.specs.Seats.{entries_made, HasCallsOf}
+use Rattle.lj_share.proofs.ListLaws.{lists_same, calls_on}
 use Rattle.lj_share.proofs.shared.gathered.Goals as goal
 
 pub loop-seat-preserved : goal.loop-seat-preserved

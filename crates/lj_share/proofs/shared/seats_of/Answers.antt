@@ -1,7 +1,7 @@
-use Rattle.std.proofs.Common.{◌≡◌, ℕ, suc, ◌+◌, List, [], ◌∷◌, ◌++◌, length, map, subst, sym, ap, ◌∙◌, arith}
+use Rattle.std.proofs.Common.{◌≡◌, suc, ◌+◌, List, [], ◌∷◌, ◌++◌, length, map, subst, sym, ap, ◌∙◌, arith}
 use Rattle.std.proofs.lemmas.List.Elements.{All-tail}
-use Rattle.std.specs.Prelude.{All, drop}
-use Rattle.lj_share.specs.Seats.{SeatValue, new_seat, new_seats}
+use Rattle.std.specs.Prelude.{All}
+use Rattle.lj_share.specs.Seats.{new_seats}
 use Rattle.lj_share.specs.declared.copies.SeatCopy.{SeatCopy}
 use Rattle.lj_share.proofs.ListLaws.{front_at, front_passed}
 use Rattle.lj_share.proofs.shared.seats_of.Goals as goal

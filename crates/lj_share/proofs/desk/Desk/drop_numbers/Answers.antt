@@ -1,4 +1,3 @@
-use Rattle.std.proofs.Common.{sym, ap, ◌∙◌}
 use Rattle.lj_share.proofs.Opened.{desk_on, desk_kept, one_more}
 use Rattle.lj_share.proofs.desk.Desk.drop_numbers.Goals.{in-Ok, in-Err}
 use Rattle.lj_share.proofs.desk.Desk.drop_numbers.Goals as goal

@@ -1,4 +1,4 @@
-use Rattle.std.proofs.Common.{◌≡◌, ◌+◌, Some, length, sym, ap, ◌∙◌, arith}
+use Rattle.std.proofs.Common.{Some, sym, ap, ◌∙◌, arith}
 use Rattle.lj_share.proofs.ListLaws.{one_longer}
 use Rattle.lj_share.specs.Seats.{SeatValue}
 use Rattle.lj_share.proofs.seat.Seat.count_one.Goals as goal

@@ -1,4 +1,4 @@
-use Rattle.std.proofs.Common.{length, sym, ap, ◌∙◌, arith}
+use Rattle.std.proofs.Common.{length, sym, ap, ◌∙◌}
 use Rattle.lj_book.specs.State.{State}
 use Rattle.lj_share.proofs.ListLaws.{opened_lists}
 use Rattle.lj_share.proofs.Opened.{newly_opened}
