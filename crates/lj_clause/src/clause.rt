@@ -6,9 +6,9 @@ ghost use Rattle.lj_clause.specs.LiteralSet.{holds, literals, from_literals};
 ghost use Rattle.lj_clause.specs.inner.LiteralList.{literals_in};
 
 use crate::clause_view::ClauseView;
-use crate::in_order::{eight_in_order, three_in_order};
+use crate::in_order::eight_in_order;
 use crate::lit::Lit;
-use crate::literal_list::LiteralList;
+use crate::literal_list::{LiteralList, up_to_three};
 use crate::memory::NoMemory;
 use std::alloc::Global;
 use std::marker::Model;
@@ -82,7 +82,7 @@ impl Clause {
         if count > 3 {
             return self.put_more(alloc, lits);
         }
-        if let Some(three) = three_in_order(lits) {
+        if let Some(three) = up_to_three(lits) {
             self.lits.put_few(count, three);
             return Ok(());
         }

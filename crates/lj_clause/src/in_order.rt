@@ -60,29 +60,8 @@ fn are_in_order(lits: &[Lit], count: usize) -> bool
     right
 }
 
-/// Up to three literals in strict order, and fillers: none where one of them stands twice, or memory was refused.
-/// Takes constant time.
-#[inline(always)]
-pub(crate) fn three_in_order(lits: &mut Vec<Lit>) -> Option<[Lit; 3]>
-    requires { length lits.old.items ≤ 3 }
-    ensures rising { IfSome result
-        (λ room. IsStrictlySortedBy lit_cmp (take (length lits.old.items) room)) }
-    ensures set { IfSome result
-        (λ room. from_literals (take (length lits.old.items) room) ≡ from_literals lits.old.items) }
-    ensures same { lits.new.items ≡ lits.old.items }
-{
-    let mut room = filled_up::<3>(lits)?;
-    exchange(&mut room, 0, 1);
-    exchange(&mut room, 1, 2);
-    exchange(&mut room, 0, 1);
-    if are_in_order(&room, lits.len()) {
-        Some(room)
-    } else {
-        None
-    }
-}
-
-/// Up to eight literals in strict order, and fillers: none as above. Takes constant time.
+/// Up to eight literals in strict order, and fillers: none where one of them stands twice, or memory was
+/// refused. Takes constant time.
 #[inline(always)]
 pub(crate) fn eight_in_order(lits: &mut Vec<Lit>) -> Option<[Lit; 8]>
     requires { length lits.old.items ≤ 8 }

@@ -32,25 +32,14 @@ impl LiteralList {
         ensures same { IfSome result
             (λ list. from_literals (literals_in list) ≡ from_literals lits.now) }
     {
-        match lits {
-            [] => Some(LiteralList::Nothing),
-            [a] => Some(LiteralList::Few {
-                count: 1,
-                lits: [*a; 3],
-            }),
-            [a, b] => {
-                let (first, last) = two(*a, *b)?;
-                Some(LiteralList::Few {
-                    count: 2,
-                    lits: [first, last, last],
-                })
-            }
-            [a, b, c] => Some(LiteralList::Few {
-                count: 3,
-                lits: three(*a, *b, *c)?,
-            }),
-            _ => None,
+        if lits.is_empty() {
+            return Some(LiteralList::Nothing);
         }
+        let few = up_to_three(lits)?;
+        Some(LiteralList::Few {
+            count: lits.len() as u8,
+            lits: few,
+        })
     }
 
     /// These literals. Takes time linear in them.
@@ -158,6 +147,28 @@ impl LiteralList {
             },
             LiteralList::Many(lits) => LiteralList::Many(Arc::try_clone(lits)?),
         })
+    }
+}
+
+/// Up to three literals in strict order, and behind them what means nothing: none where one stands twice, or there are more.
+/// Takes constant time.
+#[inline(always)]
+pub(crate) fn up_to_three(lits: &[Lit]) -> Option<[Lit; 3]>
+    ensures count { IfSome result (λ _. length lits.now ≤ 3) }
+    ensures rising { IfSome result
+        (λ room. IsStrictlySortedBy lit_cmp (take (length lits.now) room)) }
+    ensures same { IfSome result
+        (λ room. from_literals (take (length lits.now) room) ≡ from_literals lits.now) }
+{
+    match lits {
+        [] => Some([Lit::of(1, false); 3]),
+        [a] => Some([*a; 3]),
+        [a, b] => {
+            let (first, last) = two(*a, *b)?;
+            Some([first, last, last])
+        }
+        [a, b, c] => three(*a, *b, *c),
+        _ => None,
     }
 }
 
