@@ -46,8 +46,12 @@ fn write_addition(
     bytes: &[u8],
 ) -> Result<(), LineFaultKind>
     ensures { Gives (λ _. Add place.new) result (with_read
-        (λ read. Add (record { number = number; lemma = lemma_of room.old.literals.items;
-            hints = read.0; groups = read.1 }))
+        (λ read. Add (record {
+          number = number;
+          lemma = lemma_of room.old.literals.items;
+          hints = read.0;
+          groups = read.1;
+        }))
         (hints_of ended (words_of bytes.now))) }
 {
     read_proof(
