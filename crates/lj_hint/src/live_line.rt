@@ -61,11 +61,29 @@ pub fn test_line<L: Live>(
     ensures { IsLineReply groups.now result (line_reply (L.live live.now) lemma.now.pivot groups.now
         (walk (L.live live.now) (negations lemma.now.clause) hints.now)) }
 {
-    match walk_live(&mut marks.lits, live, lemma.clause(), hints) {
+    let passed = test_lists(alloc, live, lemma, hints, groups, &mut marks.lits);
+    marks.let_go_of_many();
+    passed
+}
+
+/// The same, where what is held at its end stays.
+#[inline]
+fn test_lists<L: Live>(
+    alloc: Global,
+    live: &L,
+    lemma: &Lemma,
+    hints: &Numbers,
+    groups: &Groups,
+    held: &mut TrueLits,
+) -> Result<Passed, LineRefusal>
+    ensures { IsLineReply groups.now result (line_reply (L.live live.now) lemma.now.pivot groups.now
+        (walk (L.live live.now) (negations lemma.now.clause) hints.now)) }
+{
+    match walk_live(held, live, lemma.clause(), hints) {
         Ok(Ending::ClosedAfter(read)) => Ok(Passed::Closed(read)),
         Ok(Ending::StuckAt(place)) => Err(LineRefusal::Stuck(place)),
         Ok(Ending::StaysOpen) => {
-            match test_open(alloc, live, lemma.pivot(), groups, &mut marks.lits) {
+            match test_open(alloc, live, lemma.pivot(), groups, held) {
                 Ok(Some(groups)) => Ok(Passed::Covered(groups)),
                 Ok(None) => Ok(Passed::AsGiven),
                 Err(refusal) => Err(LineRefusal::Rat(refusal)),

@@ -3,6 +3,9 @@ use crate::true_lits::TrueLits;
 use std::alloc::Global;
 use std::marker::Model;
 
+/// How many literals a walk has room for at most that is kept for the next one.
+const MANY: usize = 65_536;
+
 /// The working room of a walk. What it holds between walks means nothing: each walk begins anew.
 #[derive(Drop)]
 pub struct Marks {
@@ -26,6 +29,16 @@ impl Marks {
     pub fn after(alloc: Global, walks: u32) -> Marks {
         Marks {
             lits: TrueLits::starting_at(alloc, walks % u32::MAX + 1),
+        }
+    }
+
+    /// Lets go of the room of a walk that held very many literals, behind which the lists of a book may grow. Takes constant
+    /// time, but for what is let go of.
+    #[inline]
+    pub(crate) fn let_go_of_many(&mut self) {
+        if self.lits.capacity() > MANY {
+            let alloc = self.lits.allocator();
+            *self = Marks::new(alloc);
         }
     }
 }

@@ -55,6 +55,17 @@ impl Trail {
         self.lits.clear();
     }
 
+    /// The number of literals that there is room for.
+    #[inline]
+    pub(crate) fn capacity(&self) -> usize {
+        self.lits.capacity()
+    }
+
+    /// Where the memory of its lists comes from.
+    pub(crate) fn allocator(&self) -> Global {
+        *self.lits.allocator()
+    }
+
     /// The number of literals.
     #[inline]
     pub(crate) fn len(&self) -> usize

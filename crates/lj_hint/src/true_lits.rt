@@ -50,6 +50,17 @@ impl TrueLits {
         self.contradictory = false;
     }
 
+    /// The number of literals that there is room for.
+    #[inline]
+    pub(crate) fn capacity(&self) -> usize {
+        self.trail.capacity()
+    }
+
+    /// Where the memory of its lists comes from.
+    pub(crate) fn allocator(&self) -> Global {
+        self.trail.allocator()
+    }
+
     /// The number of literals.
     pub(crate) fn len(&self) -> usize
         ensures { result ≡ length self.now }
