@@ -147,6 +147,8 @@ stream 'definitions, each of a variable of its own' many.cnf 1000000 'BEGIN { fo
 stream 'RAT lines with a literal in common' many.cnf 1000000 'BEGIN { for (i = 2; i < n; i++) print i " " i " -1 0 0" }'
 stream 'a lemma with a literal in every 4,096th variable' all.cnf 32640 \
     'BEGIN { printf "2"; for (i = 0; i < n; i++) printf " %d", 524288 + 4096 * i; print " 0 0" }'
+stream 'the same, and an import' all.cnf 32640 \
+    'BEGIN { printf "2"; for (i = 0; i < n; i++) printf " %d", 524288 + 4096 * i; print " 0 0"; print "3 i 1 0" }'
 stream 'a lemma with a literal in every third variable, and an import' all.cnf 500000 \
     'BEGIN { printf "2"; for (i = 0; i < n; i++) printf " %d", 524288 + 3 * i; print " 0 0"; print "3 i 1 0" }'
 stream 'lemmas of nine literals in every third variable, behind an import' all.cnf 60000 'BEGIN {

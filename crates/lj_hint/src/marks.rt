@@ -4,7 +4,7 @@ use std::alloc::Global;
 use std::marker::Model;
 
 /// How many literals a walk has room for at most that is kept for the next one.
-const MANY: usize = 65_536;
+const MANY: usize = 16_384;
 
 /// The working room of a walk. What it holds between walks means nothing: each walk begins anew.
 #[derive(Drop)]
