@@ -147,7 +147,7 @@ stream 'definitions, each of a variable of its own' many.cnf 1000000 'BEGIN { fo
 stream 'RAT lines with a literal in common' many.cnf 1000000 'BEGIN { for (i = 2; i < n; i++) print i " " i " -1 0 0" }'
 stream 'a lemma with a literal in every 4,096th variable' all.cnf 32640 \
     'BEGIN { printf "2"; for (i = 0; i < n; i++) printf " %d", 524288 + 4096 * i; print " 0 0" }'
-stream 'the same, and an import' all.cnf 32640 \
+stream 'a lemma with a literal in every 4,096th variable, and an import' all.cnf 32640 \
     'BEGIN { printf "2"; for (i = 0; i < n; i++) printf " %d", 524288 + 4096 * i; print " 0 0"; print "3 i 1 0" }'
 stream 'a lemma with a literal in every third variable, and an import' all.cnf 500000 \
     'BEGIN { printf "2"; for (i = 0; i < n; i++) printf " %d", 524288 + 3 * i; print " 0 0"; print "3 i 1 0" }'
@@ -155,7 +155,7 @@ stream 'lemmas of nine literals in every third variable, behind an import' all.c
     print "2 i 1 0"
     variable = 524285
     for (i = 3; i < n; i++) { printf i; for (j = 0; j < 9; j++) printf " %d", variable += 3; print " 0 0" } }'
-stream 'a long clause walked and deleted' all.cnf 2000000 'BEGIN {
+stream 'a long clause walked and deleted' all.cnf 4000000 'BEGIN {
     for (line = 2; line < 4; line++) { printf line; for (i = 1; i <= n; i++) printf " %d", i; print " 0 " line - 1 " 0" }
     print "4 d 2 3 0" }'
 stream 'an import of a long clause' \
