@@ -61,7 +61,7 @@ fn are_in_order(lits: &[Lit], count: usize) -> bool
 }
 
 /// Up to eight literals in strict order, and fillers: none where one of them stands twice, or memory was
-/// refused. Takes constant time.
+/// refused. Those that stand in order are left so. Takes constant time.
 #[inline(always)]
 pub(crate) fn eight_in_order(lits: &mut Vec<Lit>) -> Option<[Lit; 8]>
     requires { length lits.old.items ≤ 8 }
@@ -72,6 +72,9 @@ pub(crate) fn eight_in_order(lits: &mut Vec<Lit>) -> Option<[Lit; 8]>
     ensures same { lits.new.items ≡ lits.old.items }
 {
     let mut room = filled_up::<8>(lits)?;
+    if are_in_order(&room, lits.len()) {
+        return Some(room);
+    }
     order_eight(&mut room);
     if are_in_order(&room, lits.len()) {
         Some(room)
