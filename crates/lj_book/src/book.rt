@@ -80,8 +80,9 @@ impl Model for Book {
 
 impl Book {
     /// A new book for so many seats, each of which holds the clauses of the formula under their numbers. Its history takes at
-    /// most `max_steps` additions. Takes time linear in the clauses of the formula with
-    /// their literals, and constant time for each seat.
+    /// most `max_steps` additions. Takes time linear in the clauses of the formula with their literals, and constant time
+    /// for each seat; but O(M log M) time for M clauses from 255 seats on, and for those of them that begin behind
+    /// 4,294,967,295 literals.
     ///
     /// # Errors
     /// [`NoMemory`] where a growth was refused.

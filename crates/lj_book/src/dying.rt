@@ -6,7 +6,7 @@ ghost use Rattle.lj_book.specs.Tables.{is_among, is_held};
 
 use crate::seat_tables::SeatTables;
 
-/// The numbers, each once, rising.
+/// The numbers, each once, rising. Takes linear time where they rise already, and O(n log n) time otherwise.
 pub(crate) fn rising(mut numbers: Vec<u64>) -> Vec<u64>
     ensures rising { IsStrictlySortedBy nat_cmp result.items }
     ensures same { (n : ℕ) → is_among result.items n ≡ is_among numbers.items n }
@@ -16,7 +16,7 @@ pub(crate) fn rising(mut numbers: Vec<u64>) -> Vec<u64>
     numbers
 }
 
-/// Those of the numbers that no seat holds, in their order.
+/// Those of the numbers that no seat holds, in their order. Takes O(log n) time for each number.
 pub(crate) fn no_longer_held(tables: &SeatTables, mut numbers: Vec<u64>) -> Vec<u64>
     ensures { result.items ≡ filter (λ n. not (is_held tables.now n)) numbers.items }
 {

@@ -71,6 +71,7 @@ impl FirstUses {
     }
 
     /// A number from which on alone clauses hold the literal, if that is known of its variable. All numbers are before `end`.
+    /// Takes constant time.
     pub(crate) fn since(&self, lit: Lit, end: u64) -> Option<u64>
         ensures { IfSome result (λ from. (p : ClauseMap) (last : ℕ) → AreFirstUses p last self.now
             → IsSince p lit from) }

@@ -211,7 +211,8 @@ impl History {
         starts.push(start);
     }
 
-    /// Takes a seat's drop of these numbers behind the others, by which these joint numbers died.
+    /// Takes a seat's drop of these numbers behind the others, by which these joint numbers died. Takes time linear in
+    /// the numbers of both.
     pub(crate) fn push_drop(&mut self, seat: u32, given: &Numbers, died: &[u64])
         requires words { 3 * (3 + length given.now + length died.now) ≤ self.old.word_room }
         requires room { 0 < self.old.entry_room }
@@ -279,7 +280,8 @@ impl History {
         self.starts.push(start);
     }
 
-    /// Takes a seat's import behind the others where there is a clause, and an adoption otherwise.
+    /// Takes a seat's import behind the others where there is a clause, and an adoption otherwise. Takes time linear in
+    /// the clause's literals, and constant time for an adoption.
     pub(crate) fn push_binding(
         &mut self,
         seat: u32,
@@ -302,7 +304,7 @@ impl History {
         }
     }
 
-    /// Takes a seat's leave behind the others, by which these joint numbers died.
+    /// Takes a seat's leave behind the others, by which these joint numbers died. Takes time linear in these numbers.
     pub(crate) fn push_leave(&mut self, seat: u32, died: &[u64])
         requires words { 3 * (2 + length died.now) ≤ self.old.word_room }
         requires room { 0 < self.old.entry_room }

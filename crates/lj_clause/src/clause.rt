@@ -37,7 +37,8 @@ impl Model for Clause {
 }
 
 impl Clause {
-    /// The set of these literals, whatever their order and repeats. Takes O(n log n) time.
+    /// The set of these literals, whatever their order and repeats. Takes linear time where the literals stand in order,
+    /// and O(n log n) time otherwise.
     ///
     /// # Errors
     /// [`NoMemory`] where a growth was refused.

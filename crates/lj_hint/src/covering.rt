@@ -80,7 +80,7 @@ pub(crate) fn covering<G: GroupList>(
     Ok(apart)
 }
 
-/// The first groups, so many, or all where there are no more.
+/// The first groups, so many, or all where there are no more. Takes time linear in these groups and their hints.
 ///
 /// # Errors
 /// [`NoMemory`] where a growth was refused.

@@ -26,7 +26,9 @@ use std::alloc::Global;
 const FEW: usize = 8;
 
 /// The test of all candidates of a pivot among the live clauses, for a walk that ended open with what is held: the
-/// groups with the hints that were read, by rising candidate. None stands for the groups as they are given.
+/// groups with the hints that were read, by rising candidate. None stands for the groups as they are given. Takes the
+/// time of [`Live::candidates`] and, for each candidate, of [`Live::clause`], [`TrueLits::insert_negations_but`] and
+/// [`walk`]; O(log c) time for each group, with c candidates; and memory for each candidate.
 ///
 /// # Errors
 /// The first candidate that isn't covered, and [`RatRefusal::NoMemory`] where a growth was refused.

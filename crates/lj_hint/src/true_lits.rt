@@ -151,7 +151,7 @@ impl TrueLits {
         Ok(())
     }
 
-    /// Puts the negation of each of these literals into the set.
+    /// Puts the negation of each of these literals into the set. Takes the time of [`TrueLits::insert`] for each of them.
     ///
     /// # Errors
     /// [`NoMemory`] where a growth was refused.
@@ -167,7 +167,8 @@ impl TrueLits {
         Ok(())
     }
 
-    /// Puts the negation of each of these literals but one into the set.
+    /// Puts the negation of each of these literals but one into the set. Takes the time of [`TrueLits::insert`] for each
+    /// of them.
     ///
     /// # Errors
     /// [`NoMemory`] where a growth was refused.

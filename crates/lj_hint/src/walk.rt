@@ -55,7 +55,8 @@ pub(crate) fn walk_negation<H: HintList>(
 }
 
 /// The walk of the literals that are held over the hints. Each clause is read once. No hint makes what is held
-/// contradictory: the one literal that it leaves is one whose negation isn't held.
+/// contradictory: the one literal that it leaves is one whose negation isn't held. Takes the time of [`HintList::clause`]
+/// for each hint that it reads, and that of [`Trail::push`] for each literal of these clauses.
 ///
 /// # Errors
 /// [`NoMemory`] where a growth was refused.
@@ -85,7 +86,8 @@ pub(crate) fn walk<H: HintList>(held: &mut TrueLits, hints: &H) -> Result<Ending
     Ok(Ending::StaysOpen)
 }
 
-/// The literals of the clause whose negation isn't held.
+/// The literals of the clause whose negation isn't held. Takes the time of [`LentTrail::holds`] for each literal of the
+/// clause.
 #[inline(always)]
 pub(crate) fn rest_of(held: &TrueLits, clause: &ClauseView<'_>) -> Rest
     ensures { result ≡ rest_seen (rest clause.now (from_literals held.now)) }

@@ -25,7 +25,7 @@ pub(crate) fn open<'a, F: Files>(files: &mut F, path: &'a str) -> Result<F::Inpu
     }
 }
 
-/// The files at these paths, in their order.
+/// The files at these paths, in their order. Takes the time of [`Files::open`] for each of them.
 pub(crate) fn open_all<'a, F: Files>(
     alloc: Global,
     files: &mut F,

@@ -5,7 +5,8 @@ ghost use Rattle.lj_run.specs.OutcomeText.{outcome_text, verdict_line};
 use crate::outcome::Outcome;
 use std::alloc::{AllocError, Global};
 
-/// The text of an outcome: a line for each stream, and that of the verdict.
+/// The text of an outcome: a line for each stream, and that of the verdict. Takes time linear in how many streams there
+/// are.
 pub(crate) fn text_of<S>(alloc: Global, outcome: &Outcome<S>) -> Result<String, AllocError>
     ensures { IfOk result (λ text. string_bytes text ≡ outcome_text outcome.now) }
 {

@@ -16,7 +16,8 @@ use std::sync::Wait;
 /// The most bytes that are pulled at a time.
 pub(crate) const PIECE: usize = 65_536;
 
-/// The formula that a source's bytes spell. A source that has failed is told before a fault of its text.
+/// The formula that a source's bytes spell. A source that has failed is told before a fault of its text. Takes the time
+/// of the source's pulls, of [`CnfReader::feed`] for each piece and of [`CnfReader::finish`].
 pub(crate) fn read_formula<R: Wait, F: Source>(
     rt: &R,
     alloc: Global,

@@ -26,7 +26,7 @@ pub(crate) struct Tally {
 }
 
 /// Gives the lines of a source to the book, one after another, until the verdict stands, the source ends or a line
-/// isn't accepted.
+/// isn't accepted. Takes the time of the source's pulls, of the reader and of the book's calls for the lines.
 pub(crate) fn run_stream<R: Wait, S: Source>(
     rt: &R,
     alloc: Global,

@@ -228,7 +228,7 @@ impl OwnClauses {
         Ok(())
     }
 
-    /// Gives own numbers up.
+    /// Gives own numbers up. Takes O(log n) time for each of them, amortized.
     ///
     /// # Errors
     /// [`NoMemory`] where a growth was refused: what is here may then be more than the seat holds.

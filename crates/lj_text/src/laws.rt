@@ -1,5 +1,5 @@
 //! Laws of steps, for all clause maps, formulas and lists of steps: what a checker of steps may conclude. The functions
-//! do nothing.
+//! do nothing. They are never run, and so take no time.
 ghost use Rattle.lj_text.specs.Laws.{AcceptedKeepsSatisfiable, ReplayKeepsSatisfiable, RefutedIsUnsatisfiable, RecordedLosesNothing, NeededIsLeast};
 ghost use Rattle.lj_text.specs.ReadAgain.{WrittenIsReadAgain};
 

@@ -32,7 +32,7 @@ impl Model for MixedNumbers {
 }
 
 impl MixedNumbers {
-    /// The list of these numbers: none where it has no room for so many of them.
+    /// The list of these numbers: none where it has no room for so many of them. Takes time linear in the numbers.
     ///
     /// # Errors
     /// [`AllocError`] where a growth was refused.
@@ -150,7 +150,8 @@ impl MixedNumbers {
         *self.words.allocator()
     }
 
-    /// A list of its own with the same numbers, in exactly the room that it needs.
+    /// A list of its own with the same numbers, in exactly the room that it needs. Takes time linear in how many there
+    /// are, with those of 2^31 or greater that were cut off.
     ///
     /// # Errors
     /// [`AllocError`] where a growth was refused.
@@ -165,7 +166,7 @@ impl MixedNumbers {
         Ok(Box::new(alloc, list)?)
     }
 
-    /// The numbers in eight bytes each.
+    /// The numbers in eight bytes each. Takes time linear in how many there are.
     ///
     /// # Errors
     /// [`AllocError`] where a growth was refused.
@@ -180,7 +181,7 @@ impl MixedNumbers {
     }
 }
 
-/// Whether all of the words are their own numbers, and one more has room behind them.
+/// Whether all of the words are their own numbers, and one more has room behind them. Takes time linear in the words.
 pub(crate) fn are_short(words: &[u32]) -> bool
     ensures few { IsTrue result → length words.now < 4294967295 }
     ensures short { IsTrue result → HavePlaces [] words.now }

@@ -52,7 +52,7 @@ impl Marks {
         Ok(())
     }
 
-    /// Marks numbers.
+    /// Marks numbers. Takes constant time for each of them that is near, and O(log n) time for others.
     pub(crate) fn mark_numbers(&mut self, numbers: NumbersIter<'_>) -> Result<(), NoMemory>
         ensures { OnOk result (Marked self.old self.new numbers.entry) }
     {
@@ -62,7 +62,8 @@ impl Marks {
         Ok(())
     }
 
-    /// Marks all the hints of an addition.
+    /// Marks all the hints of an addition. Takes the time of [`Marks::mark_numbers`] for them, and constant time for each
+    /// group.
     pub(crate) fn mark_hints(&mut self, addition: &Addition) -> Result<(), NoMemory>
         ensures { OnOk result (Marked self.old self.new (all_hints addition.now)) }
     {

@@ -21,7 +21,7 @@ pub(crate) fn adds_empty_clause(step: &Step) -> bool
     }
 }
 
-/// The place of the first addition of the empty clause.
+/// The place of the first addition of the empty clause. Takes time linear in the steps.
 pub(crate) fn first_empty(steps: &[Step]) -> Option<usize>
     ensures none { IsNone result ↔ (list_any adds_empty steps.now ≡ false) }
     ensures some { IfSome result
@@ -104,7 +104,9 @@ fn pass<'a>(
     Ok(still)
 }
 
-/// Marks the numbers that are needed in steps up to the addition of the empty clause.
+/// Marks the numbers that are needed in steps up to the addition of the empty clause. Takes time linear in `near`, in the
+/// steps and in the numbers that they name, and O(log n) time for each number beyond `near`; and where it takes more than
+/// two passes, the time of [`Marks::has`] in each for each addition that is left.
 ///
 /// Where hints name only earlier additions, all is marked in one pass from the last addition to the first, and a second
 /// one finds nothing more.

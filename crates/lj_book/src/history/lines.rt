@@ -217,7 +217,7 @@ fn ends_proof(lits: &[Lit], head: u64, words: &[u32]) -> bool
 }
 
 /// Writes the lines of the steps of the entries that begin at these places, up to and including the first addition of the
-/// empty clause. The formula has so many clauses.
+/// empty clause. The formula has so many clauses. Takes time linear in the literals and numbers of these entries.
 pub(super) fn write_entries<W: Sink>(
     writer: &mut WordWriter,
     sink: &mut W,

@@ -142,7 +142,7 @@ fn named(alloc: Global, row: u64) -> Result<Groups, AllocError>
     Ok(packed)
 }
 
-/// How many numbers groups are written as, or the greatest number where they are more.
+/// How many numbers groups are written as, or the greatest number where they are more. Takes time linear in the groups.
 pub(super) fn numbers_of(groups: &Groups) -> usize
     ensures { result < 2 ^ 63 → groups_numbers groups.now ≤ result }
 {

@@ -179,7 +179,7 @@ fn group_header(words: &[u32]) -> (u64, u64, &[u32])
     }
 }
 
-/// These groups in a list of their own.
+/// These groups in a list of their own. Takes time linear in the groups and their hints.
 ///
 /// # Errors
 /// [`NoMemory`] where a growth was refused.
@@ -194,7 +194,7 @@ pub(super) fn to_groups(alloc: Global, recorded: RecordedGroups<'_>) -> Result<G
     Ok(groups)
 }
 
-/// Whether these groups are those of a list.
+/// Whether these groups are those of a list. Takes time linear in the groups of both and their hints.
 pub(super) fn are_groups(recorded: RecordedGroups<'_>, groups: &Groups) -> bool
     ensures { IsTrue result ↔ (recorded.entry ≡ groups.now) }
 {

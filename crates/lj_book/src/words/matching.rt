@@ -23,7 +23,8 @@ pub(crate) fn are_numbers<'a>(words: &'a [u32], count: u64, numbers: &Numbers) -
     are_left(words, count, numbers.iter())
 }
 
-/// What stands behind so many numbers at the front of the words, if they are those that are still to come.
+/// What stands behind so many numbers at the front of the words, if they are those that are still to come. Takes time
+/// linear in the numbers.
 pub(crate) fn are_left<'a>(
     words: &'a [u32],
     count: u64,
@@ -47,7 +48,7 @@ pub(crate) fn are_left<'a>(
     Some(rest)
 }
 
-/// What stands behind the list at the front of the words, if it has these numbers.
+/// What stands behind the list at the front of the words, if it has these numbers. Takes time linear in the numbers.
 pub(crate) fn numbers_match<'a>(words: &'a [u32], numbers: &[u64]) -> Option<&'a [u32]>
     ensures same { IfSome result (λ rest. list_in words.now ≡ (numbers.now, rest.now)) }
     ensures other { IfNone result ((list_in words.now).0 ≡ numbers.now → ⊥) }

@@ -40,7 +40,7 @@ pub(crate) fn behind_list(words: &[u32]) -> &[u32]
     behind_numbers(count, rest)
 }
 
-/// What stands behind so many numbers at the front of the words.
+/// What stands behind so many numbers at the front of the words. Takes time linear in how many they are.
 pub(crate) fn behind_numbers(count: u64, words: &[u32]) -> &[u32]
     ensures { result.now ≡ (many_in number_in count words.now).1 }
 {
@@ -65,7 +65,7 @@ pub(crate) fn list(alloc: Global, words: &[u32]) -> Result<(Numbers, &[u32]), No
     numbers(alloc, count, behind)
 }
 
-/// So many numbers at the front of the words, and what stands behind them.
+/// So many numbers at the front of the words, and what stands behind them. Takes time linear in how many they are.
 ///
 /// # Errors
 /// [`NoMemory`] where a growth was refused, and only where there is a number.

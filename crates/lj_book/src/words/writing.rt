@@ -109,7 +109,7 @@ fn put_left(words: &mut Vec<u32>, numbers: NumbersIter<'_>)
     }
 }
 
-/// Puts a list of these numbers behind the words, which have room for it.
+/// Puts a list of these numbers behind the words, which have room for it. Takes time linear in the numbers.
 pub(crate) fn put_numbers(words: &mut Vec<u32>, numbers: &[u64])
     requires { vec_len words.old + 3 * (1 + length numbers.now) ≤ vec_capacity words.old }
     ensures words { words.new.items ≡ words.old.items ++ list_words numbers.now }
@@ -139,7 +139,7 @@ fn put_group(words: &mut Vec<u32>, group: LentGroup<'_>)
     put_left(words, group.hints);
 }
 
-/// Puts groups behind the words, which have room for them.
+/// Puts groups behind the words, which have room for them. Takes time linear in the groups and their hints.
 #[inline]
 pub(crate) fn put_groups(words: &mut Vec<u32>, groups: &Groups)
     requires { vec_len words.old + 3 * groups_numbers groups.now ≤ vec_capacity words.old }

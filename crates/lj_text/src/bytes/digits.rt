@@ -33,7 +33,7 @@ fn appended(number: u64, digit: u64) -> u64
     }
 }
 
-/// The value of one or more digits, or a number above `GREATEST` for any such value.
+/// The value of one or more digits, or a number above `GREATEST` for any such value. Takes time linear in the digits.
 pub(crate) fn digits_value(digits: &[u8]) -> Option<u64>
     ensures none { IfNone result (digits_value digits.now ≡ None) }
     ensures some { IfSome result (λ m. (n : ℕ) × (digits_value digits.now ≡ Some n) × Counts m n) }

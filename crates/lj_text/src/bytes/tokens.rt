@@ -12,7 +12,7 @@ pub(super) fn is_blank(byte: u8) -> bool
     byte == b' ' || byte == b'\t' || byte == b'\r'
 }
 
-/// What follows the blanks at the front.
+/// What follows the blanks at the front. Takes time linear in the blanks.
 #[inline(always)]
 pub(crate) fn after_blanks(bytes: &[u8]) -> &[u8]
     ensures tokens { tokens_of result.now ≡ tokens_of bytes.now }

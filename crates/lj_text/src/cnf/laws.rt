@@ -1,4 +1,4 @@
-//! Laws of the grammar of formulas.
+//! Laws of the grammar of formulas. The functions are never run, and so take no time.
 ghost use Rattle.std.specs.Prelude.{◌⊎◌, ◌≡◌, ℕ, List};
 ghost use Rattle.lj_clause.specs.ClauseMap.{FormulaValue};
 ghost use Rattle.lj_text.specs.Cnf.{HasFault, Spells};

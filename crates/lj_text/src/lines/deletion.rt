@@ -19,7 +19,7 @@ pub(super) fn read_numbers(
     read_rest(numbers, ended, bytes)
 }
 
-/// The same, behind the numbers that were read.
+/// The same, behind the numbers that were read. Takes time linear in the bytes and in the numbers that were read.
 pub(super) fn read_rest(
     numbers: &mut Numbers,
     ended: bool,

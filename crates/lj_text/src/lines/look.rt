@@ -50,7 +50,9 @@ fn parse_at(
     }
 }
 
-/// Looks for the first whole line that says something. There is no line feed among the first `searched` bytes.
+/// Looks for the first whole line that says something. There is no line feed among the first `searched` bytes. Takes time
+/// linear in the bytes of the lines that it passes and in those that it searches, and O(n log n) time for literals that
+/// stand in no order.
 #[cold]
 pub(super) fn look(
     room: &mut Room,

@@ -127,7 +127,8 @@ pub(super) fn push_piece(
     runs.append(&mut more)
 }
 
-/// Lets go of the runs that end at a place or before it, and tells the place among the others.
+/// Lets go of the runs that end at a place or before it, and tells the place among the others. Takes time linear in the
+/// runs that it lets go of.
 pub(super) fn let_go(runs: &mut VecDeque<Run>, place: u128) -> u128
     ensures gone { IsLetGo runs.old.items runs.new.items place result }
     ensures within { IsWithinFirst result runs.new.items }
