@@ -131,7 +131,7 @@ impl Bindings {
         self.insert(own, joint)
     }
 
-    /// The own numbers, rising. Takes O(n log n) time.
+    /// The own numbers, rising. Takes O(n log n) time for n of them, and time linear in the slots.
     ///
     /// # Errors
     /// [`NoMemory`] where a growth was refused.

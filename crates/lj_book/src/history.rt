@@ -317,7 +317,8 @@ impl History {
         self.starts.push(start);
     }
 
-    /// A copy of the entry at a place, counted from 0. Takes time linear in its contents.
+    /// A copy of the entry at a place, counted from 0. Takes time linear in its contents, but O(n log n) for the n literals
+    /// of a lemma, which are put in order again.
     ///
     /// # Errors
     /// [`NoMemory`] where a growth was refused.
@@ -335,8 +336,8 @@ impl History {
         }
     }
 
-    /// Copies of the steps of the entries, in order. Takes time linear in their contents, and no memory where there is
-    /// no step.
+    /// Copies of the steps of the entries, in order. Takes time linear in the contents of the entries, but O(n log n) for
+    /// the n literals of a lemma, which are put in order again, and no memory where there is no step.
     ///
     /// # Errors
     /// [`NoMemory`] where a growth was refused.

@@ -125,8 +125,8 @@ impl Ledger {
         self.places.contains_key(number)
     }
 
-    /// Makes the lists of the clauses by their literals, where they aren't made yet and no growth is refused. Takes constant
-    /// time for each literal of the live clauses, amortized.
+    /// Makes the lists of the clauses by their literals, where they aren't made yet and no growth is refused. Takes O(log n)
+    /// time for each joint number that was given and each literal of the live clauses, amortized.
     pub(crate) fn make_lists(&mut self)
         ensures { self.new ≡ self.old }
     {
@@ -233,8 +233,8 @@ impl Ledger {
         least
     }
 
-    /// Takes a seat's addition behind the others, and gives its clause the step's number. Takes constant time for each number
-    /// and literal, amortized.
+    /// Takes a seat's addition behind the others, and gives its clause the step's number. Takes constant time for each
+    /// number, and O(log n) time for the clause and each of its literals, amortized.
     ///
     /// # Errors
     /// [`NoMemory`] where a growth was refused.

@@ -14,6 +14,9 @@ use std::marker::Model;
 /// The own numbers of a seat with the joint numbers that they are bound to, seen as a finite map. The bindings of numbers
 /// behind those of the opening stand apart, by how far behind the number is: so a seat's first number of its own takes no
 /// room for the numbers before.
+///
+/// A call on a number takes O(log n) time, amortized, and constant time where the number is held from the opening on or has
+/// a slot; all that give numbers up take together constant time for each 64 numbers of the opening too.
 #[derive(Drop)]
 pub(crate) struct SeatTable {
     early: EarlyTable,
@@ -94,7 +97,8 @@ impl SeatTable {
         self.early.insert(own, joint)
     }
 
-    /// The own numbers, rising. Takes O(n log n) time, and time linear in how many there were at the opening.
+    /// The own numbers, rising. Takes O(n log n) time for n of them, and time linear in the slots and in how many there were
+    /// at the opening.
     ///
     /// # Errors
     /// [`NoMemory`] where a growth was refused.

@@ -18,6 +18,9 @@ use std::mem::replace;
 const FEW_JOINTS: usize = 32_768;
 
 /// The table of each seat, from own numbers to joint numbers, and none for a seat that has left.
+///
+/// A call on a number takes the time of [`SeatTable`]'s call, and O(log n) time once 255 own numbers were bound to one joint
+/// number at a time.
 #[derive(Drop)]
 pub(crate) struct SeatTables {
     seats: Vec<Option<SeatTable>>,

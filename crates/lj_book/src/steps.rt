@@ -32,7 +32,8 @@ impl Model for Steps {
 }
 
 impl Steps {
-    /// Copies of the steps, in order. Takes time linear in their contents, and no memory where there is no step.
+    /// Copies of the steps, in order. Takes time linear in the contents of the history, but O(n log n) for the n literals of
+    /// a lemma, which are put in order again, and no memory where there is no step.
     ///
     /// # Errors
     /// [`NoMemory`] where a growth was refused.

@@ -80,7 +80,7 @@ impl Formula {
         self.clauses.is_empty()
     }
 
-    /// A formula of its own with the same clauses. Takes time linear in the clauses and their literals.
+    /// A formula of its own with the same clauses. Takes time linear in how many they are, since it shares their literals.
     ///
     /// # Errors
     /// [`NoMemory`] where a growth was refused.

@@ -75,7 +75,7 @@ impl Lemma {
         self.pivot
     }
 
-    /// A lemma of its own with the same literals and pivot. Takes time linear in the literals.
+    /// A lemma of its own with the same literals and pivot. Takes constant time, since it shares the literals.
     ///
     /// # Errors
     /// [`NoMemory`] where a growth was refused.

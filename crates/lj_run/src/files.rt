@@ -171,7 +171,7 @@ impl MemoryFiles {
     }
 
     /// The bytes of a file that was created at a path, and dropped. Which they are is left open, since nothing is told of what
-    /// the file holds meanwhile. Takes time linear in the files.
+    /// the file holds meanwhile. Takes O(log n) time for n files, and time linear in the file's bytes.
     pub fn written(&self, path: &str) -> Option<Vec<u8>>
         ensures { OnSome result (IsTrue (is_file self.now path.now)) }
     {

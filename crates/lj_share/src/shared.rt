@@ -98,8 +98,9 @@ impl<L: Opening> Shared<L> {
 
     /// Hands a line of the seat's prover to the book, and gives the token of its entry. An addition without groups whose hints
     /// name clauses that the seat knows by itself is tested outside the lock and then committed; others, and those whose walk
-    /// stays open, are tested and entered under the lock. Takes O(log n) time for each number of the line, and time linear in
-    /// the literals of its hints; under the lock, the time of [`Book::add_inside`] or [`Book::import`].
+    /// stays open, are tested and entered under the lock. Takes O(log n) time for each number of the line and each literal
+    /// of its hints, amortized; under the lock, the time of [`Book::add_inside`], [`Book::import`] or
+    /// [`Book::drop_numbers`].
     ///
     /// # Errors
     /// The refusals of [`Book`]'s calls.

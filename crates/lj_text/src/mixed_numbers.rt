@@ -12,7 +12,8 @@ const GREAT: u64 = 2_147_483_648;
 /// How many numbers there are at most, so that a place among them takes four bytes.
 const MOST: usize = u32::MAX as usize;
 
-/// A list of numbers, each of which takes four bytes, and eight more where it is 2^31 or greater.
+/// A list of numbers, each of which takes four bytes, and eight more where it is 2^31 or greater: these stay taken where it
+/// is cut off.
 #[derive(Debug, Drop)]
 pub(crate) struct MixedNumbers {
     words: Vec<u32>,
@@ -150,8 +151,8 @@ impl MixedNumbers {
         *self.words.allocator()
     }
 
-    /// A list of its own with the same numbers, in exactly the room that it needs. Takes time linear in how many there
-    /// are, with those of 2^31 or greater that were cut off.
+    /// A list of its own with the same numbers, in exactly the room that it needs, and eight bytes for each of 2^31 or
+    /// greater that was cut off. Takes time linear in how many there are, with those that were cut off.
     ///
     /// # Errors
     /// [`AllocError`] where a growth was refused.

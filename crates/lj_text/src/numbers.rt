@@ -374,7 +374,8 @@ impl Numbers {
         true
     }
 
-    /// A list of its own with the same numbers. Takes time linear in how many there are.
+    /// A list of its own with the same numbers. Takes time and memory linear in how many there are, with those of 2^31 or
+    /// greater that were cut off.
     ///
     /// # Errors
     /// [`AllocError`] where a growth was refused.

@@ -108,8 +108,8 @@ fn pass<'a>(
 /// steps and in the numbers that they name, and O(log n) time for each number beyond `near`; and where it takes more than
 /// two passes, the time of [`Marks::has`] in each for each addition that is left.
 ///
-/// Where hints name only earlier additions, all is marked in one pass from the last addition to the first, and a second
-/// one finds nothing more.
+/// Where hints name only earlier additions and no number is given out twice, all is marked in one pass from the last
+/// addition to the first, and a second one finds nothing more.
 pub(crate) fn needed_marks(alloc: Global, near: usize, steps: &[Step]) -> Result<Marks, NoMemory>
     ensures { IfOk result (λ m. (n : ℕ) → is_marked m n ≡ has (needed_in steps.now) n) }
 {

@@ -28,11 +28,11 @@ impl Book {
     /// unit propagation over its first list, or else by resolution asymmetric tautology on its pivot (Cruz-Filipe et
     /// al., CADE 2017). The room may have served any walk before.
     ///
-    /// Takes O(log n) time for each number of the line and each hint that is read, and constant time for each literal
-    /// of the lemma and of these hints. Where the first list stays open, takes constant time for each literal of the
-    /// candidates too and for each clause that held the pivot's negation and died since one asked for it, and O(log c) for
-    /// each group, with c candidates. The first addition whose first list stays open, and the next one that is tested, take
-    /// time linear in all joint numbers that were given and in the literals of the live clauses.
+    /// Takes O(log n) time, amortized, for each number of the line, each hint that is read and each literal of the lemma
+    /// and of these hints. Where the first list stays open, takes that time for each literal of the candidates too and for
+    /// each clause that held the pivot's negation and died since one asked for it, and O(log c) for each group, with c
+    /// candidates. The first addition whose first list stays open, and the next one that is tested, take O(log n) time for
+    /// each joint number that was given and each literal of the live clauses.
     ///
     /// # Errors
     /// The first that holds of [`Refusal::SeatGone`], [`Refusal::NumberTaken`], [`Refusal::UnknownNumber`],

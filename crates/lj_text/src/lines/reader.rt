@@ -100,7 +100,8 @@ impl LineReader {
     }
 
     /// The next whole line that says something: `None` where there is none yet. Takes time linear in the bytes of the lines
-    /// that it passes, and O(n log n) time for literals that stand in no order.
+    /// that it passes, and where it answers `None` in those of the unfinished line that weren't searched yet too; and
+    /// O(n log n) time for literals that stand in no order.
     ///
     /// # Errors
     /// The line's fault, and from then on that fault again; `NoMemory` of a line that is right, and then the reader is
