@@ -2,7 +2,8 @@
 # Measures the readers of lj_text, and prints what it measures: their speed over 50 MB of LRAT lines beside that of
 # `wc -l` and of a plain reader in C, the time that one line of a million tokens takes, in pieces of one byte too, the speed
 # and the memory for lines of 100 MB that are meant to be slow or to take much, and the memory that a formula's header
-# takes. Given the word `gigabyte`, it also reads a line of a gigabyte, which takes 6 GB of memory.
+# takes. Given the word `gigabyte`, it also reads a line of a gigabyte, which takes 6 GB of memory. What takes more than 1.3
+# times as long as what is linear, or more than 8 bytes of memory for a byte, is named in the last lines, and the status is 1.
 #
 # The program is read_lines.txt. It is no .rt file, since the gate refuses one that belongs to no crate of crates.txt.
 # It is proved and built in a scratch folder, by LLVM, over a copy of the library, and nothing is written here.
@@ -155,10 +156,26 @@ headers() {
         END { printf "formula reader: %d kB at most for an empty text, %d kB for the largest header\n", kilobytes["empty"], kilobytes["header"] }'
 }
 
+measure() {
+    echo "load of the machine: $(cut -d ' ' -f 1-3 /proc/loadavg), processors: $(nproc)"
+    speed
+    long_lines
+    hostile
+    if [ "${1:-}" = gigabyte ]; then gigabyte; fi
+    headers
+}
+
+# What is wrong in what was printed.
+judge() {
+    awk '
+        match($0, /[0-9.]+ times as long/) {
+            larger = /as long as (10 MB|a tenth)/ ? 10 : 2
+            if (substr($0, RSTART) + 0 > 1.3 * larger) { print "wrong: " $0; wrong = 1 }
+        }
+        match($0, /[0-9.]+ bytes of memory for each byte/) && substr($0, RSTART) + 0 > 8 { print "wrong: " $0; wrong = 1 }
+        END { exit wrong }'
+}
+
 build
-echo "load of the machine: $(cut -d ' ' -f 1-3 /proc/loadavg), processors: $(nproc)"
-speed
-long_lines
-hostile
-if [ "${1:-}" = gigabyte ]; then gigabyte; fi
-headers
+measure "$@" | tee "$scratch/measured"
+judge < "$scratch/measured" >&2

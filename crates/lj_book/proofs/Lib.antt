@@ -17,6 +17,7 @@ pub mod SoloSteps
 pub mod SoloRuns
 pub mod Scans
 pub mod BindingLaws
+pub mod FirstValues
 pub mod LeaveLaws
 mod HolderBounds
 mod PlaceLaws

@@ -1,7 +1,7 @@
 //! The bindings of a seat.
 ghost use Rattle.std.specs.Prelude.{◌≡◌, ◌≤◌, [], length, map, true, vec_capacity, OnOk, OnErr, IfOk, None, Some};
 ghost use Rattle.std.specs.FinMap as fin;
-ghost use Rattle.lj_book.specs.inner.Slots.{AreBefore, joined_map, shifted};
+ghost use Rattle.lj_book.specs.inner.Slots.{AreBefore, AreFirstValues, joined_map, shifted};
 
 use crate::dying::rising;
 use crate::far_numbers::FarNumbers;
@@ -70,23 +70,16 @@ impl Bindings {
 
     /// Puts into a list that has none the own numbers themselves where they are held from an opening on, and from its end on
     /// the joint numbers that are bound to how far behind it they are, up to the first that is neither held nor in a slot.
-    /// Answers whether there is none.
+    /// Takes time linear in the own numbers.
     #[inline(always)]
-    pub(crate) fn look_up(
-        &self,
-        opened: &Opened,
-        end: u64,
-        owns: &[u32],
-        joints: &mut Vec<u32>,
-    ) -> bool
+    pub(crate) fn look_up(&self, opened: &Opened, end: u64, owns: &[u32], joints: &mut Vec<u32>)
         requires none { joints.old.items ≡ [] }
         requires room { length owns.now ≤ vec_capacity joints.old }
         requires before { AreBefore end opened.now }
-        ensures { result ≡ true
-            → map (fin.get (joined_map opened.now (shifted end self.now))) owns.now
-            ≡ map Some joints.new.items }
+        ensures { AreFirstValues (fin.get (joined_map opened.now (shifted end self.now))) owns.now
+            joints.new.items }
     {
-        self.short.look_up(opened, end, owns, joints)
+        self.short.look_up(opened, end, owns, joints);
     }
 
     /// Binds an own number that isn't bound.

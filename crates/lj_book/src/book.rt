@@ -177,7 +177,7 @@ impl Book {
     }
 
     /// The formula, where the history has an empty clause: no assignment satisfies it. Takes time linear in its
-    /// clauses with their literals.
+    /// clauses, whose literals are shared.
     ///
     /// # Errors
     /// [`NoMemory`] where a growth was refused.
@@ -223,8 +223,8 @@ impl Book {
         case_of(alloc, &self.tables, &self.ledger, seat, addition)
     }
 
-    /// Enters the lemma of a receipt, while the clauses that it lists still live. Takes O(log n) time for each of them, and
-    /// time linear in their literals and in those of the lemma.
+    /// Enters the lemma of a receipt, while the clauses that it lists still live. Takes O(log n) time for each of them and for
+    /// each literal of the lemma, and time linear in their literals.
     ///
     /// # Errors
     /// With the receipt: [`Refusal::SeatGone`], [`Refusal::NumberTaken`], [`Refusal::Stale`], [`Refusal::Full`], and

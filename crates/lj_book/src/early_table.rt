@@ -13,7 +13,8 @@ use std::marker::Model;
 /// Own numbers of a seat with the joint numbers that they are bound to, seen as a finite map: those that it holds from the
 /// opening on, and in a tree those that were bound since, which is for numbers that were given up before.
 ///
-/// A call takes constant time for a number that is held from the opening on, and O(log n) time for others.
+/// A call takes constant time for a number that is held from the opening on, and O(log n) time for others. To give up a
+/// number of the opening takes time linear in a bit for each up to it that had none yet.
 #[derive(Drop)]
 pub(crate) struct EarlyTable {
     opened: Opened,

@@ -4,6 +4,8 @@ ghost use Rattle.std.specs.FinMap as fin;
 ghost use Rattle.lj_book.specs.Tables.{joint_of};
 ghost use Rattle.lj_book.specs.Calls.{IsReplyBy};
 ghost use Rattle.lj_book.specs.inner.JointLines.{joints_in, joint_groups_in, joint_parts, rising_from};
+ghost use Rattle.lj_book.specs.inner.Fronts.{with_front};
+ghost use Rattle.lj_book.specs.inner.Slots.{AreFirstValues};
 
 use crate::refusal::Refusal;
 use crate::seat_table::SeatTable;
@@ -16,8 +18,8 @@ use std::alloc::Global;
 const MANY_GROUPS: usize = 1024;
 
 /// The hints of a seat's addition in joint numbers, and its groups, in lists that were used before. Looks each own number up
-/// at most four times: hints anew where one of them lies far, those of many groups first to see that all are held, and their
-/// candidates once more where they may repeat.
+/// once, but for those of groups whose candidates don't rise: many of these are looked up first to see that all are held, and
+/// their candidates once more, since they may repeat.
 ///
 /// # Errors
 /// [`Refusal::UnknownNumber`], [`Refusal::GroupRepeated`], and [`Refusal::NoMemory`] where a growth was refused.
@@ -41,7 +43,7 @@ pub(crate) fn joint_line(
     if groups.is_empty() {
         return Ok(());
     }
-    if groups.len() > MANY_GROUPS && are_held(tables, seat, groups) {
+    if groups.len() > MANY_GROUPS && !are_rising(groups) && are_held(tables, seat, groups) {
         if let Some(own) = repeated_group(alloc, tables, seat, groups)? {
             return Err(Refusal::GroupRepeated(own));
         }
@@ -139,8 +141,7 @@ fn put_joints(
     }
 }
 
-/// Puts the joint numbers of these own numbers into a list, in place of what it has, by the table of their seat: without a
-/// test of the list's room for each, where all have slots.
+/// Puts the joint numbers of these own numbers into a list, in place of what it has, by the table of their seat.
 ///
 /// # Errors
 /// As [`put_joints`].
@@ -148,25 +149,34 @@ fn put_joints(
 fn put_short(table: &SeatTable, owns: &[u32], joints: &mut Numbers) -> Result<(), Refusal>
     ensures { IsReplyBy (λ _. joints.new) result (joints_in (fin.get table.now) owns.now) }
 {
-    if let Some(mut room) = joints.take_room(owns.len()) {
-        let found = table.look_up(owns, &mut room);
-        *joints = Numbers::from_short(room);
-        if found {
-            return Ok(());
-        }
-        joints.clear();
+    put_near(table, owns, joints);
+    let left = &owns[joints.len()..];
+    if left.is_empty() {
+        return Ok(());
     }
-    put_in_turn(table, owns, joints)
+    put_behind(table, left, joints)
 }
 
-/// The same, one after the other.
+/// Puts the joint numbers of the first of these own numbers into a list, in place of what it has, up to one that isn't near:
+/// without a test of the list's room for each. Puts none where there is no such room.
+#[inline(always)]
+fn put_near(table: &SeatTable, owns: &[u32], joints: &mut Numbers)
+    ensures { AreFirstValues (fin.get table.now) owns.now joints.new }
+{
+    if let Some(mut room) = joints.take_room(owns.len()) {
+        table.look_up(owns, &mut room);
+        *joints = Numbers::from_short(room);
+    }
+}
+
+/// Puts the joint numbers of these own numbers behind what the list has.
 ///
 /// # Errors
 /// As [`put_joints`].
 #[inline(never)]
-fn put_in_turn(table: &SeatTable, owns: &[u32], joints: &mut Numbers) -> Result<(), Refusal>
-    requires { joints.old ≡ [] }
-    ensures { IsReplyBy (λ _. joints.new) result (joints_in (fin.get table.now) owns.now) }
+fn put_behind(table: &SeatTable, owns: &[u32], joints: &mut Numbers) -> Result<(), Refusal>
+    ensures { IsReplyBy (λ _. joints.new) result
+        (with_front joints.old (joints_in (fin.get table.now) owns.now)) }
 {
     for own in owns {
         let own = u64::from(*own);

@@ -227,7 +227,7 @@ impl Ledger {
         let Some(lists) = &self.lists else {
             return self.lent().least_number(wanted);
         };
-        let place = lists.short_place(wanted);
+        let place = lists.shortest_place(wanted);
         let least = lists.first_same(place, &self.lent(), wanted);
         self.sweep_list(place);
         least
@@ -279,8 +279,8 @@ impl Ledger {
         self.history.reserve_deaths(given, died)
     }
 
-    /// Takes a seat's drop of these numbers behind the others, by which the clauses of these joint numbers die. Takes constant
-    /// time for each number and literal, amortized.
+    /// Takes a seat's drop of these numbers behind the others, by which the clauses of these joint numbers die. Takes O(log n)
+    /// time for each number.
     pub(crate) fn push_drop(&mut self, seat: u32, given: &Numbers, died: &[u64])
         requires words { 3 * (3 + length given.now + length died.now)
             ≤ self.old.history.word_room }
@@ -293,8 +293,8 @@ impl Ledger {
         self.history.push_drop(seat, given, died);
     }
 
-    /// Takes a seat's leave behind the others, by which the clauses of these joint numbers die. Takes constant time for each
-    /// number and literal, amortized.
+    /// Takes a seat's leave behind the others, by which the clauses of these joint numbers die. Takes O(log n) time for each
+    /// number.
     pub(crate) fn push_leave(&mut self, seat: u32, died: &[u64])
         requires words { 3 * (2 + length died.now) ≤ self.old.history.word_room }
         requires room { 0 < self.old.history.entry_room }
@@ -350,7 +350,7 @@ impl Ledger {
         }
     }
 
-    /// Takes the clause of a number out. Takes constant time.
+    /// Takes the clause of a number out. Takes constant time, and O(log n) where clauses begin behind 4,294,967,295 literals.
     fn remove(&mut self, number: u64)
         ensures history { self.new.history ≡ self.old.history }
         ensures removed { self.new.live ≡ fin.remove self.old.live number }

@@ -35,7 +35,7 @@ struct Link {
 /// For each literal the numbers that were given to clauses which hold it, under its place, and for the empty clauses
 /// theirs. A clause that dies stays listed: its number is taken out when the list is next swept.
 ///
-/// Each number takes eight bytes, and putting it there constant time.
+/// Each number takes eight bytes, and putting it there the time of [`Bindings::set`].
 #[derive(Drop)]
 pub(crate) struct OccurrenceLists {
     alloc: Global,
@@ -72,7 +72,8 @@ impl OccurrenceLists {
     }
 
     /// Puts the number of a clause at the end of its lists. Answers whether it could be put there: where a growth was
-    /// refused or there are too many numbers, the lists are of no use.
+    /// refused or there are too many numbers, the lists are of no use. Takes the time of [`Bindings::set`] for each literal,
+    /// amortized.
     #[inline(always)]
     pub(crate) fn add_clause(&mut self, number: u32, clause: &ClauseView<'_>) -> bool
         ensures { result ≡ true → (k : ℕ) → list_at self.new k
@@ -138,9 +139,8 @@ impl OccurrenceLists {
         first_before(&self.links, last_of(&self.lasts, place), clauses, wanted)
     }
 
-    /// The place of a list of a clause, which is less than twice as long as the shortest. Takes time linear in the clause's
-    /// literals, for each number of the shortest.
-    pub(crate) fn short_place(&self, clause: &Clause) -> u64
+    /// The place of the shortest list of a clause. Takes time linear in the clause's literals, for each number of that list.
+    pub(crate) fn shortest_place(&self, clause: &Clause) -> u64
         ensures { is_among (places_of clause.now) result ≡ true }
     {
         let lits = clause.lits();
@@ -148,24 +148,27 @@ impl OccurrenceLists {
             return EMPTY_PLACE;
         };
         for power in 0..LIMITS {
-            if let Some(place) = self.place_within(lits, 1 << power) {
+            if let Some(place) = self.shortest_within(lits, 1 << power) {
                 return place;
             }
         }
         first.place() as u64
     }
 
-    /// The place of one of the literals whose list has so many numbers at most.
-    fn place_within(&self, lits: &[Lit], limit: usize) -> Option<u64>
+    /// The place of the shortest of the literals' lists, if it has so many numbers at most.
+    fn shortest_within(&self, lits: &[Lit], limit: usize) -> Option<u64>
         ensures { IfSome result (λ place. is_among (map place_of lits.now) place ≡ true) }
     {
+        let mut shortest = None;
+        let mut most = limit;
         for lit in lits {
             let place = lit.place() as u64;
-            if is_within(&self.links, last_of(&self.lasts, place), limit) {
-                return Some(place);
+            if let Some(length) = length_within(&self.links, last_of(&self.lasts, place), most) {
+                shortest = Some(place);
+                most = length;
             }
         }
-        None
+        shortest
     }
 
     /// Takes the numbers without a clause out of a list, where they are more than half of it and it isn't short. Answers
@@ -284,12 +287,21 @@ fn is_within(links: &[Link], last: u64, limit: usize) -> bool
     requires linked { AreLinked links.now }
     requires there { last ≤ length links.now }
 {
+    length_within(links, last, limit).is_some()
+}
+
+/// How many links there are with this one and all before it, if so many at most. Takes time linear in the links that it
+/// passes by.
+fn length_within(links: &[Link], last: u64, limit: usize) -> Option<usize>
+    requires linked { AreLinked links.now }
+    requires there { last ≤ length links.now }
+{
     let mut at = last as usize;
-    for _ in 0..limit {
+    for length in 0..limit {
         if at == 0 {
-            return true;
+            return Some(length);
         }
         at = links[at - 1].before as usize;
     }
-    at == 0
+    if at == 0 { Some(limit) } else { None }
 }

@@ -3,6 +3,7 @@ ghost use Rattle.std.specs.Prelude.{◌≡◌, ◌+◌, ◌-◌, ◌<◌, ◌≤
 ghost use Rattle.std.specs.List.{All};
 ghost use Rattle.std.specs.FinMap as fin;
 ghost use Rattle.lj_book.specs.Tables.{up_to};
+ghost use Rattle.lj_book.specs.inner.Slots.{AreFirstValues};
 
 use crate::bindings::Bindings;
 use crate::dying::rising;
@@ -69,16 +70,16 @@ impl SeatTable {
         self.early.get(own)
     }
 
-    /// Puts the joint numbers of these own numbers into a list that has none, up to the first that isn't near, and answers
-    /// whether each is.
+    /// Puts the joint numbers of these own numbers into a list that has none, up to the first that isn't near. Takes time
+    /// linear in the own numbers.
     #[inline(always)]
-    pub(crate) fn look_up(&self, owns: &[u32], joints: &mut Vec<u32>) -> bool
+    pub(crate) fn look_up(&self, owns: &[u32], joints: &mut Vec<u32>)
         requires none { joints.old.items ≡ [] }
         requires room { length owns.now ≤ vec_capacity joints.old }
-        ensures { result ≡ true → map (fin.get self.now) owns.now ≡ map Some joints.new.items }
+        ensures { AreFirstValues (fin.get self.now) owns.now joints.new.items }
     {
         self.late
-            .look_up(self.early.opened(), self.end, owns, joints)
+            .look_up(self.early.opened(), self.end, owns, joints);
     }
 
     /// Binds an own number that isn't bound.

@@ -1,7 +1,7 @@
 //! Maps from numbers that lie close together to small numbers.
 ghost use Rattle.std.specs.Prelude.{◌≡◌, ◌<◌, ◌≤◌, [], vec_capacity, OnOk, OnErr, IfOk, IfSome, length, map, None, Some, true};
 ghost use Rattle.std.specs.FinMap as fin;
-ghost use Rattle.lj_book.specs.inner.Slots.{slot_map, slot_numbers, joined_map, shifted, AreBefore};
+ghost use Rattle.lj_book.specs.inner.Slots.{slot_map, slot_numbers, joined_map, shifted, AreBefore, AreFirstValues};
 ghost use Rattle.lj_book.specs.inner.Opened.{opened_slots};
 
 use crate::opened::{Opened, is_kept};
@@ -52,21 +52,14 @@ impl<S: Slot> ShortMap<S> {
     }
 
     /// Puts into a list that has none the keys themselves where they are held from an opening on, and from its end on the
-    /// values at how far behind it they are, up to the first that is neither. Answers whether there is none.
+    /// values at how far behind it they are, up to the first that is neither. Takes time linear in the keys.
     #[inline(always)]
-    pub(crate) fn look_up(
-        &self,
-        opened: &Opened,
-        end: u64,
-        keys: &[u32],
-        values: &mut Vec<u32>,
-    ) -> bool
+    pub(crate) fn look_up(&self, opened: &Opened, end: u64, keys: &[u32], values: &mut Vec<u32>)
         requires none { values.old.items ≡ [] }
         requires room { length keys.now ≤ vec_capacity values.old }
         requires before { AreBefore end opened.now }
-        ensures { result ≡ true
-            → map (fin.get (joined_map opened.now (shifted end self.now))) keys.now
-            ≡ map Some values.new.items }
+        ensures { AreFirstValues (fin.get (joined_map opened.now (shifted end self.now))) keys.now
+            values.new.items }
     {
         let parts = opened.parts();
         let slots = self.slots.as_slice();
@@ -76,7 +69,6 @@ impl<S: Slot> ShortMap<S> {
                 None => break,
             }
         }
-        values.len() == keys.len()
     }
 
     /// The keys, rising. Takes time linear in the slots.

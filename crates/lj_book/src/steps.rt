@@ -45,7 +45,7 @@ impl Steps {
     }
 
     /// Writes the lines of the steps, up to and including the first addition of the empty clause, and gives the sink all of
-    /// them. The formula has so many clauses. Takes time linear in the literals and numbers of the steps, and no memory: the
+    /// them. The formula has so many clauses. Takes time linear in the literals and numbers of the entries, and no memory: the
     /// sink is given many lines at a time.
     ///
     /// # Errors

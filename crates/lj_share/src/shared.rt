@@ -339,7 +339,7 @@ impl<L: Opening> Shared<L> {
     }
 
     /// Enters the lemma of a receipt of this seat, while the clauses that it lists still live. Takes O(log n) time for each of
-    /// them, and time linear in their literals and in those of the lemma.
+    /// them and for each literal of the lemma, and time linear in their literals.
     ///
     /// # Errors
     /// With the receipt, as [`Book::commit`].

@@ -37,8 +37,8 @@ impl Book {
 
     /// Binds the seat's own number to the least live number with exactly this clause. Takes time linear in the clause's
     /// literals, and that again for each clause that holds the literal of it which the fewest hold; those that died since
-    /// one asked for this literal count too. The first time it takes time linear in all joint numbers given so far and in the
-    /// literals of the live clauses.
+    /// one asked for this literal count too. The first time it takes O(log n) time for each joint number given so far, and
+    /// for each literal of the live clauses.
     ///
     /// # Errors
     /// [`Refusal::SeatGone`], [`Refusal::NumberTaken`], [`Refusal::NoSuchClause`] where no clause with exactly these

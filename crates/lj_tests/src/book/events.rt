@@ -32,6 +32,30 @@ const NO_STEP: (u32, ListedStep) = (0, ListedStep::None);
 
 const NO_STEP_OF_SECOND: (u32, ListedStep) = (1, ListedStep::None);
 
+/// A number that lies far from all others.
+const FAR: u64 = 9_223_372_036_854_775_807;
+
+/// The hints of a line are looked up whether they lie near or far, in their order.
+const NEAR_AND_FAR: [Row; 5] = [
+    (
+        Listed::Inside(0, Line(5, &[2], &[1, 2], &[])),
+        Reply::Added(Added { place: 0, joint: 5 }),
+    ),
+    (
+        Listed::Inside(0, Line(FAR, &[1], &[5, 3], &[])),
+        Reply::Added(Added { place: 1, joint: 6 }),
+    ),
+    (Listed::Inside(0, Line(7, &[], &[5, 9, 4], &[])), UNKNOWN),
+    (
+        Listed::Inside(0, Line(7, &[], &[5, FAR, 9, 4], &[])),
+        UNKNOWN,
+    ),
+    (
+        Listed::Inside(0, Line(7, &[], &[5, FAR, 4], &[])),
+        Reply::Added(Added { place: 2, joint: 7 }),
+    ),
+];
+
 /// A receipt isn't committed over a clause that died after its test, even where the history is full.
 const STALE: [Row; 5] = [
     TAKEN,
@@ -234,7 +258,17 @@ const FOUR: Example = Example {
     ..UNIT
 };
 
-pub const EXAMPLES: [Example; 15] = [
+pub const EXAMPLES: [Example; 16] = [
+    Example {
+        name: "A far hint between near ones",
+        script: &NEAR_AND_FAR,
+        entries: &[
+            FIRST_STEP,
+            (0, ListedStep::Add(6, 1, &[5, 3], &[])),
+            (0, ListedStep::Add(7, 0, &[5, 6, 4], &[])),
+        ],
+        ..FOUR
+    },
     Example {
         name: "The stale receipt",
         script: &STALE,

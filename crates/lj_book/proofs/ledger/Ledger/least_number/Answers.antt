@@ -15,6 +15,6 @@ returns-clause-least c =
     let is = c.lent-2.ensures ∙ ap (λ r. r.live) (sym c.self.view_is) in
     let are = subst (λ (o : Option Lists). AreListed o live (c.self.inside.last + 1)) c.in-Some.is c.self.invariant.indexed.listed in
     c.first_same-least.ensures
-    ∙ ap (λ (q : ClauseMap). slice_get (filter (λ n. is_clause c.args.wanted.now (fin.get q n)) (list_at c.in-Some.lists c.short_place-place.result)) 0) is
-    ∙ first_is_least c.in-Some.lists live (c.self.inside.last + 1) c.short_place-place.result c.args.wanted.now are c.short_place-place.ensures
+    ∙ ap (λ (q : ClauseMap). slice_get (filter (λ n. is_clause c.args.wanted.now (fin.get q n)) (list_at c.in-Some.lists c.shortest_place-place.result)) 0) is
+    ∙ first_is_least c.in-Some.lists live (c.self.inside.last + 1) c.shortest_place-place.result c.args.wanted.now are c.shortest_place-place.ensures
     ∙ ap (λ r. least_number r.live c.args.wanted.now) c.self.view_is
