@@ -155,6 +155,9 @@ stream 'lemmas of nine literals in every third variable, behind an import' all.c
     print "2 i 1 0"
     variable = 524285
     for (i = 3; i < n; i++) { printf i; for (j = 0; j < 9; j++) printf " %d", variable += 3; print " 0 0" } }'
+stream 'lemmas of sixteen variables anywhere below ten million' all.cnf 55000 'BEGIN {
+    srand(1)
+    for (i = 2; i < n; i++) { printf i; for (j = 0; j < 16; j++) printf " %d", 2 + int(9999997 * rand()); print " 0 0" } }'
 stream 'a long clause walked and deleted' all.cnf 4000000 'BEGIN {
     for (line = 2; line < 4; line++) { printf line; for (i = 1; i <= n; i++) printf " %d", i; print " 0 " line - 1 " 0" }
     print "4 d 2 3 0" }'
