@@ -128,7 +128,7 @@ stream 'imports' few.cnf 600000 'BEGIN { for (i = 2; i < n; i++) print i " i 1 0
 stream 'imports under every second number' few.cnf 600000 'BEGIN { for (i = 2; i < n; i += 2) print i " i 1 0" }'
 stream 'lemmas of nine literals, behind an import' few.cnf 300000 \
     'BEGIN { print "2 i 1 0"; for (i = 3; i < n; i++) print i " 1 2 3 4 5 6 7 8 9 0 1 0" }'
-# (A stamp takes longer for a variable beyond the first 524,287, so the half has such variables too.)
+# (A stamp takes longer for a variable whose stamp is not in the list of the first ones, so the half has many such too.)
 stream 'a walk over many clauses' 'BEGIN {
     print "p cnf " n " " n + 1
     for (i = 1; i <= n; i++) print i " 0"

@@ -44,7 +44,7 @@ pub enum LineRefusal {
 /// first list and, where that stays open, the test of the pivot's candidates. The room may have served any walk before.
 ///
 /// Each hint is looked up once. Takes constant time for each literal that a walk reads, or O(log n) where its variable is
-/// beyond 524,287, amortized; where the first walk stays open, the candidates' look-up, constant time for each of them and
+/// beyond 16,383, amortized; where the first walk stays open, the candidates' look-up, constant time for each of them and
 /// O(log c) for each group, with c candidates. Room for the groups of a line and of its candidates, by eight bytes a
 /// candidate, or sixteen with more than eight groups, and four a group, is let go of at its end.
 ///

@@ -8,19 +8,27 @@ use lj_clause::NoMemory;
 use std::alloc::Global;
 use std::marker::Model;
 
-/// How many places have their stamps in one list: those of the literals of 524,287 variables, in four megabytes.
+/// How many places have their stamps in one list at most: those of the literals of 524,287 variables, in four megabytes.
 pub(crate) const NEAR: usize = 1_048_576;
+
+/// How many have at first: those of the literals of 16,383 variables.
+const FIRST_NEAR: usize = 32_768;
 
 /// The least number of places that the list takes more than it has to.
 const SPARE: usize = 1024;
 
 /// A stamp for each place of a literal, 0 where none was set. Those of the first places, the near ones, stand in one list,
 /// which grows with the greatest of them that was set. Those of the far places stand in pages, where many of a page were
-/// set, and else in a tree, so that each costs little wherever it is.
+/// set, and else in a tree, so that each costs little wherever it is. More places are near once so many far stamps were set
+/// that the list takes little beside what they were read from.
 #[derive(Drop)]
 pub(crate) struct Stamps {
+    /// How many places are near.
+    count: usize,
     near: Page,
     far: Pages,
+    /// How many far stamps were set since so many places are near.
+    far_sets: usize,
 }
 
 impl Model for Stamps {
@@ -28,9 +36,9 @@ impl Model for Stamps {
 
     ghost Value = { Stamped };
 
-    ghost view = { λ s. (s.near, s.far) };
+    ghost view = { λ s. (s.count, s.near, s.far) };
 
-    ghost invariant = { λ s. IsNearList s.near };
+    ghost invariant = { λ s. IsNearList s.count s.near };
 }
 
 impl Stamps {
@@ -39,8 +47,10 @@ impl Stamps {
         ensures { (q : ℕ) → stamp_at result q ≡ 0 }
     {
         Stamps {
+            count: FIRST_NEAR,
             near: Page::new(alloc),
             far: Pages::new(alloc),
+            far_sets: 0,
         }
     }
 
@@ -61,7 +71,7 @@ impl Stamps {
     fn is_beyond(&self, place: usize, stamp: u32) -> bool
         ensures { result ≡ (stamp_at self.now place == stamp) }
     {
-        if place >= NEAR {
+        if place >= self.count {
             return self.far.get(place) == stamp;
         }
         self.near.get(place) == stamp
@@ -95,10 +105,11 @@ impl Stamps {
             ≡ (if q == place then stamp else stamp_at self.old q)) }
         ensures err { OnErr result ((q : ℕ) → stamp_at self.new q ≡ stamp_at self.old q) }
     {
-        if place >= NEAR {
+        if place >= self.count {
+            self.far_sets = self.far_sets.saturating_add(1);
             return self.far.set(place, stamp);
         }
-        self.near.set(place, stamp, room_for(place))
+        self.near.set(place, stamp, room_for(place, self.count))
     }
 
     /// Sets the stamp at a place to 0. Takes constant time, and O(log n) for a far place without a page.
@@ -106,10 +117,34 @@ impl Stamps {
     pub(crate) fn erase(&mut self, place: usize)
         ensures { (q : ℕ) → stamp_at self.new q ≡ (if q == place then 0 else stamp_at self.old q) }
     {
-        if place >= NEAR {
+        if place >= self.count {
             self.far.erase(place);
         } else {
             self.near.erase(place);
+        }
+    }
+
+    /// Makes twice as many places near, where so many far stamps were set since the last time. Those of far places are then
+    /// cleared, and no stamp becomes greater. Takes constant time, amortized.
+    #[inline]
+    pub(crate) fn widen(&mut self)
+        ensures { (q : ℕ) → stamp_at self.new q ≤ stamp_at self.old q }
+    {
+        if self.far_sets / 2 >= self.count {
+            self.widen_now();
+        }
+    }
+
+    /// The same where so many were set.
+    #[cold]
+    #[inline(never)]
+    fn widen_now(&mut self)
+        ensures { (q : ℕ) → stamp_at self.new q ≤ stamp_at self.old q }
+    {
+        self.far_sets = 0;
+        if self.count < NEAR {
+            self.count = (2 * self.count).min(NEAR);
+            self.far.clear();
         }
     }
 
@@ -123,14 +158,15 @@ impl Stamps {
     }
 }
 
-/// How many places the list takes for this one: twice as many, so that it seldom grows.
+/// How many places the list takes for this one: twice as many, so that it seldom grows, up to so many as are near.
 #[inline]
-fn room_for(place: usize) -> usize
-    requires { place < NEAR }
+fn room_for(place: usize, count: usize) -> usize
+    requires near { place < count }
+    requires most { count ≤ NEAR }
     ensures enough { place < result }
-    ensures near { result ≤ NEAR }
+    ensures near { result ≤ count }
 {
-    (2 * place + SPARE).min(NEAR)
+    (2 * place + SPARE).min(count)
 }
 
 /// Stamps that are lent, with the list of the first places at hand.
@@ -148,7 +184,8 @@ impl<'a> Model for LentStamps<'a> {
 
     ghost view = { λ l. l.stamps.now };
 
-    ghost invariant = { λ l. (l.near.now ≡ l.stamps.now.0) × IsNearList l.near.now };
+    ghost invariant = { λ l. (l.near.now ≡ l.stamps.now.1)
+        × IsNearList l.stamps.now.0 l.near.now };
 }
 
 impl<'a> LentStamps<'a> {

@@ -8,7 +8,8 @@ use std::alloc::Global;
 use std::marker::Model;
 
 /// Literals in the order in which they came in, each once, with constant time for the question whether one is there. Of a
-/// variable beyond 524,287 it takes O(log n) time, until many such literals near it have been there.
+/// variable beyond 16,383 it takes O(log n) time, until many such literals have been there, and beyond 524,287 until many
+/// near it have been there.
 #[derive(Drop)]
 pub(crate) struct Trail {
     stamps: Stamps,
@@ -46,6 +47,7 @@ impl Trail {
     pub(crate) fn clear(&mut self)
         ensures { self.new ≡ [] }
     {
+        self.stamps.widen();
         if self.stamp == u32::MAX {
             self.stamps.clear();
             self.stamp = 1;

@@ -150,3 +150,25 @@ fn walks_hold_many_great_literals(rt: HostRuntime) -> Result<(), Fail> {
     }
     Ok(())
 }
+
+/// So many stamps are set beyond the first list that it comes to have those too: no old one counts in it.
+#[test]
+fn walks_go_on_as_the_list_of_stamps_grows(rt: HostRuntime) -> Result<(), Fail> {
+    let alloc = rt.alloc();
+    let mut many = Vec::new(alloc);
+    for variable in 19_000..20_500 {
+        many.push(variable)?;
+    }
+    let hints: [Hint; 1] = [(6, &many)];
+    let mut marks = Marks::new(alloc);
+    for _ in 0..46 {
+        assert_row(
+            &rt,
+            alloc,
+            &(&many, &hints, Walked::Closed(&[6])),
+            &mut marks,
+        )?;
+        assert_row(&rt, alloc, &(&[1], &hints, Walked::Stuck(1)), &mut marks)?;
+    }
+    Ok(())
+}

@@ -35,18 +35,18 @@ unfoldable pub page_stamp : Paged → ℕ → ℕ
 page_stamp paged place = if is_reached paged.0 place then stamp_in_page paged.0 place
     else few_stamp paged.1 place
 
--- the stamps of the near places, and the pages of the others
+-- how many places are near, their stamps, and the pages of the others
 abbrev pub Stamped : Type 0
-Stamped = List ℕ × Paged
+Stamped = ℕ × List ℕ × Paged
 
 -- the list has the stamps of near places alone
-abbrev pub IsNearList : List ℕ → Type 0
-IsNearList near = length near ≤ NEAR
+abbrev pub IsNearList : ℕ → List ℕ → Type 0
+IsNearList count near = (length near ≤ count) × (count ≤ NEAR)
 
 -- the stamp at a place: 0 where none was set
 unfoldable pub stamp_at : Stamped → ℕ → ℕ
-stamp_at stamps place = if nat_lt place NEAR then slice_index stamps.0 place
-    else page_stamp stamps.1 place
+stamp_at stamps place = if nat_lt place stamps.0 then slice_index stamps.1 place
+    else page_stamp stamps.2 place
 
 -- The literals whose negation has the current stamp at its place are those of the trail, in which each stands once. So
 -- whoever asks for the negations of many literals, as a walk does, reads at their own places.

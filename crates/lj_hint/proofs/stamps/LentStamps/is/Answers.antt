@@ -10,5 +10,5 @@ returns-in-Some c =
     ap (λ n. n == c.args.stamp)
     (read.3.1 0
     ∙ ap (λ (xs : List ℕ). slice_index xs c.args.place) c.self.invariant.0
-    ∙ sym (near_stamp c.self.inside.stamps.now c.args.place (omega (arith, c.self.invariant.1, read.3.0)))
+    ∙ sym (near_stamp c.self.inside.stamps.now c.args.place (omega (arith, c.self.invariant.1.0, read.3.0)))
     ∙ ap (λ (s : Stamped). stamp_at s c.args.place) c.self.view_is)
