@@ -1,9 +1,9 @@
 -- The values of the first keys of a list.
-use Rattle.std.proofs.Common.{◌≡◌, ap, refl, sym, ◌∙◌, subst, ℕ, ◌-◌, ◌≤◌, ◌==◌, true, arith, List, [], ◌∷◌, ◌++◌, length, take, drop, append-nil, Option, Some, Ok, Err}
+use Rattle.std.proofs.Common.{◌≡◌, ap, refl, sym, ◌∙◌, subst, ℕ, ◌-◌, ◌==◌, true, arith, List, [], ◌∷◌, ◌++◌, length, take, drop, append-nil, Option, Some, Ok, Err}
 use Rattle.std.specs.Prelude.{map, Result}
 use Rattle.std.proofs.Math.Seq.{take-append_seam, take-length}
 use Rattle.std.proofs.lemmas.Bool.Decides.{nat_tests}
-use Rattle.std.proofs.lemmas.List.{take-map, length-map, length-take, length-drop}
+use Rattle.std.proofs.lemmas.List.{take-map, length-map, length-drop}
 use Rattle.lj_book.specs.declared.refusal.Refusal.{Refusal}
 use Rattle.lj_book.specs.inner.Fronts.{with_front}
 use Rattle.lj_book.specs.inner.JointLines.{if_bound, joints_in, with_joint}
@@ -13,13 +13,6 @@ pub before : (get : ℕ → Option ℕ) (keys values left : List ℕ) → map ge
 before get keys values left is =
     sym (take-map get (length values) keys) ∙ ap (take (length values)) is
     ∙ ap (λ n. take n (map Some values ++ map get left)) (sym (length-map values Some)) ∙ take-append_seam (map Some values) (map get left)
-
--- there are no more values than keys
-pub at_most : (get : ℕ → Option ℕ) (keys values : List ℕ) → AreFirstValues get keys values → length values ≤ length keys
-at_most get keys values are =
-    let long : length (take (length values) keys) ≡ length values =
-    sym (length-map (take (length values) keys) get) ∙ ap length are ∙ length-map values Some in
-    omega (arith, long, length-take (length values) keys)
 
 front-none : (r : Result (List ℕ) Refusal) → with_front [] r ≡ r
 front-none (Ok later) = refl
