@@ -60,6 +60,16 @@ fn are_in_order(lits: &[Lit], count: usize) -> bool
     right
 }
 
+/// Whether none of eight literals is smaller than the one before it. Those that are get counted, without a branch for each.
+#[inline(always)]
+fn are_rising(lits: &[Lit; 8]) -> bool {
+    let mut falls = 0u32;
+    for i in 1..8 {
+        falls += u32::from(lits[i] < lits[i - 1]);
+    }
+    falls == 0
+}
+
 /// Up to eight literals in strict order, and fillers: none where one of them stands twice, or memory was
 /// refused. Those that stand in order are left so. Takes constant time.
 #[inline(always)]
@@ -72,10 +82,9 @@ pub(crate) fn eight_in_order(lits: &mut Vec<Lit>) -> Option<[Lit; 8]>
     ensures same { lits.new.items ≡ lits.old.items }
 {
     let mut room = filled_up::<8>(lits)?;
-    if are_in_order(&room, lits.len()) {
-        return Some(room);
+    if !are_rising(&room) {
+        order_eight(&mut room);
     }
-    order_eight(&mut room);
     if are_in_order(&room, lits.len()) {
         Some(room)
     } else {
