@@ -13,7 +13,7 @@ use std::alloc::Global;
 use std::marker::Model;
 
 /// How far slots reach, halved, before anything is bound.
-const FIRST_SLOTS: u64 = 1024;
+const FIRST_SLOTS: u64 = 256;
 
 /// The own numbers of a seat with the joint numbers that they are bound to, seen as a finite map. Own numbers up to a bound
 /// that follows how many were bound have slots of four bytes for joint numbers below 4,294,967,295; all others stand in
@@ -25,7 +25,8 @@ const FIRST_SLOTS: u64 = 1024;
 pub(crate) struct Bindings {
     short: ShortMap<ShortSlot>,
     long: FarNumbers,
-    /// Own numbers up to twice this have slots: one more for each time that a number was bound.
+    /// Own numbers up to twice this have slots: one more for each time that a number was bound, but by [`Bindings::set`] only
+    /// for one that isn't far beyond them.
     reach: u64,
 }
 
@@ -93,13 +94,27 @@ impl Bindings {
         ensures err { OnErr result (self.new ≡ self.old) }
     {
         self.reach = self.reach.wrapping_add(1);
+        self.put(own, joint)
+    }
+
+    /// Binds an own number that isn't bound, where slots reach no farther for it.
+    ///
+    /// # Errors
+    /// [`NoMemory`] where a growth was refused.
+    #[inline(always)]
+    fn put(&mut self, own: u64, joint: u64) -> Result<(), NoMemory>
+        requires { fin.get self.old own ≡ None }
+        ensures ok { OnOk result (self.new ≡ fin.insert self.old own joint) }
+        ensures err { OnErr result (self.new ≡ self.old) }
+    {
         if joint < SHORT_END && own / 2 <= self.reach {
             return self.short.insert(own, joint);
         }
         self.long.insert(own, joint)
     }
 
-    /// Binds an own number, whether it is bound or not. Where a growth was refused, it isn't bound any more.
+    /// Binds an own number, whether it is bound or not. Where a growth was refused, it isn't bound any more. Slots reach farther
+    /// for it only where it isn't far beyond them, so that they don't reach over numbers few of which are bound.
     ///
     /// # Errors
     /// [`NoMemory`] where a growth was refused.
@@ -121,7 +136,18 @@ impl Bindings {
         ensures err { OnErr result (self.new ≡ fin.remove self.old own) }
     {
         let _ = self.remove(own);
-        self.insert(own, joint)
+        self.reach_for(own);
+        self.put(own, joint)
+    }
+
+    /// Lets slots reach farther, unless the own number is far beyond them.
+    #[inline(always)]
+    fn reach_for(&mut self, own: u64)
+        ensures { self.new ≡ self.old }
+    {
+        if own / 8 <= self.reach {
+            self.reach = self.reach.wrapping_add(1);
+        }
     }
 
     /// The own numbers, rising. Takes O(n log n) time for n of them, and time linear in the slots.

@@ -68,6 +68,18 @@ far_set stamps others place v count le same h = for_all others (λ q n. n ≡ (i
     ap (λ xs. slice_index xs q) same ∙ sym (near_stamp stamps q near) ∙ ap (λ b. if b then v else stamp_at stamps q) (sym (apart_too q place stamps.0 le near)))
     (λ q far. h q ∙ ap (λ n. if q == place then v else n) (sym (far_stamp stamps q (omega (arith, count, far)))))
 
+-- the same places are near, and no stamp of the others is greater
+pub lessened : (stamps others : Stamped) → others.0 ≡ stamps.0 → others.1 ≡ stamps.1 → ((q : ℕ) → page_stamp others.2 q ≤ page_stamp stamps.2 q) → (q : ℕ) → stamp_at others q ≤ stamp_at stamps q
+lessened stamps others count same less = for_all others (λ q n. n ≤ stamp_at stamps q)
+    (λ q lt.
+    let before = near_stamp stamps q (omega (arith, count, lt)) in
+    let kept : slice_index others.1 q ≡ slice_index stamps.1 q = ap (λ xs. slice_index xs q) same in
+    omega (arith, before, kept))
+    (λ q le.
+    let before = far_stamp stamps q (omega (arith, count, le)) in
+    let after = less q in
+    omega (arith, before, after))
+
 -- More places are near, and the others have no stamp.
 pub widened : (stamps others : Stamped) → length stamps.1 ≤ stamps.0 → stamps.0 ≤ others.0 → others.1 ≡ stamps.1 → ((q : ℕ) → page_stamp others.2 q ≡ 0) → (q : ℕ) → stamp_at others q ≤ stamp_at stamps q
 widened stamps others within more same none = for_all others (λ q n. n ≤ stamp_at stamps q) near (λ q far. let e = none q in omega (arith, e))

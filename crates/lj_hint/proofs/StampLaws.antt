@@ -1,5 +1,5 @@
 -- Stamps in pages.
-use Rattle.std.proofs.Common.{◌≡◌, ap, refl, sym, ◌∙◌, ℕ, zero, suc, ◌-◌, ◌*◌, ◌<◌, ◌≤◌, ◌/◌, ◌%◌, true, false, cond, arith, get_or, take, length}
+use Rattle.std.proofs.Common.{◌≡◌, Bool, ap, refl, sym, ◌∙◌, ℕ, zero, suc, ◌-◌, ◌*◌, ◌<◌, ◌≤◌, ◌/◌, ◌%◌, true, false, cond, arith, get_or, take, length}
 use Rattle.std.specs.Prelude.{◌==◌, List, [], ◌∷◌, ◌++◌, replicate, slice_index, slice_index_or, slice_set, if◌then◌else◌}
 use Rattle.std.proofs.lemmas.Bool.Decides.{nat_tests}
 use Rattle.std.proofs.lemmas.List.{get_or-set_other, get_or_read, get_or_past, set-get_or, take_all}
@@ -170,6 +170,21 @@ same_few pages few others h q =
     read_page pages others q
     ∙ ap (λ n. if nat_lt (q % 8192) (length (page_at pages (q / 8192))) then slice_index (page_at pages (q / 8192)) (q % 8192) else n) (h q)
     ∙ sym (read_page pages few q)
+
+no_greater : (b : Bool) (page m n : ℕ) → m ≡ 0 → (if b then page else m) ≤ (if b then page else n)
+no_greater b page m n none =
+    elim b as (λ b. (if b then page else m) ≤ (if b then page else n)) [
+      | true ↦ omega arith
+      | false ↦ omega (arith, none)
+    ]
+
+-- no stamp is in the tree any more
+pub none_few : (pages : List (List ℕ)) (few others : List (ℕ × ℕ)) → ((q : ℕ) → few_stamp others q ≡ 0) → (q : ℕ) → page_stamp (pages, others) q ≤ page_stamp (pages, few) q
+none_few pages few others none q =
+    let after = read_page pages others q in
+    let before = read_page pages few q in
+    let less = no_greater (nat_lt (q % 8192) (length (page_at pages (q / 8192)))) (slice_index (page_at pages (q / 8192)) (q % 8192)) (few_stamp others q) (few_stamp few q) (none q) in
+    omega (arith, after, before, less)
 
 none_reached : (a b : ℕ) → b ≡ 0 → false ≡ nat_lt a b
 none_reached a b e = grind (arith, nat_tests)

@@ -11,15 +11,16 @@ use std::marker::Model;
 /// The first place that can't have a stamp here. No literal's place is so great.
 pub(crate) const REACH: usize = 4_294_967_296;
 
-/// From so many stamps on, a page's places may take as much memory here as the page would.
-const MANY: u16 = 1400;
+/// A page is made where eight times so many stamps were set: it takes two bytes for each byte of text then, where each stamp
+/// was read from two.
+const FOR_A_PAGE: usize = 1024;
 
 /// Stamps in a tree, where that of a place takes 23 bytes at most. Where none was set it is 0.
 #[derive(Drop)]
 pub(crate) struct FewStamps {
     stamps: BTreeMap<u32, u32>,
-    /// How many of them are of places of each page. It decides when a page is made, and no stamp.
-    counts: Vec<u16>,
+    /// How many times one was set since a page was made. It decides when the next is made, and no stamp.
+    sets: usize,
 }
 
 impl Model for FewStamps {
@@ -37,7 +38,7 @@ impl FewStamps {
     {
         FewStamps {
             stamps: BTreeMap::new(alloc),
-            counts: Vec::new(alloc),
+            sets: 0,
         }
     }
 
@@ -54,21 +55,25 @@ impl FewStamps {
         }
     }
 
-    /// Whether many places of the page of this number have a stamp here, or can't have one.
-    pub(crate) fn are_many(&self, number: usize) -> bool
+    /// Whether so many stamps were set that they pay for the page of this number, and for its place behind so many pages, or
+    /// its places can't have a stamp here.
+    pub(crate) fn pay_for(&self, number: usize, pages: usize) -> bool
         ensures { result ≡ false → number < REACH / PAGE }
     {
         if number >= REACH / PAGE {
             return true;
         }
-        match self.counts.get(number) {
-            Some(count) => *count >= MANY,
-            None => false,
-        }
+        self.sets / 8 >= FOR_A_PAGE + number.saturating_sub(pages)
     }
 
-    /// Sets the stamp at a place. Takes O(log n) time, and memory where the place had none: beside the tree's, two
-    /// bytes for each page up to its own, amortized.
+    /// Counts anew what the next page is paid by. No stamp changes.
+    pub(crate) fn paid(&mut self)
+        ensures { self.new ≡ self.old }
+    {
+        self.sets = 0;
+    }
+
+    /// Sets the stamp at a place. Takes O(log n) time, and memory where the place had none.
     ///
     /// # Errors
     /// [`NoMemory`] where a growth was refused.
@@ -78,10 +83,8 @@ impl FewStamps {
             ≡ (if q == place then stamp else few_stamp self.old q)) }
         ensures err { OnErr result ((q : ℕ) → few_stamp self.new q ≡ few_stamp self.old q) }
     {
-        make_room(&mut self.counts, place / PAGE)?;
-        if self.stamps.insert(place as u32, stamp)?.is_none() {
-            count_one_more(&mut self.counts, place / PAGE);
-        }
+        self.stamps.insert(place as u32, stamp)?;
+        self.sets = self.sets.saturating_add(1);
         Ok(())
     }
 
@@ -93,43 +96,13 @@ impl FewStamps {
         if place >= REACH {
             return;
         }
-        if self.stamps.remove(&(place as u32)).is_some() {
-            count_one_less(&mut self.counts, place / PAGE);
-        }
+        let _ = self.stamps.remove(&(place as u32));
     }
 
-    /// Clears every stamp.
+    /// Clears every stamp, and gives back the memory. Takes time linear in the stamps.
     pub(crate) fn clear(&mut self)
         ensures { (q : ℕ) → few_stamp self.new q ≡ 0 }
     {
         self.stamps.clear();
-        self.counts.clear();
-    }
-}
-
-/// Makes room for the count of the page of this number.
-///
-/// # Errors
-/// [`NoMemory`] where a growth was refused.
-fn make_room(counts: &mut Vec<u16>, number: usize) -> Result<(), NoMemory>
-    requires { number < 2 ^ 51 }
-{
-    if number >= counts.len() {
-        counts.resize(number + 1, 0)?;
-    }
-    Ok(())
-}
-
-/// Counts one stamp more of the page of this number.
-fn count_one_more(counts: &mut Vec<u16>, number: usize) {
-    if let Some(count) = counts.get_mut(number) {
-        *count = count.saturating_add(1);
-    }
-}
-
-/// Counts one stamp less of the page of this number.
-fn count_one_less(counts: &mut Vec<u16>, number: usize) {
-    if let Some(count) = counts.get_mut(number) {
-        *count = count.saturating_sub(1);
     }
 }

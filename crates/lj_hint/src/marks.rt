@@ -3,7 +3,10 @@ use crate::true_lits::TrueLits;
 use std::alloc::Global;
 use std::marker::Model;
 
-/// How many literals a walk has room for at most that is kept for the next one.
+/// For how many literals a walk keeps its room for the next one at most.
+const SOME: usize = 512;
+
+/// For how many it keeps what is known of stamps.
 const MANY: usize = 16_384;
 
 /// The working room of a walk. What it holds between walks means nothing: each walk begins anew.
@@ -32,13 +35,24 @@ impl Marks {
         }
     }
 
-    /// Lets go of the room of a walk that held very many literals, behind which the lists of a book may grow. Takes constant
-    /// time, but for what is let go of.
+    /// Lets go of the room of a walk that held many literals, behind which the lists of a book may grow. Takes constant time,
+    /// but for what is let go of.
     #[inline]
     pub(crate) fn let_go_of_many(&mut self) {
+        if self.lits.capacity() > SOME {
+            self.let_go();
+        }
+    }
+
+    /// The same where it held many.
+    #[cold]
+    #[inline(never)]
+    fn let_go(&mut self) {
         if self.lits.capacity() > MANY {
             let alloc = self.lits.allocator();
             *self = Marks::new(alloc);
+        } else {
+            self.lits.let_go();
         }
     }
 }

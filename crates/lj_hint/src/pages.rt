@@ -11,9 +11,9 @@ use std::marker::Model;
 /// The number of stamps in a page: those of the literals of 4,096 variables.
 pub(crate) const PAGE: usize = 8192;
 
-/// A stamp for each place of a literal, 0 where none was set. Those of a page's places stand in a tree until they are
-/// many; then the page is made, and takes them over. So a stamp takes 23 bytes at most wherever its place is, beside two
-/// for each page up to the greatest with a stamp, amortized, and 24 for each up to the greatest that was made.
+/// A stamp for each place of a literal, 0 where none was set. They stand in a tree, where one takes 23 bytes at most wherever
+/// its place is, until so many were set that they pay for a page and for 24 bytes for each page before it; then the page of
+/// the next one is made, and takes over what the tree has of its places.
 #[derive(Drop)]
 pub(crate) struct Pages {
     pages: Vec<Page>,
@@ -76,7 +76,7 @@ impl Pages {
             self.write(place, stamp);
             return Ok(());
         }
-        if self.few.are_many(place / PAGE) {
+        if self.few.pay_for(place / PAGE, self.pages.len()) {
             self.make(place / PAGE)?;
             self.write(place, stamp);
             return Ok(());
@@ -106,6 +106,7 @@ impl Pages {
         ensures same { (q : ℕ) → page_stamp self.new q ≡ page_stamp self.old q }
     {
         make_room(&mut self.pages, number)?;
+        self.few.paid();
         while self.pages[number].len() < PAGE {
             self.take_over(number)?;
         }
@@ -144,6 +145,13 @@ impl Pages {
         } else {
             self.few.erase(place);
         }
+    }
+
+    /// Clears the stamps of the tree, and gives back its memory, so that none becomes greater. Takes time linear in them.
+    pub(crate) fn clear_few(&mut self)
+        ensures { (q : ℕ) → page_stamp self.new q ≤ page_stamp self.old q }
+    {
+        self.few.clear();
     }
 
     /// Clears every stamp.

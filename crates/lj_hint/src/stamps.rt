@@ -11,15 +11,19 @@ use std::marker::Model;
 /// How many places have their stamps in one list at most: those of the literals of 524,287 variables, in four megabytes.
 pub(crate) const NEAR: usize = 1_048_576;
 
-/// How many have at first: those of the literals of 16,383 variables.
-const FIRST_NEAR: usize = 32_768;
+/// How many have at first: those of the literals of 511 variables.
+const FIRST_NEAR: usize = 1024;
 
 /// The least number of places that the list takes more than it has to.
-const SPARE: usize = 1024;
+const SPARE: usize = 64;
+
+/// How many far stamps a walk counts for, by the bytes of its line: a stamp was read from two of them, and a line has four
+/// more than its literals and hints.
+const WALK: usize = 2;
 
 /// A stamp for each place of a literal, 0 where none was set. Those of the first places, the near ones, stand in one list,
-/// which grows with the greatest of them that was set. Those of the far places stand in pages, where many of a page were
-/// set, and else in a tree, so that each costs little wherever it is. More places are near once so many far stamps were set
+/// which grows with the greatest of them that was set. Those of the far places stand in pages, where many were set, and else in
+/// a tree, so that each costs little wherever it is. More places are near once so many far stamps were set, in so many walks,
 /// that the list takes little beside what they were read from.
 #[derive(Drop)]
 pub(crate) struct Stamps {
@@ -27,8 +31,10 @@ pub(crate) struct Stamps {
     count: usize,
     near: Page,
     far: Pages,
-    /// How many far stamps were set since so many places are near.
-    far_sets: usize,
+    /// How many far stamps were set since so many places are near, with those that a walk counts for.
+    sets: usize,
+    /// From how many on a walk that begins has something to do.
+    due: usize,
 }
 
 impl Model for Stamps {
@@ -50,7 +56,8 @@ impl Stamps {
             count: FIRST_NEAR,
             near: Page::new(alloc),
             far: Pages::new(alloc),
-            far_sets: 0,
+            sets: 0,
+            due: 2 * FIRST_NEAR,
         }
     }
 
@@ -106,7 +113,8 @@ impl Stamps {
         ensures err { OnErr result ((q : ℕ) → stamp_at self.new q ≡ stamp_at self.old q) }
     {
         if place >= self.count {
-            self.far_sets = self.far_sets.saturating_add(1);
+            self.sets = self.sets.saturating_add(1);
+            self.due = 0;
             return self.far.set(place, stamp);
         }
         self.near.set(place, stamp, room_for(place, self.count))
@@ -124,24 +132,44 @@ impl Stamps {
         }
     }
 
-    /// Makes twice as many places near, where so many far stamps were set since the last time. Those of far places are then
-    /// cleared, and no stamp becomes greater. Takes constant time, amortized.
+    /// Begins a walk, for which no older stamp means anything: clears those of far places that stand in no page, and makes
+    /// twice as many places near where so many stamps were set since the last time. No stamp becomes greater. Takes constant
+    /// time, amortized.
     #[inline]
-    pub(crate) fn widen(&mut self)
+    pub(crate) fn begin_walk(&mut self)
         ensures { (q : ℕ) → stamp_at self.new q ≤ stamp_at self.old q }
     {
-        if self.far_sets / 2 >= self.count {
-            self.widen_now();
+        self.sets = self.sets.saturating_add(WALK);
+        if self.sets >= self.due {
+            self.settle();
         }
     }
 
-    /// The same where so many were set.
+    /// The same where there is something to do.
     #[cold]
     #[inline(never)]
-    fn widen_now(&mut self)
+    fn settle(&mut self)
         ensures { (q : ℕ) → stamp_at self.new q ≤ stamp_at self.old q }
     {
-        self.far_sets = 0;
+        self.clear_few();
+        if self.sets / 2 >= self.count {
+            self.widen();
+        }
+        self.due = 2 * self.count;
+    }
+
+    /// Clears the stamps of far places that stand in no page.
+    fn clear_few(&mut self)
+        ensures { (q : ℕ) → stamp_at self.new q ≤ stamp_at self.old q }
+    {
+        self.far.clear_few();
+    }
+
+    /// Makes twice as many places near, and clears the stamps of the others.
+    fn widen(&mut self)
+        ensures { (q : ℕ) → stamp_at self.new q ≤ stamp_at self.old q }
+    {
+        self.sets = 0;
         if self.count < NEAR {
             self.count = (2 * self.count).min(NEAR);
             self.far.clear();

@@ -8,8 +8,7 @@ use std::alloc::Global;
 use std::marker::Model;
 
 /// Literals in the order in which they came in, each once, with constant time for the question whether one is there. Of a
-/// variable beyond 16,383 it takes O(log n) time, until many such literals have been there, and beyond 524,287 until many
-/// near it have been there.
+/// variable beyond 511 it takes O(log n) time, until many such literals have been there, in many walks.
 #[derive(Drop)]
 pub(crate) struct Trail {
     stamps: Stamps,
@@ -47,7 +46,7 @@ impl Trail {
     pub(crate) fn clear(&mut self)
         ensures { self.new ≡ [] }
     {
-        self.stamps.widen();
+        self.stamps.begin_walk();
         if self.stamp == u32::MAX {
             self.stamps.clear();
             self.stamp = 1;
@@ -55,6 +54,14 @@ impl Trail {
             self.stamp += 1;
         }
         self.lits.clear();
+    }
+
+    /// Takes every literal out, and gives back their room. Takes the time of [`Trail::clear`], but for what is given back.
+    pub(crate) fn let_go(&mut self)
+        ensures { self.new ≡ [] }
+    {
+        self.clear();
+        self.lits = Vec::new(self.allocator());
     }
 
     /// The number of literals that there is room for.

@@ -50,6 +50,14 @@ impl TrueLits {
         self.contradictory = false;
     }
 
+    /// Takes every literal out, and gives back their room.
+    pub(crate) fn let_go(&mut self)
+        ensures { self.new ≡ [] }
+    {
+        self.trail.let_go();
+        self.contradictory = false;
+    }
+
     /// The number of literals that there is room for.
     #[inline]
     pub(crate) fn capacity(&self) -> usize {

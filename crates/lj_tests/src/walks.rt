@@ -130,7 +130,7 @@ fn walks_go_on_after_the_greatest_stamp(rt: HostRuntime) -> Result<(), Fail> {
     Ok(())
 }
 
-/// So many literals stand near the greatest one that their page is made, and some are set after that.
+/// Many literals near the greatest one are held, and again in the next walk.
 #[test]
 fn walks_hold_many_great_literals(rt: HostRuntime) -> Result<(), Fail> {
     let alloc = rt.alloc();
@@ -151,12 +151,13 @@ fn walks_hold_many_great_literals(rt: HostRuntime) -> Result<(), Fail> {
     Ok(())
 }
 
-/// So many stamps are set beyond the first list that it comes to have those too: no old one counts in it.
+/// So many stamps are set beyond the first list that pages are made for them, and that the list comes to have those too: no
+/// old one counts in either.
 #[test]
 fn walks_go_on_as_the_list_of_stamps_grows(rt: HostRuntime) -> Result<(), Fail> {
     let alloc = rt.alloc();
     let mut many = Vec::new(alloc);
-    for variable in 19_000..20_500 {
+    for variable in 3_000..4_500 {
         many.push(variable)?;
     }
     let hints: [Hint; 1] = [(6, &many)];

@@ -118,6 +118,9 @@ pub(super) fn push_piece(
 {
     let (head, tail) = piece.split_at(share(rest, piece));
     if tail.is_empty() {
+        if PIECE <= head.len() {
+            rest.reserve(head.len().saturating_add(SPARE))?;
+        }
         return rest.extend_from_slice(head);
     }
     let (mut more, last) = in_runs(alloc, tail)?;

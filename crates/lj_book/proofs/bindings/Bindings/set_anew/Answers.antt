@@ -20,11 +20,11 @@ set_again m k x = same_map _ _ (λ q.
     by true o = refl
     by false o = refl
 
-pub insert-requires : goal.insert-requires
-insert-requires c = ap (λ (m : fin.FinMap nat_cmp ℕ). fin.get m c.args.own) c.remove.ensures.removed ∙ gone c.args.self.now c.args.own
+pub put-requires : goal.put-requires
+put-requires c = ap (λ (m : fin.FinMap nat_cmp ℕ). fin.get m c.args.own) (c.reach_for.ensures ∙ c.remove.ensures.removed) ∙ gone c.args.self.now c.args.own
 
 pub returns-clause-ok : goal.returns-clause-ok
 returns-clause-ok c =
-    ok_then c.insert.result _ _ c.insert.ensures.ok (λ e. e
-    ∙ ap (λ (m : fin.FinMap nat_cmp ℕ). fin.insert m c.args.own c.args.joint) c.remove.ensures.removed
+    ok_then c.put.result _ _ c.put.ensures.ok (λ e. e
+    ∙ ap (λ (m : fin.FinMap nat_cmp ℕ). fin.insert m c.args.own c.args.joint) (c.reach_for.ensures ∙ c.remove.ensures.removed)
     ∙ set_again c.args.self.now c.args.own c.args.joint)

@@ -7,12 +7,7 @@ use Rattle.lj_hint.proofs.few_stamps.FewStamps.erase.Goals as goal
 pub returns-then-place-ge-REACH : goal.returns-then-place-ge-REACH
 returns-then-place-ge-REACH c = few_kept c.args.self.now c.args.place (omega (arith, c.if-place-ge-REACH.true))
 
-pub returns-then-is_some : goal.returns-then-is_some
-returns-then-is_some c = λ q.
-    few_taken c.self.inside.stamps.entries c.remove.new.self.entries c.args.place (omega (arith, c.if-place-ge-REACH.false)) c.remove.ensures.updates.0 q
-    ∙ ap (λ (es : List (ℕ × ℕ)). if q == c.args.place then 0 else few_stamp es q) c.self.view_is
-
-pub returns-else-is_some : goal.returns-else-is_some
-returns-else-is_some c = λ q.
+pub returns : goal.returns
+returns c = λ q.
     few_taken c.self.inside.stamps.entries c.remove.new.self.entries c.args.place (omega (arith, c.if-place-ge-REACH.false)) c.remove.ensures.updates.0 q
     ∙ ap (λ (es : List (ℕ × ℕ)). if q == c.args.place then 0 else few_stamp es q) c.self.view_is

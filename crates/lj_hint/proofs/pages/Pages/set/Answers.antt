@@ -5,8 +5,8 @@ use Rattle.lj_hint.specs.inner.Stamps.{Paged, page_stamp, is_reached}
 use Rattle.lj_hint.proofs.StampLaws.{few_set, same_few, all_reached}
 use Rattle.lj_hint.proofs.pages.Pages.set.Goals as goal
 
-pub write-requires-then-are_many : goal.write-requires-then-are_many
-write-requires-then-are_many c = all_reached c.make.new.self.0 c.args.place c.in_ok-make.ensures.made
+pub write-requires-then-pay_for : goal.write-requires-then-pay_for
+write-requires-then-pay_for c = all_reached c.make.new.self.0 c.args.place c.in_ok-make.ensures.made
 
 pub returns-clause-ok : goal.returns-clause-ok
 returns-clause-ok c =

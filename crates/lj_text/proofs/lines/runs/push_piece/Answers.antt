@@ -13,7 +13,7 @@ returns-clause-ok c =
     let parts : c.split_at.result.0.now ++ c.split_at.result.1.now ≡ c.args.piece.now =
     ap (λ a. a ++ c.split_at.result.1.now) c.split_at.ensures.front ∙ ap (λ b. take c.share.result c.args.piece.now ++ b) c.split_at.ensures.back ∙ take-append-drop c.share.result c.args.piece.now in
     let pushed : c.push_back_reserved.new.self.items ≡ c.args.runs.now.items ++ c.new.result ∷ [] =
-    c.push_back_reserved.ensures.items ∙ ap (λ rs. rs ++ c.new.result ∷ []) c.in_ok-reserve.ensures.items in
+    c.push_back_reserved.ensures.items ∙ ap (λ rs. rs ++ c.new.result ∷ []) c.in_ok-reserve-2.ensures.items in
     rw c.replace.ensures.after
     (ok-appended c.append.result c.append.new.self.items c.push_back_reserved.new.self.items c.in_ok-more.more.items c.in_ok-more.last.items _ c.append.ensures.items
     (rw pushed (joined-piece c.args.runs.now.items c.in_ok-more.more.items c.new.result c.args.rest.now.items c.split_at.result.0.now c.split_at.result.1.now c.in_ok-more.last.items c.args.piece.now run_is c.in_ok-more.ensures.bytes parts)))
@@ -27,7 +27,7 @@ returns-clause-whole c =
     let some_left : 0 < length c.split_at.result.1.now = grind (arith, nat_tests, common_steps, c.is_empty.ensures, c.if-is_empty.false) in
     let some : c.share.result < length c.args.piece.now = omega (arith, some_left, c.split_at.ensures.back_len) in
     let pushed : c.push_back_reserved.new.self.items ≡ c.args.runs.now.items ++ c.new.result ∷ [] =
-    c.push_back_reserved.ensures.items ∙ ap (λ rs. rs ++ c.new.result ∷ []) c.in_ok-reserve.ensures.items in
+    c.push_back_reserved.ensures.items ∙ ap (λ rs. rs ++ c.new.result ∷ []) c.in_ok-reserve-2.ensures.items in
     let small = c.replace.result.small in
     let ok = c.replace.result.ok in
     let One : List ℕ → Type 0 = IsLineRun in

@@ -1,7 +1,7 @@
 use Rattle.std.proofs.Common.{◌≤◌, refl, subst, arith}
 use Rattle.lj_hint.specs.inner.Stamps.{Stamped, stamp_at}
 use Rattle.lj_hint.proofs.NearLaws.{widened}
-use Rattle.lj_hint.proofs.stamps.Stamps.widen_now.Goals as goal
+use Rattle.lj_hint.proofs.stamps.Stamps.widen.Goals as goal
 
 pub returns-then-self-lt-NEAR : goal.returns-then-self-lt-NEAR
 returns-then-self-lt-NEAR c = λ q.

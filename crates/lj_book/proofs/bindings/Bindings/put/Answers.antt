@@ -2,7 +2,7 @@ use Rattle.std.proofs.Common.{ap, sym, ◌∙◌, subst}
 use Rattle.std.specs.FinMap as fin
 use Rattle.lj_book.specs.inner.Slots.{joined_map, AreApart}
 use Rattle.lj_book.proofs.Slots.{insert_near, insert_far, apart-insert_near, apart-insert_far, either_way, ok_then, neither_near, neither_far}
-use Rattle.lj_book.proofs.bindings.Bindings.insert.Goals as goal
+use Rattle.lj_book.proofs.bindings.Bindings.put.Goals as goal
 
 pub invariant_of-self : goal.invariant_of-self
 invariant_of-self c =
