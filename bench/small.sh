@@ -1,14 +1,17 @@
 #!/usr/bin/env bash
 # Measures the memory that a built program takes for small streams, where what a run and a thread take by themselves counts
-# more than the text: bytes beyond those of as many empty streams, for each byte of the streams' text.
+# too: bytes beyond those of as many empty streams, for each byte of the streams' text.
 #   small.sh PATH-OF-LRATJOIN
-# A row is a length of a stream, and has the most that any kind of stream takes: one in turn, and the same stream 2, 8 and 64
-# times on threads. What a program takes varies from run to run, so each is the greatest of two runs, and the empty streams'
-# the median of nine. A stream is wrong that takes more than 8 bytes for each byte of all text and a million, and on threads
-# 200,000 more for each stream. Those that are wrong are named last, and the status is 1 then.
+# First one stream in turn, of fifteen kinds and of 1,000 to 800,000 bytes, by the pages that are the process's own (pages.c).
+# A row has the most that any of these takes up to a length, for each byte, and beyond eight for each; one is wrong that takes
+# more than 250,000 bytes beyond. Then the same stream 2, 8 and 64 times on threads, by all that the process has, which varies
+# from run to run: a row has the most that any kind takes of a length, the greatest of two runs, where the empty streams' is
+# the median of nine. One is wrong that takes more than 400,000 bytes beyond, and 65,536 for each stream. Those that are wrong
+# are named last, and the status is 1 then.
 set -euo pipefail
 
 program=$(realpath "${1:?usage: small.sh PATH-OF-LRATJOIN}")
+here=$(realpath "$(dirname "$0")")
 scratch=$(mktemp -d)
 trap 'rm -rf "$scratch"' EXIT
 cd "$scratch"
@@ -17,17 +20,27 @@ printf 'p cnf 100000 1\n1 0\n' > formula
 : > nothing
 : > wrong
 
-# Runs the program on the formula and so many times the same stream, in turn where that is one. Prints the kilobytes that it
-# takes at most. Each stream has to do all its lines.
-kilobytes() {
-    local seats=$1 stream=$2 way=()
-    if [ "$seats" = 1 ]; then way=(--in-turn); fi
-    /usr/bin/time -q -o memory -f %M "$program" formula $(yes "$stream" | head -n "$seats") "${way[@]}" > told 2>&1 || true
-    if ! awk -v lines="$(wc -l < "$stream")" \
+# Sees that each stream that was told did all lines of this one.
+see() {
+    if ! awk -v lines="$(wc -l < "$1")" \
         '/^c stream/ { seen = 1; if ($4 + $6 + $8 != lines) wrong = 1 } END { exit wrong || !seen }' told; then
-        echo "$seats of $stream: $(head -n 3 told)" >&2
+        echo "$1: $(head -n 3 told)" >&2
         exit 1
     fi
+}
+
+# Runs the program on the formula and the stream in turn. Prints the bytes that it takes at most.
+bytes() {
+    rm -f pages
+    PAGES_TOLD=pages LD_PRELOAD=./pages.so "$program" formula "$1" --in-turn > told 2>&1 || true
+    see "$1"
+    od -An -td8 pages | tr -d ' '
+}
+
+# Runs the program on the formula and so many times the same stream, on threads. Prints the kilobytes that it takes at most.
+kilobytes() {
+    /usr/bin/time -q -o memory -f %M "$program" formula $(yes "$2" | head -n "$1") > told 2>&1 || true
+    see "$2"
     tail -n 1 memory
 }
 
@@ -54,21 +67,52 @@ streams() {
     make streams/deletions "$1" 'say(" d 5 0")'
     make streams/numbers-far-apart "$1" 'say(sprintf("00000000%06d 1 0 1 0", line))'
     make streams/a-line-of-hints "$1" 'say(" 1 0"); while (bytes > 0) say(" 1"); say(" 0")'
+    make streams/a-line-of-deletions "$1" 'say(" d"); while (bytes > 0) say(" 1"); say(" 0")'
+    make streams/lemmas-of-9-behind-an-import "$1" 'say(" 1 2 3 4 5 6 7 8 9 0 1 0")' "$import"
+    make streams/lemmas-given-up-behind-an-import "$1" \
+        'say(" 1 2 3 4 5 6 7 8 9 0 1 0\n"); say(line " d " line " 0")' "$import"
     make streams/lemmas-of-100 "$1" 'lemma(100)'
     make streams/lemmas-of-100-behind-an-import "$1" 'lemma(100)' "$import"
     make streams/lemmas-of-1000-behind-an-import "$1" 'lemma(1000)' "$import"
     make streams/lemmas-of-5000-behind-an-import "$1" 'lemma(5000)' "$import"
 }
 
-for seats in 1 2 8 64; do
+cc -shared -fPIC -O1 -o pages.so "$here/pages.c"
+empty=$(bytes nothing)
+for ((length = 1000; length <= 800000; length = length * 6 / 5)); do
+    streams "$length"
+    for stream in streams/*; do
+        echo "$stream $(wc -c < "$stream") $(($(bytes "$stream") - empty))"
+    done
+done > taken
+awk '
+    function row() {
+        if (limit) printf "%-24s %10.1f %26d\n", "up to " limit, most, beyond
+        limit = limits[++rows]
+        most = beyond = 0
+    }
+    BEGIN {
+        print "one in turn: the most bytes of memory for each byte of text, and beyond 8 for each"
+        split("1500 5000 10000 20000 50000 100000 200000 500000 1000000", limits)
+        row()
+    }
+    $2 > limit { row() }
+    {
+        if ($3 / $2 > most) most = $3 / $2
+        if ($3 - 8 * $2 > beyond) beyond = $3 - 8 * $2
+        if ($3 > 8 * $2 + 250000) print $1, "of", $2, "bytes in turn:", $3 > "/dev/stderr"
+    }
+    END { row() }' <(sort -k2n taken) 2>> wrong
+
+for seats in 2 8 64; do
     for _ in 1 2 3 4 5 6 7 8 9; do kilobytes "$seats" nothing; done | sort -n | sed -n "5s/^/$seats /p"
 done > empty
 
-echo 'the most bytes of memory for each byte of text'
-printf '%-20s %8s %18s %8s %8s\n' 'bytes of a stream' '1 in turn' '2 on threads' 8 64
-for bytes in 10000 20000 40000 70000 100000 150000 200000 300000 400000 800000; do
-    streams "$bytes"
-    for seats in 1 2 8 64; do
+echo 'on threads: the most bytes of memory for each byte of text'
+printf '%-20s %8s %8s %8s\n' 'bytes of a stream' '2 of it' 8 64
+for length in 10000 20000 40000 70000 100000 150000 200000 300000 400000 800000; do
+    streams "$length"
+    for seats in 2 8 64; do
         for stream in streams/*; do
             for _ in 1 2; do
                 most=$(kilobytes "$seats" "$stream")
@@ -76,14 +120,14 @@ for bytes in 10000 20000 40000 70000 100000 150000 200000 300000 400000 800000; 
             done
         done
     done > taken
-    awk -v row="$bytes" '
+    awk -v row="$length" '
         NR == FNR { empty[$1] = $2; next }
         {
             taken = 1024 * ($4 - empty[$1])
             if (taken / ($1 * $3) > most[$1]) most[$1] = taken / ($1 * $3)
-            if (taken > 8 * $1 * $3 + 1e6 + ($1 > 1) * 2e5 * $1) print $1, "of", $2, "of", $3, "bytes:", taken > "/dev/stderr"
+            if (taken > (8 * $3 + 65536) * $1 + 4e5) print $1, "of", $2, "of", $3, "bytes:", taken > "/dev/stderr"
         }
-        END { printf "%-20d %8.1f %18.1f %8.1f %8.1f\n", row, most[1], most[2], most[8], most[64] }' empty taken 2>> wrong
+        END { printf "%-20d %8.1f %8.1f %8.1f\n", row, most[2], most[8], most[64] }' empty taken 2>> wrong
 done
 
 if [ -s wrong ]; then
