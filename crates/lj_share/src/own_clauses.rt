@@ -21,7 +21,7 @@ const PAIR: u64 = 32;
 const FOR_A_BYTE: u64 = 4;
 
 /// How many bytes may be kept before any hint was told, so that a proof's first lemmas are kept, which later ones name most.
-const FIRST_ROOM: u64 = 8192;
+const FIRST_ROOM: u64 = 32_768;
 
 /// How many bytes a number takes: up to two slots of 32, or else its part of a tree whose nodes are half empty.
 const NUMBER: u64 = 72;
