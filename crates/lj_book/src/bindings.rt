@@ -13,7 +13,7 @@ use std::alloc::Global;
 use std::marker::Model;
 
 /// How far slots reach, halved, before anything is bound.
-const FIRST_SLOTS: u64 = 256;
+const FIRST_SLOTS: u64 = 1024;
 
 /// The own numbers of a seat with the joint numbers that they are bound to, seen as a finite map. Own numbers up to a bound
 /// that follows how many were bound have slots of four bytes for joint numbers below 4,294,967,295; all others stand in
