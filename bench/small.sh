@@ -6,8 +6,8 @@
 # A row has the most that any of these takes up to a length, for each byte, and beyond eight for each; one is wrong that takes
 # more than 250,000 bytes beyond. Then the same stream 2, 8 and 64 times on threads, by all that the process has, which varies
 # from run to run: a row has the most that any kind takes of a length, the greatest of two runs, where the empty streams' is
-# the median of nine. One is wrong that takes more than 400,000 bytes beyond, and 65,536 for each stream. Those that are wrong
-# are named last, and the status is 1 then.
+# the median of nine. One is wrong that takes more than 400,000 bytes beyond, and 100,000 for each stream. Those that are
+# wrong are named last, and the status is 1 then.
 set -euo pipefail
 
 program=$(realpath "${1:?usage: small.sh PATH-OF-LRATJOIN}")
@@ -125,7 +125,7 @@ for length in 10000 20000 40000 70000 100000 150000 200000 300000 400000 800000;
         {
             taken = 1024 * ($4 - empty[$1])
             if (taken / ($1 * $3) > most[$1]) most[$1] = taken / ($1 * $3)
-            if (taken > (8 * $3 + 65536) * $1 + 4e5) print $1, "of", $2, "of", $3, "bytes:", taken > "/dev/stderr"
+            if (taken > (8 * $3 + 1e5) * $1 + 4e5) print $1, "of", $2, "of", $3, "bytes:", taken > "/dev/stderr"
         }
         END { printf "%-20d %8.1f %8.1f %8.1f\n", row, most[2], most[8], most[64] }' empty taken 2>> wrong
 done
