@@ -130,6 +130,20 @@ opened_up_to (suc last) =
     ∙ push_slot (opened_slots 0 (1 ∷ []) (suc last)) (suc last) (suc last) (sym (opened-length 0 (1 ∷ []) (suc last)))
     ∙ ap (λ m. fin.insert m (suc last) (suc last)) (opened_up_to last)
 
+kept_by_value : (b : Bool) (k : ℕ) → (if b then Some k else None) ≡ Some k → b ≡ true
+kept_by_value true k e = refl
+kept_by_value false k e = cc
+
+-- a number more, which the words don't give up
+pub held_more : (words : List ℕ) (count : ℕ) → fin.get (slot_map (opened_slots 0 words (count + 1))) count ≡ Some count → slot_map (opened_slots 0 words (count + 1)) ≡ fin.insert (slot_map (opened_slots 0 words count)) count count
+held_more words count held =
+    let kept : still_bound words count ≡ true = kept_by_value (still_bound words count) count (sym (get_within words (count + 1) count (omega arith)) ∙ held) in
+    let same : 0 + count ≡ count = omega arith in
+    let more : count + 1 ≡ suc count = omega arith in
+    ap (λ (n : ℕ). slot_map (opened_slots 0 words n)) more
+    ∙ ap slot_map (opened-more 0 words count (ap (still_bound words) same ∙ kept) ∙ ap (λ (m : ℕ). opened_slots 0 words count ++ Some m ∷ []) same)
+    ∙ push_slot (opened_slots 0 words count) count count (sym (opened-length 0 words count))
+
 abbrev pub Numbered : Type 0
 Numbered = fin.FinMap nat_cmp ℕ
 

@@ -319,6 +319,12 @@ pub err_then : {T E : Type 0} (r : Result T E) (P Q : Type 0) → OnErr r P → 
 err_then (Ok x) P Q p f = tt
 err_then (Err e) P Q p f = f p
 
+-- what a call bound, or left as it was
+pub by_bound : {E : Type 0} (r : Result Bool E) (P Q X : Type 0) → IfOk r (λ b. b ≡ true → P) → IfOk r (λ b. b ≡ false → Q) → OnErr r Q → (P → X) → (Q → X) → X
+by_bound (Ok true) P Q X p q e fine otherwise = fine (p refl)
+by_bound (Ok false) P Q X p q e fine otherwise = otherwise (q refl)
+by_bound (Err x) P Q X p q e fine otherwise = otherwise e
+
 -- ---- slots one after the other
 
 slot_step : {V : Type 0} (xs : List (Option V)) (k : ℕ) (d : Option V) → k < length xs → drop k xs ≡ slice_index_or xs k d ∷ drop (suc k) xs

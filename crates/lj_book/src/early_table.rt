@@ -1,5 +1,5 @@
-//! The bindings of a seat's numbers up to those of an opening.
-ghost use Rattle.std.specs.Prelude.{◌≡◌, ◌<◌, ◌^◌, ℕ, OnOk, OnErr, IfOk, None, Some};
+//! The bindings of a seat's numbers up to a bound, most of which are bound to themselves.
+ghost use Rattle.std.specs.Prelude.{◌≡◌, ◌<◌, ◌+◌, ◌^◌, ℕ, OnOk, OnErr, IfOk, None, Some, true, false};
 ghost use Rattle.std.specs.FinMap as fin;
 ghost use Rattle.lj_book.specs.Tables.{up_to};
 
@@ -11,10 +11,11 @@ use std::alloc::Global;
 use std::marker::Model;
 
 /// Own numbers of a seat with the joint numbers that they are bound to, seen as a finite map: those that it holds from the
-/// opening on, and in a tree those that were bound since, which is for numbers that were given up before.
+/// opening on or since they were bound to themselves right behind these, and in a tree those that were bound again after
+/// they had been given up.
 ///
-/// A call takes constant time for a number that is held from the opening on, and O(log n) time for others. To give up a
-/// number of the opening takes time linear in a bit for each up to it that had none yet.
+/// A call takes constant time for a number that is held so, and O(log n) time for others. To give up such a number takes
+/// time linear in a bit for each up to it that had none yet.
 #[derive(Drop)]
 pub(crate) struct EarlyTable {
     opened: Opened,
@@ -53,12 +54,29 @@ impl EarlyTable {
         })
     }
 
-    /// The numbers that are held from the opening on, each bound to itself.
+    /// The numbers that are held since they were bound to themselves.
     #[inline(always)]
     pub(crate) fn opened(&self) -> &Opened
         ensures { (k v : ℕ) → fin.get result.now k ≡ Some v → fin.get self.now k ≡ Some v }
     {
         &self.opened
+    }
+
+    /// Binds the own number, which isn't bound, to itself, where it is the next one behind those that are held from the opening
+    /// on and those that were bound so. Answers whether it did. Takes constant time, amortized.
+    ///
+    /// # Errors
+    /// [`NoMemory`] where a growth was refused.
+    #[inline(always)]
+    pub(crate) fn extend(&mut self, own: u64) -> Result<bool, NoMemory>
+        requires { fin.get self.old own ≡ None }
+        ensures bound { IfOk result (λ bound. bound ≡ true
+            → self.new ≡ fin.insert self.old own own) }
+        ensures few { IfOk result (λ bound. bound ≡ true → own + 1 < 2 ^ 64) }
+        ensures same { IfOk result (λ bound. bound ≡ false → self.new ≡ self.old) }
+        ensures err { OnErr result (self.new ≡ self.old) }
+    {
+        self.opened.extend(own)
     }
 
     /// The joint number that the own number is bound to.
@@ -84,7 +102,7 @@ impl EarlyTable {
         self.anew.insert(own, joint)
     }
 
-    /// The own numbers, rising. Takes O(n log n) time, and time linear in how many there were at the opening.
+    /// The own numbers, rising. Takes O(n log n) time, and time linear in how many were bound to themselves.
     ///
     /// # Errors
     /// [`NoMemory`] where a growth was refused.

@@ -412,12 +412,16 @@ impl History {
 }
 
 /// How many numbers an addition is written as, or the greatest number where they are more.
+#[inline]
 fn numbers_of(step: &LentAddition<'_>) -> usize
     ensures { result < 2 ^ 63 → addition_numbers step.now ≤ result }
 {
-    packing::numbers_of(step.groups)
-        .saturating_add(step.hints.len())
-        .saturating_add(9)
+    let grouped = if step.groups.is_empty() {
+        0
+    } else {
+        packing::numbers_of(step.groups)
+    };
+    grouped.saturating_add(step.hints.len()).saturating_add(9)
 }
 
 /// Whether the list has these numbers, as far as a look at numbers of four bytes tells.

@@ -159,7 +159,9 @@ fn put_short(table: &SeatTable, owns: &[u32], joints: &mut Numbers) -> Result<()
 
 /// Puts the joint numbers of the first of these own numbers into a list, in place of what it has, up to one that isn't near:
 /// without a test of the list's room for each. Puts none where there is no such room.
-#[inline(always)]
+///
+/// It stands by itself, so that its loop keeps what it reads in registers.
+#[inline(never)]
 fn put_near(table: &SeatTable, owns: &[u32], joints: &mut Numbers)
     ensures { AreFirstValues (fin.get table.now) owns.now joints.new }
 {

@@ -1,5 +1,5 @@
-//! The own numbers that a seat holds from the opening on.
-ghost use Rattle.std.specs.Prelude.{◌≡◌, ◌<◌, ◌≤◌, ◌^◌, ℕ, length, vec_len, vec_capacity, IfOk, Some, None, if◌then◌else◌};
+//! The own numbers that a seat holds from the opening on, with those behind them that are joint numbers too.
+ghost use Rattle.std.specs.Prelude.{◌≡◌, ◌<◌, ◌≤◌, ◌+◌, ◌^◌, ℕ, length, vec_len, vec_capacity, IfOk, OnErr, Some, None, true, false, if◌then◌else◌};
 ghost use Rattle.std.specs.FinMap as fin;
 ghost use Rattle.lj_book.specs.Tables.{up_to};
 ghost use Rattle.lj_book.specs.inner.Slots.{slot_map};
@@ -9,9 +9,9 @@ use lj_clause::NoMemory;
 use std::alloc::Global;
 use std::marker::Model;
 
-/// The numbers from 1 up to a bound that weren't given up since the opening, each bound to itself, seen as a finite map. What
-/// was never touched is said by the bound alone; there is a bit for each number up to the greatest that was given up, in room
-/// that was made at the opening, so that a number is given up without memory.
+/// The numbers from 1 up to a bound that weren't given up, each bound to itself, seen as a finite map. What was never touched
+/// is said by the bound alone; there is a bit for each number up to the greatest that was given up, in room that was made when
+/// the number was bound, so that it is given up without memory.
 #[derive(Drop)]
 pub(crate) struct Opened {
     /// Bit k mod 64 of word k div 64 says whether number k was given up. Those behind the words weren't.
@@ -54,6 +54,28 @@ impl Opened {
         // The number 0 is given up from the start.
         given_up.push_reserved(1);
         Ok(Opened { given_up, end })
+    }
+
+    /// Binds the number to itself, where it is the next one behind the bound. Answers whether it did. Takes constant time,
+    /// amortized.
+    ///
+    /// # Errors
+    /// [`NoMemory`] where a growth was refused.
+    #[inline(always)]
+    pub(crate) fn extend(&mut self, number: u64) -> Result<bool, NoMemory>
+        ensures bound { IfOk result (λ bound. bound ≡ true
+            → self.new ≡ fin.insert self.old number number) }
+        ensures few { IfOk result (λ bound. bound ≡ true → number + 1 < 2 ^ 64) }
+        ensures same { IfOk result (λ bound. bound ≡ false → self.new ≡ self.old) }
+        ensures err { OnErr result (self.new ≡ self.old) }
+    {
+        let at = self.end;
+        if number != at as u64 || at == usize::MAX || !is_kept(&self.given_up, at + 1, number) {
+            return Ok(false);
+        }
+        self.given_up.reserve(at / 64 + 1 - self.given_up.len())?;
+        self.end = at + 1;
+        Ok(true)
     }
 
     /// What it is made of: a bit for each number from 0 on, set where it was given up, and the bound.

@@ -154,14 +154,14 @@ fn near<S: Slot>(given_up: &[u64], last: usize, end: u64, slots: &[S], key: u32)
         key ≡ Some value) }
 {
     let number = u64::from(key);
-    if number < end {
+    if number < last as u64 {
         return if is_kept(given_up, last, number) {
             Some(key)
         } else {
             None
         };
     }
-    match number_at(slots, number - end) {
+    match number_at(slots, number.checked_sub(end)?) {
         Some(value) => Some(value as u32),
         None => None,
     }

@@ -178,7 +178,7 @@ impl Book {
 ///
 /// # Errors
 /// As [`Book::add_inside`], but for what is refused before the line is read, and [`Refusal::Full`].
-#[inline]
+#[inline(always)]
 fn recorded_line(
     ledger: &mut Ledger,
     tables: &SeatTables,

@@ -97,7 +97,9 @@ fn put_groups_apart(words: &mut Vec<u32>, apart: bool, groups: &Groups)
         put_number(words, 1);
         put_number(words, 0);
     }
-    put_groups(words, groups);
+    if !groups.is_empty() {
+        put_groups(words, groups);
+    }
 }
 
 /// Puts the words of a seat's drop behind the others, which have room for them.

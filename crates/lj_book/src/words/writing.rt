@@ -140,7 +140,6 @@ fn put_group(words: &mut Vec<u32>, group: LentGroup<'_>)
 }
 
 /// Puts groups behind the words, which have room for them. Takes time linear in the groups and their hints.
-#[inline]
 pub(crate) fn put_groups(words: &mut Vec<u32>, groups: &Groups)
     requires { vec_len words.old + 3 * groups_numbers groups.now ≤ vec_capacity words.old }
     ensures words { words.new.items ≡ words.old.items ++ flat_map hint_group_words groups.now }

@@ -4,7 +4,7 @@ use Rattle.lj_book.specs.inner.Slots.{joined_map, shifted, AreBefore}
 use Rattle.lj_book.proofs.Slots.{insert_near, either_way, ok_then}
 use Rattle.lj_book.proofs.Bounds.{before-insert}
 use Rattle.lj_book.proofs.Shifts.{late_get, early_get, late_insert}
-use Rattle.lj_book.proofs.seat_table.SeatTable.insert.Goals as goal
+use Rattle.lj_book.proofs.seat_table.SeatTable.insert_apart.Goals as goal
 
 pub insert-requires : goal.insert-requires
 insert-requires c =
@@ -18,8 +18,8 @@ invariant_of-self c =
     let late = c.self.inside.late in
     let room : c.args.own - end < 2 ^ 64 - end = omega (arith, c.if-own-self.true, c.ranges.own) in
     either_way c.insert.result _ _ _ c.insert.ensures.ok c.insert.ensures.err
-    (λ e. (c.self.invariant.0, subst (AreBefore (2 ^ 64 - end)) (sym e) (before-insert (2 ^ 64 - end) late (c.args.own - end) c.args.joint room c.self.invariant.1)))
-    (λ e. (c.self.invariant.0, subst (AreBefore (2 ^ 64 - end)) (sym e) c.self.invariant.1))
+    (λ e. (c.self.invariant.0, subst (AreBefore (2 ^ 64 - end)) (sym e) (before-insert (2 ^ 64 - end) late (c.args.own - end) c.args.joint room c.self.invariant.1), λ no. cc))
+    (λ e. (c.self.invariant.0, subst (AreBefore (2 ^ 64 - end)) (sym e) c.self.invariant.1, λ no. cc))
 
 pub returns-then-own-self-clause-ok : goal.returns-then-own-self-clause-ok
 returns-then-own-self-clause-ok c =
@@ -40,8 +40,8 @@ invariant_of-self-2 c =
     let end = c.self.inside.end in
     let early = c.self.inside.early in
     either_way c.insert-2.result _ _ _ c.insert-2.ensures.ok c.insert-2.ensures.err
-    (λ e. (subst (AreBefore end) (sym e) (before-insert end early c.args.own c.args.joint c.if-own-self.false c.self.invariant.0), c.self.invariant.1))
-    (λ e. (subst (AreBefore end) (sym e) c.self.invariant.0, c.self.invariant.1))
+    (λ e. (subst (AreBefore end) (sym e) (before-insert end early c.args.own c.args.joint c.if-own-self.false c.self.invariant.0), c.self.invariant.1, c.self.invariant.2))
+    (λ e. (subst (AreBefore end) (sym e) c.self.invariant.0, c.self.invariant.1, c.self.invariant.2))
 
 pub returns-clause-ok : goal.returns-clause-ok
 returns-clause-ok c =
