@@ -361,7 +361,7 @@ def problems(repo):
     for folder in ("specs", "proofs", "src"):
         for path in sorted(repo.root.glob(f"crates/*/{folder}/**/*.*t")):
             local = path.relative_to(repo.root)
-            if path.name == "tests.rt" or "tests" in local.parts or "lj_tests" in local.parts:
+            if path.name == "tests.rt" or {"tests", "lj_tests", "lj_run_tests"} & {*local.parts}:
                 continue
             for number, line in enumerate(path.read_text().split("\n"), 1):
                 if re.search(r"\b134_?217_?727\b", line) and "const MAX_VARIABLE" not in line:

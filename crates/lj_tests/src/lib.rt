@@ -1,5 +1,5 @@
-//! Worked examples, computed by hand and run against the public calls. They stand in a crate of their own, so that no
-//! other is proved a second time for its tests.
+//! Worked examples, computed by hand and run against the public calls below the runs. They stand in a crate of their own,
+//! so that no other is proved a second time for its tests.
 #![tactic(auto)]
 
 #[cfg(test)]
@@ -7,22 +7,12 @@ mod book;
 #[cfg(test)]
 mod clauses;
 #[cfg(test)]
-mod fakes;
-#[cfg(test)]
-mod joint;
-#[cfg(test)]
-mod runs;
-#[cfg(test)]
 mod scans;
 #[cfg(test)]
 mod shared;
 #[cfg(test)]
-mod sizes;
-#[cfg(test)]
 mod tables;
 #[cfg(test)]
 mod text;
-#[cfg(test)]
-mod trimming;
 #[cfg(test)]
 mod walks;

@@ -1,22 +1,13 @@
 //! What tables of examples are made of.
 use lj_book::Book;
-use lj_clause::{Clause, Formula, Lemma, Lit, MAX_VARIABLE, NoMemory};
-use lj_text::{
-    Addition, CnfReader, Groups, Line as ProofLine, LineFault, LineReader, Numbers, NumbersIter,
-    Step,
-};
+use lj_clause::{Clause, Formula, Lemma, Lit, NoMemory};
+use lj_text::{Addition, Groups, Numbers, NumbersIter, Step};
 use std::alloc::Global;
 use std::process::Abort;
 use std::test::Fail;
 
 /// The clauses `1 2`, `-1 2`, `1 -2` and `-1 -2`.
 pub const BINARY: [&[i32]; 4] = [&[1, 2], &[-1, 2], &[1, -2], &[-1, -2]];
-
-/// Their formula, as a text.
-pub const BINARY_TEXT: &str = "p cnf 2 4\n1 2 0\n-1 2 0\n1 -2 0\n-1 -2 0\n";
-
-/// The same with a third variable.
-pub const FOUR_TEXT: &str = "p cnf 3 4\n1 2 0\n-1 2 0\n1 -2 0\n-1 -2 0\n";
 
 /// An addition as a table lists it: its own number, its lemma, its hints, and its groups, each its candidate and then
 /// its hints.
@@ -86,13 +77,6 @@ pub fn formula(rt: &impl Abort, alloc: Global, clauses: &[&[i32]]) -> Result<For
         panic!(rt; "no formula");
     };
     Ok(formula)
-}
-
-/// The formula that a text spells.
-pub fn formula_of(alloc: Global, text: &str) -> Result<Formula, Fail> {
-    let mut reader = CnfReader::new(alloc, MAX_VARIABLE);
-    reader.feed(text.as_bytes())?;
-    Ok(reader.finish()?)
 }
 
 /// Asserts that these are the literals, in this order.
@@ -172,27 +156,4 @@ fn assert_left(rt: &impl Abort, numbers: NumbersIter<'_>, wanted: &[u64]) {
     for (number, listed) in numbers.zip(wanted) {
         assert!(rt; number == *listed);
     }
-}
-
-/// The next line that the reader has.
-pub fn next_line(reader: &mut LineReader) -> Result<Option<ProofLine>, LineFault> {
-    reader.next()
-}
-
-/// The additions and deletions that lines spell, as steps.
-pub fn steps_of(alloc: Global, lines: &str) -> Result<Vec<Step>, Fail> {
-    let mut reader = LineReader::new(alloc, MAX_VARIABLE);
-    reader.feed(lines.as_bytes())?;
-    let mut steps = Vec::new(alloc);
-    for _ in 0..lines.len() {
-        match next_line(&mut reader)? {
-            Some(ProofLine::Add(addition)) => steps.push(Step::Add(addition.into_inner()))?,
-            Some(ProofLine::Delete(numbers)) => {
-                let numbers = numbers.into_inner();
-                steps.push(Step::Delete { numbers })?;
-            }
-            _ => break,
-        }
-    }
-    Ok(steps)
 }

@@ -1,9 +1,7 @@
-//! The readers, the writer and the streams, at worked examples.
+//! The readers, at worked examples.
 mod formulas;
 mod lines;
 mod numbers;
-mod streams;
-mod writing;
 
 use std::alloc::{AllocError, Global};
 
