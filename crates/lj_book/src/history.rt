@@ -51,6 +51,9 @@ const LEAVE: u64 = 4;
 /// A drop whose own numbers are the joint numbers that died, and stand once.
 const DROP_ONCE: u64 = 5;
 
+/// How many words and literals have room from the opening on: in so much memory, each list stands apart from others.
+const FIRST_WORDS: usize = 33_000;
+
 /// The entries of a history, the oldest first, as words of four bytes and literals.
 #[derive(Debug, Drop)]
 pub(crate) struct History {
@@ -138,6 +141,18 @@ impl History {
         self.lits.reserve(lits)?;
         self.starts.reserve()?;
         Ok(())
+    }
+
+    /// Makes room for the first entries, in memory that the system makes page by page as it is written: so the lists don't leave
+    /// shorter ones behind while they grow.
+    ///
+    /// # Errors
+    /// [`NoMemory`] where a growth was refused.
+    pub(crate) fn reserve_first(&mut self) -> Result<(), NoMemory>
+        ensures same { self.new.entries ≡ self.old.entries }
+        ensures kept { self.new.lits ≡ self.old.lits }
+    {
+        self.reserve(FIRST_WORDS / 3, FIRST_WORDS)
     }
 
     /// Makes room for an addition.

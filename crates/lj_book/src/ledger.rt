@@ -70,8 +70,10 @@ impl Ledger {
         ensures live { IfOk result (λ ledger. ledger.live ≡ formula_map formula.now) }
     {
         let (lits, places) = clauses_of(alloc, formula)?;
+        let mut history = History::over(alloc, lits);
+        history.reserve_first()?;
         Ok(Ledger {
-            history: History::over(alloc, lits),
+            history,
             places,
             lists: None,
             asked: None,
@@ -422,7 +424,9 @@ fn lists_of(alloc: Global, clauses: &LentClauses<'_>, end: u32) -> Option<Occurr
     requires { (n : ℕ) → fin.contains_key clauses.now n ≡ true → n < end }
     ensures { IfSome result (λ lists. AreOccurrences lists (fin.get clauses.now) end) }
 {
-    let mut lists = OccurrenceLists::new(alloc);
+    let Ok(mut lists) = OccurrenceLists::with_room(alloc) else {
+        return None;
+    };
     for number in 0..end {
         if let Some(clause) = clauses.get(u64::from(number)) {
             if !lists.add_clause(number, &clause) {

@@ -19,6 +19,9 @@ const EMPTY_PLACE: u64 = 1;
 /// A list of so many numbers stays as it is, however many of their clauses have died.
 const FEW: usize = 16;
 
+/// How many links have room from the first on: in so much memory, their list stands apart from others.
+const FIRST_LINKS: usize = 16_500;
+
 /// How many links there are at most, so that each can be named by four bytes.
 const MOST_LINKS: usize = u32::MAX as usize - 2;
 
@@ -60,15 +63,18 @@ impl Model for OccurrenceLists {
 }
 
 impl OccurrenceLists {
-    /// The lists without a number.
-    pub(crate) fn new(alloc: Global) -> Self
-        ensures { result ≡ fin.empty }
+    /// The lists without a number, with room for the first ones in memory that the system makes page by page as it is written.
+    ///
+    /// # Errors
+    /// [`NoMemory`] where a growth was refused.
+    pub(crate) fn with_room(alloc: Global) -> Result<Self, NoMemory>
+        ensures { IfOk result (λ lists. lists ≡ fin.empty) }
     {
-        OccurrenceLists {
+        Ok(OccurrenceLists {
             alloc,
-            links: Vec::new(alloc),
+            links: Vec::with_capacity(alloc, FIRST_LINKS)?,
             lasts: Bindings::new(alloc),
-        }
+        })
     }
 
     /// Puts the number of a clause at the end of its lists. Answers whether it could be put there: where a growth was

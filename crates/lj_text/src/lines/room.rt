@@ -10,6 +10,10 @@ use std::alloc::Global;
 /// How many literals a lemma has at most that takes no memory for them.
 const FEW: usize = 3;
 
+/// How many numbers of a deletion have room from the first one on: in so much memory, which the system makes page by page as it is
+/// written, the list stands apart from others and leaves no shorter one behind while it grows.
+const FIRST_NUMBERS: usize = 33_000;
+
 /// Room for the literals and the numbers of a line, which is used again for the next line.
 #[derive(Debug, Drop)]
 pub(super) struct Room {
@@ -71,9 +75,16 @@ impl Room {
     pub fn deletion(&mut self) -> Result<Box<Numbers>, NoMemory> {
         match self.deletion.take() {
             Some(place) => Ok(place),
-            None => Ok(Box::new(self.alloc, Numbers::from_short(Vec::new(self.alloc)))?),
+            None => new_deletion(self.alloc),
         }
     }
+}
+
+/// A new place for a deletion.
+#[cold]
+fn new_deletion(alloc: Global) -> Result<Box<Numbers>, NoMemory> {
+    let numbers = Numbers::from_short(Vec::with_capacity(alloc, FIRST_NUMBERS)?);
+    Ok(Box::new(alloc, numbers)?)
 }
 
 /// A new place for an addition.

@@ -6,5 +6,5 @@ use Rattle.lj_book.proofs.ledger.Ledger.open.Goals as goal
 
 pub invariant_of-result : goal.invariant_of-result
 invariant_of-result c =
-    subst (λ (ls : List ℤ). AreRecorded ls c.in_ok-lits.places None c.new.result c.len.result) (sym c.over.ensures.lits)
+    subst (λ (ls : List ℤ). AreRecorded ls c.in_ok-lits.places None c.new.result c.len.result) (sym (c.reserve_first.ensures.kept ∙ c.over-history.ensures.lits))
     (Recorded-opening c.in_ok-lits.lits.items c.in_ok-lits.places c.args.formula.now c.new.result c.len.result c.in_ok-lits.ensures.places c.in_ok-lits.ensures.clauses c.len.ensures.len c.variables.ensures.formula (c.new.ensures.top ∙ c.variables.ensures.variables) c.new.ensures.none)
