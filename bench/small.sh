@@ -1,13 +1,13 @@
 #!/usr/bin/env bash
 # Measures the memory that a built program takes for small streams, where what a run and a thread take by themselves counts
-# too: bytes beyond those of as many empty streams, for each byte of the streams' text.
+# too: bytes beyond those of as many streams of the same kind and of twenty bytes, for each byte of the streams' text.
 #   small.sh PATH-OF-LRATJOIN
 # First one stream in turn, of fifteen kinds and of 1,000 to 800,000 bytes, by the pages that are the process's own (pages.c).
 # A row has the most that any of these takes up to a length, for each byte, and beyond eight for each; one is wrong that takes
-# more than 50,000 bytes beyond. Then the same stream 2, 8 and 64 times on threads, by all that the process has, which varies
-# from run to run: a row has the most that any kind takes of a length, the greatest of two runs, where the empty streams' is
-# the median of nine. One is wrong that takes more than 400,000 bytes beyond, and 100,000 for each stream. Those that are
-# wrong are named last, and the status is 1 then.
+# more than 8,192 bytes, two pages, beyond. Then the same stream 2, 8 and 64 times on threads, by all that the process has,
+# which varies from run to run: a row has the most that any kind takes of a length, the greatest of two runs, where the short
+# streams' is the greatest of nine. One is wrong that takes more than 200,000 bytes beyond. Those that are wrong are named
+# last, and the status is 1 then.
 set -euo pipefail
 
 program=$(realpath "${1:?usage: small.sh PATH-OF-LRATJOIN}")
@@ -17,7 +17,6 @@ trap 'rm -rf "$scratch"' EXIT
 cd "$scratch"
 
 printf 'p cnf 100000 1\n1 0\n' > formula
-: > nothing
 : > wrong
 
 # Sees that each stream that was told did all lines of this one.
@@ -78,11 +77,13 @@ streams() {
 }
 
 cc -shared -fPIC -O1 -o pages.so "$here/pages.c"
-empty=$(bytes nothing)
+declare -A short
+streams 20
+for stream in streams/*; do short[$stream]=$(bytes "$stream"); done
 for ((length = 1000; length <= 800000; length = length * 6 / 5)); do
     streams "$length"
     for stream in streams/*; do
-        echo "$stream $(wc -c < "$stream") $(($(bytes "$stream") - empty))"
+        echo "$stream $(wc -c < "$stream") $(($(bytes "$stream") - short[$stream]))"
     done
 done > taken
 awk '
@@ -100,17 +101,20 @@ awk '
     {
         if ($3 / $2 > most) most = $3 / $2
         if ($3 - 8 * $2 > beyond) beyond = $3 - 8 * $2
-        if ($3 > 8 * $2 + 50000) print $1, "of", $2, "bytes in turn:", $3 > "/dev/stderr"
+        if ($3 > 8 * $2 + 8192) print $1, "of", $2, "bytes in turn:", $3 > "/dev/stderr"
     }
     END { row() }' <(sort -k2n taken) 2>> wrong
 
+streams 20
 for seats in 2 8 64; do
-    for _ in 1 2 3 4 5 6 7 8 9; do kilobytes "$seats" nothing; done | sort -n | sed -n "5s/^/$seats /p"
-done > empty
+    for stream in streams/*; do
+        for _ in 1 2 3 4 5 6 7 8 9; do kilobytes "$seats" "$stream"; done | sort -n | sed -n "\$s,^,$seats $stream ,p"
+    done
+done > short
 
 echo 'on threads: the most bytes of memory for each byte of text'
 printf '%-20s %8s %8s %8s\n' 'bytes of a stream' '2 of it' 8 64
-for length in 10000 20000 40000 70000 100000 150000 200000 300000 400000 800000; do
+for length in 3000 10000 20000 40000 70000 100000 200000 400000 800000; do
     streams "$length"
     for seats in 2 8 64; do
         for stream in streams/*; do
@@ -121,13 +125,13 @@ for length in 10000 20000 40000 70000 100000 150000 200000 300000 400000 800000;
         done
     done > taken
     awk -v row="$length" '
-        NR == FNR { empty[$1] = $2; next }
+        NR == FNR { short[$1, $2] = $3; next }
         {
-            taken = 1024 * ($4 - empty[$1])
+            taken = 1024 * ($4 - short[$1, $2])
             if (taken / ($1 * $3) > most[$1]) most[$1] = taken / ($1 * $3)
-            if (taken > (8 * $3 + 1e5) * $1 + 4e5) print $1, "of", $2, "of", $3, "bytes:", taken > "/dev/stderr"
+            if (taken > 8 * $3 * $1 + 2e5) print $1, "of", $2, "of", $3, "bytes:", taken > "/dev/stderr"
         }
-        END { printf "%-20d %8.1f %8.1f %8.1f\n", row, most[2], most[8], most[64] }' empty taken 2>> wrong
+        END { printf "%-20d %8.1f %8.1f %8.1f\n", row, most[2], most[8], most[64] }' short taken 2>> wrong
 done
 
 if [ -s wrong ]; then

@@ -5,6 +5,7 @@ ghost use Rattle.lj_text.specs.Steps.{replay, refutes};
 ghost use Rattle.lj_text.specs.Needed.{if_some};
 ghost use Rattle.lj_book.specs.Lookup.{numbers_holding};
 ghost use Rattle.lj_book.specs.State.{State, opening, live, steps_of, verdict};
+ghost use Rattle.lj_book.specs.Tables.{joint_of};
 ghost use Rattle.lj_book.specs.History.{after_entry};
 ghost use Rattle.lj_book.specs.Telling.{without_receipt};
 ghost use Rattle.lj_book.specs.inner.Ready.{IsStepOf};
@@ -134,6 +135,14 @@ impl Book {
         ensures { result ≡ fin.get (live self.now) joint }
     {
         self.ledger.clause(joint)
+    }
+
+    /// The joint number that an own number of a seat is bound to, and none for a seat that isn't there. Takes constant time for
+    /// a number up to a bound that follows how many are bound, and O(log n) time for others.
+    pub fn joint(&self, seat: u32, own: u64) -> Option<u64>
+        ensures { result ≡ joint_of self.now.tables seat own }
+    {
+        self.tables.joint(seat, own)
     }
 
     /// The number of entries in the history. Takes constant time.

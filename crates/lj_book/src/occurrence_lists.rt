@@ -180,22 +180,19 @@ impl OccurrenceLists {
     /// Takes the numbers without a clause out of a list, where they are more than half of it and it isn't short. Answers
     /// whether a growth was granted: where it wasn't, the lists are of no use.
     ///
-    /// Takes time linear in the numbers of the list.
+    /// Takes time linear in the numbers of the list, and memory only where some are taken out.
     pub(crate) fn sweep(&mut self, place: u64, clauses: &LentClauses<'_>) -> bool
         ensures { (bound : ℕ) → AreOccurrences self.old (fin.get clauses.now) bound
             → result ≡ true → AreOccurrences self.new (fin.get clauses.now) bound }
     {
         let last = last_of(&self.lasts, place);
-        if is_within(&self.links, last, FEW) {
+        if is_within(&self.links, last, FEW) || does_half_live(&self.links, last, clauses) {
             return true;
         }
         let Ok(living) = living_before(self.alloc, &self.links, last, clauses) else {
             return false;
         };
-        if !is_within(&self.links, last, living.len().saturating_mul(2)) {
-            return self.relink(place, &living);
-        }
-        true
+        self.relink(place, &living)
     }
 
     /// Puts these numbers into a list, in place of what it has. Answers whether a growth was granted. Takes time linear in
@@ -286,6 +283,26 @@ fn first_before(
         at = link.before as usize;
     }
     first
+}
+
+/// Whether at least half of the numbers of this link and of all before it have a clause. Takes time linear in the links that it
+/// passes by.
+fn does_half_live(links: &[Link], last: u64, clauses: &LentClauses<'_>) -> bool
+    requires linked { AreLinked links.now }
+    requires there { last ≤ length links.now }
+{
+    let (mut living, mut dead) = (0_usize, 0_usize);
+    let mut at = last as usize;
+    while at > 0 {
+        let link = links[at - 1];
+        if clauses.contains_key(u64::from(link.number)) {
+            living = living.saturating_add(1);
+        } else {
+            dead = dead.saturating_add(1);
+        }
+        at = link.before as usize;
+    }
+    dead <= living
 }
 
 /// Whether there are so many links at most, with this one and all before it.

@@ -10,7 +10,7 @@ use std::alloc::Global;
 use std::marker::Model;
 
 /// How many slots there may be before anything is set.
-const FIRST_SLOTS: u64 = 256;
+const FIRST_SLOTS: u64 = 32;
 
 /// A map from own numbers, seen as a finite map. Numbers up to a bound that follows how many were set have slots, the
 /// others a tree; so memory is linear in how many were set, whatever numbers they are.

@@ -15,7 +15,7 @@ use std::marker::Model;
 use std::mem::replace;
 
 /// For how many joint numbers a deletion makes room at once.
-const FEW_JOINTS: usize = 16_384;
+const FEW_JOINTS: usize = 1_024;
 
 /// The table of each seat, from own numbers to joint numbers, and none for a seat that has left.
 ///

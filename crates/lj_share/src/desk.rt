@@ -16,13 +16,14 @@ use crate::telling;
 use crate::told::Told;
 use lj_book::laws::refuted_is_unsatisfiable;
 use lj_book::{Book, Entry, Ready, Refusal};
-use lj_clause::Clause;
-use lj_hint::Receipt;
+use lj_clause::{Clause, Formula};
+use lj_hint::{Marks, Receipt};
 use lj_text::{Addition, Numbers};
+use std::alloc::Global;
 use std::marker::Model;
 use std::sync::ledger::{Book as Tally, Share};
 
-/// The book; the ledger of its opening, whose total is the number of entries; and the lists of its seats' calls.
+/// The book; the ledger of its opening, whose total is the number of entries; the lists of its seats' calls; and working room.
 #[derive(Drop)]
 pub(crate) struct Desk<L: Opening> {
     book: Book,
@@ -30,6 +31,8 @@ pub(crate) struct Desk<L: Opening> {
     lists: Lists<L>,
     /// What no seat has of the ledger: nothing.
     rest: Share<L>,
+    /// The working room of the additions that are tested here, one after the other.
+    marks: Marks,
 }
 
 impl<L: Opening> Model for Desk<L> {
@@ -53,7 +56,13 @@ pub(crate) struct Entered {
 
 impl<L: Opening> Desk<L> {
     /// A new book under a ledger all of whose parts the seats have, with the lists of their calls.
-    pub(crate) fn new(book: Book, entries: Tally<L>, lists: Lists<L>, rest: Share<L>) -> Desk<L>
+    pub(crate) fn new(
+        alloc: Global,
+        book: Book,
+        entries: Tally<L>,
+        lists: Lists<L>,
+        rest: Share<L>,
+    ) -> Desk<L>
         requires { IsDesk L.formula L.seats L.max_steps book lists entries.total rest.parts
             rest.amount }
     {
@@ -62,6 +71,7 @@ impl<L: Opening> Desk<L> {
             entries,
             lists,
             rest,
+            marks: Marks::new(alloc),
         }
     }
 
@@ -87,6 +97,7 @@ impl<L: Opening> Desk<L> {
             entries,
             lists,
             rest,
+            marks: _,
         } = self;
         (book, entries, lists, rest)
     }
@@ -110,6 +121,7 @@ impl<L: Opening> Desk<L> {
             entries,
             lists,
             rest: _,
+            marks: _,
         } = self;
         match book.commit_telling(receipt) {
             Ok((added, entry)) => {
@@ -136,6 +148,7 @@ impl<L: Opening> Desk<L> {
             entries,
             lists,
             rest: _,
+            marks: _,
         } = self;
         match book.commit_ready(ready) {
             Ok((added, receipt)) => {
@@ -164,9 +177,10 @@ impl<L: Opening> Desk<L> {
             entries,
             lists,
             rest: _,
+            marks,
         } = self;
         let number = seat.number();
-        match telling::add_inside(book, number, addition, &mut seat.marks, telling) {
+        match telling::add_inside(book, number, addition, marks, telling) {
             Ok((added, entry)) => {
                 seat.count_one(entries, lists, book);
                 let joint = added.joint;
@@ -174,6 +188,18 @@ impl<L: Opening> Desk<L> {
                 Ok(Entered { joint, told })
             }
             Err(refusal) => Err(refusal),
+        }
+    }
+
+    /// Takes up, as far as the seat has room, what it doesn't know of the hints of an addition of its own that was entered
+    /// here, so that the next line that names them needn't be tested under the lock.
+    pub(crate) fn show_hints(&self, seat: &mut Seat<L>, formula: &Formula, addition: &Addition)
+        ensures { seat.new ≡ seat.old }
+    {
+        for own in addition.hints.iter() {
+            if seat.lacks(formula, own) {
+                show(&self.book, seat, own);
+            }
         }
     }
 
@@ -196,6 +222,7 @@ impl<L: Opening> Desk<L> {
             entries,
             lists,
             rest: _,
+            marks: _,
         } = self;
         match telling::drop_numbers(book, seat.number(), numbers, telling) {
             Ok(entry) => {
@@ -226,6 +253,7 @@ impl<L: Opening> Desk<L> {
             entries,
             lists,
             rest: _,
+            marks: _,
         } = self;
         match telling::import(book, seat.number(), own, clause, telling) {
             Ok((imported, entry)) => {
@@ -256,6 +284,7 @@ impl<L: Opening> Desk<L> {
             entries,
             lists,
             rest: _,
+            marks: _,
         } = self;
         match book.adopt_telling(seat.number(), own, joint) {
             Ok((_, entry)) => {
@@ -280,6 +309,7 @@ impl<L: Opening> Desk<L> {
             entries,
             lists,
             rest: _,
+            marks: _,
         } = self;
         match book.leave_telling(seat.number()) {
             Ok((_, entry)) => {
@@ -297,6 +327,15 @@ fn bind_live<L: Opening>(book: &Book, seat: &mut Seat<L>, own: u64, joint: u64)
 {
     if let Some(clause) = book.clause(joint) {
         seat.bind(own, joint, &clause);
+    }
+}
+
+/// Takes up what the seat's own number is bound to in the book.
+fn show<L: Opening>(book: &Book, seat: &mut Seat<L>, own: u64)
+    ensures { seat.new ≡ seat.old }
+{
+    if let Some(joint) = book.joint(seat.number(), own) {
+        bind_live(book, seat, own, joint);
     }
 }
 

@@ -11,17 +11,18 @@ use std::alloc::Global;
 /// clause counts its holders up and down, which is slow where many threads do so.
 const SHORT: usize = 16;
 
-/// The greatest number of hints of an addition that a seat tests by itself whatever room there is.
-const FEW_HINTS: usize = 256;
+/// The greatest number of hints, and of literals, of an addition that a seat tests by itself whatever room there is.
+const FEW: usize = 256;
 
-/// How many bytes a hint takes while its addition is tested by the seat itself: 24 for its pair, and what is read and entered.
-const PAIR: u64 = 32;
+/// How many bytes a hint or a literal takes while its addition is tested by the seat itself: 24 for the hint's pair or, at
+/// most, for the literal's stamp, and what is read and entered.
+const TESTED: u64 = 32;
 
 /// How many bytes what a seat keeps may take for each byte of text that its hints were told in.
 const FOR_A_BYTE: u64 = 4;
 
 /// How many bytes may be kept before any hint was told, so that a proof's first lemmas are kept, which later ones name most.
-const FIRST_ROOM: u64 = 32_768;
+const FIRST_ROOM: u64 = 4_096;
 
 /// How many bytes a number takes: up to two slots of 32, or else its part of a tree whose nodes are half empty.
 const NUMBER: u64 = 72;
@@ -60,8 +61,8 @@ impl OwnClauses {
         }
     }
 
-    /// The case of an addition of the seat, if it has no groups and few hints or room for all of them, its number isn't here,
-    /// and those of its hints are.
+    /// The case of an addition of the seat, if it has no groups, there is room for its test, its number isn't here, and those of
+    /// its hints are.
     ///
     /// # Errors
     /// [`NoMemory`] where a growth was refused.
@@ -77,13 +78,13 @@ impl OwnClauses {
     {
         self.room = self.room.saturating_add(room_for(&addition.hints));
         let own = addition.number;
-        if !addition.groups.is_empty() || !self.is_room_for_pairs(&addition.hints) {
+        if !addition.groups.is_empty() || !self.is_room_for_test(addition) {
             return Ok(None);
         }
         if self.is_bound(formula, own) {
             return Ok(None);
         }
-        let Some(hints) = self.pairs(formula, &addition.hints)? else {
+        let Some(hints) = self.pairs(formula, addition)? else {
             return Ok(None);
         };
         let lemma = addition.lemma.copy()?;
@@ -99,23 +100,29 @@ impl OwnClauses {
         formula.clause(own).is_some() && !self.given_up.contains_key(own)
     }
 
-    /// Whether pairs are made of these hints: they are few, or there is room for them.
-    fn is_room_for_pairs(&self, hints: &Numbers) -> bool {
-        hints.len() <= FEW_HINTS || bytes_of_pairs(hints) <= self.room
+    /// Whether what the own number is bound to isn't known here, and there is room to know it.
+    pub(crate) fn lacks(&self, formula: &Formula, own: u64) -> bool {
+        self.room >= NUMBER && !self.is_bound(formula, own)
     }
 
-    /// The pairs of these own numbers, if all are known to be bound. The room that they take is lent to them meanwhile.
+    /// Whether the addition is tested here: its hints and its literals are few, or there is room for what its test takes.
+    fn is_room_for_test(&self, addition: &Addition) -> bool {
+        let is_short = addition.hints.len() <= FEW && addition.lemma.clause().lits().len() <= FEW;
+        is_short || bytes_of_test(addition) <= self.room
+    }
+
+    /// The pairs of the hints, if all are known to be bound. The room that the test takes is lent to it meanwhile.
     ///
     /// # Errors
     /// [`NoMemory`] where a growth was refused.
     fn pairs(
         &mut self,
         formula: &Formula,
-        numbers: &Numbers,
+        addition: &Addition,
     ) -> Result<Option<Vec<Pair>>, NoMemory> {
-        let lent = bytes_of_pairs(numbers).min(self.room);
+        let lent = bytes_of_test(addition).min(self.room);
         self.room -= lent;
-        let pairs = self.pairs_of(formula, numbers);
+        let pairs = self.pairs_of(formula, &addition.hints);
         self.room = self.room.saturating_add(lent);
         pairs
     }
@@ -252,9 +259,11 @@ fn room_for(hints: &Numbers) -> u64 {
     room
 }
 
-/// How many bytes the pairs of these numbers take.
-fn bytes_of_pairs(numbers: &Numbers) -> u64 {
-    (numbers.len() as u64).saturating_mul(PAIR)
+/// How many bytes the test of an addition takes at most, beside the clauses of its hints.
+fn bytes_of_test(addition: &Addition) -> u64 {
+    let lits = addition.lemma.clause().lits().len() as u64;
+    let hints = addition.hints.len() as u64;
+    hints.saturating_add(lits).saturating_mul(TESTED)
 }
 
 /// How many bytes of text a hint takes at least, with what stands before it.

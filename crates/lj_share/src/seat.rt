@@ -150,6 +150,14 @@ impl<L: Opening> Seat<L> {
         self.own = None;
     }
 
+    /// Whether it doesn't know by itself what its own number is bound to, and would keep it.
+    pub(crate) fn lacks(&self, formula: &Formula, own: u64) -> bool {
+        match &self.own {
+            Some(clauses) => clauses.lacks(formula, own),
+            None => false,
+        }
+    }
+
     /// Takes up the joint number with its clause that the seat's own number was bound to.
     pub(crate) fn bind(&mut self, own: u64, joint: u64, clause: &ClauseView<'_>)
         ensures { self.new ≡ self.old }

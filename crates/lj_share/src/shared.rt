@@ -87,7 +87,7 @@ impl<L: Opening> Shared<L> {
         let (entries, mut rest) = ledger.open::<L>();
         let out = seats_of(alloc, &mut rest, copies)?;
         let shared = Shared {
-            desk: Mutex::new(Desk::new(book, entries, Lists::new(desk), rest)),
+            desk: Mutex::new(Desk::new(alloc, book, entries, Lists::new(desk), rest)),
             refutation: OnceLock::new(),
             seats,
             formula: shown,
@@ -316,6 +316,9 @@ impl<L: Opening> Shared<L> {
     {
         let mut desk = self.desk(rt);
         let entered = desk.add_inside(seat, addition, telling);
+        if entered.is_ok() {
+            desk.show_hints(seat, &self.formula, addition);
+        }
         self.publish(&desk);
         entered
     }

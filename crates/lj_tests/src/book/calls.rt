@@ -99,6 +99,9 @@ fn assert_gives_up(rt: &impl Abort, alloc: Global, book: &mut Book) -> Result<()
     let numbers = Numbers::from_slice(alloc, &[3, 4])?;
     assert!(rt; book.drop_numbers(0, &numbers)? == Dropped { place: 2, count: 2 });
     assert!(rt; book.clause(3).is_some() && book.clause(4).is_none());
+    assert!(rt;
+        book.joint(0, 7) == Some(3) && book.joint(0, 3).is_none() && book.joint(1, 7).is_none()
+    );
     assert!(rt; book.leave(0)? == 3);
     Ok(())
 }

@@ -6,10 +6,10 @@ use Rattle.lj_book.specs.inner.Chains.{chain}
 use Rattle.lj_book.proofs.Chains.{swept, list_chained}
 use Rattle.lj_book.proofs.occurrence_lists.OccurrenceLists.sweep.Goals as goal
 
-pub returns-then-not-is_within : goal.returns-then-not-is_within
-returns-then-not-is_within c = λ bound are ok.
-    swept c.args.self.now c.relink.new.self c.args.clauses.now bound c.args.place c.deref-then-not-is_within.result.now
-    (c.deref-then-not-is_within.ensures.value
+pub returns : goal.returns
+returns c = λ bound are ok.
+    swept c.args.self.now c.relink.new.self c.args.clauses.now bound c.args.place c.deref-3.result.now
+    (c.deref-3.ensures.value
     ∙ c.in-Ok.ensures
     ∙ ap (filter (λ n. fin.contains_key c.args.clauses.now n))
     ((λ i. chain (c.deref-2.ensures.value i) (c.last_of-last.ensures i))

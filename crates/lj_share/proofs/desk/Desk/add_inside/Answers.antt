@@ -1,22 +1,20 @@
-use Rattle.std.proofs.Common.{sym, ap, ◌∙◌}
-use Rattle.lj_share.specs.Seats.{SeatValue, making}
 use Rattle.lj_share.proofs.Opened.{desk_on, desk_kept, one_more}
 use Rattle.lj_share.proofs.desk.Desk.add_inside.Goals.{in-Ok, in-Err}
 use Rattle.lj_share.proofs.desk.Desk.add_inside.Goals as goal
 
 pub count_one-requires-clause-one : goal.count_one-requires-clause-one
-count_one-requires-clause-one g c = (_, one_more _ _ _ _ _ (c.number-number.ensures ∙ ap (λ (s : SeatValue). s.number) (sym c.seat.view_is)) c.in-Ok.ensures.ok c.self.invariant.listed)
+count_one-requires-clause-one g c = (_, one_more _ _ _ _ _ c.number-number.ensures c.in-Ok.ensures.ok c.self.invariant.listed)
 
 pub returns-clause-made : goal.returns-clause-made
 returns-clause-made g c =
     elim c.match-add_inside.branch [
-      | in-Ok w ↦ rw (w.result-is, w.seat-is) (w.count_one.ensures.seat _ (one_more _ _ _ _ _ (c.number-number.ensures ∙ ap (λ (s : SeatValue). s.number) (sym c.seat.view_is)) w.in-Ok.ensures.ok c.self.invariant.listed) ∙ ap (making _) c.seat.view_is)
+      | in-Ok w ↦ rw (w.result-is, w.seat-is) (w.count_one.ensures.seat _ (one_more _ _ _ _ _ c.number-number.ensures w.in-Ok.ensures.ok c.self.invariant.listed))
       | in-Err w ↦ rw w.result-is tt
     ]
 
 pub invariant_of-self : goal.invariant_of-self
 invariant_of-self g c =
     elim c.match-add_inside.branch [
-      | in-Ok w ↦ rw w.self-inside-is (desk_on _ _ _ _ _ _ _ _ _ _ _ _ _ (c.number-number.ensures ∙ ap (λ (s : SeatValue). s.number) (sym c.seat.view_is)) w.in-Ok.ensures.ok w.count_one.ensures.entries w.count_one.ensures.lists c.self.invariant)
+      | in-Ok w ↦ rw w.self-inside-is (desk_on _ _ _ _ _ _ _ _ _ _ _ _ _ c.number-number.ensures w.in-Ok.ensures.ok w.count_one.ensures.entries w.count_one.ensures.lists c.self.invariant)
       | in-Err w ↦ rw w.self-inside-is (desk_kept _ _ _ _ _ _ _ _ _ w.in-Err.ensures.err c.self.invariant)
     ]
