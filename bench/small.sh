@@ -4,10 +4,10 @@
 #   small.sh PATH-OF-LRATJOIN
 # First one stream in turn, of fifteen kinds and of 1,000 to 800,000 bytes, by the pages that are the process's own (pages.c).
 # A row has the most that any of these takes up to a length, for each byte, and beyond eight for each; one is wrong that takes
-# more than 8,192 bytes, two pages, beyond. Then the same stream 2, 8 and 64 times on threads, by all that the process has,
+# more than 24,576 bytes, six pages, beyond. Then the same stream 2, 8 and 64 times on threads, by all that the process has,
 # which varies from run to run: a row has the most that any kind takes of a length, the greatest of two runs, where the short
-# streams' is the greatest of nine. One is wrong that takes more than 200,000 bytes beyond. Those that are wrong are named
-# last, and the status is 1 then.
+# streams' is the greatest of three in which all threads are at work at once. One is wrong that takes more than 400,000 bytes
+# beyond. Those that are wrong are named last, and the status is 1 then.
 set -euo pipefail
 
 program=$(realpath "${1:?usage: small.sh PATH-OF-LRATJOIN}")
@@ -39,6 +39,26 @@ bytes() {
 # Runs the program on the formula and so many times the same stream, on threads. Prints the kilobytes that it takes at most.
 kilobytes() {
     /usr/bin/time -q -o memory -f %M "$program" formula $(yes "$2" | head -n "$1") > told 2>&1 || true
+    see "$2"
+    tail -n 1 memory
+}
+
+# The same, where each stream is a pipe whose lines come once all threads wait for them.
+kilobytes_at_once() {
+    local seat writers=()
+    rm -f pipe*
+    mkfifo $(seq -f 'pipe%g' "$1")
+    /usr/bin/time -q -o memory -f %M "$program" formula $(seq -f 'pipe%g' "$1") > told 2>&1 &
+    for ((seat = 1; seat <= $1; seat++)); do
+        exec {writer}> "pipe$seat"
+        writers+=("$writer")
+    done
+    sleep 0.2
+    for writer in "${writers[@]}"; do
+        cat "$2" >&"$writer"
+        exec {writer}>&-
+    done
+    wait
     see "$2"
     tail -n 1 memory
 }
@@ -101,14 +121,14 @@ awk '
     {
         if ($3 / $2 > most) most = $3 / $2
         if ($3 - 8 * $2 > beyond) beyond = $3 - 8 * $2
-        if ($3 > 8 * $2 + 8192) print $1, "of", $2, "bytes in turn:", $3 > "/dev/stderr"
+        if ($3 > 8 * $2 + 24576) print $1, "of", $2, "bytes in turn:", $3 > "/dev/stderr"
     }
     END { row() }' <(sort -k2n taken) 2>> wrong
 
 streams 20
 for seats in 2 8 64; do
     for stream in streams/*; do
-        for _ in 1 2 3 4 5 6 7 8 9; do kilobytes "$seats" "$stream"; done | sort -n | sed -n "\$s,^,$seats $stream ,p"
+        for _ in 1 2 3; do kilobytes_at_once "$seats" "$stream"; done | sort -n | sed -n "\$s,^,$seats $stream ,p"
     done
 done > short
 
@@ -129,7 +149,7 @@ for length in 3000 10000 20000 40000 70000 100000 200000 400000 800000; do
         {
             taken = 1024 * ($4 - short[$1, $2])
             if (taken / ($1 * $3) > most[$1]) most[$1] = taken / ($1 * $3)
-            if (taken > 8 * $3 * $1 + 2e5) print $1, "of", $2, "of", $3, "bytes:", taken > "/dev/stderr"
+            if (taken > 8 * $3 * $1 + 4e5) print $1, "of", $2, "of", $3, "bytes:", taken > "/dev/stderr"
         }
         END { printf "%-20d %8.1f %8.1f %8.1f\n", row, most[2], most[8], most[64] }' short taken 2>> wrong
 done
