@@ -1,4 +1,4 @@
-use Rattle.std.proofs.Common.{ℕ, ◌-◌, arith, get_or}
+use Rattle.std.proofs.Common.{arith}
 use Rattle.std.specs.Prelude.{List}
 use Rattle.lj_book.specs.declared.occurrence_lists.Link.{Link}
 use Rattle.lj_book.proofs.Chains.{before_less}
