@@ -7,7 +7,8 @@
 # more than 24,576 bytes, six pages, beyond. Then the same stream 2, 8 and 64 times on threads, by all that the process has,
 # which varies from run to run: a row has the most that any kind takes of a length, the greatest of two runs, where the short
 # streams' is the greatest of three in which all threads are at work at once. One is wrong that takes more than 400,000 bytes
-# beyond. Those that are wrong are named last, and the status is 1 then.
+# beyond. What the streams of twenty bytes take beyond empty ones, the most of any kind, is told in front of both tables: with
+# it each figure can be had beside empty streams. Those that are wrong are named last, and the status is 1 then.
 set -euo pipefail
 
 program=$(realpath "${1:?usage: small.sh PATH-OF-LRATJOIN}")
@@ -98,8 +99,16 @@ streams() {
 
 cc -shared -fPIC -O1 -o pages.so "$here/pages.c"
 declare -A short
+: > empty
+none=$(bytes empty)
+most=0
 streams 20
-for stream in streams/*; do short[$stream]=$(bytes "$stream"); done
+for stream in streams/*; do
+    short[$stream]=$(bytes "$stream")
+    beyond=$((short[$stream] - none))
+    most=$((beyond > most ? beyond : most))
+done
+echo "one of twenty bytes in turn: at most $most bytes beyond an empty one"
 for ((length = 1000; length <= 800000; length = length * 6 / 5)); do
     streams "$length"
     for stream in streams/*; do
@@ -127,10 +136,17 @@ awk '
 
 streams 20
 for seats in 2 8 64; do
-    for stream in streams/*; do
+    for stream in empty streams/*; do
         for _ in 1 2 3; do kilobytes_at_once "$seats" "$stream"; done | sort -n | sed -n "\$s,^,$seats $stream ,p"
     done
 done > short
+awk '
+    $2 == "empty" { none = $3; next }
+    $3 - none > most[$1] { most[$1] = $3 - none }
+    END {
+        printf "of twenty bytes each on threads: at most %d, %d and %d bytes beyond 2, 8 and 64 empty ones at once, in all\n",
+            1024 * most[2], 1024 * most[8], 1024 * most[64]
+    }' short
 
 echo 'on threads: the most bytes of memory for each byte of text'
 printf '%-20s %8s %8s %8s\n' 'bytes of a stream' '2 of it' 8 64
