@@ -4,7 +4,7 @@
 #   small.sh PATH-OF-LRATJOIN
 # First one stream in turn, of fifteen kinds and of 1,000 to 800,000 bytes, by the pages that are the process's own (pages.c).
 # A row has the most that any of these takes up to a length, for each byte, and beyond eight for each; one is wrong that takes
-# more than 24,576 bytes, six pages, beyond. Then the same stream 2, 8 and 64 times on threads, by all that the process has,
+# more than 16,384 bytes, four pages, beyond. Then the same stream 2, 8 and 64 times on threads, by all that the process has,
 # which varies from run to run: a row has the most that any kind takes of a length, the greatest of two runs, where the short
 # streams' is the greatest of three in which all threads are at work at once. One is wrong that takes more than 400,000 bytes
 # beyond. What the streams of twenty bytes take beyond empty ones, the most of any kind, is told in front of both tables: with
@@ -130,7 +130,7 @@ awk '
     {
         if ($3 / $2 > most) most = $3 / $2
         if ($3 - 8 * $2 > beyond) beyond = $3 - 8 * $2
-        if ($3 > 8 * $2 + 24576) print $1, "of", $2, "bytes in turn:", $3 > "/dev/stderr"
+        if ($3 > 8 * $2 + 16384) print $1, "of", $2, "bytes in turn:", $3 > "/dev/stderr"
     }
     END { row() }' <(sort -k2n taken) 2>> wrong
 

@@ -70,6 +70,18 @@ impl Trail {
         self.lits.capacity()
     }
 
+    /// Makes room for so many literals more. Takes constant time, but for a growth.
+    ///
+    /// # Errors
+    /// [`NoMemory`] where a growth was refused.
+    #[inline]
+    pub(crate) fn make_room(&mut self, count: usize) -> Result<(), NoMemory>
+        ensures { self.new ≡ self.old }
+    {
+        self.lits.reserve(count)?;
+        Ok(())
+    }
+
     /// Where the memory of its lists comes from.
     pub(crate) fn allocator(&self) -> Global {
         *self.lits.allocator()

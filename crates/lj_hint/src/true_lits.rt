@@ -64,6 +64,18 @@ impl TrueLits {
         self.trail.capacity()
     }
 
+    /// Makes room for so many literals more. Takes constant time, but for a growth.
+    ///
+    /// # Errors
+    /// [`NoMemory`] where a growth was refused.
+    #[cold]
+    #[inline(never)]
+    pub(crate) fn make_room(&mut self, count: usize) -> Result<(), NoMemory>
+        ensures { self.new ≡ self.old }
+    {
+        self.trail.make_room(count)
+    }
+
     /// Where the memory of its lists comes from.
     pub(crate) fn allocator(&self) -> Global {
         self.trail.allocator()

@@ -11,6 +11,9 @@ use crate::trail::LentTrail;
 use crate::true_lits::TrueLits;
 use lj_clause::{Clause, ClauseView, Lit, NoMemory};
 
+/// A negation of more literals than these is long.
+const SOME: usize = 128;
+
 /// The literals of a clause that a walk leaves open, seen up to two.
 #[derive(Clone, Copy)]
 pub(crate) enum Rest {
@@ -33,7 +36,8 @@ pub(crate) enum Ending {
     StuckAt(u64),
 }
 
-/// The walk of a clause's negation over the hints.
+/// The walk of a clause's negation over the hints. Room for a long negation is made at once, with that for a literal of
+/// each hint, up to as many again: a list that grows beside the stamps leaves its shorter forms behind.
 ///
 /// # Errors
 /// [`NoMemory`] where a growth was refused.
@@ -49,7 +53,11 @@ pub(crate) fn walk_negation<H: HintList>(
     ensures consistent { result ≡ Ok Ending.StaysOpen
         → is_contradictory (from_literals held.new) ≡ false }
 {
+    let count = clause.lits().len();
     held.clear();
+    if count > SOME {
+        held.make_room(count.saturating_add(hints.count().min(count)))?;
+    }
     held.insert_negations(clause.lits())?;
     walk(held, hints)
 }
