@@ -12,7 +12,7 @@ use crate::true_lits::TrueLits;
 use lj_clause::{Clause, ClauseView, Lit, NoMemory};
 
 /// A negation of more literals than these is long.
-const SOME: usize = 128;
+const LONG: usize = 128;
 
 /// The literals of a clause that a walk leaves open, seen up to two.
 #[derive(Clone, Copy)]
@@ -55,7 +55,7 @@ pub(crate) fn walk_negation<H: HintList>(
 {
     let count = clause.lits().len();
     held.clear();
-    if count > SOME {
+    if count > LONG {
         held.make_room(count.saturating_add(hints.count().min(count)))?;
     }
     held.insert_negations(clause.lits())?;

@@ -226,6 +226,20 @@ left-behind bytes window n few cut front is =
     let left : drop n bytes ≡ drop n window ++ drop 80 bytes = ap (drop n) whole ∙ drop-append-le n window (drop 80 bytes) few in
     whole ∙ ap (λ w. w ++ drop 80 bytes) is ∙ append_assoc front (drop n window) (drop 80 bytes) ∙ ap (λ r. front ++ r) (sym left)
 
+-- a short number of a window's bytes, at the front of all of them
+pub short-on : (bytes window after : List ℕ) (n value : ℕ) → IsFirstChunk bytes window 80 → n ≤ 80 → IsShortNumber window value (drop n window) → after ≡ drop n bytes → IsShortNumber bytes value after
+short-on bytes window after n value cut few s is =
+    let long : n ≤ length window = omega (arith, few, ap length cut.same, length-take-le 80 bytes cut.enough) in
+    record {
+      digits = s.digits;
+      some = s.some;
+      are_digits = s.are_digits;
+      value_is = s.value_is;
+      small = s.small;
+      bytes_is = left-behind bytes window n long cut (s.digits ++ 32 ∷ []) (s.bytes_is ∙ sym (append_assoc s.digits (32 ∷ []) (drop n window)))
+          ∙ append_assoc s.digits (32 ∷ []) (drop n bytes) ∙ ap (λ r. s.digits ++ 32 ∷ r) (sym is);
+    }
+
 pub numbers-on : (old bytes middle rest window new after : List ℕ) (n : ℕ) → AreNumbersAhead old bytes middle rest → IsFirstChunk rest window 80 → AreNumbersAhead middle window new (drop n window) → n ≤ 65 → after ≡ drop n rest
     → AreNumbersAhead old bytes new after
 numbers-on old bytes middle rest window new after n so_far cut more few is =

@@ -171,9 +171,9 @@ masked-fours c0 c1 q0 q1 l0 l1 m0 m1 =
     ∙ omega (arith, low-two c0 q0 l0, low-two c1 q1 l1)
 
 pub value-is : (counts : List ℕ) → length counts ≡ 8 → AreCounts counts → (word pairs fours : ℕ) → word ≡ word_of counts
-    → pairs ≡ bit_and ((word * 10 % 18446744073709551616 + word / 256) % 18446744073709551616) 71777214294589695
-    → fours ≡ bit_and ((pairs * 100 % 18446744073709551616 + pairs / 65536) % 18446744073709551616) 281470681808895
-    → ((fours * 10000 % 18446744073709551616 + fours / 4294967296) % 18446744073709551616) % 4294967296 ≡ number_of_counts counts
+    → pairs ≡ bit_and (word * 2561 % 18446744073709551616 / 256) 71777214294589695
+    → fours ≡ bit_and (pairs * 6553601 % 18446744073709551616 / 65536) 281470681808895
+    → fours * 42949672960001 % 18446744073709551616 / 4294967296 ≡ number_of_counts counts
 value-is (d0 ∷ d1 ∷ d2 ∷ d3 ∷ d4 ∷ d5 ∷ d6 ∷ d7 ∷ []) eight all word pairs fours is is-pairs is-fours =
     let l0 : d0 ≤ 9 = all.0 in
     let l1 : d1 ≤ 9 = all.1.0 in
@@ -183,20 +183,20 @@ value-is (d0 ∷ d1 ∷ d2 ∷ d3 ∷ d4 ∷ d5 ∷ d6 ∷ d7 ∷ []) eight all 
     let l5 : d5 ≤ 9 = all.1.1.1.1.1.0 in
     let l6 : d6 ≤ 9 = all.1.1.1.1.1.1.0 in
     let l7 : d7 ≤ 9 = all.1.1.1.1.1.1.1.0 in
-    let tenfold : (word * 10 % 18446744073709551616 + word / 256) % 18446744073709551616
-    ≡ ((10 * d0 + d1) + 256 * (10 * d1 + d2)) + 65536 * (((10 * d2 + d3) + 256 * (10 * d3 + d4)) + 65536 * (((10 * d4 + d5) + 256 * (10 * d5 + d6)) + 65536 * ((10 * d6 + d7) + 256 * (10 * d7)))) =
+    let tenfold : word * 2561 % 18446744073709551616 / 256
+    ≡ ((10 * d0 + d1) + 256 * (10 * d1 + d2)) + 65536 * (((10 * d2 + d3) + 256 * (10 * d3 + d4)) + 65536 * (((10 * d4 + d5) + 256 * (10 * d5 + d6)) + 65536 * ((10 * d6 + d7) + 256 * 0))) =
     omega (arith, is, l0, l1, l2, l3, l4, l5, l6, l7) in
     let paired : pairs ≡ (10 * d0 + d1) + 65536 * ((10 * d2 + d3) + 65536 * ((10 * d4 + d5) + 65536 * (10 * d6 + d7))) =
     is-pairs ∙ ap (λ x. bit_and x 71777214294589695) tenfold
-    ∙ masked-pairs (10 * d0 + d1) (10 * d2 + d3) (10 * d4 + d5) (10 * d6 + d7) (10 * d1 + d2) (10 * d3 + d4) (10 * d5 + d6) (10 * d7)
-    (omega (arith, l0, l1)) (omega (arith, l2, l3)) (omega (arith, l4, l5)) (omega (arith, l6, l7)) (omega (arith, l1, l2)) (omega (arith, l3, l4)) (omega (arith, l5, l6)) (omega (arith, l7)) in
-    let hundredfold : (pairs * 100 % 18446744073709551616 + pairs / 65536) % 18446744073709551616
-    ≡ ((100 * (10 * d0 + d1) + (10 * d2 + d3)) + 65536 * (100 * (10 * d2 + d3) + (10 * d4 + d5))) + 4294967296 * ((100 * (10 * d4 + d5) + (10 * d6 + d7)) + 65536 * (100 * (10 * d6 + d7))) =
+    ∙ masked-pairs (10 * d0 + d1) (10 * d2 + d3) (10 * d4 + d5) (10 * d6 + d7) (10 * d1 + d2) (10 * d3 + d4) (10 * d5 + d6) 0
+    (omega (arith, l0, l1)) (omega (arith, l2, l3)) (omega (arith, l4, l5)) (omega (arith, l6, l7)) (omega (arith, l1, l2)) (omega (arith, l3, l4)) (omega (arith, l5, l6)) (omega arith) in
+    let hundredfold : pairs * 6553601 % 18446744073709551616 / 65536
+    ≡ ((100 * (10 * d0 + d1) + (10 * d2 + d3)) + 65536 * (100 * (10 * d2 + d3) + (10 * d4 + d5))) + 4294967296 * ((100 * (10 * d4 + d5) + (10 * d6 + d7)) + 65536 * 0) =
     omega (arith, paired, l0, l1, l2, l3, l4, l5, l6, l7) in
     let grouped : fours ≡ (100 * (10 * d0 + d1) + (10 * d2 + d3)) + 4294967296 * (100 * (10 * d4 + d5) + (10 * d6 + d7)) =
     is-fours ∙ ap (λ x. bit_and x 281470681808895) hundredfold
-    ∙ masked-fours (100 * (10 * d0 + d1) + (10 * d2 + d3)) (100 * (10 * d4 + d5) + (10 * d6 + d7)) (100 * (10 * d2 + d3) + (10 * d4 + d5)) (100 * (10 * d6 + d7))
-    (omega (arith, l0, l1, l2, l3)) (omega (arith, l4, l5, l6, l7)) (omega (arith, l2, l3, l4, l5)) (omega (arith, l6, l7)) in
+    ∙ masked-fours (100 * (10 * d0 + d1) + (10 * d2 + d3)) (100 * (10 * d4 + d5) + (10 * d6 + d7)) (100 * (10 * d2 + d3) + (10 * d4 + d5)) 0
+    (omega (arith, l0, l1, l2, l3)) (omega (arith, l4, l5, l6, l7)) (omega (arith, l2, l3, l4, l5)) (omega arith) in
     omega (arith, grouped, l0, l1, l2, l3, l4, l5, l6, l7)
 value-is [] eight all word pairs fours is is-pairs is-fours = absurd (omega arith)
 value-is (d0 ∷ []) eight all word pairs fours is is-pairs is-fours = absurd (omega arith)

@@ -4,6 +4,8 @@ ghost use Rattle.std.specs.Char.{is_ascii_digit};
 ghost use Rattle.lj_text.specs.inner.ShortNumbers.{IsShortNumber, IsTokenAhead};
 ghost use Rattle.lj_clause.specs.Literal.{literal_on};
 
+use super::windows::{WINDOW, first_space, number_within};
+
 /// How many bytes a short number takes at most, with the space that ends it.
 const SHORT: usize = 9;
 
@@ -48,7 +50,13 @@ pub(crate) fn short_number(bytes: &[u8]) -> Option<(u32, &[u8])>
     ensures small { IfSome result (λ found. found.0 < 10 ^ 9) }
     ensures shorter { IfSome result (λ found. length found.1.now < length bytes.now) }
 {
-    let (value, after) = short_digits(bytes)?;
+    let Some(window) = bytes.first_chunk::<WINDOW>() else {
+        let (value, after) = short_digits(bytes)?;
+        return Some((value, after));
+    };
+    let end = first_space(window);
+    let value = number_within(window, 0, end)?;
+    let (_, after) = bytes.split_at(end + 1);
     Some((value, after))
 }
 

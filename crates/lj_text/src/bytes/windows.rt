@@ -24,8 +24,20 @@ const PAIRS: u64 = 0x00ff_00ff_00ff_00ff;
 /// The first and every other two bytes of a word.
 const FOURS: u64 = 0x0000_ffff_0000_ffff;
 
-/// The lower four bytes of a word.
-const LOWER: u64 = 0xffff_ffff;
+/// What a word is multiplied by for ten times each byte together with the byte behind it, one byte farther up.
+const TENS: u64 = (10 << 8) + 1;
+
+/// The same for a hundred times each two bytes, two bytes farther up.
+const HUNDREDS: u64 = (100 << 16) + 1;
+
+/// The same for ten thousand times the lower four bytes, four bytes farther up.
+const TEN_THOUSANDS: u64 = (10_000 << 32) + 1;
+
+/// A space in each of a word's eight bytes.
+const SPACES: u64 = 0x2020_2020_2020_2020;
+
+/// A 1 in each of a word's eight bytes.
+const ONES: u64 = 0x0101_0101_0101_0101;
 
 /// Which of the window's first 64 bytes are spaces, as the bits of a word from the lowest on. Whoever reads a number that ends
 /// there asks the window again, so nothing is promised.
@@ -55,6 +67,17 @@ fn word_at(window: &[u8], start: usize) -> u64
     ])
 }
 
+/// Where the first space among the window's first eight bytes stands, or 8 where none does. Whoever reads a number that ends
+/// there asks the window again, so no more than the bound is promised.
+#[inline(always)]
+pub(crate) fn first_space(window: &[u8; WINDOW]) -> usize
+    ensures { result ≤ 8 }
+{
+    let others = word_at(window, 0) ^ SPACES;
+    let found = others.wrapping_sub(ONES) & !others & UPPER;
+    (found.trailing_zeros() / 8) as usize
+}
+
 /// Whether each byte of a word is at most 9.
 #[inline(always)]
 fn are_digits(word: u64) -> bool
@@ -70,10 +93,9 @@ fn value_of(digits: u64) -> u32
     ensures { (counts : List ℕ) → length counts ≡ 8 → AreCounts counts
         → digits ≡ word_of counts → result ≡ number_of_counts counts }
 {
-    let pairs = digits.wrapping_mul(10).wrapping_add(digits >> 8) & PAIRS;
-    let fours = pairs.wrapping_mul(100).wrapping_add(pairs >> 16) & FOURS;
-    let value = fours.wrapping_mul(10_000).wrapping_add(fours >> 32) & LOWER;
-    value as u32
+    let pairs = (digits.wrapping_mul(TENS) >> 8) & PAIRS;
+    let fours = (pairs.wrapping_mul(HUNDREDS) >> 16) & FOURS;
+    (fours.wrapping_mul(TEN_THOUSANDS) >> 32) as u32
 }
 
 /// The number from one place to the next, which has at most eight digits and ends there at a space: none where anything

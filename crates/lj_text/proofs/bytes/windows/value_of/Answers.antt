@@ -1,7 +1,6 @@
-use Rattle.std.proofs.Common.{refl, ◌∙◌}
-use Rattle.std.proofs.lemmas.Nat.{and_mask}
+use Rattle.std.proofs.Common.{refl}
 use Rattle.lj_text.proofs.WindowLemmas.{value-is}
 use Rattle.lj_text.proofs.bytes.windows.value_of.Goals as goal
 
 pub returns : goal.returns
-returns c = λ counts eight all is. and_mask _ 32 ∙ value-is counts eight all c.args.digits _ _ is refl refl
+returns c = λ counts eight all is. value-is counts eight all c.args.digits _ _ is refl refl
