@@ -28,6 +28,7 @@ mod Shifts
 mod OpenedLaws
 mod Bounds
 mod OccurrenceLaws
+mod LongClauses
 mod Chains
 mod FirstUseLaws
 mod FamilyLaws

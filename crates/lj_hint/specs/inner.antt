@@ -7,3 +7,4 @@ pub mod Ending
 pub mod Groups
 pub mod Codes
 pub mod Coverings
+pub mod EveryOther

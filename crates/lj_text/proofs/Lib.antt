@@ -7,6 +7,7 @@ mod DigitLemmas
 mod GroupRows
 mod HeldLemmas
 mod JudgeLemmas
+mod LaneLemmas
 mod MixedLaws
 mod OnePassLemmas
 mod PassLemmas

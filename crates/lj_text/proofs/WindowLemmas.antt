@@ -1,6 +1,6 @@
 -- Numbers of few digits by words of eight bytes.
-use Rattle.std.proofs.Common.{Fits, w8, ◌⊎◌, inl, inr, ◌≡◌, Bool, ℕ, zero, suc, ◌+◌, ◌-◌, ◌*◌, ◌/◌, ◌%◌, ◌^◌, ◌<◌, ◌≤◌, ◌==◌, true, cond, ◌&&◌, bit_and, bit_or, List, [], ◌∷◌, ◌++◌, length, get_or, take, drop, map, refl, sym, ap, ◌∙◌, subst, arith}
-use Rattle.std.proofs.lemmas.List.{take-take, map-append, length-map, length-append, length-replicate, length-take-le, take-append-drop}
+use Rattle.std.proofs.Common.{Fits, w8, not, ◌⊎◌, inl, inr, ◌≡◌, Bool, ℕ, zero, suc, ◌+◌, ◌-◌, ◌*◌, ◌/◌, ◌%◌, ◌^◌, ◌<◌, ◌≤◌, ◌==◌, true, false, cond, ◌&&◌, bit_and, bit_or, List, [], ◌∷◌, ◌++◌, length, get_or, take, drop, map, refl, sym, ap, ◌∙◌, subst, arith}
+use Rattle.std.proofs.lemmas.List.{drop-drop, get_or-drop, length-drop, take-take, map-append, length-map, length-append, length-replicate, length-take-le, take-append-drop}
 use Rattle.std.specs.List.{list_all}
 use Rattle.std.specs.Char.{is_ascii_digit}
 use Rattle.lj_text.specs.inner.ShortNumbers.{IsShortNumber}
@@ -8,12 +8,12 @@ use Rattle.lj_text.specs.Bytes.{decimal_value}
 use Rattle.lj_text.proofs.ShortLemmas.{filled-front}
 use Rattle.std.specs.Prelude.{replicate, nat_le}
 use Rattle.std.specs.Int.RustNames.{bit_xor}
-use Rattle.std.proofs.lemmas.Bool.{and_parts, cases_lt}
+use Rattle.std.proofs.lemmas.Bool.{and_parts, cases_lt, false≢true}
 use Rattle.std.proofs.lemmas.Bool.Decides.{nat_tests}
 use Rattle.std.proofs.lemmas.Nat.{and_block, or_block, xor_block, and_mask, or_lt, and_shr, or_shr, xor_lt}
 use Rattle.std.proofs.Math.Seq.{drop-cons}
 use Rattle.std.proofs.Math.Nat.{pow-succ', mul_assoc, mul-le-mul_right}
-use Rattle.lj_text.specs.inner.Windows.{word_of, number_of_counts, AreBytes, AreCounts}
+use Rattle.lj_text.specs.inner.Windows.{moved_up, word_of, number_of_counts, AreBytes, AreCounts}
 
 -- ---- tests of each byte
 abbrev all-below : (ℕ → Bool) → ℕ → Bool
@@ -269,9 +269,13 @@ bytes-behind : (k : ℕ) (bs : List ℕ) → AreBytes bs → AreBytes (replicate
 bytes-behind zero bs all = all
 bytes-behind (suc k) bs all = (omega arith, bytes-behind k bs all)
 
-counts-behind : (k : ℕ) (ds : List ℕ) → AreCounts (replicate k 0 ++ ds) → AreCounts ds
+counts-front : (k : ℕ) (ds : List ℕ) → AreCounts (replicate k 0 ++ ds) → AreCounts ds
+counts-front zero ds all = all
+counts-front (suc k) ds all = counts-front k ds all.1
+
+counts-behind : (k : ℕ) (ds : List ℕ) → AreCounts ds → AreCounts (replicate k 0 ++ ds)
 counts-behind zero ds all = all
-counts-behind (suc k) ds all = counts-behind k ds all.1
+counts-behind (suc k) ds all = (omega arith, counts-behind k ds all)
 
 number-behind : (k : ℕ) (ds : List ℕ) → number_of_counts (replicate k 0 ++ ds) ≡ number_of_counts ds
 number-behind zero ds = refl
@@ -283,64 +287,112 @@ number-below (d ∷ ds) all =
     let most : d * 10 ^ length ds ≤ 9 * 10 ^ length ds = mul-le-mul_right (10 ^ length ds) all.0 in
     omega (arith, most, number-below ds all.1, pow-succ' 10 (length ds))
 
+-- a byte is a digit exactly where it counts to 9 at most
 abbrev digit-test : ℕ → Bool
-digit-test b = cond (nat_le (less_zero b) 9) (is_ascii_digit b && (less_zero b == b - 48)) true
+digit-test b = cond (nat_le (less_zero b) 9) (is_ascii_digit b && (less_zero b == b - 48)) (not (is_ascii_digit b))
 
 digit-passes : (b : ℕ) → b < 256 → digit-test b ≡ true
 digit-passes b lt = below-passes digit-test 256 b refl lt
 
-digit-of : (b : ℕ) → b < 256 → less_zero b ≤ 9 → (is_ascii_digit b ≡ true) × (less_zero b ≡ b - 48)
-digit-of b lt few =
-    let yes : nat_le (less_zero b) 9 ≡ true = grind (arith, nat_tests, few) in
-    let both : (is_ascii_digit b && (less_zero b == b - 48)) ≡ true = sym (ap (λ t. cond t (is_ascii_digit b && (less_zero b == b - 48)) true) yes) ∙ digit-passes b lt in
-    let parts = and_parts (is_ascii_digit b) (less_zero b == b - 48) both in
-    (parts.0, grind (arith, nat_tests, parts.1))
+few-digit : (b : ℕ) (few digit same : Bool) → cond few (digit && same) (not digit) ≡ true → (few ≡ true → (digit ≡ true) × (same ≡ true)) × (digit ≡ true → (few ≡ true) × (same ≡ true))
+few-digit b true digit same e = let parts = and_parts digit same e in (λ _. parts, λ _. (refl, parts.1))
+few-digit b false true same e = (λ none. absurd (false≢true none), λ _. absurd (false≢true e))
+few-digit b false false same e = (λ none. absurd (false≢true none), λ none. absurd (false≢true none))
 
-decimal-of : (bs : List ℕ) → AreBytes bs → AreCounts (map less_zero bs) → (list_all is_ascii_digit bs ≡ true) × (number_of_counts (map less_zero bs) ≡ decimal_value bs)
-decimal-of [] all counts = (refl, refl)
-decimal-of (b ∷ bs) all counts =
-    let first = digit-of b all.0 counts.0 in
-    let rest = decimal-of bs all.1 counts.1 in (
-      ap (λ t. t && list_all is_ascii_digit bs) first.0 ∙ rest.0,
-      ap (λ n. less_zero b * 10 ^ n + number_of_counts (map less_zero bs)) (length-map bs less_zero) ∙ ap (λ d. d * 10 ^ length bs + number_of_counts (map less_zero bs)) first.1 ∙ ap (λ n. (b - 48) * 10 ^ length bs + n) rest.1,
+both-ways : (b : ℕ) → b < 256 → (nat_le (less_zero b) 9 ≡ true → (is_ascii_digit b ≡ true) × ((less_zero b == b - 48) ≡ true)) × (is_ascii_digit b ≡ true → (nat_le (less_zero b) 9 ≡ true) × ((less_zero b == b - 48) ≡ true))
+both-ways b lt = few-digit b (nat_le (less_zero b) 9) (is_ascii_digit b) (less_zero b == b - 48) (digit-passes b lt)
+
+digits-of : (bs : List ℕ) → AreBytes bs → AreCounts (map less_zero bs) → list_all is_ascii_digit bs ≡ true
+digits-of [] all counts = refl
+digits-of (b ∷ bs) all counts =
+    let first : nat_le (less_zero b) 9 ≡ true = grind (arith, nat_tests, counts.0) in
+    ap (λ t. t && list_all is_ascii_digit bs) ((both-ways b all.0).0 first).0 ∙ digits-of bs all.1 counts.1
+
+decimal-of : (bs : List ℕ) → AreBytes bs → list_all is_ascii_digit bs ≡ true → AreCounts (map less_zero bs) × (number_of_counts (map less_zero bs) ≡ decimal_value bs)
+decimal-of [] all digits = (tt, refl)
+decimal-of (b ∷ bs) all digits =
+    let parts = and_parts (is_ascii_digit b) (list_all is_ascii_digit bs) digits in
+    let first = (both-ways b all.0).1 parts.0 in
+    let few : less_zero b ≤ 9 = grind (arith, nat_tests, first.0) in
+    let same : less_zero b ≡ b - 48 = grind (arith, nat_tests, first.1) in
+    let rest = decimal-of bs all.1 parts.1 in (
+      (few, rest.0),
+      ap (λ n. less_zero b * 10 ^ n + number_of_counts (map less_zero bs)) (length-map bs less_zero) ∙ ap (λ d. d * 10 ^ length bs + number_of_counts (map less_zero bs)) same ∙ ap (λ n. (b - 48) * 10 ^ length bs + n) rest.1,
     )
 
-pub within : (bytes : List ℕ) (n value : ℕ) → AreBytes (take 8 bytes) → 8 ≤ length bytes → n < length bytes → 0 < n → n ≤ 8 → get_or bytes n 0 ≡ 32
-    → ((digits : List ℕ) → length digits ≡ 8 → AreBytes digits → (bit_xor (word_of (take 8 bytes)) 3472328296227680304 * 2 ^ (64 - 8 * n)) % 18446744073709551616 ≡ word_of digits → AreCounts digits)
-    → ((counts : List ℕ) → length counts ≡ 8 → AreCounts counts → (bit_xor (word_of (take 8 bytes)) 3472328296227680304 * 2 ^ (64 - 8 * n)) % 18446744073709551616 ≡ word_of counts → value ≡ number_of_counts counts)
-    → IsShortNumber bytes value (drop (n + 1) bytes)
-within bytes n value all room long some few space told number =
+-- eight bytes, of which the first n are moved up, are those and zeros before them
+abbrev IsWindow : List ℕ → ℕ → Type 0
+IsWindow bytes n = AreBytes (take 8 bytes) × (8 ≤ length bytes) × (0 < n) × (n ≤ 8)
+
+abbrev filled : List ℕ → ℕ → List ℕ
+filled bytes n = replicate (8 - n) 0 ++ map less_zero (take n bytes)
+
+front-bytes : (bytes : List ℕ) (n : ℕ) → IsWindow bytes n → AreBytes (take n bytes)
+front-bytes bytes n w = subst AreBytes (take-take n 8 bytes w.3) (bytes-take n (take 8 bytes) w.0)
+
+filled-bytes : (bytes : List ℕ) (n : ℕ) → IsWindow bytes n → AreBytes (filled bytes n)
+filled-bytes bytes n w = bytes-behind (8 - n) (map less_zero (take n bytes)) (bytes-less (take n bytes) (front-bytes bytes n w))
+
+long-front : (bytes : List ℕ) (n : ℕ) → IsWindow bytes n → length (map less_zero (take n bytes)) ≡ n
+long-front bytes n w = length-map (take n bytes) less_zero ∙ length-take-le n bytes (omega (arith, w.1, w.3))
+
+filled-long : (bytes : List ℕ) (n : ℕ) → IsWindow bytes n → length (filled bytes n) ≡ 8
+filled-long bytes n w = omega (arith, length-append (replicate (8 - n) 0) (map less_zero (take n bytes)), length-replicate {A = ℕ} (8 - n) 0, long-front bytes n w, w.3)
+
+moved-is : (bytes : List ℕ) (n : ℕ) → IsWindow bytes n → moved_up bytes n ≡ word_of (filled bytes n)
+moved-is bytes n w =
     let whole : List ℕ = take 8 bytes in
-    let front : List ℕ = take n bytes in
     let k : ℕ = 8 - n in
-    let xs : List ℕ = map less_zero front in
+    let xs : List ℕ = map less_zero (take n bytes) in
     let ys : List ℕ = map less_zero (drop n whole) in
-    let inner : take n whole ≡ front = take-take n 8 bytes few in
     let split : map less_zero whole ≡ xs ++ ys =
-    ap (map less_zero) (sym (take-append-drop n whole)) ∙ map-append less_zero (take n whole) (drop n whole) ∙ ap (λ t. map less_zero t ++ ys) inner in
-    let eight : length whole ≡ 8 = length-take-le 8 bytes room in
+    ap (map less_zero) (sym (take-append-drop n whole)) ∙ map-append less_zero (take n whole) (drop n whole) ∙ ap (λ t. map less_zero t ++ ys) (take-take n 8 bytes w.3) in
+    let eight : length whole ≡ 8 = length-take-le 8 bytes w.1 in
     let plain : bit_xor (word_of whole) 3472328296227680304 ≡ word_of (xs ++ ys) =
-    ap (λ m. bit_xor (word_of whole) (zeros m)) (sym eight) ∙ xored whole all ∙ ap word_of split in
-    let bytes-front : AreBytes front = subst AreBytes inner (bytes-take n whole all) in
-    let bytes-xs : AreBytes xs = bytes-less front bytes-front in
-    let long-xs : length xs ≡ n = length-map front less_zero ∙ length-take-le n bytes (omega (arith, long)) in
-    let up : 64 - 8 * n ≡ 8 * k = omega (arith, few) in
-    let counted : length xs ≡ 8 - k = omega (arith, long-xs, few) in
-    let word-is : (bit_xor (word_of whole) 3472328296227680304 * 2 ^ (64 - 8 * n)) % 18446744073709551616 ≡ word_of (replicate k 0 ++ xs) =
-    ap (λ w. (w * 2 ^ (64 - 8 * n)) % 18446744073709551616) plain ∙ ap (λ m. (word_of (xs ++ ys) * 2 ^ m) % 18446744073709551616) up
-    ∙ moved-up xs ys k bytes-xs (omega (arith, some)) counted in
-    let filled : length (replicate k 0 ++ xs) ≡ 8 = omega (arith, length-append (replicate k 0) xs, length-replicate {A = ℕ} k 0, long-xs, few) in
-    let counts : AreCounts (replicate k 0 ++ xs) = told (replicate k 0 ++ xs) filled (bytes-behind k xs bytes-xs) word-is in
-    let value-of : value ≡ number_of_counts (replicate k 0 ++ xs) = number (replicate k 0 ++ xs) filled counts word-is in
-    let decimal = decimal-of front bytes-front (counts-behind k xs counts) in
-    let below : number_of_counts (replicate k 0 ++ xs) < 10 ^ 8 = subst (λ m. number_of_counts (replicate k 0 ++ xs) < 10 ^ m) filled (number-below (replicate k 0 ++ xs) counts) in
+    ap (λ m. bit_xor (word_of whole) (zeros m)) (sym eight) ∙ xored whole w.0 ∙ ap word_of split in
+    let up : 64 - 8 * n ≡ 8 * k = omega (arith, w.3) in
+    ap (λ v. (v * 2 ^ (64 - 8 * n)) % 18446744073709551616) plain ∙ ap (λ m. (word_of (xs ++ ys) * 2 ^ m) % 18446744073709551616) up
+    ∙ moved-up xs ys k (bytes-less (take n bytes) (front-bytes bytes n w)) (omega (arith, w.2)) (omega (arith, long-front bytes n w, w.3))
+
+pub told-digits : (bytes : List ℕ) (n : ℕ) → IsWindow bytes n
+    → ((digits : List ℕ) → length digits ≡ 8 → AreBytes digits → moved_up bytes n ≡ word_of digits → AreCounts digits)
+    → list_all is_ascii_digit (take n bytes) ≡ true
+told-digits bytes n w told =
+    let counts : AreCounts (filled bytes n) = told (filled bytes n) (filled-long bytes n w) (filled-bytes bytes n w) (moved-is bytes n w) in
+    digits-of (take n bytes) (front-bytes bytes n w) (counts-front (8 - n) (map less_zero (take n bytes)) counts)
+
+pub within : (bytes : List ℕ) (n value : ℕ) → IsWindow bytes n → n < length bytes → get_or bytes n 0 ≡ 32 → list_all is_ascii_digit (take n bytes) ≡ true
+    → ((counts : List ℕ) → length counts ≡ 8 → AreCounts counts → moved_up bytes n ≡ word_of counts → value ≡ number_of_counts counts)
+    → IsShortNumber bytes value (drop (n + 1) bytes)
+within bytes n value w long space digits number =
+    let front : List ℕ = take n bytes in
+    let decimal = decimal-of front (front-bytes bytes n w) digits in
+    let counts : AreCounts (filled bytes n) = counts-behind (8 - n) (map less_zero front) decimal.0 in
+    let value-of : value ≡ number_of_counts (filled bytes n) = number (filled bytes n) (filled-long bytes n w) counts (moved-is bytes n w) in
+    let below : number_of_counts (filled bytes n) < 10 ^ 8 = subst (λ m. number_of_counts (filled bytes n) < 10 ^ m) (filled-long bytes n w) (number-below (filled bytes n) counts) in
     let found : IsShortNumber bytes value (drop (suc n) bytes) = record {
       digits = front;
-      some = filled-front bytes n some (omega (arith, long));
-      are_digits = decimal.0;
-      value_is = value-of ∙ number-behind k xs ∙ decimal.1;
+      some = filled-front bytes n w.2 (omega (arith, long));
+      are_digits = digits;
+      value_is = value-of ∙ number-behind (8 - n) (map less_zero front) ∙ decimal.1;
       small = omega (arith, value-of, below);
       bytes_is = sym (take-append-drop n bytes) ∙ ap (λ r. front ++ r) (drop-cons bytes n 0 long) ∙ ap (λ b. front ++ b ∷ drop (suc n) bytes) space;
     } in
     let next : suc n ≡ n + 1 = omega arith in
     subst (λ m. IsShortNumber bytes value (drop m bytes)) next found
+
+-- the same of a window from one place to the next
+pub window-at : (window : List ℕ) (start end : ℕ) → AreBytes (take 8 (drop start window)) → start + 8 ≤ length window → start < end → end ≤ start + 8 → IsWindow (drop start window) (end - start)
+window-at window start end bytes room some few = (bytes, omega (arith, length-drop start window, room), omega (arith, some), omega (arith, few))
+
+pub number-at : (window : List ℕ) (start end value : ℕ) → IsWindow (drop start window) (end - start) → start < end → end < length window → get_or window end 0 ≡ 32
+    → list_all is_ascii_digit (take (end - start) (drop start window)) ≡ true
+    → ((counts : List ℕ) → length counts ≡ 8 → AreCounts counts → moved_up (drop start window) (end - start) ≡ word_of counts → value ≡ number_of_counts counts)
+    → IsShortNumber (drop start window) value (drop (end + 1) window)
+number-at window start end value w some long space digits number =
+    let n : ℕ = end - start in
+    let bytes : List ℕ = drop start window in
+    let back : start + n ≡ end = omega (arith, some) in
+    let found = within bytes n value w (omega (arith, length-drop start window, long, some)) (get_or-drop start window n 0 ∙ ap (λ i. get_or window i 0) back ∙ space) digits number in
+    let place : drop (n + 1) bytes ≡ drop (end + 1) window = drop-drop (n + 1) start window ∙ ap (λ k. drop k window) (omega (arith, back)) in
+    subst (λ after. IsShortNumber bytes value after) place found

@@ -10,4 +10,4 @@ pub(crate) use digits::{Word, digits_value, word_of};
 pub(crate) use number_tokens::{first_word, next_word};
 pub(crate) use short_numbers::{short_integer, short_number};
 pub(crate) use tokens::{after_blanks, next_token};
-pub(crate) use windows::{WINDOW, number_within, spaces_in};
+pub(crate) use windows::{WINDOW, number_of_digits, number_within, others_in, spaces_in};

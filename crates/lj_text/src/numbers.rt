@@ -4,7 +4,7 @@ ghost use Rattle.lj_text.specs.inner.Numbers.{numbers_in, numbers_left};
 ghost use Rattle.lj_text.specs.inner.LineReading.{IsReadOn};
 ghost use Rattle.lj_text.specs.inner.ShortNumbers.{AreNumbersAhead};
 
-use crate::bytes::{WINDOW, number_within, short_number, spaces_in};
+use crate::bytes::{WINDOW, number_of_digits, others_in, short_number};
 use crate::few_numbers::{FEW, FewNumbers};
 use crate::lent_mixed::LentMixed;
 use crate::mixed_numbers::{MixedNumbers, are_short};
@@ -435,18 +435,18 @@ fn numbers_within(numbers: &mut Vec<u32>, window: &[u8; WINDOW]) -> (usize, bool
     ensures within { result.0 ≤ 65 }
     ensures goes_on { result.1 ≡ true → 0 < result.0 }
 {
-    let mut spaces = spaces_in(window);
+    let mut others = others_in(window);
     let mut start = 0;
-    while spaces != 0 {
-        let end = spaces.trailing_zeros() as usize;
-        let Some(number) = number_within(window, start, end) else {
+    while others != 0 {
+        let end = others.trailing_zeros() as usize;
+        let Some(number) = number_of_digits(window, start, end) else {
             return (start, false);
         };
         if number == 0 || numbers.push(number).is_err() {
             return (start, false);
         }
         start = end + 1;
-        spaces &= spaces - 1;
+        others &= others - 1;
     }
     (start, start != 0)
 }

@@ -1,8 +1,10 @@
 //! Numbers of few digits in a window of a line's bytes: where they end is looked for once for all of them, so that none waits
 //! for the one before, and no branch asks how many digits a number has.
-ghost use Rattle.std.specs.Prelude.{◌≡◌, ◌+◌, ◌<◌, ◌≤◌, ℕ, List, length, take, drop, true, IfSome};
+ghost use Rattle.std.specs.Prelude.{◌≡◌, ◌+◌, ◌-◌, ◌<◌, ◌≤◌, ℕ, List, length, take, drop, slice_index, true, IfSome};
+ghost use Rattle.std.specs.List.{list_all};
+ghost use Rattle.std.specs.Char.{is_ascii_digit};
 ghost use Rattle.lj_text.specs.inner.ShortNumbers.{IsShortNumber};
-ghost use Rattle.lj_text.specs.inner.Windows.{AreBytes, AreCounts, number_of_counts, word_of};
+ghost use Rattle.lj_text.specs.inner.Windows.{AreBytes, AreCounts, moved_up, number_of_counts, others_of, word_of};
 
 use std::simd::prelude::*;
 
@@ -46,6 +48,24 @@ pub(crate) fn spaces_in(window: &[u8; WINDOW]) -> u64 {
     u8x64::from_slice(window)
         .simd_eq(u8x64::splat(b' '))
         .to_bitmask()
+}
+
+/// Which of these bytes are no digits, as the bits of a word from the lowest on.
+#[inline(always)]
+fn others_among(bytes: u8x64) -> u64
+    ensures { result ≡ others_of bytes }
+{
+    (bytes - u8x64::splat(b'0'))
+        .simd_ge(u8x64::splat(10))
+        .to_bitmask()
+}
+
+/// The same of the window's first 64 bytes.
+#[inline(always)]
+pub(crate) fn others_in(window: &[u8; WINDOW]) -> u64
+    ensures { result ≡ others_of (take 64 window.now) }
+{
+    others_among(u8x64::from_slice(window))
 }
 
 /// The eight bytes from a place on, the first of them the lowest of the word.
@@ -98,6 +118,24 @@ fn value_of(digits: u64) -> u32
     (fours.wrapping_mul(TEN_THOUSANDS) >> 32) as u32
 }
 
+/// What stands from one place to the next, at most eight bytes, as the upper bytes of a word, each as far as it is behind `0`:
+/// none where nothing stands there or more, or anything but a space stands behind it.
+#[inline(always)]
+fn word_within(window: &[u8; WINDOW], start: usize, end: usize) -> Option<u64>
+    requires { (start + 8 ≤ length window.now) × (end < length window.now) }
+    ensures word { IfSome result (λ word. word ≡ moved_up (drop start window.now) (end - start)) }
+    ensures bytes { IfSome result (λ _. AreBytes (take 8 (drop start window.now))) }
+    ensures some { IfSome result (λ _. start < end) }
+    ensures few { IfSome result (λ _. end ≤ start + 8) }
+    ensures space { IfSome result (λ _. slice_index window.now end ≡ 32) }
+{
+    let count = end.wrapping_sub(start);
+    if count.wrapping_sub(1) > 7 || window[end] != b' ' {
+        return None;
+    }
+    Some((word_at(window, start) ^ ZEROS) << (64 - 8 * count))
+}
+
 /// The number from one place to the next, which has at most eight digits and ends there at a space: none where anything
 /// else stands there. Takes constant time.
 #[inline(always)]
@@ -106,14 +144,22 @@ pub(crate) fn number_within(window: &[u8; WINDOW], start: usize, end: usize) -> 
     ensures number { IfSome result
         (λ value. IsShortNumber (drop start window.now) value (drop (end + 1) window.now)) }
 {
-    let count = end.wrapping_sub(start);
-    if count.wrapping_sub(1) > 7 || window[end] != b' ' {
-        return None;
-    }
-    let digits = (word_at(window, start) ^ ZEROS) << (64 - 8 * count);
+    let digits = word_within(window, start, end)?;
     if are_digits(digits) {
         Some(value_of(digits))
     } else {
         None
     }
+}
+
+/// The same where nothing but digits stands from the one place to the next, so that none is asked whether it is one.
+#[inline(always)]
+pub(crate) fn number_of_digits(window: &[u8; WINDOW], start: usize, end: usize) -> Option<u32>
+    requires within { (start + 8 ≤ length window.now) × (end < length window.now) }
+    requires digits { list_all is_ascii_digit (take (end - start) (drop start window.now)) ≡ true }
+    ensures number { IfSome result
+        (λ value. IsShortNumber (drop start window.now) value (drop (end + 1) window.now)) }
+{
+    let digits = word_within(window, start, end)?;
+    Some(value_of(digits))
 }
