@@ -3,7 +3,7 @@
 # extended resolution, so that a sixth of the lines are RAT. It prints lines, MB/s and peak memory of both, and how many
 # times as long the longer one takes: its status is 1 where that is above 2.2.
 #   pigeonhole.sh PATH-OF-LRATJOIN
-# Each time is that of a whole process on files that were read before, and the least of three, each in turn.
+# Each time is that of a whole process on files that were read before, and the least of nine, each in turn.
 set -euo pipefail
 
 here=$(cd "$(dirname "$0")" && pwd)
@@ -19,7 +19,7 @@ for holes in 25 30; do
 done
 
 echo "load of the machine: $(cut -d ' ' -f 1-3 /proc/loadavg), processors: $(nproc)"
-for _ in 1 2 3; do
+for _ in 1 2 3 4 5 6 7 8 9; do
     for holes in 25 30; do
         start=${EPOCHREALTIME/[.,]/}
         if ! /usr/bin/time -q -o memory -f %M "$program" "$holes.cnf" "$holes.lrat" > told 2>&1 || ! grep -qx 's VERIFIED UNSAT' told; then
