@@ -1,5 +1,6 @@
 -- The run of one stream on a shared book.
-use Rattle.std.proofs.Common.{◌≡◌, ℕ, suc, ◌+◌, Bool, true, false, List, [], ◌∷◌, ◌++◌, length, map, filter, take, drop, None, Some, Result, Ok, Err, refl, sym, ap, ◌∙◌, subst, arith, add-one, add-zero, cond, length-append}
+use Rattle.std.proofs.Common.{◌≡◌, ℕ, suc, ◌+◌, Bool, true, false, List, [], ◌∷◌, ◌++◌, length, map, filter, take, drop, Option, None, Some, Result, Ok, Err, refl, sym, ap, ◌∙◌, subst, inl, arith, add-one, add-zero, cond, length-append}
+use Rattle.std.specs.Prelude.{OnSome, is_some}
 use Rattle.std.proofs.lemmas.List.{map-append}
 use Rattle.std.proofs.lemmas.List.Elements.{filter-append}
 use Rattle.lj_text.specs.declared.line.Line.{Line}
@@ -10,6 +11,7 @@ use Rattle.lj_text.specs.LinesRead.{LinesRead, LineReaderStandsAt}
 use Rattle.lj_text.specs.Streams.{SourceState, HasGiven}
 use Rattle.lj_book.specs.declared.entry.Call.{Call}
 use Rattle.lj_share.specs.Entries.{call_of}
+use Rattle.lj_share.specs.Seats.{SeatValue}
 use Rattle.lj_run.specs.declared.outcome.End.TheVariants.{Ended, Stopped, Line as AtLine}
 use Rattle.lj_run.specs.declared.outcome.LineEnd.TheVariants.{Refused}
 use Rattle.lj_run.specs.declared.stream.Count.{Count}
@@ -20,12 +22,12 @@ use Rattle.lj_book.specs.declared.refusal.Refusal.{Refusal}
 use Rattle.lj_run.specs.Joint.{said_call, AreCallsOf, is_addition, is_deletion, is_import, how_many, AreCountsOf, EndsBeside, IsStreamBeside}
 use Rattle.lj_run.specs.inner.Joint.{report_of}
 use Rattle.lj_run.specs.inner.Reading.{LineRead, LineMissed, IsMiss, reads_failed}
-use Rattle.lj_run.specs.Reading.{IsRoomRefused, FailsAt}
+use Rattle.lj_run.specs.Reading.{IsRoomRefused, FailsAt, AreWhole}
 use Rattle.lj_run.specs.inner.Run.{IsCounted}
 use Rattle.lj_run.specs.Run.{IfReadFailed}
 use Rattle.lj_run.specs.inner.Tally.{with_count, with_end, missed_at}
 use Rattle.lj_run.proofs.GivenLemmas.{given_none, given_on}
-use Rattle.lj_run.proofs.RunLemmas.{take_next, first_left, none_left, meets_fault, no_end_missed, reads_missed, room_missed}
+use Rattle.lj_run.proofs.RunLemmas.{take_next, first_left, none_left, meets_fault, no_end_missed, reads_missed, judged_missed, room_missed}
 use Rattle.lj_clause.specs.declared.lit.TheConstants.{MAX_VARIABLE}
 
 -- ---- one call more
@@ -103,10 +105,11 @@ pub record EnteredTo (before after : SourceState) (made : List Call) (reader : L
   pub handed : ℕ
   pub stands : LineReaderStandsAt reader text handed
   pub enters : AreCallsOf (take handed (all_said MAX_VARIABLE text)) made
+  pub whole : AreWhole MAX_VARIABLE text after handed
 
 pub entered_begin : (before : SourceState) (made : List Call) (reader : LinesRead) → made ≡ [] → LineReaderStandsAt reader [] 0 → EnteredTo before before made reader
 entered_begin before made reader none stands =
-    record { text = []; gave = given_none before; handed = 0; stands = stands; enters = ap (map (λ (call : Call). Some call)) (sym none) }
+    record { text = []; gave = given_none before; handed = 0; stands = stands; enters = ap (map (λ (call : Call). Some call)) (sym none); whole = inl (omega arith) }
 
 -- the calls are those of the first lines of what the source gave since, too
 calls_since : (made : List Call) (text piece : List ℕ) (handed : ℕ) → take handed (all_said MAX_VARIABLE (text ++ piece)) ≡ take handed (all_said MAX_VARIABLE text)
@@ -133,75 +136,86 @@ entered_on made line reader new first before after r read =
       handed = r.handed + 1;
       stands = read.stands;
       enters = subst (λ ls. AreCallsOf ls (made ++ call_of line ∷ [])) (sym taken) more;
+      whole = read.whole;
     }
 
 -- ---- how it ends
 
-module _ {S : Type 0} (seen : S → SourceState) where
-  pub beside_stopped : (stream source : S) (made : List Call) (tally : Tally) (reader : LinesRead) → EnteredTo (seen stream) (seen source) made reader → AreCountsOf made tally.added tally.deleted tally.imported → (seen source).failures ≡ 0
-      → IsStreamBeside seen true made stream (report_of (with_end tally Stopped) source)
-  beside_stopped stream source made tally reader r counts unfailed = record {
+-- what comes with a verdict
+pub with_some : {A : Type 0} (o : Option A) (P : Type 0) → OnSome o P → is_some o ≡ true → P
+with_some None P h is = absurd cc
+with_some (Some x) P h is = h
+
+module _ {S : Type 0} (seen : S → SourceState) (refuses : SeatValue → Line → Refusal → Type 0) (refuted : Type 0) where
+  pub beside_stopped : (stream source : S) (seat : SeatValue) (tally : Tally) (reader : LinesRead) → EnteredTo (seen stream) (seen source) seat.calls reader → AreCountsOf seat.calls tally.added tally.deleted tally.imported → (seen source).failures ≡ 0
+      → refuted → IsStreamBeside seen refuses refuted seat stream (report_of (with_end tally Stopped) source)
+  beside_stopped stream source seat tally reader r counts unfailed told = record {
     text = r.text;
     gave = r.gave;
     count = r.handed;
     enters = r.enters;
     counts = counts;
-    ends = refl;
+    ends = told;
     failed_read = tt;
     no_room = tt;
     ended = λ e. cc;
     failures = unfailed;
+    whole = r.whole;
   }
 
-  pub beside_ended : (stream source next : S) (made : List Call) (tally : Tally) (reader new : LinesRead) (r : EnteredTo (seen stream) (seen source) made reader) → LineRead MAX_VARIABLE r.text r.handed new (seen source) (seen next) None
-      → AreCountsOf made tally.added tally.deleted tally.imported → (seen next).failures ≡ 0 → IsStreamBeside seen true made stream (report_of (with_end tally Ended) next)
-  beside_ended stream source next made tally reader new r read counts unfailed = record {
+  pub beside_ended : (stream source next : S) (seat : SeatValue) (tally : Tally) (reader new : LinesRead) (r : EnteredTo (seen stream) (seen source) seat.calls reader) → LineRead MAX_VARIABLE r.text r.handed new (seen source) (seen next) None
+      → AreCountsOf seat.calls tally.added tally.deleted tally.imported → (seen next).failures ≡ 0 → IsStreamBeside seen refuses refuted seat stream (report_of (with_end tally Ended) next)
+  beside_ended stream source next seat tally reader new r read counts unfailed = record {
     text = r.text ++ read.piece;
     gave = given_on (seen stream) (seen source) (seen next) r.text read.piece r.gave read.gave;
     count = r.handed;
-    enters = calls_since made r.text read.piece r.handed read.same r.enters;
+    enters = calls_since seat.calls r.text read.piece r.handed read.same r.enters;
     counts = counts;
     ends = none_left (all_said MAX_VARIABLE (r.text ++ read.piece)) r.handed read.next;
     failed_read = tt;
     no_room = tt;
     ended = λ e. read.ended refl;
     failures = unfailed;
+    whole = read.whole;
   }
 
-  ends_missed : (at : ℕ) (text : List ℕ) (handed : ℕ) (miss : Miss) → IsMiss MAX_VARIABLE text handed at miss → EndsBeside true (drop handed (all_said MAX_VARIABLE text)) (missed_at at miss)
-  ends_missed at text handed Failed is = tt
-  ends_missed at text handed (AtFault fault) is = meets_fault fault.kind fault.line (all_said MAX_VARIABLE text) handed is
+  ends_missed : (seat : SeatValue) (at : ℕ) (text : List ℕ) (handed : ℕ) (miss : Miss) → IsMiss MAX_VARIABLE text handed at miss → EndsBeside (refuses seat) refuted (drop handed (all_said MAX_VARIABLE text)) (missed_at at miss)
+  ends_missed seat at text handed Failed is = tt
+  ends_missed seat at text handed (AtFault fault) is = meets_fault fault.kind fault.line (all_said MAX_VARIABLE text) handed is
 
   fails_missed : (at : ℕ) (text : List ℕ) (handed : ℕ) (miss : Miss) → IsMiss MAX_VARIABLE text handed at miss → IfReadFailed (missed_at at miss) (FailsAt MAX_VARIABLE text handed)
   fails_missed at text handed Failed is = is
   fails_missed at text handed (AtFault fault) is = tt
 
-  pub beside_missed : (stream source next : S) (made : List Call) (tally : Tally) (reader : LinesRead) (r : EnteredTo (seen stream) (seen source) made reader) (at : ℕ) (miss : Miss) → LineMissed MAX_VARIABLE r.text r.handed at (seen source) (seen next) miss
-      → AreCountsOf made tally.added tally.deleted tally.imported → (seen next).failures ≡ reads_failed miss → IsStreamBeside seen true made stream (report_of (with_end tally (missed_at at miss)) next)
-  beside_missed stream source next made tally reader r at miss m counts failures = record {
+  pub beside_missed : (stream source next : S) (seat : SeatValue) (tally : Tally) (reader : LinesRead) (r : EnteredTo (seen stream) (seen source) seat.calls reader) (at : ℕ) (miss : Miss) → LineMissed MAX_VARIABLE r.text r.handed at (seen source) (seen next) miss
+      → AreCountsOf seat.calls tally.added tally.deleted tally.imported → (seen next).failures ≡ reads_failed miss → IsStreamBeside seen refuses refuted seat stream (report_of (with_end tally (missed_at at miss)) next)
+  beside_missed stream source next seat tally reader r at miss m counts failures = record {
     text = r.text ++ m.piece;
     gave = given_on (seen stream) (seen source) (seen next) r.text m.piece r.gave m.gave;
     count = r.handed;
-    enters = calls_since made r.text m.piece r.handed m.same r.enters;
+    enters = calls_since seat.calls r.text m.piece r.handed m.same r.enters;
     counts = counts;
-    ends = ends_missed at (r.text ++ m.piece) r.handed miss m.is;
+    ends = ends_missed seat at (r.text ++ m.piece) r.handed miss m.is;
     failed_read = fails_missed at (r.text ++ m.piece) r.handed miss m.is;
     no_room = room_missed at miss (IsRoomRefused MAX_VARIABLE (r.text ++ m.piece) (seen next).ended r.handed) m.no_room;
     ended = λ e. absurd (no_end_missed at miss e);
     failures = failures ∙ sym (reads_missed at miss);
+    whole = subst (λ n. AreWhole MAX_VARIABLE (r.text ++ m.piece) (seen next) n) (judged_missed r.handed at miss) m.whole;
   }
 
-  pub beside_refused : (stream source next : S) (made : List Call) (tally : Tally) (reader new : LinesRead) (r : EnteredTo (seen stream) (seen source) made reader) (line : Line) (refusal : Refusal) → LineRead MAX_VARIABLE r.text r.handed new (seen source) (seen next) (Some line)
-      → AreCountsOf made tally.added tally.deleted tally.imported → (seen next).failures ≡ 0 → IsStreamBeside seen true made stream (report_of (with_end tally (AtLine new.at (Refused refusal))) next)
-  beside_refused stream source next made tally reader new r line refusal read counts unfailed = record {
+  pub beside_refused : (stream source next : S) (seat : SeatValue) (tally : Tally) (reader new : LinesRead) (r : EnteredTo (seen stream) (seen source) seat.calls reader) (line : Line) (refusal : Refusal) → LineRead MAX_VARIABLE r.text r.handed new (seen source) (seen next) (Some line)
+      → AreCountsOf seat.calls tally.added tally.deleted tally.imported → (seen next).failures ≡ 0 → refuses seat line refusal
+      → IsStreamBeside seen refuses refuted seat stream (report_of (with_end tally (AtLine new.at (Refused refusal))) next)
+  beside_refused stream source next seat tally reader new r line refusal read counts unfailed refused = record {
     text = r.text ++ read.piece;
     gave = given_on (seen stream) (seen source) (seen next) r.text read.piece r.gave read.gave;
     count = r.handed;
-    enters = calls_since made r.text read.piece r.handed read.same r.enters;
+    enters = calls_since seat.calls r.text read.piece r.handed read.same r.enters;
     counts = counts;
-    ends = record { line = line; first = first_left (all_said MAX_VARIABLE (r.text ++ read.piece)) r.handed ∙ read.next };
+    ends = record { line = line; first = first_left (all_said MAX_VARIABLE (r.text ++ read.piece)) r.handed ∙ read.next; refused = refused };
     failed_read = tt;
     no_room = tt;
     ended = λ e. cc;
     failures = unfailed;
+    whole = read.whole;
   }

@@ -1,5 +1,5 @@
 -- The run of streams beside one another, on one opening.
-use Rattle.std.proofs.Common.{◌≡◌, ℕ, zero, suc, ◌+◌, ◌<◌, Bool, true, false, List, [], ◌∷◌, ◌++◌, length, map, take, Option, None, Some, refl, sym, ap, ◌∙◌, subst, arith, add-zero, zero-add, length-append}
+use Rattle.std.proofs.Common.{◌≡◌, ℕ, zero, suc, ◌+◌, ◌<◌, Bool, true, false, List, [], ◌∷◌, ◌++◌, length, map, take, drop, Option, None, Some, refl, sym, ap, ◌∙◌, subst, arith, add-zero, zero-add, length-append}
 use Rattle.std.specs.Prelude.{slice_get, All, IfSome, is_some, ◌==◌, ◌&&◌}
 use Rattle.std.specs.Int.{from_bool}
 use Rattle.std.specs.List.{zip, sum_by, list_all, AllZip}
@@ -9,6 +9,8 @@ use Rattle.std.proofs.lemmas.List.Sums.{sum_by-cons}
 use Rattle.std.proofs.lemmas.List.Elements.{All-nil, All-head, All-tail, All-push}
 use Rattle.std.proofs.lemmas.Slice.Zip.{AllZip-long, seconds-zip}
 use Rattle.lj_clause.specs.ClauseMap.{FormulaValue, formula_map}
+use Rattle.lj_clause.specs.Truth.{IsUnsatisfiable}
+use Rattle.lj_text.specs.declared.line.Line.{Line}
 use Rattle.lj_text.specs.Lines.{Said, all_said}
 use Rattle.lj_text.specs.Steps.{replay, refutes}
 use Rattle.lj_text.specs.Streams.{SourceState}
@@ -16,7 +18,9 @@ use Rattle.lj_book.specs.declared.entry.Call.{Call}
 use Rattle.lj_book.specs.declared.entry.Entry.{Entry}
 use Rattle.lj_book.specs.State.{State, live, steps_of}
 use Rattle.lj_book.specs.History.{IsReached}
+use Rattle.lj_book.specs.declared.refusal.Refusal.{Refusal}
 use Rattle.lj_share.specs.Entries.{calls_of}
+use Rattle.lj_share.specs.Refusals.{IsLineRefused}
 use Rattle.lj_share.specs.Seats.{SeatValue, IsOpenedAs, HasCallsOf, new_seat, new_seats, entries_made}
 use Rattle.lj_run.specs.declared.outcome.End.{End}
 use Rattle.lj_run.specs.declared.outcome.End.TheVariants.{Ended, Stopped, Line as AtLine}
@@ -24,7 +28,7 @@ use Rattle.lj_run.specs.declared.outcome.LineEnd.TheVariants.{Fault, Refused, Re
 use Rattle.lj_run.specs.declared.outcome.Outcome.{Outcome}
 use Rattle.lj_run.specs.declared.outcome.Report.{Report}
 use Rattle.lj_run.specs.InTurn.{streams_by_seat}
-use Rattle.lj_run.specs.Joint.{EndsBeside, IsStreamBeside, RunBeside, IsUnconfirmed, IsBookOfRun, IsJointOutcome, accepted_count}
+use Rattle.lj_run.specs.Joint.{EndsBeside, IsStreamBeside, seat_of_history, RunBeside, IsUnconfirmed, IsBookOfRun, IsJointOutcome, accepted_count}
 use Rattle.lj_run.specs.inner.Joint.{HasRun, is_confirmed}
 use Rattle.lj_run.specs.Run.{has_verdict}
 use Rattle.lj_run.proofs.JointLemmas.{as_many_counted}
@@ -60,9 +64,9 @@ new_numbered (suc n) = numbered_more 0 (new_seats n) (new_seat n) (new_numbered 
 
 -- ---- workers
 
-module _ {S R : Type 0} (seen : S → SourceState) (seat : R → SeatValue) (report : R → Report S) where
+module _ {S R : Type 0} (seen : S → SourceState) (f : FormulaValue) (many max : ℕ) (seat : R → SeatValue) (report : R → Report S) where
   -- the entries of the seats are as many as the reports count
-  pub entries_counted : (jobs : List (SeatValue × S)) (rs : List R) → AllZip (λ job r. HasRun seen job (seat r) (report r)) jobs rs → entries_made (map seat rs) ≡ sum_by accepted_count (map report rs)
+  pub entries_counted : (jobs : List (SeatValue × S)) (rs : List R) → AllZip (λ job r. HasRun seen f many max job (seat r) (report r)) jobs rs → entries_made (map seat rs) ≡ sum_by accepted_count (map report rs)
   entries_counted [] [] ran = refl
   entries_counted [] (r ∷ rs) ran = absurd ran
   entries_counted (job ∷ jobs) [] ran = absurd ran
@@ -73,14 +77,14 @@ module _ {S R : Type 0} (seen : S → SourceState) (seat : R → SeatValue) (rep
       omega (arith, here, rest, sum_by-cons accepted_count (report r) (map report rs))
 
   -- as many ran as there are streams
-  pub as_many_ran : (seats : List SeatValue) (streams : List S) (rs : List R) → length seats ≡ length streams → AllZip (λ job r. HasRun seen job (seat r) (report r)) (zip seats streams) rs → length (map seat rs) ≡ length streams
+  pub as_many_ran : (seats : List SeatValue) (streams : List S) (rs : List R) → length seats ≡ length streams → AllZip (λ job r. HasRun seen f many max job (seat r) (report r)) (zip seats streams) rs → length (map seat rs) ≡ length streams
   as_many_ran seats streams rs same ran =
-      length-map rs seat ∙ AllZip-long (λ job r. HasRun seen job (seat r) (report r)) (zip seats streams) rs ran
+      length-map rs seat ∙ AllZip-long (λ job r. HasRun seen f many max job (seat r) (report r)) (zip seats streams) rs ran
       ∙ sym (length-map (zip seats streams) (λ job. job.1)) ∙ ap length (seconds-zip seats streams (sym same))
 
   -- the run of streams under these seats, on a book that has their calls
   beside_from : (history : List Entry) (k : ℕ) (seats : List SeatValue) (streams : List S) (rs : List R) → length seats ≡ length streams → AreNumbered k seats
-      → AllZip (λ job r. HasRun seen job (seat r) (report r)) (zip seats streams) rs → HasCallsOf history (map seat rs) → RunBeside seen true history k streams (map report rs)
+      → AllZip (λ job r. HasRun seen f many max job (seat r) (report r)) (zip seats streams) rs → HasCallsOf history (map seat rs) → RunBeside seen (IsLineRefused f many max) (IsUnsatisfiable f) history k streams (map report rs)
   beside_from history k [] [] [] same are ran calls = tt
   beside_from history k [] [] (r ∷ rs) same are ran calls = absurd ran
   beside_from history k [] (x ∷ xs) rs same are ran calls = cc
@@ -89,16 +93,17 @@ module _ {S R : Type 0} (seen : S → SourceState) (seat : R → SeatValue) (rep
   beside_from history k (s ∷ ss) (x ∷ xs) (r ∷ rs) same are ran calls =
       let number : (seat r).number ≡ k = ran.0.1 ∙ are.0 in
       let first : calls_of (seat r).number history ≡ (seat r).calls = All-head (λ (t : SeatValue). calls_of t.number history ≡ t.calls) (seat r) (map seat rs) calls in
-      let here : (seat r).calls ≡ calls_of k history = sym first ∙ ap (λ n. calls_of n history) number in
+      let calls_are : (seat r).calls ≡ calls_of k history = sym first ∙ ap (λ n. calls_of n history) number in
+      let here : seat r ≡ seat_of_history history k = λ i. record { number = number i; calls = calls_are i } in
       let later = All-tail (λ (t : SeatValue). calls_of t.number history ≡ t.calls) (seat r) (map seat rs) calls in
-      (subst (λ made. IsStreamBeside seen true made x (report r)) here ran.0.0, beside_from history (k + 1) ss xs rs (omega (arith, same)) are.1 ran.1 later)
+      (subst (λ s. IsStreamBeside seen (IsLineRefused f many max) (IsUnsatisfiable f) s x (report r)) here ran.0.0, beside_from history (k + 1) ss xs rs (omega (arith, same)) are.1 ran.1 later)
 
   -- the run of streams under new seats, by what they left
   pub beside_of : (history : List Entry) (n : ℕ) (seats : List SeatValue) (streams : List S) (rs : List R) (left : List SeatValue) (reports : List (Report S)) → seats ≡ new_seats n → n ≡ length streams
-      → AllZip (λ job r. HasRun seen job (seat r) (report r)) (zip seats streams) rs → left ≡ map seat rs → reports ≡ map report rs → HasCallsOf history left → RunBeside seen true history 0 streams reports
-  beside_of history n seats streams rs left reports new many ran seats_are reports_are calls =
-      subst (RunBeside seen true history 0 streams) (sym reports_are)
-      (beside_from history 0 (new_seats n) streams rs (length-new_seats n ∙ many) (new_numbered n) (subst (λ ss. AllZip (λ job r. HasRun seen job (seat r) (report r)) (zip ss streams) rs) new ran) (subst (HasCallsOf history) seats_are calls))
+      → AllZip (λ job r. HasRun seen f many max job (seat r) (report r)) (zip seats streams) rs → left ≡ map seat rs → reports ≡ map report rs → HasCallsOf history left → RunBeside seen (IsLineRefused f many max) (IsUnsatisfiable f) history 0 streams reports
+  beside_of history n seats streams rs left reports new long ran seats_are reports_are calls =
+      subst (RunBeside seen (IsLineRefused f many max) (IsUnsatisfiable f) history 0 streams) (sym reports_are)
+      (beside_from history 0 (new_seats n) streams rs (length-new_seats n ∙ long) (new_numbered n) (subst (λ ss. AllZip (λ job r. HasRun seen f many max job (seat r) (report r)) (zip ss streams) rs) new ran) (subst (HasCallsOf history) seats_are calls))
 
 -- ---- confirmed streams
 
@@ -107,84 +112,94 @@ both_true : (a b : Bool) → (a && b) ≡ true → (a ≡ true) × (b ≡ true)
 both_true true b all = (refl, all)
 both_true false b all = cc
 
-end_confirmed : (verdict : Bool) (rest : List Said) (end : End) → EndsBeside true rest end → is_confirmed verdict end ≡ true → EndsBeside verdict rest end
-end_confirmed verdict rest Ended e is = e
-end_confirmed verdict rest Stopped e is = is
-end_confirmed verdict rest (AtLine n (Fault kind)) e is = e
-end_confirmed verdict rest (AtLine n (Refused refusal)) e is = e
-end_confirmed verdict rest (AtLine n ReadFailed) e is = e
+end_confirmed : (refuses : Line → Refusal → Type 0) (refuted : Type 0) (verdict : Bool) (rest : List Said) (end : End) → EndsBeside refuses refuted rest end → is_confirmed verdict end ≡ true → EndsBeside refuses (verdict ≡ true) rest end
+end_confirmed refuses refuted verdict rest Ended e is = e
+end_confirmed refuses refuted verdict rest Stopped e is = is
+end_confirmed refuses refuted verdict rest (AtLine n (Fault kind)) e is = e
+end_confirmed refuses refuted verdict rest (AtLine n (Refused refusal)) e is = e
+end_confirmed refuses refuted verdict rest (AtLine n ReadFailed) e is = e
 
 end_denied : (verdict : Bool) (end : End) → is_confirmed verdict end ≡ false → (end ≡ Stopped) × (verdict ≡ false)
 end_denied verdict Ended is = absurd cc
 end_denied verdict Stopped is = (refl, is)
 end_denied verdict (AtLine n e) is = absurd cc
 
-module _ {S : Type 0} (seen : S → SourceState) where
-  stream_confirmed : (verdict : Bool) (made : List Call) (stream : S) (report : Report S) → IsStreamBeside seen true made stream report → is_confirmed verdict report.end ≡ true → IsStreamBeside seen verdict made stream report
-  stream_confirmed verdict made stream report r is = record {
+module _ {S : Type 0} (seen : S → SourceState) (refuses : SeatValue → Line → Refusal → Type 0) (refuted : Type 0) where
+  stream_confirmed : (verdict : Bool) (seat : SeatValue) (stream : S) (report : Report S) → IsStreamBeside seen refuses refuted seat stream report → is_confirmed verdict report.end ≡ true → IsStreamBeside seen refuses (verdict ≡ true) seat stream report
+  stream_confirmed verdict seat stream report r is = record {
     text = r.text;
     gave = r.gave;
     count = r.count;
     enters = r.enters;
     counts = r.counts;
-    ends = end_confirmed verdict _ report.end r.ends is;
+    ends = end_confirmed (refuses seat) refuted verdict _ report.end r.ends is;
     failed_read = r.failed_read;
     no_room = r.no_room;
     ended = r.ended;
     failures = r.failures;
+    whole = r.whole;
   }
 
-  run_confirmed : (verdict : Bool) (history : List Entry) (k : ℕ) (streams : List S) (reports : List (Report S)) → RunBeside seen true history k streams reports → list_all (λ (r : Report S). is_confirmed verdict r.end) reports ≡ true
-      → RunBeside seen verdict history k streams reports
+  run_confirmed : (verdict : Bool) (history : List Entry) (k : ℕ) (streams : List S) (reports : List (Report S)) → RunBeside seen refuses refuted history k streams reports → list_all (λ (r : Report S). is_confirmed verdict r.end) reports ≡ true
+      → RunBeside seen refuses (verdict ≡ true) history k streams reports
   run_confirmed verdict history k [] [] ran all = tt
   run_confirmed verdict history k [] (r ∷ rs) ran all = absurd ran
   run_confirmed verdict history k (x ∷ xs) [] ran all = absurd ran
   run_confirmed verdict history k (x ∷ xs) (r ∷ rs) ran all =
       let both = both_true (is_confirmed verdict r.end) (list_all (λ (q : Report S). is_confirmed verdict q.end) rs) all in
-      (stream_confirmed verdict (calls_of k history) x r ran.0 both.0, run_confirmed verdict history (k + 1) xs rs ran.1 both.1)
-
-  pub book_of_run : (f : FormulaValue) (max : ℕ) (streams : List S) (reports : List (Report S)) (s : State) → IsOpenedAs f (length streams) max s → IsReached s → length s.history ≡ sum_by accepted_count reports
-      → RunBeside seen true s.history 0 streams reports → list_all (λ (r : Report S). is_confirmed (has_verdict s) r.end) reports ≡ true → IsBookOfRun seen f max streams (has_verdict s) reports s
-  book_of_run f max streams reports s opened legal counted ran all = record {
-    opened = opened;
-    legal = legal;
-    counted = counted;
-    runs = run_confirmed (has_verdict s) s.history 0 streams reports ran all;
-  }
+      (stream_confirmed verdict (seat_of_history history k) x r ran.0 both.0, run_confirmed verdict history (k + 1) xs rs ran.1 both.1)
 
   -- a stream that isn't confirmed, of those from this seat on
-  denied_stream : (verdict : Bool) (history : List Entry) (k : ℕ) (streams : List S) (reports : List (Report S)) → RunBeside seen true history k streams reports → list_all (λ (r : Report S). is_confirmed verdict r.end) reports ≡ false
-      → (i : ℕ) × (stream : S) × (report : Report S) × (slice_get streams i ≡ Some stream) × IsStreamBeside seen true (calls_of (k + i) history) stream report × (report.end ≡ Stopped) × (verdict ≡ false)
+  denied_stream : (verdict : Bool) (history : List Entry) (k : ℕ) (streams : List S) (reports : List (Report S)) → RunBeside seen refuses refuted history k streams reports → list_all (λ (r : Report S). is_confirmed verdict r.end) reports ≡ false
+      → (i : ℕ) × (stream : S) × (report : Report S) × (slice_get streams i ≡ Some stream) × IsStreamBeside seen refuses refuted (seat_of_history history (k + i)) stream report × (report.end ≡ Stopped) × (verdict ≡ false)
   denied_stream verdict history k [] [] ran all = absurd cc
   denied_stream verdict history k [] (r ∷ rs) ran all = absurd ran
   denied_stream verdict history k (x ∷ xs) [] ran all = absurd ran
   denied_stream verdict history k (x ∷ xs) (r ∷ rs) ran all =
       elim (is_confirmed verdict r.end) as (λ b. is_confirmed verdict r.end ≡ b → (b && list_all (λ (q : Report S). is_confirmed verdict q.end) rs) ≡ false
-      → (i : ℕ) × (stream : S) × (report : Report S) × (slice_get (x ∷ xs) i ≡ Some stream) × IsStreamBeside seen true (calls_of (k + i) history) stream report × (report.end ≡ Stopped) × (verdict ≡ false)) [
+      → (i : ℕ) × (stream : S) × (report : Report S) × (slice_get (x ∷ xs) i ≡ Some stream) × IsStreamBeside seen refuses refuted (seat_of_history history (k + i)) stream report × (report.end ≡ Stopped) × (verdict ≡ false)) [
         | true ↦ λ is others.
             let d = denied_stream verdict history (k + 1) xs rs ran.1 others in
-            (suc d.0, d.1, d.2, d.3, subst (λ n. IsStreamBeside seen true (calls_of n history) d.1 d.2) (sym (further k d.0)) d.4, d.5, d.6)
+            (suc d.0, d.1, d.2, d.3, subst (λ n. IsStreamBeside seen refuses refuted (seat_of_history history n) d.1 d.2) (sym (further k d.0)) d.4, d.5, d.6)
         | false ↦ λ is others.
             let e = end_denied verdict r.end is in
-            (0, x, r, refl, subst (λ n. IsStreamBeside seen true (calls_of n history) x r) (sym (add-zero k)) ran.0, e.0, e.1)
+            (0, x, r, refl, subst (λ n. IsStreamBeside seen refuses refuted (seat_of_history history n) x r) (sym (add-zero k)) ran.0, e.0, e.1)
       ] refl all
 
-  pub unconfirmed : (f : FormulaValue) (max : ℕ) (streams : List S) (reports : List (Report S)) (s : State) → IsOpenedAs f (length streams) max s → IsReached s → RunBeside seen true s.history 0 streams reports
-      → list_all (λ (r : Report S). is_confirmed (has_verdict s) r.end) reports ≡ false → IsUnconfirmed seen f max streams
-  unconfirmed f max streams reports s opened legal ran all =
-      let d = denied_stream (has_verdict s) s.history 0 streams reports ran all in
-      record {
-        final = s;
-        opened = opened;
-        legal = legal;
-        seat = d.0;
-        stream = d.1;
-        stream_is = d.3;
-        report = d.2;
-        runs = subst (λ n. IsStreamBeside seen true (calls_of n s.history) d.1 d.2) (zero-add d.0) d.4;
-        stopped = d.5;
-        denied = d.6;
-      }
+-- an opening, by other names of its parts
+pub run_by : {S : Type 0} (seen : S → SourceState) (f f' : FormulaValue) (n n' m m' : ℕ) (history : List Entry) (streams : List S) (reports : List (Report S)) → f' ≡ f → n ≡ n' → m' ≡ m
+    → RunBeside seen (IsLineRefused f n m) (IsUnsatisfiable f) history 0 streams reports → RunBeside seen (IsLineRefused f' n' m') (IsUnsatisfiable f') history 0 streams reports
+run_by seen f f' n n' m m' history streams reports formula seats limit ran =
+    subst (λ k. RunBeside seen (IsLineRefused f' n' k) (IsUnsatisfiable f') history 0 streams reports) (sym limit)
+    (subst (λ k. RunBeside seen (IsLineRefused f' k m) (IsUnsatisfiable f') history 0 streams reports) seats
+    (subst (λ g. RunBeside seen (IsLineRefused g n m) (IsUnsatisfiable g) history 0 streams reports) (sym formula) ran))
+
+pub book_of_run : {S : Type 0} (seen : S → SourceState) (f : FormulaValue) (max : ℕ) (streams : List S) (reports : List (Report S)) (s : State) → IsOpenedAs f (length streams) max s → IsReached s → length s.history ≡ sum_by accepted_count reports
+    → RunBeside seen (IsLineRefused f (length streams) max) (IsUnsatisfiable f) s.history 0 streams reports → list_all (λ (r : Report S). is_confirmed (has_verdict s) r.end) reports ≡ true → IsBookOfRun seen f max streams (has_verdict s) reports s
+book_of_run seen f max streams reports s opened legal counted ran all = record {
+  opened = opened;
+  legal = legal;
+  counted = counted;
+  runs = run_confirmed seen (IsLineRefused f (length streams) max) (IsUnsatisfiable f) (has_verdict s) s.history 0 streams reports ran all;
+}
+
+pub unconfirmed : {S : Type 0} (seen : S → SourceState) (f : FormulaValue) (max : ℕ) (streams : List S) (reports : List (Report S)) (s : State) → IsOpenedAs f (length streams) max s → IsReached s
+    → RunBeside seen (IsLineRefused f (length streams) max) (IsUnsatisfiable f) s.history 0 streams reports → list_all (λ (r : Report S). is_confirmed (has_verdict s) r.end) reports ≡ false → IsUnconfirmed seen f max streams
+unconfirmed seen f max streams reports s opened legal ran all =
+    let d = denied_stream seen (IsLineRefused f (length streams) max) (IsUnsatisfiable f) (has_verdict s) s.history 0 streams reports ran all in
+    record {
+      final = s;
+      opened = opened;
+      legal = legal;
+      seat = d.0;
+      stream = d.1;
+      stream_is = d.3;
+      report = d.2;
+      runs = subst (λ n. IsStreamBeside seen (IsLineRefused f (length streams) max) (IsUnsatisfiable f) (seat_of_history s.history n) d.1 d.2) (zero-add d.0) d.4;
+      stopped = d.5;
+      denied = d.6;
+      unsatisfiable = subst (EndsBeside (IsLineRefused f (length streams) max (seat_of_history s.history (0 + d.0))) (IsUnsatisfiable f) (drop d.4.count (all_said MAX_VARIABLE d.4.text))) d.5 d.4.ends;
+    }
 
 -- ---- the outcome
 

@@ -1,5 +1,5 @@
 -- The steps of reading a stream's lines.
-use Rattle.std.proofs.Common.{◌≡◌, ℕ, ◌+◌, true, false, List, [], ◌∷◌, ◌++◌, length, take, Option, None, Some, Result, Ok, Err, refl, sym, ap, ◌∙◌, subst, append_assoc, add-zero, inl, inr}
+use Rattle.std.proofs.Common.{◌≡◌, ℕ, zero, suc, ◌+◌, ◌≤◌, Bool, true, false, cond, List, [], ◌∷◌, ◌++◌, length, take, Option, None, Some, Result, Ok, Err, refl, sym, ap, ◌∙◌, subst, append_assoc, add-zero, inl, inr, arith, length-append}
 use Rattle.std.specs.Prelude.{slice_get, MatchBool, IfErr, IfOk, IsErrAnd, IsOk}
 use Rattle.std.proofs.lemmas.List.{append-nil}
 use Rattle.std.proofs.lemmas.Bool.{false≢true}
@@ -13,8 +13,8 @@ use Rattle.lj_text.proofs.Fronts.{said_in_front}
 use Rattle.lj_text.proofs.StandLemmas.{whole-joined, all-joined, get-behind}
 use Rattle.lj_run.specs.declared.reading.Miss.{Miss}
 use Rattle.lj_run.specs.declared.reading.Miss.TheVariants.{Failed, AtFault}
-use Rattle.lj_run.specs.inner.Reading.{PieceRead, IsNext, LineRead, IsMiss, IfOutOfRoom, LineMissed, IsPieceOf, PieceMissed, with_handed}
-use Rattle.lj_run.specs.Reading.{IsRightLine, IsRoomRefused, FailsAt}
+use Rattle.lj_run.specs.inner.Reading.{PieceRead, IsNext, LineRead, IsMiss, IfOutOfRoom, LineMissed, IsPieceOf, PieceMissed, with_handed, with_missed}
+use Rattle.lj_run.specs.Reading.{IsRightLine, IsRoomRefused, FailsAt, AreWhole}
 use Rattle.lj_run.proofs.GivenLemmas.{given_none, given_on}
 
 told_line : (n : ℕ) (r : Result Line LineFaultKind) (line : Line) → Ok (Some line) ≡ answer_of_line n r → r ≡ Ok line
@@ -128,6 +128,34 @@ same_handed reader text more handed goes stands =
     let s = within reader text handed goes stands in
     handed_first reader text more handed s ∙ sym (handed_first reader text [] handed s) ∙ ap (λ t. take handed (all_said reader.max t)) (append-nil text)
 
+-- so many whole lines were handed out, whatever follows
+handed_whole : (reader : LinesRead) (text more : List ℕ) (handed : ℕ) → reader.finished ≡ false → LineReaderStandsAt reader text handed → handed ≤ length (whole_said reader.max (text ++ more))
+handed_whole reader text more handed goes stands =
+    let s = within reader text handed goes stands in
+    let later = whole_said_from reader.max (0 + length s.lines) (reader.ahead ++ more) in
+    let is : whole_said reader.max (text ++ more) ≡ said_from reader.max 0 s.lines ++ later =
+    ap (λ t. whole_said reader.max (t ++ more)) s.text_is ∙ ap (whole_said reader.max) (append_assoc (text_of_lines s.lines) reader.ahead more) ∙ whole-joined reader.max 0 s.lines (reader.ahead ++ more) s.whole in
+    let long = ap length is ∙ length-append (said_from reader.max 0 s.lines) later in
+    let given = s.given_is in
+    omega (arith, long, given)
+
+-- a line that whole lines say is one of them
+said_below : (xs : List Said) (n line : ℕ) → IsSaidAt (slice_get xs n) line → n + 1 ≤ length xs
+said_below [] zero line at = absurd at
+said_below [] (suc n) line at = absurd at
+said_below (x ∷ xs) zero line at = omega arith
+said_below (x ∷ xs) (suc n) line at = let below = said_below xs n line at in omega (arith, below)
+
+pub whole_said_at : (max : ℕ) (text : List ℕ) (handed line : ℕ) (source : SourceState) → IsSaidAt (slice_get (whole_said max text) handed) line → AreWhole max text source (handed + 1)
+whole_said_at max text handed line source at = inl (said_below (whole_said max text) handed line at)
+
+said_at : (o : Option Said) (line : Line) → Ok (Some line) ≡ line_answer o → (n : ℕ) × IsSaidAt o n
+said_at None line e = cc
+said_at (Some said) line e = (said.line, refl)
+
+pub whole_answered : (max : ℕ) (text : List ℕ) (handed : ℕ) (line : Line) (source : SourceState) → Ok (Some line) ≡ line_answer (slice_get (whole_said max text) handed) → AreWhole max text source (handed + 1)
+whole_answered max text handed line source e = let at = said_at (slice_get (whole_said max text) handed) line e in whole_said_at max text handed at.0 source at.1
+
 -- a read failed, where no whole line of what was fed says more
 pub read_failed : (text : List ℕ) (handed at : ℕ) (reader : LinesRead) → reader.finished ≡ false → LineReaderStandsAt reader text handed
     → Ok None ≡ line_answer (slice_get (whole_said reader.max text) handed) → at ≡ line_number_of (slice_get (whole_said reader.max text) handed) (last_number text) → FailsAt reader.max text handed at
@@ -176,22 +204,31 @@ fed_on max fed handed old mid new start before after max_is goes f passed onward
 
 -- the next line of what was fed since
 pub line_read : (max : ℕ) (fed : List ℕ) (handed : ℕ) (old new : LinesRead) (start after : SourceState) (line : Option Line) (f : FedSince max fed handed old start after)
-    → IsNext (all_said max (fed ++ f.piece)) handed new.at line → LineReaderStandsAt new (fed ++ f.piece) (handed + handed_out (Ok line)) → (line ≡ None → HasEnded after) → LineRead max fed handed new start after line
-line_read max fed handed old new start after line f next stands ended = record {
+    → IsNext (all_said max (fed ++ f.piece)) handed new.at line → LineReaderStandsAt new (fed ++ f.piece) (handed + handed_out (Ok line)) → (line ≡ None → HasEnded after) → AreWhole max (fed ++ f.piece) after (with_handed handed line)
+    → LineRead max fed handed new start after line
+line_read max fed handed old new start after line f next stands ended whole = record {
   piece = f.piece;
   gave = f.gave;
   same = f.same;
   next = next;
   stands = with_handed-is handed line new (fed ++ f.piece) stands;
   ended = ended;
+  whole = whole;
 }
 
 -- its fault, or the want of memory in a line that is right
 pub line_faulty : (max : ℕ) (fed : List ℕ) (handed at : ℕ) (old : LinesRead) (start after : SourceState) (fault : LineFault) (f : FedSince max fed handed old start after)
     → (is_line_no_memory fault.kind ≡ false → slice_get (all_said max (fed ++ f.piece)) handed ≡ Some (record { line = fault.line; says = Err fault.kind }))
-    → (is_line_no_memory fault.kind ≡ true → IsRightLine max (fed ++ f.piece) handed fault.line) → LineMissed max fed handed at start after (AtFault fault)
-line_faulty max fed handed at old start after fault f is right =
-    record { piece = f.piece; gave = f.gave; same = f.same; is = is; no_room = λ memory. inl (right memory) }
+    → (is_line_no_memory fault.kind ≡ true → IsRightLine max (fed ++ f.piece) handed fault.line) → AreWhole max (fed ++ f.piece) after (handed + 1) → LineMissed max fed handed at start after (AtFault fault)
+line_faulty max fed handed at old start after fault f is right whole =
+    record { piece = f.piece; gave = f.gave; same = f.same; is = is; no_room = λ memory. inl (right memory); whole = known (is_line_no_memory fault.kind) }
+  where
+    known : (b : Bool) → AreWhole max (fed ++ f.piece) after (cond b handed (handed + 1))
+    known true = elim whole [
+      | inl below ↦ inl (omega (arith, below))
+      | inr ended ↦ inr ended
+    ]
+    known false = whole
 
 -- the miss of a piece is one of the line
 pub piece_missed : (max : ℕ) (fed : List ℕ) (handed : ℕ) (old mid new : LinesRead) (start before after : SourceState) (miss : Miss) → old.max ≡ max → old.finished ≡ false → mid.max ≡ max → mid.finished ≡ false
@@ -207,8 +244,19 @@ piece_missed max fed handed old mid new start before after miss max_is goes mid_
       same = ap (λ t. take handed (all_said max t)) (sym (append_assoc fed f.piece p.piece)) ∙ on ∙ f.same;
       is = missed miss p.is;
       no_room = out_of_room miss p.is;
+      whole = known miss p.is;
     }
   where
+    whole : AreWhole max (fed ++ (f.piece ++ p.piece)) after handed
+    whole =
+        let here = subst (λ n. LineReaderStandsAt mid (fed ++ f.piece) n) (add-zero handed) passed in
+        let below = subst (λ m. handed ≤ length (whole_said m ((fed ++ f.piece) ++ p.piece))) mid_max (handed_whole mid (fed ++ f.piece) p.piece handed mid_goes here) in
+        inl (subst (λ t. handed ≤ length (whole_said max t)) (append_assoc fed f.piece p.piece) below)
+
+    known : (m : Miss) → IsPieceOf mid.line after.ended m p.piece → AreWhole max (fed ++ (f.piece ++ p.piece)) after (with_missed handed m)
+    known Failed is = whole
+    known (AtFault fault) is = subst (λ b. AreWhole max (fed ++ (f.piece ++ p.piece)) after (cond b handed (handed + 1))) (sym is.0) whole
+
     stops : FailsAt max (fed ++ f.piece) handed mid.at
     stops = subst (λ m. FailsAt m (fed ++ f.piece) handed mid.at) max_is (read_failed (fed ++ f.piece) handed mid.at old goes f.stands answer place)
 

@@ -1,5 +1,5 @@
 -- The steps of a stream's run.
-use Rattle.std.proofs.Common.{◌≡◌, ℕ, zero, suc, ◌+◌, true, false, cond, List, [], ◌∷◌, ◌++◌, length, take, drop, None, Some, Result, Ok, Err, refl, sym, ap, ◌∙◌, arith, add-one, length-append}
+use Rattle.std.proofs.Common.{◌≡◌, ℕ, zero, suc, ◌+◌, true, false, cond, List, [], ◌∷◌, ◌++◌, length, take, drop, None, Some, Result, Ok, Err, refl, sym, ap, ◌∙◌, subst, inl, arith, add-one, length-append}
 use Rattle.std.specs.Prelude.{slice_get, option_and_then}
 use Rattle.std.proofs.lemmas.List.{append-nil}
 use Rattle.lj_text.specs.declared.line.Line.{Line}
@@ -22,13 +22,13 @@ use Rattle.lj_run.specs.declared.stream.Count.TheVariants.{Addition, Deletion, I
 use Rattle.lj_text.proofs.Fronts.{all_said-front}
 use Rattle.lj_text.specs.LinesRead.{LinesRead, LineReaderStandsAt, is_line_no_memory}
 use Rattle.lj_text.specs.Streams.{SourceState, HasGiven}
-use Rattle.lj_run.specs.inner.Reading.{LineRead, LineMissed, IsMiss, IfOutOfRoom, reads_failed}
-use Rattle.lj_run.specs.Reading.{IsRoomRefused}
+use Rattle.lj_run.specs.inner.Reading.{LineRead, LineMissed, IsMiss, IfOutOfRoom, reads_failed, with_missed}
+use Rattle.lj_run.specs.Reading.{IsRoomRefused, AreWhole}
 use Rattle.lj_run.specs.declared.reading.Miss.{Miss}
 use Rattle.lj_run.specs.declared.reading.Miss.TheVariants.{Failed, AtFault}
 use Rattle.lj_run.specs.declared.stream.Tally.{Tally}
 use Rattle.lj_run.specs.inner.Tally.{with_count, missed_at}
-use Rattle.lj_run.specs.Run.{if_accepted, reply_to_line, Progress, progress_of, with_line, has_verdict, progress_if_entered, progress_after_line, progress_after_lines, MeetsFault, MeetsRefused, MeetsRefusal, EndsAtLine, EndsWith, IsStreamRun, IfReadFailed, IfRoomRefused, IsFailedRead, failed_reads}
+use Rattle.lj_run.specs.Run.{if_accepted, reply_to_line, Progress, progress_of, with_line, has_verdict, progress_if_entered, progress_after_line, progress_after_lines, MeetsFault, MeetsRefused, MeetsRefusal, EndsAtLine, EndsWith, IsStreamRun, IfReadFailed, IfRoomRefused, IsFailedRead, failed_reads, judged_count}
 use Rattle.lj_run.specs.inner.Run.{IsCounted, IsLineEnd}
 use Rattle.lj_run.proofs.GivenLemmas.{given_none, given_on}
 use Rattle.lj_clause.specs.declared.lit.TheConstants.{MAX_VARIABLE}
@@ -113,9 +113,10 @@ pub record RunsTo (seat : ℕ) (before after : SourceState) (start now : Progres
   pub handed : ℕ
   pub stands : LineReaderStandsAt reader text handed
   pub enters : progress_after_lines seat start (take handed (all_said MAX_VARIABLE text)) ≡ Some now
+  pub whole : AreWhole MAX_VARIABLE text after handed
 
 pub runs_begin : (seat : ℕ) (before : SourceState) (s : State) (reader : LinesRead) → LineReaderStandsAt reader [] 0 → RunsTo seat before before (progress_of s 0 0 0) (progress_of s 0 0 0) reader
-runs_begin seat before s reader stands = record { text = []; gave = given_none before; handed = 0; stands = stands; enters = refl }
+runs_begin seat before s reader stands = record { text = []; gave = given_none before; handed = 0; stands = stands; enters = refl; whole = inl (omega arith) }
 
 -- the lines entered are the first ones of what the source gave since, too
 enters_since : (seat : ℕ) (start now : Progress) (text piece : List ℕ) (handed : ℕ) → take handed (all_said MAX_VARIABLE (text ++ piece)) ≡ take handed (all_said MAX_VARIABLE text)
@@ -139,6 +140,7 @@ runs_on seat start s t tally line count reader new first before after r read ope
       enters = ap (progress_after_lines seat start) (rw add-one (take_next lines r.handed said read.next))
           ∙ more_entered seat start now (take r.handed lines) said (enters_since seat start now r.text read.piece r.handed read.same r.enters)
           ∙ one_line seat s t tally new.at line count open_state is count_is;
+      whole = read.whole;
     }
 
 -- ---- the end of a run
@@ -153,6 +155,7 @@ run_stopped seat before after start now reader r v unfailed = record {
   no_room = tt;
   ended = λ e. cc;
   failures = unfailed;
+  whole = r.whole;
 }
 
 pub run_ended : (seat : ℕ) (first before after : SourceState) (start now : Progress) (reader new : LinesRead) (r : RunsTo seat first before start now reader) → LineRead MAX_VARIABLE r.text r.handed new before after None → has_verdict now.state ≡ false → after.failures ≡ 0
@@ -167,6 +170,7 @@ run_ended seat first before after start now reader new r read v unfailed =
       no_room = tt;
       ended = λ e. read.ended refl;
       failures = unfailed;
+      whole = read.whole;
     }
 
 pub meets_fault : (kind : LineFaultKind) (n : ℕ) (lines : List Said) (given : ℕ) → (is_line_no_memory kind ≡ false → slice_get lines given ≡ Some (record { line = n; says = Err kind })) → MeetsFault n kind (drop given lines)
@@ -191,6 +195,18 @@ room_missed at (AtFault fault) P h = by_kind fault.kind fault.line h
     by_kind kinds.NumberRange n h = tt
     by_kind kinds.Syntax n h = tt
     by_kind kinds.Truncated n h = tt
+
+-- as many lines are judged as are known
+pub judged_missed : (handed at : ℕ) (miss : Miss) → with_missed handed miss ≡ judged_count handed (missed_at at miss)
+judged_missed handed at Failed = refl
+judged_missed handed at (AtFault fault) = by_kind fault.kind fault.line
+  where
+    by_kind : (kind : LineFaultKind) (n : ℕ) → cond (is_line_no_memory kind) handed (handed + 1) ≡ judged_count handed (AtLine n (Fault kind))
+    by_kind (kinds.NoMemory e) n = refl
+    by_kind kinds.BadNumber n = refl
+    by_kind kinds.NumberRange n = refl
+    by_kind kinds.Syntax n = refl
+    by_kind kinds.Truncated n = refl
 
 take_front : {X : Type 0} (xs ys : List X) → take (length xs) (xs ++ ys) ≡ xs
 take_front [] ys = refl
@@ -227,6 +243,7 @@ run_missed seat first before after start now reader r at miss m v failures =
       failed_read = failed_line seat (r.text ++ m.piece) start now r.handed at miss enters m.is;
       ended = λ e. absurd (no_end_missed at miss e);
       failures = failures ∙ sym (reads_missed at miss);
+      whole = subst (λ n. AreWhole MAX_VARIABLE (r.text ++ m.piece) after n) (judged_missed r.handed at miss) m.whole;
     }
 
 refused_line : (seat : ℕ) (s : State) (at : ℕ) (lines : List Said) (given : ℕ) (line : Line) (end : LineEnd) → slice_get lines given ≡ Some (record { line = at; says = Ok line }) → reply_to_line s seat line ≡ Err end → MeetsRefusal seat s at end (drop given lines)
@@ -289,6 +306,11 @@ no_fault_line s seat line at (Fault kind) P is = absurd (no_fault_entered s seat
 no_fault_line s seat line at (Refused refusal) P is = tt
 no_fault_line s seat line at ReadFailed P is = tt
 
+judged_line : (s : State) (seat : ℕ) (line : Line) (at handed : ℕ) (end : LineEnd) → IsLineEnd end (reply_to_line s seat line) → handed + 1 ≡ judged_count handed (AtLine at end)
+judged_line s seat line at handed (Fault kind) is = absurd (no_fault_entered s seat line kind is)
+judged_line s seat line at handed (Refused refusal) is = refl
+judged_line s seat line at handed ReadFailed is = absurd (no_read_entered s seat line is)
+
 pub run_refused : (seat : ℕ) (first before after : SourceState) (start now : Progress) (reader new : LinesRead) (r : RunsTo seat first before start now reader) (line : Line) (end : LineEnd) → LineRead MAX_VARIABLE r.text r.handed new before after (Some line)
     → has_verdict now.state ≡ false → after.failures ≡ 0 → IsLineEnd end (reply_to_line now.state seat line) → IsStreamRun seat first after start now (AtLine new.at end)
 run_refused seat first before after start now reader new r line end read v unfailed is =
@@ -301,6 +323,7 @@ run_refused seat first before after start now reader new r line end read v unfai
       no_room = no_fault_line now.state seat line new.at end (IsRoomRefused MAX_VARIABLE text after.ended r.handed) is;
       ended = λ e. cc;
       failures = unfailed ∙ sym (no_read_refused now.state seat line new.at end is);
+      whole = subst (λ n. AreWhole MAX_VARIABLE text after n) (judged_line now.state seat line new.at r.handed end is) read.whole;
     }
 
 -- one line more is counted

@@ -2,6 +2,7 @@
 use Rattle.std.specs.Prelude.{◌≡◌, ℕ, ◌+◌, Bool, true, false, List, [], ◌∷◌, length, map, filter, take, drop, Option, None, Some, Result, Ok, Err, slice_get, if◌then◌else◌}
 use Rattle.std.specs.List.{sum_by}
 use Rattle.lj_clause.specs.ClauseMap.{FormulaValue, formula_map}
+use Rattle.lj_clause.specs.Truth.{IsUnsatisfiable}
 use Rattle.lj_text.specs.declared.line.Line.{Line}
 use Rattle.lj_text.specs.declared.lines.fault.LineFaultKind.{LineFaultKind}
 use Rattle.lj_text.specs.Lines.{Said, all_said}
@@ -10,10 +11,12 @@ use Rattle.lj_text.specs.Streams.{SourceState, HasGiven, HasEnded}
 use Rattle.lj_book.specs.declared.entry.Call.{Call}
 use Rattle.lj_book.specs.declared.entry.Call.TheVariants as calls
 use Rattle.lj_book.specs.declared.entry.Entry.{Entry}
+use Rattle.lj_book.specs.declared.refusal.Refusal.{Refusal}
 use Rattle.lj_book.specs.State.{State, live, steps_of}
 use Rattle.lj_book.specs.History.{IsReached}
 use Rattle.lj_share.specs.Entries.{call_of, calls_of}
-use Rattle.lj_share.specs.Seats.{IsOpenedAs}
+use Rattle.lj_share.specs.Refusals.{IsLineRefused}
+use Rattle.lj_share.specs.Seats.{SeatValue, IsOpenedAs}
 use Rattle.lj_run.specs.declared.outcome.End.{End}
 use Rattle.lj_run.specs.declared.outcome.End.TheVariants.{Ended, Stopped, Line as AtLine}
 use Rattle.lj_run.specs.declared.outcome.LineEnd.TheVariants.{Fault, Refused, ReadFailed}
@@ -22,8 +25,8 @@ use Rattle.lj_run.specs.declared.outcome.Report.{Report}
 use Rattle.lj_run.specs.declared.outcome.RunFault.{RunFault}
 use Rattle.lj_run.specs.declared.outcome.RunFault.TheVariants.{Formula, FormulaRead, NoMemory, Unconfirmed}
 use Rattle.lj_run.specs.FormulaReading.{GaveFormula, IsFormulaFault}
-use Rattle.lj_run.specs.Reading.{FailsAt, IsRoomRefused}
-use Rattle.lj_run.specs.Run.{has_verdict, MeetsFault, MeetsLine, IfReadFailed, IfRoomRefused, failed_reads}
+use Rattle.lj_run.specs.Reading.{FailsAt, IsRoomRefused, AreWhole}
+use Rattle.lj_run.specs.Run.{has_verdict, MeetsFault, IfReadFailed, IfRoomRefused, failed_reads, judged_count}
 use Rattle.lj_clause.specs.declared.lit.TheConstants.{MAX_VARIABLE}
 
 -- ---- the calls of one stream
@@ -64,42 +67,55 @@ pub record AreCountsOf (made : List Call) (added deleted imported : ℕ) : Type 
 
 -- ---- how a stream ends
 
--- A stream ends so with these lines still to come, on a book that is refuted or not: at its end, where the verdict stands, or at that
--- line. Of a read that failed see FailsAt.
-abbrev pub EndsBeside : Bool → List Said → End → Type 0
-EndsBeside refuted rest Ended = rest ≡ []
-EndsBeside refuted rest Stopped = refuted ≡ true
-EndsBeside refuted rest (AtLine n (Fault kind)) = MeetsFault n kind rest
-EndsBeside refuted rest (AtLine n (Refused refusal)) = MeetsLine n rest
-EndsBeside refuted rest (AtLine n ReadFailed) = Unit {0}
+-- The first of the lines is this one, and it is refused for this reason.
+pub record MeetsRefusedLine (refuses : Line → Refusal → Type 0) (n : ℕ) (refusal : Refusal)
+    (rest : List Said) : Type 0 where
+  pub line : Line
+  pub first : slice_get rest 0 ≡ Some (record { line = n; says = Ok line })
+  pub refused : refuses line refusal
 
--- The report is right of this stream, on a book that is refuted or not, where these are the calls of the entries of its seat, in order.
--- What its source gave meanwhile are its lines: all of them where it ended, as the source has then, and the first ones else. The calls
--- are those of its first lines. A read failed exactly where that is how it ended. Where memory was refused to the reading of a line see
--- IsRoomRefused.
-pub record IsStreamBeside {S : Type 0} (seen : S → SourceState) (refuted : Bool)
-    (made : List Call) (stream : S) (report : Report S) : Type 0 where
+-- A stream ends so with these lines still to come, where lines are refused in this way, and a book that is refuted has this property: at
+-- its end, where the verdict stands, or at that line. Of a read that failed see FailsAt.
+abbrev pub EndsBeside : (Line → Refusal → Type 0) → Type 0 → List Said → End → Type 0
+EndsBeside refuses refuted rest Ended = rest ≡ []
+EndsBeside refuses refuted rest Stopped = refuted
+EndsBeside refuses refuted rest (AtLine n (Fault kind)) = MeetsFault n kind rest
+EndsBeside refuses refuted rest (AtLine n (Refused refusal)) = MeetsRefusedLine refuses n refusal rest
+EndsBeside refuses refuted rest (AtLine n ReadFailed) = Unit {0}
+
+-- The report is right of this stream, whose seat has the calls of its entries, in order. Lines of a seat are refused in this way, and a
+-- book that is refuted has this property. What its source gave meanwhile are its lines: all of them where it ended, as the source has
+-- then, and the first ones else. The calls are those of its first lines. No line is entered or judged that isn't whole, unless the source
+-- has ended. A read failed exactly where that is how it ended. Where memory was refused to the reading of a line see IsRoomRefused.
+pub record IsStreamBeside {S : Type 0} (seen : S → SourceState)
+    (refuses : SeatValue → Line → Refusal → Type 0) (refuted : Type 0) (seat : SeatValue)
+    (stream : S) (report : Report S) : Type 0 where
   pub text : List ℕ
   pub gave : HasGiven (seen stream) (seen report.source) text
   pub count : ℕ
-  pub enters : AreCallsOf (take count (all_said MAX_VARIABLE text)) made
-  pub counts : AreCountsOf made report.added report.deleted report.imported
-  pub ends : EndsBeside refuted (drop count (all_said MAX_VARIABLE text)) report.end
+  pub enters : AreCallsOf (take count (all_said MAX_VARIABLE text)) seat.calls
+  pub counts : AreCountsOf seat.calls report.added report.deleted report.imported
+  pub ends : EndsBeside (refuses seat) refuted (drop count (all_said MAX_VARIABLE text)) report.end
   pub failed_read : IfReadFailed report.end (FailsAt MAX_VARIABLE text count)
   pub no_room : IfRoomRefused report.end
       (IsRoomRefused MAX_VARIABLE text (seen report.source).ended count)
   pub ended : report.end ≡ Ended → HasEnded (seen report.source)
   pub failures : (seen report.source).failures ≡ failed_reads report.end
+  pub whole : AreWhole MAX_VARIABLE text (seen report.source) (judged_count count report.end)
+
+-- the seat of this number, with the calls that the history has of it
+abbrev pub seat_of_history : List Entry → ℕ → SeatValue
+seat_of_history history seat = record { number = seat; calls = calls_of seat history }
 
 -- Each report is right of its stream, by the calls of its seat's entries: this seat for the first, the next for the next.
-abbrev pub RunBeside : {S : Type 0} → (S → SourceState) → Bool → List Entry → ℕ → List S
-    → List (Report S) → Type 0
-RunBeside seen refuted history seat [] [] = Unit {0}
-RunBeside seen refuted history seat [] (report ∷ reports) = ⊥
-RunBeside seen refuted history seat (stream ∷ streams) [] = ⊥
-RunBeside seen refuted history seat (stream ∷ streams) (report ∷ reports) =
-    IsStreamBeside seen refuted (calls_of seat history) stream report
-    × RunBeside seen refuted history (seat + 1) streams reports
+abbrev pub RunBeside : {S : Type 0} → (S → SourceState) → (SeatValue → Line → Refusal → Type 0)
+    → Type 0 → List Entry → ℕ → List S → List (Report S) → Type 0
+RunBeside seen refuses refuted history seat [] [] = Unit {0}
+RunBeside seen refuses refuted history seat [] (report ∷ reports) = ⊥
+RunBeside seen refuses refuted history seat (stream ∷ streams) [] = ⊥
+RunBeside seen refuses refuted history seat (stream ∷ streams) (report ∷ reports) =
+    IsStreamBeside seen refuses refuted (seat_of_history history seat) stream report
+    × RunBeside seen refuses refuted history (seat + 1) streams reports
 
 -- how many lines of a stream were accepted
 abbrev pub accepted_count : {S : Type 0} → Report S → ℕ
@@ -108,14 +124,16 @@ accepted_count report = report.added + report.deleted + report.imported
 -- ---- the run
 
 -- What a run of these streams beside one another leaves of a new book of a formula, with a seat for each stream and this limit: a legal
--- history leads to the final state. It has an entry for each line that the reports count, and each report is right of its stream.
+-- history leads to the final state. It has an entry for each line that the reports count, and each report is right of its stream: a line
+-- that it tells as refused is so, and that it stopped only where the steps refute the formula.
 pub record IsBookOfRun {S : Type 0} (seen : S → SourceState) (formula : FormulaValue)
     (max_steps : ℕ) (streams : List S) (refuted : Bool) (reports : List (Report S))
     (final : State) : Type 0 where
   pub opened : IsOpenedAs formula (length streams) max_steps final
   pub legal : IsReached final
   pub counted : length final.history ≡ sum_by accepted_count reports
-  pub runs : RunBeside seen refuted final.history 0 streams reports
+  pub runs : RunBeside seen (IsLineRefused formula (length streams) max_steps) (refuted ≡ true)
+      final.history 0 streams reports
 
 -- The outcome of a run of these streams beside one another on a formula. The steps are those of the history that the run leaves, and the
 -- live clauses are their replay. It is verified, with this formula, exactly where the steps refute it.
@@ -132,7 +150,8 @@ pub record IsJointOutcome {S : Type 0} (seen : S → SourceState) (formula : For
 -- ---- why there is no outcome
 
 -- A run on a formula can't be confirmed: there is a final state of a book of the formula, and a stream with its report, right by the calls
--- of its seat's entries in that history, which says that the verdict stood, though that state has none.
+-- of its seat's entries in that history, which says that the verdict stood, though that state has none. No assignment satisfies the
+-- formula all the same.
 pub record IsUnconfirmed {S : Type 0} (seen : S → SourceState) (formula : FormulaValue)
     (max_steps : ℕ) (streams : List S) : Type 0 where
   pub final : State
@@ -142,9 +161,11 @@ pub record IsUnconfirmed {S : Type 0} (seen : S → SourceState) (formula : Form
   pub stream : S
   pub stream_is : slice_get streams seat ≡ Some stream
   pub report : Report S
-  pub runs : IsStreamBeside seen true (calls_of seat final.history) stream report
+  pub runs : IsStreamBeside seen (IsLineRefused formula (length streams) max_steps)
+      (IsUnsatisfiable formula) (seat_of_history final.history seat) stream report
   pub stopped : report.end ≡ Stopped
   pub denied : has_verdict final ≡ false
+  pub unsatisfiable : IsUnsatisfiable formula
 
 -- The run of the formula that the source gave can't be confirmed.
 pub record IsUnconfirmedRun {S : Type 0} (before after : SourceState) (seen : S → SourceState)

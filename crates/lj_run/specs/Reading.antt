@@ -1,8 +1,13 @@
 -- How the lines of a stream are read from its source.
-use Rattle.std.specs.Prelude.{◌≡◌, ◌⊎◌, ℕ, Bool, false, List, ◌++◌, length, Some, Ok, slice_get}
+use Rattle.std.specs.Prelude.{◌≡◌, ◌≤◌, ◌⊎◌, ℕ, Bool, false, List, ◌++◌, length, Some, Ok, slice_get}
 use Rattle.lj_text.specs.declared.line.Line.{Line}
 use Rattle.lj_text.specs.Lines.{whole_said, all_said}
 use Rattle.lj_text.specs.LinesRead.{last_number}
+use Rattle.lj_text.specs.Streams.{SourceState, HasEnded}
+
+-- so many lines stand whole in the text that the source gave, or it has ended: then its last line is whole, too
+abbrev pub AreWhole : ℕ → List ℕ → SourceState → ℕ → Type 0
+AreWhole max text source count = (count ≤ length (whole_said max text)) ⊎ HasEnded source
 
 -- Reading stops in the last line of a text: the lines handed out are those that its whole lines say.
 pub record FailsAt (max : ℕ) (text : List ℕ) (handed at : ℕ) : Type 0 where

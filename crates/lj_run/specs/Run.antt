@@ -13,7 +13,7 @@ use Rattle.lj_book.specs.State.{State, verdict}
 use Rattle.lj_book.specs.History.{after_entry}
 use Rattle.lj_book.specs.Calls.{drop_reply, drop_entry, import_reply, import_entry}
 use Rattle.lj_book.specs.Inside.{inside_reply, inside_entry}
-use Rattle.lj_run.specs.Reading.{IsRoomRefused}
+use Rattle.lj_run.specs.Reading.{IsRoomRefused, AreWhole}
 use Rattle.lj_run.specs.declared.outcome.End.{End}
 use Rattle.lj_run.specs.declared.outcome.End.TheVariants.{Ended, Stopped, Line as AtLine}
 use Rattle.lj_run.specs.declared.outcome.LineEnd.{LineEnd}
@@ -148,8 +148,18 @@ IfRoomRefused Stopped P = Unit {0}
 IfRoomRefused (AtLine n (Fault (kinds.NoMemory _))) P = P n
 IfRoomRefused (AtLine n end) P = Unit {0}
 
+-- how many lines were judged of a stream that ended so after so many were entered: those, and the one that is at fault or refused
+abbrev pub judged_count : ℕ → End → ℕ
+judged_count entered Ended = entered
+judged_count entered Stopped = entered
+judged_count entered (AtLine n (Fault (kinds.NoMemory _))) = entered
+judged_count entered (AtLine n (Fault kind)) = entered + 1
+judged_count entered (AtLine n (Refused refusal)) = entered + 1
+judged_count entered (AtLine n ReadFailed) = entered
+
 -- A stream under this seat led from one progress to the other, and ended so. What its source gave meanwhile are its lines: all of
--- them where it ended, as the source has then, and the first ones else. A read failed exactly where that is how it ended.
+-- them where it ended, as the source has then, and the first ones else. No line is entered or judged that isn't whole, unless the
+-- source has ended. A read failed exactly where that is how it ended.
 pub record IsStreamRun (seat : ℕ) (before after : SourceState) (start final : Progress)
     (end : End) : Type 0 where
   pub text : List ℕ
@@ -159,3 +169,4 @@ pub record IsStreamRun (seat : ℕ) (before after : SourceState) (start final : 
   pub no_room : IfRoomRefused end (IsRoomRefused MAX_VARIABLE text after.ended runs.count)
   pub ended : end ≡ Ended → HasEnded after
   pub failures : after.failures ≡ failed_reads end
+  pub whole : AreWhole MAX_VARIABLE text after (judged_count runs.count end)

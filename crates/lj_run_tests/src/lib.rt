@@ -1,20 +1,17 @@
-//! Worked examples, computed by hand and run against the public calls: the runs, and what they are made of. They stand in a
-//! crate of their own, so that no other is proved a second time for its tests.
+//! Worked examples, computed by hand and run against the public calls, of what only code can hand in: gates, sources and sinks
+//! that fail at a place that is chosen, and steps that no run accepts. They stand in a crate of their own, so that no other is
+//! proved a second time for its tests. What the program prints and writes is shown by its stored runs.
 #![tactic(auto)]
 
 #[cfg(test)]
 mod fakes;
 #[cfg(test)]
-mod joint;
+mod gates;
 #[cfg(test)]
-mod runs;
+mod reading;
 #[cfg(test)]
-mod sizes;
+mod steps;
 #[cfg(test)]
 mod streams;
-#[cfg(test)]
-mod tables;
-#[cfg(test)]
-mod trimming;
 #[cfg(test)]
 mod writing;

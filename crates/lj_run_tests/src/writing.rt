@@ -1,12 +1,10 @@
-//! Joint proofs as text.
+//! Joint proofs into sinks that take only so much, and only so much a call.
 ghost use Rattle.std.specs.Prelude.{◌≡◌, [], false};
 
 use crate::fakes::FailingSink;
-use crate::tables::{BINARY_TEXT, steps_of};
+use crate::steps::{BINARY_TEXT, steps_of};
 use lj_run::{Options, ProofEnd, ProofFault, run_in_turn};
-use lj_text::{
-    MemorySink, MemorySource, ProofWriter, Sink, SinkFault, Step, WriteFault, write_proof,
-};
+use lj_text::{MemorySink, MemorySource, ProofWriter, Sink, SinkFault, Step, WriteFault};
 use std::alloc::Global;
 use std::process::Abort;
 use std::sync::Wait;
@@ -14,32 +12,6 @@ use std::test::Fail;
 
 /// A proof of the four binary clauses, of 24 bytes.
 const TWO_STEPS: &str = "5 2 0 1 2 0\n6 0 5 3 4 0\n";
-
-#[test]
-fn steps_are_written_as_lines(rt: HostRuntime) -> Result<(), Fail> {
-    let cases = [
-        (4, "", ""),
-        (4, TWO_STEPS, TWO_STEPS),
-        (
-            1,
-            "2 3 -1 -2 0 0\n3 -3 1 0 -2 0\n4 -3 2 0 -2 0\n",
-            "2 3 -1 -2 0 0\n3 -3 1 0 -2 0\n4 -3 2 0 -2 0\n",
-        ),
-        (4, "1 d 1 0\n5 1 -1 0 0\n", "4 d 1 0\n5 1 -1 0 0\n"),
-        (
-            4,
-            "7 -2 3 -1 0 1 -2 3 4 -5 0\n9 d 3 5 0\n6 1 0 7 0\n1 d 6 0\n",
-            "7 -2 -1 3 0 1 -2 3 4 -5 0\n7 d 3 5 0\n6 1 0 7 0\n7 d 6 0\n",
-        ),
-    ];
-    for (clauses, lines, text) in cases {
-        let steps = steps_of(rt.alloc(), lines)?;
-        let mut sink = MemorySink::new(rt.alloc());
-        write_proof(&mut sink, clauses, &steps)?;
-        assert_eq!(rt; sink.bytes(), text.as_bytes(), "{lines}");
-    }
-    Ok(())
-}
 
 /// A sink that takes no more than so many bytes a call, and one at least.
 #[derive(Debug, Drop)]
@@ -98,17 +70,6 @@ fn assert_fails(
     Ok(())
 }
 
-#[test]
-fn a_writer_fails_where_its_sink_is_full(rt: HostRuntime) -> Result<(), Fail> {
-    let steps = steps_of(rt.alloc(), TWO_STEPS)?;
-    for most in WIDTHS {
-        for room in 0..=24 {
-            assert_fails(&rt, rt.alloc(), &steps, room, most)?;
-        }
-    }
-    Ok(())
-}
-
 /// What became of the proof of a run that verifies, and the sink that it was written to.
 fn proof_into(
     rt: &impl Wait,
@@ -131,19 +92,23 @@ fn proof_into(
     Ok((outcome.verified.is_some(), outcome.proof, bytes))
 }
 
-/// The verdict is that of a run without a proof, whatever the sink takes.
+/// The writer fails where its sink is full, and the verdict is that of a run without a proof, whatever the sink takes.
 #[test]
-fn a_run_into_a_small_sink_is_verified(rt: HostRuntime) -> Result<(), Fail> {
+fn a_writer_fails_where_its_sink_is_full(rt: HostRuntime) -> Result<(), Fail> {
+    let steps = steps_of(rt.alloc(), TWO_STEPS)?;
     for most in WIDTHS {
         for room in 0..=24 {
+            assert_fails(&rt, rt.alloc(), &steps, room, most)?;
             let sink = small_sink(rt.alloc(), room, most);
             let (verified, end, bytes) = proof_into(&rt, rt.alloc(), sink)?;
             let wanted = match room {
                 24 => ProofEnd::Written,
                 _ => ProofEnd::Failed(ProofFault::Device),
             };
-            assert!(rt; verified, "with room for {room}, {most} a call");
-            assert_eq!(rt; end, wanted, "with room for {room}, {most} a call");
+            assert!(rt;
+                verified && end == wanted,
+                "with room for {room}, {most} a call"
+            );
             assert_eq!(rt; bytes.as_slice(), &TWO_STEPS.as_bytes()[..room]);
         }
     }

@@ -1,5 +1,5 @@
 mod Confirming
-mod Refusing
 mod Opened
 mod ListLaws
 mod Facts
+mod Leaving

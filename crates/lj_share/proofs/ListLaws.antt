@@ -56,6 +56,21 @@ one_longer seat n lists history before after same one at is =
     let long = ap length (is ∙ ap (λ (k : ℕ). calls_of k history) same ∙ front) ∙ length-append before (one.0 ∷ []) in
     omega (arith, long)
 
+-- ---- where both copies agree
+
+set_same : {A : Type 0} (xs : List A) (i : ℕ) (x : A) → slice_get xs i ≡ Some x → slice_set xs i x ≡ xs
+set_same [] i x at = absurd cc
+set_same (y ∷ xs) zero x at = ap (λ z. z ∷ xs) (sym (some_same y x at))
+set_same (y ∷ xs) (suc i) x at = ap (λ ys. y ∷ ys) (set_same xs i x at)
+
+-- the seat's list is that of its calls
+pub agreed_calls : (seat : ℕ) (calls : List Call) (history : List Entry) (lists : List (List Call)) → AreListsOf history lists → slice_get lists seat ≡ Some calls → calls_of seat history ≡ calls
+agreed_calls seat calls history lists listed at = sym (listed seat calls at)
+
+-- and the lists stay where it is set to that
+pub agreed_lists : (seat : ℕ) (calls : List Call) (history : List Entry) (lists after : List (List Call)) → AreListsOf history lists → slice_get lists seat ≡ Some calls → after ≡ slice_set lists seat (calls_of seat history) → after ≡ lists
+agreed_lists seat calls history lists after listed at set = set ∙ ap (slice_set lists seat) (agreed_calls seat calls history lists listed at) ∙ set_same lists seat calls at
+
 -- ---- at the opening and at the close
 
 -- what stands in front of a rest stands at its place

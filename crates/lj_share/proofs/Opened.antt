@@ -31,7 +31,8 @@ length-with_found : (ts : Tables) (seat own : ℕ) (joint : Option ℕ) → leng
 length-with_found ts seat own None = refl
 length-with_found ts seat own (Some joint) = length-with_table _ ts seat
 
-seats_kept : (s : State) (seat : ℕ) (call : Call) → length (tables_after s seat call) ≡ length s.tables
+-- a call leaves as many seats
+pub seats_kept : (s : State) (seat : ℕ) (call : Call) → length (tables_after s seat call) ≡ length s.tables
 seats_kept s seat (calls.Add own lemma) = length-with_table _ s.tables seat
 seats_kept s seat (calls.Drop numbers) = length-with_table _ s.tables seat
 seats_kept s seat (calls.Adopt own joint) = length-with_table _ s.tables seat
@@ -109,6 +110,10 @@ desk_on f seats max s t e seat lists after before total parts amount same is cou
 -- what lies under the lock where the book stayed
 pub desk_kept : (f : FormulaValue) (seats max : ℕ) (s t : State) (lists : List (List Call)) (total parts amount : ℕ) → t ≡ s → IsDesk f seats max s lists total parts amount → IsDesk f seats max t lists total parts amount
 desk_kept f seats max s t lists total parts amount is d = subst (λ b. IsDesk f seats max b lists total parts amount) (sym is) d
+
+-- and where the lists stayed, too
+pub desk_agreed : (f : FormulaValue) (seats max : ℕ) (s t : State) (lists after : List (List Call)) (total parts amount : ℕ) → t ≡ s → after ≡ lists → IsDesk f seats max s lists total parts amount → IsDesk f seats max t after total parts amount
+desk_agreed f seats max s t lists after total parts amount is same d = subst (λ ls. IsDesk f seats max t ls total parts amount) (sym same) (desk_kept f seats max s t lists total parts amount is d)
 
 -- the lists of a history that has no entry
 pub none_listed : (lists : List (List Call)) → All (λ calls. calls ≡ []) lists → AreListsOf [] lists

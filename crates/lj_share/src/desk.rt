@@ -6,18 +6,19 @@ ghost use Rattle.lj_share.specs.inner.Seats.{IsDesk, HasOneMore};
 ghost use Rattle.lj_share.specs.inner.Telling.{IsTokenOf};
 ghost use Rattle.lj_share.specs.Seats.{making};
 ghost use Rattle.lj_share.specs.Entries.{IsEntryOf};
-ghost use Rattle.lj_share.specs.Refusals.{CanMeet};
+ghost use Rattle.lj_share.specs.Refusals.{HoldsInAState, IsLineRefused, IsRefusedAt};
+ghost use Rattle.lj_book.specs.Calls.{IsReply, take_reply, commit_reply, adopt_reply, leave_reply};
+ghost use Rattle.lj_text.specs.declared.line.Line.TheVariants as lines;
 
 use crate::lists::Lists;
 use crate::opening::Opening;
-use crate::refutation::Refutation;
 use crate::seat::Seat;
 use crate::telling;
 use crate::told::Told;
-use lj_book::laws::refuted_is_unsatisfiable;
+use crate::verdict::Verdict;
 use lj_book::{Book, Entry, Ready, Refusal};
 use lj_clause::{Clause, Formula};
-use lj_hint::{Marks, Receipt};
+use lj_hint::{Case, Marks, Receipt};
 use lj_text::{Addition, Numbers};
 use std::alloc::Global;
 use std::marker::Model;
@@ -75,16 +76,33 @@ impl<L: Opening> Desk<L> {
         }
     }
 
-    /// The book.
-    pub(crate) fn book(&self) -> &Book {
-        &self.book
+    /// An addition of the seat as a case in joint numbers.
+    pub(crate) fn take(&mut self, seat: &mut Seat<L>, addition: &Addition) -> Result<Case, Refusal>
+        ensures answer { HoldsInAState L.formula L.seats L.max_steps seat.old
+            (λ s. IsReply result (take_reply s seat.old.number addition.now)) }
+        ensures seat { IfOk result (λ case. case.seat ≡ seat.old.number) }
+        ensures own { IfOk result (λ case. case.own ≡ addition.now.number) }
+        ensures lemma { IfOk result (λ case. case.lemma ≡ addition.now.lemma) }
+        ensures kept { seat.new ≡ seat.old }
+    {
+        let Desk {
+            book,
+            entries: _,
+            lists,
+            rest: _,
+            marks: _,
+        } = self;
+        seat.agree(lists, book);
+        book.take(seat.number(), addition)
     }
 
-    /// That no assignment satisfies the formula, if the history adds the empty clause.
-    pub(crate) fn refutation(&self) -> Option<Refutation<L>> {
+    /// The verdict, if the history adds the empty clause; none where a growth was refused to it.
+    pub(crate) fn verdict(&self, alloc: Global) -> Option<Box<Verdict<L>>> {
         let place = self.book.verdict()?;
-        refuted_is_unsatisfiable(&self.book);
-        Some(Refutation::new(place))
+        match self.book.verified() {
+            Ok(Some(verified)) => Box::new(alloc, Verdict::new(place, verified)).ok(),
+            Ok(None) | Err(_) => None,
+        }
     }
 
     /// The book, the ledger, the lists, and what no seat has of the ledger.
@@ -115,6 +133,8 @@ impl<L: Opening> Desk<L> {
             (seat.new ≡ making (calls.Add receipt.own receipt.lemma) seat.old) }
         ensures kept { OnErr result (seat.new ≡ seat.old) }
         ensures back { IfErr result (λ e. e.1 ≡ receipt) }
+        ensures refusal { IfErr result (λ e. IsRefusedAt L.formula L.seats L.max_steps seat.old
+            (λ s. commit_reply s receipt) e.0) }
     {
         let Desk {
             book,
@@ -128,7 +148,10 @@ impl<L: Opening> Desk<L> {
                 seat.count_one(entries, lists, book);
                 Ok((added.joint, Told { entry }))
             }
-            Err(refused) => Err(refused),
+            Err(refused) => {
+                seat.agree(lists, book);
+                Err(refused)
+            }
         }
     }
 
@@ -171,6 +194,8 @@ impl<L: Opening> Desk<L> {
         ensures made { OnOk result
             (seat.new ≡ making (calls.Add addition.now.number addition.now.lemma) seat.old) }
         ensures kept { OnErr result (seat.new ≡ seat.old) }
+        ensures refusal { IfErr result (IsLineRefused L.formula L.seats L.max_steps seat.old
+            (lines.Add addition.now)) }
     {
         let Desk {
             book,
@@ -187,7 +212,10 @@ impl<L: Opening> Desk<L> {
                 let told = token(entry);
                 Ok(Entered { joint, told })
             }
-            Err(refusal) => Err(refusal),
+            Err(refusal) => {
+                seat.agree(lists, book);
+                Err(refusal)
+            }
         }
     }
 
@@ -204,7 +232,6 @@ impl<L: Opening> Desk<L> {
     }
 
     /// Gives own numbers of the seat up.
-    #[tactic(auto, using(crate::proofs::Refusing::drop_refused))]
     pub(crate) fn drop_numbers(
         &mut self,
         seat: &mut Seat<L>,
@@ -215,7 +242,8 @@ impl<L: Opening> Desk<L> {
             (IsTokenOf telling seat.old.number (calls.Drop numbers.now)) }
         ensures made { OnOk result (seat.new ≡ making (calls.Drop numbers.now) seat.old) }
         ensures kept { OnErr result (seat.new ≡ seat.old) }
-        ensures refusal { IfErr result (λ e. CanMeet (calls.Drop numbers.now) e) }
+        ensures refusal { IfErr result (IsLineRefused L.formula L.seats L.max_steps seat.old
+            (lines.Delete numbers.now)) }
     {
         let Desk {
             book,
@@ -229,12 +257,14 @@ impl<L: Opening> Desk<L> {
                 seat.count_one(entries, lists, book);
                 Ok(token(entry))
             }
-            Err(refusal) => Err(refusal),
+            Err(refusal) => {
+                seat.agree(lists, book);
+                Err(refusal)
+            }
         }
     }
 
     /// Binds the seat's own number to a live clause with exactly these literals.
-    #[tactic(auto, using(crate::proofs::Refusing::import_refused))]
     pub(crate) fn import(
         &mut self,
         seat: &mut Seat<L>,
@@ -246,7 +276,8 @@ impl<L: Opening> Desk<L> {
             (IsTokenOf telling seat.old.number (calls.Import own clause.now)) }
         ensures made { OnOk result (seat.new ≡ making (calls.Import own clause.now) seat.old) }
         ensures kept { OnErr result (seat.new ≡ seat.old) }
-        ensures refusal { IfErr result (λ e. CanMeet (calls.Import own clause.now) e) }
+        ensures refusal { IfErr result (IsLineRefused L.formula L.seats L.max_steps seat.old
+            (lines.Import own clause.now)) }
     {
         let Desk {
             book,
@@ -261,12 +292,14 @@ impl<L: Opening> Desk<L> {
                 seat.count_one(entries, lists, book);
                 Ok(token(entry))
             }
-            Err(refusal) => Err(refusal),
+            Err(refusal) => {
+                seat.agree(lists, book);
+                Err(refusal)
+            }
         }
     }
 
     /// Binds the seat's own number to a joint number that lives.
-    #[tactic(auto, using(crate::proofs::Refusing::adopt_refused))]
     pub(crate) fn adopt(
         &mut self,
         seat: &mut Seat<L>,
@@ -277,7 +310,8 @@ impl<L: Opening> Desk<L> {
             (λ told. IsEntryOf seat.old.number (calls.Adopt own joint) told) }
         ensures made { OnOk result (seat.new ≡ making (calls.Adopt own joint) seat.old) }
         ensures kept { OnErr result (seat.new ≡ seat.old) }
-        ensures refusal { IfErr result (λ e. CanMeet (calls.Adopt own joint) e) }
+        ensures refusal { IfErr result (IsRefusedAt L.formula L.seats L.max_steps seat.old
+            (λ s. adopt_reply s seat.old.number own joint)) }
     {
         let Desk {
             book,
@@ -292,17 +326,20 @@ impl<L: Opening> Desk<L> {
                 seat.count_one(entries, lists, book);
                 Ok(Told { entry })
             }
-            Err(refusal) => Err(refusal),
+            Err(refusal) => {
+                seat.agree(lists, book);
+                Err(refusal)
+            }
         }
     }
 
     /// Ends the seat's bindings in the book.
-    #[tactic(auto, using(crate::proofs::Refusing::leave_refused))]
     pub(crate) fn leave(&mut self, seat: &mut Seat<L>) -> Result<Told, Refusal>
         ensures told { IfOk result (λ told. IsEntryOf seat.old.number calls.Leave told) }
         ensures made { OnOk result (seat.new ≡ making calls.Leave seat.old) }
         ensures kept { OnErr result (seat.new ≡ seat.old) }
-        ensures refusal { IfErr result (λ e. CanMeet calls.Leave e) }
+        ensures refusal { IfErr result (IsRefusedAt L.formula L.seats L.max_steps seat.old
+            (λ s. leave_reply s seat.old.number)) }
     {
         let Desk {
             book,
@@ -316,7 +353,10 @@ impl<L: Opening> Desk<L> {
                 seat.count_one(entries, lists, book);
                 Ok(Told { entry })
             }
-            Err(refusal) => Err(refusal),
+            Err(refusal) => {
+                seat.agree(lists, book);
+                Err(refusal)
+            }
         }
     }
 }

@@ -1,5 +1,5 @@
 //! The clauses that a seat holds, as it knows by itself.
-ghost use Rattle.std.specs.Prelude.{◌≡◌, ◌≤◌, ◌+◌, IfOk, IfSome, OnOk, OnErr};
+ghost use Rattle.std.specs.Prelude.{◌≡◌, ◌≤◌, ◌+◌, length, IfOk, IfSome, OnSome, OnOk, OnErr};
 
 use lj_book::OwnMap;
 use lj_clause::{Clause, ClauseView, Formula, Lemma, Lit, NoMemory};
@@ -75,6 +75,9 @@ impl OwnClauses {
         ensures seat { IfOk result (λ case. IfSome case (λ c. c.seat ≡ seat)) }
         ensures own { IfOk result (λ case. IfSome case (λ c. c.own ≡ addition.now.number)) }
         ensures lemma { IfOk result (λ case. IfSome case (λ c. c.lemma ≡ addition.now.lemma)) }
+        ensures hints { IfOk result
+            (λ case. IfSome case (λ c. length c.hints ≡ length addition.now.hints)) }
+        ensures groups { IfOk result (λ case. OnSome case (length addition.now.groups ≡ 0)) }
     {
         self.room = self.room.saturating_add(room_for(&addition.hints));
         let own = addition.number;
@@ -119,7 +122,10 @@ impl OwnClauses {
         &mut self,
         formula: &Formula,
         addition: &Addition,
-    ) -> Result<Option<Vec<Pair>>, NoMemory> {
+    ) -> Result<Option<Vec<Pair>>, NoMemory>
+        ensures { IfOk result
+            (λ pairs. IfSome pairs (λ v. length v.items ≡ length addition.now.hints)) }
+    {
         let lent = bytes_of_test(addition).min(self.room);
         self.room -= lent;
         let pairs = self.pairs_of(formula, &addition.hints);
@@ -135,7 +141,10 @@ impl OwnClauses {
         &mut self,
         formula: &Formula,
         numbers: &Numbers,
-    ) -> Result<Option<Vec<Pair>>, NoMemory> {
+    ) -> Result<Option<Vec<Pair>>, NoMemory>
+        ensures { IfOk result
+            (λ pairs. IfSome pairs (λ v. length v.items ≡ length numbers.now)) }
+    {
         let mut pairs = Vec::with_capacity(self.alloc, numbers.len())?;
         for own in numbers.iter() {
             let Some(pair) = self.pair(formula, own)? else {

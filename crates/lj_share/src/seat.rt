@@ -1,15 +1,17 @@
 //! Seats.
-ghost use Rattle.std.specs.Prelude.{◌≡◌, ◌+◌, ◌<◌, [], length, Some, IfSome, slice_get, slice_set};
+ghost use Rattle.std.specs.Prelude.{◌≡◌, ◌+◌, ◌<◌, [], length, Some, IfSome, OnSome, slice_get, slice_set};
 ghost use Rattle.lj_book.specs.declared.entry.Call.{Call};
 ghost use Rattle.lj_share.specs.Entries.{calls_of};
 ghost use Rattle.lj_share.specs.Seats.{new_seat, making};
-ghost use Rattle.lj_share.specs.inner.Seats.{HasOneMore};
+ghost use Rattle.lj_book.specs.History.{IsReached};
+ghost use Rattle.lj_share.specs.inner.Seats.{AreListsOf, HasOneMore};
 
 use crate::copies::SeatCopy;
 use crate::lists::Lists;
 use crate::opening::Opening;
 use crate::own_clauses::OwnClauses;
 use lj_book::Book;
+use lj_book::laws::history_is_legal;
 use lj_clause::{ClauseView, Formula, Lemma};
 use lj_hint::{Case, Marks};
 use lj_text::{Addition, Numbers};
@@ -98,12 +100,28 @@ impl<L: Opening> Seat<L> {
         self.count += 1;
     }
 
+    /// The book's history is legal, and has of the seat just the calls that were made through it: both copies of the list of
+    /// its calls agree, and stay.
+    pub(crate) fn agree(&mut self, lists: &mut Lists<L>, book: &Book)
+        requires { AreListsOf book.now.history lists.old }
+        ensures kept { self.new ≡ self.old }
+        ensures lists { lists.new ≡ lists.old }
+        ensures calls { calls_of self.old.number book.now.history ≡ self.old.calls }
+        ensures legal { IsReached book.now }
+    {
+        history_is_legal(book);
+        let number = self.number;
+        lists.follow(&mut self.copy, book, number);
+    }
+
     /// The case of an addition over the clauses that the seat holds as it knows by itself: none where it has groups, where
     /// its number may be bound, where one that it names isn't known, or where a growth was refused.
     pub(crate) fn case(&mut self, formula: &Formula, addition: &Addition) -> Option<Case>
         ensures seat { IfSome result (λ case. case.seat ≡ self.old.number) }
         ensures own { IfSome result (λ case. case.own ≡ addition.now.number) }
         ensures lemma { IfSome result (λ case. case.lemma ≡ addition.now.lemma) }
+        ensures hints { IfSome result (λ case. length case.hints ≡ length addition.now.hints) }
+        ensures groups { OnSome result (length addition.now.groups ≡ 0) }
         ensures kept { self.new ≡ self.old }
     {
         let seat = self.number;

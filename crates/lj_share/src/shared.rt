@@ -3,11 +3,13 @@ ghost use Rattle.std.specs.Prelude.{◌≡◌, ◌==◌, ◌+◌, ◌<◌, [], l
 ghost use Rattle.lj_clause.specs.Truth.{IsUnsatisfiable};
 ghost use Rattle.lj_book.specs.declared.entry.Call.TheVariants as calls;
 ghost use Rattle.lj_book.specs.History.{IsReached};
-ghost use Rattle.lj_share.specs.Seats.{new_seats, making, entries_made, HasCallsOf};
+ghost use Rattle.lj_share.specs.Seats.{new_seats, making, entries_made, HasCallsOf, IsSeen};
 ghost use Rattle.lj_share.specs.Entries.{call_of, IsEntryOf};
 ghost use Rattle.lj_share.specs.inner.Seats.{AreListsOf};
 ghost use Rattle.lj_share.specs.inner.Telling.{IsTokenOf};
-ghost use Rattle.lj_share.specs.Refusals.{CanMeet};
+ghost use Rattle.lj_share.specs.Refusals.{HoldsInAState, IsLineRefused, IsRefusedAlone, IsRefusedAt};
+ghost use Rattle.lj_book.specs.Calls.{IsReply, take_reply, commit_reply, adopt_reply, leave_reply};
+ghost use Rattle.lj_text.specs.declared.line.Line.TheVariants as lines;
 
 use crate::blank::Blank;
 use crate::closed::Closed;
@@ -16,17 +18,19 @@ use crate::desk::{Desk, Entered};
 use crate::gate::{Gate, NoGate};
 use crate::lists::Lists;
 use crate::opening::Opening;
-use crate::refutation::Refutation;
 use crate::seat::Seat;
 use crate::told::Told;
+use crate::verdict::{Note, Verdict};
 use lj_book::laws::history_is_legal;
-use lj_book::{Book, Call, Entry, Ready, Refusal};
-use lj_clause::{Formula, NoMemory};
+use lj_book::{Book, Call, Entry, Ready, Refusal, Verified};
+use lj_clause::{Clause, Formula, NoMemory};
 use lj_hint::{Case, Receipt, Tested};
 use lj_text::{Addition, Line, Numbers};
+use once_cell::race::OnceBox;
 use std::alloc::Global;
+use std::marker::Model;
 use std::sync::ledger::Share;
-use std::sync::{Mutex, MutexGuard, OnceLock, Wait};
+use std::sync::{Mutex, MutexGuard, Wait};
 
 /// How often the lock is tried before a thread sleeps for it.
 const TRIES: u32 = 64;
@@ -39,13 +43,23 @@ const LOOKS: u32 = 64;
 #[derive(Drop)]
 pub struct Shared<L: Opening> {
     desk: Mutex<Desk<L>>,
-    /// That no assignment satisfies the formula, once an entry has added the empty clause.
-    refutation: OnceLock<Refutation<L>>,
+    /// The verdict, once an entry has added the empty clause and it was published.
+    verdict: OnceBox<Verdict<L>>,
     seats: u32,
     /// The formula once more, so that its clauses are read without the lock.
     formula: Formula,
     alloc: Global,
-    ghost seats_are: { seats ≡ L.seats },
+}
+
+impl<L: Opening> Model for Shared<L> {
+    ghost use Rattle.std.specs.Prelude.{◌≡◌, ℕ};
+    ghost use Rattle.once_cell.specs.Once.{cell_name};
+
+    ghost Value = { ℕ };
+
+    ghost view = { λ s. cell_name s.verdict };
+
+    ghost invariant = { λ s. s.seats ≡ L.seats };
 }
 
 /// Not all seats were handed in: the shared book, and those that were.
@@ -88,7 +102,7 @@ impl<L: Opening> Shared<L> {
         let out = seats_of(alloc, &mut rest, copies)?;
         let shared = Shared {
             desk: Mutex::new(Desk::new(alloc, book, entries, Lists::new(desk), rest)),
-            refutation: OnceLock::new(),
+            verdict: OnceBox::new(alloc),
             seats,
             formula: shown,
             alloc,
@@ -108,7 +122,8 @@ impl<L: Opening> Shared<L> {
         ensures told { IfOk result (λ told. IsEntryOf seat.old.number (call_of line.now) told) }
         ensures made { OnOk result (seat.new ≡ making (call_of line.now) seat.old) }
         ensures kept { OnErr result (seat.new ≡ seat.old) }
-        ensures refusal { IfErr result (λ e. CanMeet (call_of line.now) e) }
+        ensures refusal { IfErr result (IsLineRefused L.formula L.seats L.max_steps seat.old
+            line.now) }
     {
         self.submit_at(rt, seat, line, 0, &NoGate)
     }
@@ -129,7 +144,8 @@ impl<L: Opening> Shared<L> {
         ensures told { IfOk result (λ told. IsEntryOf seat.old.number (call_of line.now) told) }
         ensures made { OnOk result (seat.new ≡ making (call_of line.now) seat.old) }
         ensures kept { OnErr result (seat.new ≡ seat.old) }
-        ensures refusal { IfErr result (λ e. CanMeet (call_of line.now) e) }
+        ensures refusal { IfErr result (IsLineRefused L.formula L.seats L.max_steps seat.old
+            line.now) }
     {
         match self.hand_in(rt, seat, line, at, gate, true)? {
             Some(told) => Ok(told),
@@ -152,7 +168,8 @@ impl<L: Opening> Shared<L> {
     ) -> Result<(), Refusal>
         ensures made { OnOk result (seat.new ≡ making (call_of line.now) seat.old) }
         ensures kept { OnErr result (seat.new ≡ seat.old) }
-        ensures refusal { IfErr result (λ e. CanMeet (call_of line.now) e) }
+        ensures refusal { IfErr result (IsLineRefused L.formula L.seats L.max_steps seat.old
+            line.now) }
     {
         self.hand_in(rt, seat, line, at, gate, false)?;
         Ok(())
@@ -171,7 +188,8 @@ impl<L: Opening> Shared<L> {
         ensures told { IfOk result (IsTokenOf telling seat.old.number (call_of line.now)) }
         ensures made { OnOk result (seat.new ≡ making (call_of line.now) seat.old) }
         ensures kept { OnErr result (seat.new ≡ seat.old) }
-        ensures refusal { IfErr result (λ e. CanMeet (call_of line.now) e) }
+        ensures refusal { IfErr result (IsLineRefused L.formula L.seats L.max_steps seat.old
+            line.now) }
     {
         let number = seat.number();
         let answer = match line {
@@ -189,7 +207,7 @@ impl<L: Opening> Shared<L> {
                 clause,
             } => {
                 gate.pass(number, at);
-                self.desk.lock(rt).import(seat, *own, clause, telling)
+                self.import(rt, seat, *own, clause, telling)
             }
         };
         gate.answered(number, at);
@@ -208,11 +226,38 @@ impl<L: Opening> Shared<L> {
             (IsTokenOf telling seat.old.number (calls.Drop numbers.now)) }
         ensures made { OnOk result (seat.new ≡ making (calls.Drop numbers.now) seat.old) }
         ensures kept { OnErr result (seat.new ≡ seat.old) }
-        ensures refusal { IfErr result (λ e. CanMeet (calls.Drop numbers.now) e) }
+        ensures refusal { IfErr result (IsLineRefused L.formula L.seats L.max_steps seat.old
+            (lines.Delete numbers.now)) }
     {
-        let told = self.desk(rt).drop_numbers(seat, numbers, telling)?;
-        seat.give_up(&self.formula, numbers);
-        Ok(told)
+        let mut desk = self.desk(rt);
+        let told = desk.drop_numbers(seat, numbers, telling);
+        self.release(desk);
+        if told.is_ok() {
+            seat.give_up(&self.formula, numbers);
+        }
+        told
+    }
+
+    /// Binds the seat's own number to a live clause with exactly these literals.
+    fn import<R: Wait>(
+        &self,
+        rt: &R,
+        seat: &mut Seat<L>,
+        own: u64,
+        clause: &Clause,
+        telling: bool,
+    ) -> Result<Option<Told>, Refusal>
+        ensures told { IfOk result
+            (IsTokenOf telling seat.old.number (calls.Import own clause.now)) }
+        ensures made { OnOk result (seat.new ≡ making (calls.Import own clause.now) seat.old) }
+        ensures kept { OnErr result (seat.new ≡ seat.old) }
+        ensures refusal { IfErr result (IsLineRefused L.formula L.seats L.max_steps seat.old
+            (lines.Import own clause.now)) }
+    {
+        let mut desk = self.desk.lock(rt);
+        let told = desk.import(seat, own, clause, telling);
+        self.release(desk);
+        told
     }
 
     /// The receipt of an addition over the clauses that the seat holds as it knows by itself: none where they don't tell.
@@ -223,58 +268,54 @@ impl<L: Opening> Shared<L> {
         &self,
         seat: &mut Seat<L>,
         addition: &Addition,
-    ) -> Option<Result<Receipt, Refusal>>
-        ensures seat { IfSome result
-            (λ answer. IfOk answer (λ receipt. receipt.seat ≡ seat.old.number)) }
-        ensures own { IfSome result
-            (λ answer. IfOk answer (λ receipt. receipt.own ≡ addition.now.number)) }
-        ensures lemma { IfSome result
-            (λ answer. IfOk answer (λ receipt. receipt.lemma ≡ addition.now.lemma)) }
+    ) -> Result<Option<Receipt>, Refusal>
+        ensures seat { IfOk result
+            (λ receipt. IfSome receipt (λ r. r.seat ≡ seat.old.number)) }
+        ensures own { IfOk result
+            (λ receipt. IfSome receipt (λ r. r.own ≡ addition.now.number)) }
+        ensures lemma { IfOk result
+            (λ receipt. IfSome receipt (λ r. r.lemma ≡ addition.now.lemma)) }
+        ensures refusal { IfErr result (IsRefusedAlone (lines.Add addition.now)) }
         ensures kept { seat.new ≡ seat.old }
     {
-        let case = seat.case(&self.formula, addition)?;
+        let Some(case) = seat.case(&self.formula, addition) else {
+            return Ok(None);
+        };
         match case.test(&mut seat.marks) {
-            Tested::Closed(receipt) => Some(Ok(receipt)),
-            Tested::Stuck(place) => Some(Err(Refusal::HintNotUnit(place))),
-            Tested::Open(_) | Tested::NoMemory(_, _) => None,
+            Tested::Closed(receipt) => Ok(Some(receipt)),
+            Tested::Stuck(place) => Err(Refusal::HintNotUnit(place)),
+            Tested::Open(_) | Tested::NoMemory(_, _) => Ok(None),
         }
     }
 
-    /// Tests an addition over the clauses that the seat holds as it knows by itself, and enters it; or answers nothing, where
-    /// it has to be tested under the lock.
-    fn submit_alone<R: Wait, G: Gate>(
+    /// Enters the lemma of a receipt of this seat, if its commit isn't refused.
+    fn commit_alone<R: Wait>(
         &self,
         rt: &R,
         seat: &mut Seat<L>,
-        addition: &Addition,
-        at: u64,
-        gate: &G,
+        receipt: Receipt,
         telling: bool,
-    ) -> Option<Result<Entered, Refusal>>
-        ensures told { IfSome result (λ answer. IfOk answer
-            (λ entered. IsTokenOf telling seat.old.number
-            (calls.Add addition.now.number addition.now.lemma) entered.told)) }
-        ensures made { IfSome result (λ answer. OnOk answer
-            (seat.new ≡ making (calls.Add addition.now.number addition.now.lemma) seat.old)) }
-        ensures kept { IfSome result (λ answer. OnErr answer (seat.new ≡ seat.old)) }
-        ensures nothing { result ≡ None → seat.new ≡ seat.old }
+    ) -> Option<Entered>
+        requires { receipt.seat ≡ seat.old.number }
+        ensures told { IfSome result (λ entered. IsTokenOf telling seat.old.number
+            (calls.Add receipt.own receipt.lemma) entered.told) }
+        ensures made { OnSome result
+            (seat.new ≡ making (calls.Add receipt.own receipt.lemma) seat.old) }
+        ensures kept { result ≡ None → seat.new ≡ seat.old }
     {
-        let number = seat.number();
-        let receipt = match self.receipt_alone(seat, addition)? {
-            Ok(receipt) => receipt,
-            Err(refusal) => return Some(Err(refusal)),
-        };
-        gate.pass(number, at);
-        let answer = if telling {
+        let made = if telling {
             self.commit_telling(rt, seat, receipt)
         } else {
             self.commit_ready(rt, seat, receipt)
         };
-        gate.answered(number, at);
-        Some(answer)
+        match made {
+            Ok(entered) => Some(entered),
+            Err(_refusal) => None,
+        }
     }
 
-    /// Tests an addition over the clauses that the seat holds as it knows by itself, or else under the lock, and enters it.
+    /// Tests an addition over the clauses that the seat holds as it knows by itself, and enters it. Where its walk stays open, or
+    /// the commit is refused, it is tested under the lock: so each refusal but that of a stuck walk is the book's own.
     fn submit_addition<R: Wait, G: Gate>(
         &self,
         rt: &R,
@@ -289,15 +330,44 @@ impl<L: Opening> Shared<L> {
         ensures made { OnOk result
             (seat.new ≡ making (calls.Add addition.now.number addition.now.lemma) seat.old) }
         ensures kept { OnErr result (seat.new ≡ seat.old) }
+        ensures refusal { IfErr result (IsLineRefused L.formula L.seats L.max_steps seat.old
+            (lines.Add addition.now)) }
     {
-        if let Some(answer) = self.submit_alone(rt, seat, addition, at, gate, telling) {
-            return answer;
-        }
         let number = seat.number();
+        let receipt = self.receipt_alone(seat, addition)?;
         gate.pass(number, at);
-        let answer = self.add_inside(rt, seat, addition, telling);
+        let answer = self.enter_addition(rt, seat, addition, receipt, telling);
         gate.answered(number, at);
         answer
+    }
+
+    /// Enters an addition by its receipt, or else tests it under the lock, and enters it.
+    fn enter_addition<R: Wait>(
+        &self,
+        rt: &R,
+        seat: &mut Seat<L>,
+        addition: &Addition,
+        receipt: Option<Receipt>,
+        telling: bool,
+    ) -> Result<Entered, Refusal>
+        requires seat { IfSome receipt (λ receipt. receipt.seat ≡ seat.old.number) }
+        requires own { IfSome receipt (λ receipt. receipt.own ≡ addition.now.number) }
+        requires lemma { IfSome receipt (λ receipt. receipt.lemma ≡ addition.now.lemma) }
+        ensures told { IfOk result (λ entered. IsTokenOf telling seat.old.number
+            (calls.Add addition.now.number addition.now.lemma) entered.told) }
+        ensures made { OnOk result
+            (seat.new ≡ making (calls.Add addition.now.number addition.now.lemma) seat.old) }
+        ensures kept { OnErr result (seat.new ≡ seat.old) }
+        ensures refusal { IfErr result (IsLineRefused L.formula L.seats L.max_steps seat.old
+            (lines.Add addition.now)) }
+    {
+        let Some(receipt) = receipt else {
+            return self.add_inside(rt, seat, addition, telling);
+        };
+        match self.commit_alone(rt, seat, receipt, telling) {
+            Some(entered) => Ok(entered),
+            None => self.add_inside(rt, seat, addition, telling),
+        }
     }
 
     /// Tests an addition under the lock, and enters it.
@@ -313,13 +383,15 @@ impl<L: Opening> Shared<L> {
         ensures made { OnOk result
             (seat.new ≡ making (calls.Add addition.now.number addition.now.lemma) seat.old) }
         ensures kept { OnErr result (seat.new ≡ seat.old) }
+        ensures refusal { IfErr result (IsLineRefused L.formula L.seats L.max_steps seat.old
+            (lines.Add addition.now)) }
     {
         let mut desk = self.desk(rt);
         let entered = desk.add_inside(seat, addition, telling);
         if entered.is_ok() {
             desk.show_hints(seat, &self.formula, addition);
         }
-        self.publish(&desk);
+        self.release(desk);
         entered
     }
 
@@ -331,14 +403,17 @@ impl<L: Opening> Shared<L> {
     pub fn take<R: Wait>(
         &self,
         rt: &R,
-        seat: &Seat<L>,
+        seat: &mut Seat<L>,
         addition: &Addition,
     ) -> Result<Case, Refusal>
-        ensures seat { IfOk result (λ case. case.seat ≡ seat.now.number) }
+        ensures answer { HoldsInAState L.formula L.seats L.max_steps seat.old
+            (λ s. IsReply result (take_reply s seat.old.number addition.now)) }
+        ensures seat { IfOk result (λ case. case.seat ≡ seat.old.number) }
         ensures own { IfOk result (λ case. case.own ≡ addition.now.number) }
         ensures lemma { IfOk result (λ case. case.lemma ≡ addition.now.lemma) }
+        ensures kept { seat.new ≡ seat.old }
     {
-        self.desk.lock(rt).book().take(seat.number(), addition)
+        self.desk.lock(rt).take(seat, addition)
     }
 
     /// Enters the lemma of a receipt of this seat, while the clauses that it lists still live. Takes O(log n) time for each of
@@ -359,6 +434,8 @@ impl<L: Opening> Shared<L> {
             (seat.new ≡ making (calls.Add receipt.own receipt.lemma) seat.old) }
         ensures kept { OnErr result (seat.new ≡ seat.old) }
         ensures back { IfErr result (λ e. e.1 ≡ receipt) }
+        ensures refusal { IfErr result (λ e. IsRefusedAt L.formula L.seats L.max_steps seat.old
+            (λ s. commit_reply s receipt) e.0) }
     {
         let (joint, told) = self.commit_taken(rt, seat, receipt)?;
         if let Call::Add { own, lemma } = &told.entry.call {
@@ -381,10 +458,12 @@ impl<L: Opening> Shared<L> {
             (seat.new ≡ making (calls.Add receipt.own receipt.lemma) seat.old) }
         ensures kept { OnErr result (seat.new ≡ seat.old) }
         ensures back { IfErr result (λ e. e.1 ≡ receipt) }
+        ensures refusal { IfErr result (λ e. IsRefusedAt L.formula L.seats L.max_steps seat.old
+            (λ s. commit_reply s receipt) e.0) }
     {
         let mut desk = self.desk.lock(rt);
         let made = desk.commit(seat, receipt);
-        self.publish(&desk);
+        self.release(desk);
         made
     }
 
@@ -450,7 +529,7 @@ impl<L: Opening> Shared<L> {
     {
         let mut desk = self.desk(rt);
         let made = desk.commit_ready(seat, ready);
-        self.publish(&desk);
+        self.release(desk);
         made
     }
 
@@ -470,9 +549,13 @@ impl<L: Opening> Shared<L> {
             (λ told. IsEntryOf seat.old.number (calls.Adopt own joint) told) }
         ensures made { OnOk result (seat.new ≡ making (calls.Adopt own joint) seat.old) }
         ensures kept { OnErr result (seat.new ≡ seat.old) }
-        ensures refusal { IfErr result (λ e. CanMeet (calls.Adopt own joint) e) }
+        ensures refusal { IfErr result (IsRefusedAt L.formula L.seats L.max_steps seat.old
+            (λ s. adopt_reply s seat.old.number own joint)) }
     {
-        self.desk.lock(rt).adopt(seat, own, joint)
+        let mut desk = self.desk.lock(rt);
+        let told = desk.adopt(seat, own, joint);
+        self.release(desk);
+        told
     }
 
     /// Ends the seat's bindings. Its later calls are refused. Takes the time of [`Book::leave`], and time linear in what the
@@ -484,11 +567,16 @@ impl<L: Opening> Shared<L> {
         ensures told { IfOk result (λ told. IsEntryOf seat.old.number calls.Leave told) }
         ensures made { OnOk result (seat.new ≡ making calls.Leave seat.old) }
         ensures kept { OnErr result (seat.new ≡ seat.old) }
-        ensures refusal { IfErr result (λ e. CanMeet calls.Leave e) }
+        ensures refusal { IfErr result (IsRefusedAt L.formula L.seats L.max_steps seat.old
+            (λ s. leave_reply s seat.old.number)) }
     {
-        let told = self.desk.lock(rt).leave(seat)?;
-        seat.forget();
-        Ok(told)
+        let mut desk = self.desk.lock(rt);
+        let told = desk.leave(seat);
+        self.release(desk);
+        if told.is_ok() {
+            seat.forget();
+        }
+        told
     }
 
     /// The entry that a token of this book stands for, the same one for good. Waits for nobody. Takes constant time.
@@ -505,8 +593,32 @@ impl<L: Opening> Shared<L> {
     pub fn verdict_now(&self) -> Option<u64>
         ensures { OnSome result (IsUnsatisfiable L.formula) }
     {
-        let refutation = self.refutation.get()?;
-        Some(refutation.place())
+        let verdict = self.verdict.get()?;
+        let _verified = verdict.verified();
+        Some(verdict.place())
+    }
+
+    /// A note that has seen no verdict yet, to look for the verdict with. Takes constant time, and no memory.
+    pub fn note(&self) -> Note<L>
+        ensures cell { result.cell ≡ self.now }
+        ensures fresh { result.place ≡ None }
+    {
+        Note::new(self.verdict.note())
+    }
+
+    /// The verdict, if one was published by now: the formula that the book was opened with, which no assignment satisfies. A note
+    /// that once gave a verdict never gives `None` or another one again. The note is one of this shared book. Waits for nobody.
+    /// Takes constant time, and no memory.
+    pub fn verdict_seen<'a>(&'a self, note: &mut Note<L>) -> Option<&'a Verified>
+        requires { note.old.cell ≡ self.now }
+        ensures cell { note.new.cell ≡ note.old.cell }
+        ensures formula { IfSome result (λ verified. verified.now ≡ L.formula) }
+        ensures unsatisfiable { OnSome result (IsUnsatisfiable L.formula) }
+        ensures seen { OnSome result (IsSeen note.old.place note.new.place) }
+        ensures unseen { result ≡ None → (note.old.place ≡ None) × (note.new.place ≡ None) }
+    {
+        let verdict = self.verdict.get_as(&mut note.seen)?;
+        Some(verdict.verified())
     }
 
     /// What lies under the lock. It is held for about a microsecond, so it is tried for a while before a thread sleeps for it.
@@ -523,14 +635,20 @@ impl<L: Opening> Shared<L> {
     /// Lets a few hundred cycles pass, in which nothing is written that others read.
     fn pause(&self) {
         for _ in 0..LOOKS {
-            let _ = self.refutation.get();
+            let _ = self.verdict.get();
         }
     }
 
-    /// Lets all see the verdict of the book, if it has one.
-    fn publish(&self, desk: &Desk<L>) {
-        if let Some(refutation) = desk.refutation() {
-            let _ = self.refutation.try_set(refutation);
+    /// Gives the lock back, and then lets all see the verdict of the book, if it has one. Where memory for it is refused, the next
+    /// call that makes an entry tries again.
+    fn release(&self, desk: MutexGuard<'_, Desk<L>>) {
+        let verdict = match self.verdict.get() {
+            Some(_) => None,
+            None => desk.verdict(self.alloc),
+        };
+        drop(desk);
+        if let Some(verdict) = verdict {
+            let _ = self.verdict.set(verdict);
         }
     }
 

@@ -2,7 +2,7 @@
 ghost use Rattle.std.specs.Prelude.{◌≡◌, IfOk, IfErr, OnOk, OnErr};
 ghost use Rattle.lj_book.specs.Calls.{IsRefusal, drop_entry, drop_reply, import_entry, import_reply};
 ghost use Rattle.lj_book.specs.History.{after_entry};
-ghost use Rattle.lj_book.specs.Inside.{inside_entry};
+ghost use Rattle.lj_book.specs.Inside.{inside_entry, inside_reply};
 ghost use Rattle.lj_share.specs.inner.Telling.{IsAsked};
 
 use lj_book::{Added, Book, Entry, Imported, Refusal};
@@ -26,6 +26,7 @@ pub(crate) fn add_inside(
     ensures told { IfOk result
         (λ made. IsAsked telling (inside_entry book.old seat addition.now) made.1) }
     ensures err { OnErr result (book.new ≡ book.old) }
+    ensures refusal { IfErr result (λ e. IsRefusal e (inside_reply book.old seat addition.now)) }
 {
     if telling {
         let (added, entry) = book.add_inside_telling(seat, addition, marks)?;

@@ -1,7 +1,9 @@
 -- What comes of a run of streams beside one another, on one shared book.
 use Rattle.std.specs.Prelude.{◌≡◌, ℕ, Bool, true, List}
 use Rattle.lj_clause.specs.ClauseMap.{FormulaValue}
+use Rattle.lj_clause.specs.Truth.{IsUnsatisfiable}
 use Rattle.lj_text.specs.Streams.{SourceState}
+use Rattle.lj_share.specs.Refusals.{IsLineRefused}
 use Rattle.lj_share.specs.Seats.{SeatValue}
 use Rattle.lj_run.specs.declared.outcome.End.{End}
 use Rattle.lj_run.specs.declared.outcome.End.TheVariants.{Stopped}
@@ -26,9 +28,12 @@ report_of tally source = record {
 
 -- ---- what the workers leave
 
--- A stream ran under its seat, which has the calls of its lines now, and this is its report.
-abbrev pub HasRun : {S : Type 0} → (S → SourceState) → SeatValue × S → SeatValue → Report S → Type 0
-HasRun seen job seat report = IsStreamBeside seen true seat.calls job.1 report
+-- A stream ran under its seat of an opening, which has the calls of its lines now, and this is its report. No assignment satisfies the
+-- opening's formula where it says that it stopped.
+abbrev pub HasRun : {S : Type 0} → (S → SourceState) → FormulaValue → ℕ → ℕ → SeatValue × S
+    → SeatValue → Report S → Type 0
+HasRun seen formula seats max_steps job seat report = IsStreamBeside seen
+    (IsLineRefused formula seats max_steps) (IsUnsatisfiable formula) seat job.1 report
     × (seat.number ≡ job.0.number)
 
 -- whether there is a verdict where this end says so

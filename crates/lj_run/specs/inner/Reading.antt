@@ -1,12 +1,12 @@
 -- How the lines of a stream are read from its source.
-use Rattle.std.specs.Prelude.{◌≡◌, ℕ, ◌+◌, Bool, true, false, List, [], ◌++◌, take, Option, None, Some, Ok, Err, slice_get}
+use Rattle.std.specs.Prelude.{◌≡◌, ℕ, ◌+◌, Bool, true, false, List, [], ◌++◌, take, Option, None, Some, Ok, Err, slice_get, if◌then◌else◌}
 use Rattle.lj_text.specs.declared.line.Line.{Line}
 use Rattle.lj_text.specs.Lines.{Said, all_said}
 use Rattle.lj_text.specs.LinesRead.{LinesRead, LineReaderStandsAt, is_line_no_memory}
 use Rattle.lj_text.specs.Streams.{SourceState, HasGiven, HasEnded}
 use Rattle.lj_run.specs.declared.reading.Miss.{Miss}
 use Rattle.lj_run.specs.declared.reading.Miss.TheVariants.{Failed, AtFault}
-use Rattle.lj_run.specs.Reading.{FailsAt, IsRoomRefused}
+use Rattle.lj_run.specs.Reading.{FailsAt, IsRoomRefused, AreWhole}
 
 -- The reader may go on: it has told no fault, and was told of the end only where the source has ended.
 pub record MayRead (reader : LinesRead) (ended : Bool) : Type 0 where
@@ -32,7 +32,7 @@ with_handed handed None = handed
 with_handed handed (Some line) = handed + 1
 
 -- The source gave a piece behind what the reader was fed. In all of that the lines handed out before are the same, and this one
--- is the next; where there is none, the source has ended.
+-- is the next, and whole unless the source has ended; where there is none, it has.
 pub record LineRead (max : ℕ) (fed : List ℕ) (handed : ℕ) (reader : LinesRead)
     (before after : SourceState) (line : Option Line) : Type 0 where
   pub piece : List ℕ
@@ -41,6 +41,7 @@ pub record LineRead (max : ℕ) (fed : List ℕ) (handed : ℕ) (reader : LinesR
   pub next : IsNext (all_said max (fed ++ piece)) handed reader.at line
   pub stands : LineReaderStandsAt reader (fed ++ piece) (with_handed handed line)
   pub ended : line ≡ None → HasEnded after
+  pub whole : AreWhole max (fed ++ piece) after (with_handed handed line)
 
 -- the next line of a text is at fault, or a read failed; of the want of memory see IsRoomRefused
 abbrev pub IsMiss : ℕ → List ℕ → ℕ → ℕ → Miss → Type 0
@@ -54,8 +55,13 @@ abbrev pub IfOutOfRoom : Miss → (ℕ → Type 0) → Type 0
 IfOutOfRoom Failed P = Unit {0}
 IfOutOfRoom (AtFault fault) P = is_line_no_memory fault.kind ≡ true → P fault.line
 
+-- how many lines are known with this one: a fault is that of a whole line
+abbrev pub with_missed : ℕ → Miss → ℕ
+with_missed handed Failed = handed
+with_missed handed (AtFault fault) = if is_line_no_memory fault.kind then handed else handed + 1
+
 -- The source gave a piece behind what the reader was fed. In all of that the lines handed out before are the same, and the next
--- one is missed.
+-- one is missed. It is at fault only where it is whole or the source has ended.
 pub record LineMissed (max : ℕ) (fed : List ℕ) (handed at : ℕ) (before after : SourceState)
     (miss : Miss) : Type 0 where
   pub piece : List ℕ
@@ -63,6 +69,7 @@ pub record LineMissed (max : ℕ) (fed : List ℕ) (handed at : ℕ) (before aft
   pub same : take handed (all_said max (fed ++ piece)) ≡ take handed (all_said max fed)
   pub is : IsMiss max (fed ++ piece) handed at miss
   pub no_room : IfOutOfRoom miss (IsRoomRefused max (fed ++ piece) after.ended handed)
+  pub whole : AreWhole max (fed ++ piece) after (with_missed handed miss)
 
 -- how many reads failed
 abbrev pub reads_failed : Miss → ℕ

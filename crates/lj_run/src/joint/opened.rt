@@ -86,7 +86,8 @@ fn run_all<
     requires unfailed { All (λ stream. S.failures stream ≡ 0)
         (streams_by_seat streams.items closing) }
     ensures { IfOk result (λ ran. AllZip (λ job r. HasRun
-        (source_state S.given S.ended S.rest S.failures) job r.seat r.report)
+        (source_state S.given S.ended S.rest S.failures) L.formula L.seats L.max_steps job r.seat
+        r.report)
         (zip seats.items (streams_by_seat streams.items closing)) ran.items) }
 {
     let mut seats = seats;
@@ -124,7 +125,7 @@ struct RunsBeside<L: Opening, S>(Snapshot<(Seat<L>, S)>);
 
 impl<L: Opening, S: Source> Promise<Ran<L, S>> for RunsBeside<L, S> {
     ghost kept_by = { λ promise ran. HasRun (source_state S.given S.ended S.rest S.failures)
-        promise.0.value ran.seat ran.report };
+        L.formula L.seats L.max_steps promise.0.value ran.seat ran.report };
 }
 
 /// Runs streams under their seats, each by a worker on a thread of its own. Where a thread is refused, it answers once the
@@ -144,7 +145,8 @@ fn run_beside<
     requires fresh { All (λ job. job.0.calls ≡ []) jobs.items }
     requires unfailed { All (λ job. S.failures job.1 ≡ 0) jobs.items }
     ensures { IfOk result (λ ran. AllZip (λ job r. HasRun
-        (source_state S.given S.ended S.rest S.failures) job r.seat r.report)
+        (source_state S.given S.ended S.rest S.failures) L.formula L.seats L.max_steps job r.seat
+        r.report)
         jobs.items ran.items) }
 {
     let ran = thread::scope(
@@ -154,7 +156,8 @@ fn run_beside<
             requires { All (λ job. job.0.calls ≡ []) jobs.items
                 × All (λ job. S.failures job.1 ≡ 0) jobs.items }
             ensures { IfOk result (λ ran. AllZip (λ job r. HasRun
-                (source_state S.given S.ended S.rest S.failures) job r.seat r.report)
+                (source_state S.given S.ended S.rest S.failures) L.formula L.seats L.max_steps
+                job r.seat r.report)
                 jobs.items ran.items) }
         {
             let mut workers = Vec::with_capacity(alloc, jobs.len())?;

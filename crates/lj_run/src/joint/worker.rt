@@ -1,7 +1,9 @@
 //! The worker of one stream on a shared book.
-ghost use Rattle.std.specs.Prelude.{◌≡◌, true, [], IfOk, OnOk, OnErr};
+ghost use Rattle.std.specs.Prelude.{◌≡◌, [], IfOk, IfErr, OnOk, OnErr};
+ghost use Rattle.lj_clause.specs.Truth.{IsUnsatisfiable};
 ghost use Rattle.lj_text.specs.Streams.{source_state};
 ghost use Rattle.lj_share.specs.Entries.{call_of};
+ghost use Rattle.lj_share.specs.Refusals.{IsLineRefused};
 ghost use Rattle.lj_share.specs.Seats.{making};
 ghost use Rattle.lj_run.specs.Joint.{IsStreamBeside};
 ghost use Rattle.lj_run.specs.inner.Joint.{HasRun, report_of};
@@ -34,8 +36,8 @@ pub(crate) fn run_worker<L: Opening, R: Wait, S: Source, G: Gate>(
 ) -> Ran<L, S>
     requires unfailed { S.failures job.1 ≡ 0 }
     requires fresh { job.0.calls ≡ [] }
-    ensures { HasRun (source_state S.given S.ended S.rest S.failures) job result.seat
-        result.report }
+    ensures { HasRun (source_state S.given S.ended S.rest S.failures) L.formula L.seats
+        L.max_steps job result.seat result.report }
 {
     let (mut seat, mut source) = job;
     let tally = run_lines(rt, alloc, shared, gate, &mut seat, &mut source);
@@ -60,8 +62,9 @@ fn run_lines<L: Opening, R: Wait, S: Source, G: Gate>(
 ) -> Tally
     requires unfailed { S.failures source.old ≡ 0 }
     requires fresh { seat.old.calls ≡ [] }
-    ensures report { IsStreamBeside (source_state S.given S.ended S.rest S.failures) true
-        seat.new.calls source.old (report_of result source.new) }
+    ensures report { IsStreamBeside (source_state S.given S.ended S.rest S.failures)
+        (IsLineRefused L.formula L.seats L.max_steps) (IsUnsatisfiable L.formula) seat.new
+        source.old (report_of result source.new) }
     ensures number { seat.new.number ≡ seat.old.number }
 {
     let mut reader = LineReader::new(alloc, MAX_VARIABLE);
@@ -73,8 +76,9 @@ fn run_lines<L: Opening, R: Wait, S: Source, G: Gate>(
         imported: 0,
         end: End::Stopped,
     };
+    let mut note = shared.note();
     for _ in rt.forever() {
-        if shared.verdict_now().is_some() {
+        if shared.verdict_seen(&mut note).is_some() {
             return tally.ending(End::Stopped);
         }
         let line = match next_line(rt, source, &mut reader, &mut ended, &mut room) {
@@ -107,6 +111,8 @@ fn enter<L: Opening, R: Wait, G: Gate>(
     ensures count { IfOk result (IsCounted line.now) }
     ensures made { OnOk result (seat.new ≡ making (call_of line.now) seat.old) }
     ensures kept { OnErr result (seat.new ≡ seat.old) }
+    ensures refusal { IfErr result (IsLineRefused L.formula L.seats L.max_steps seat.old
+        line.now) }
 {
     shared.enter_at(rt, seat, line, at, gate)?;
     Ok(count_of(line))

@@ -1,9 +1,9 @@
 -- How a proof stores seats and what openings are made of.
-use Rattle.std.specs.Prelude.{ℕ, List, refl}
-use Rattle.std.specs.Coded.{Coded, code_by, coded×, coded_list, coded_ℕ}
+use Rattle.std.specs.Prelude.{ℕ, List, Option, refl}
+use Rattle.std.specs.Coded.{Coded, code_by, coded×, coded_list, coded_option, coded_ℕ}
 use Rattle.lj_book.specs.declared.entry.Call.{Call}
 use Rattle.lj_book.specs.inner.Codes.{call_code}
-use Rattle.lj_share.specs.Seats.{SeatValue, BlankValue}
+use Rattle.lj_share.specs.Seats.{SeatValue, BlankValue, NoteValue}
 
 -- how a proof stores a seat
 abbrev pub seat_code : Coded SeatValue
@@ -14,3 +14,8 @@ seat_code = code_by (ℕ × List Call) (coded× coded_ℕ (coded_list call_code)
 abbrev pub blank_code : Coded BlankValue
 blank_code = code_by (ℕ × (ℕ × List ℕ)) (coded× coded_ℕ (coded× coded_ℕ (coded_list coded_ℕ)))
     (λ b. (b.name, (b.parts, b.lists))) (λ p. record { name = p.0; parts = p.1.0; lists = p.1.1 }) (λ _. refl)
+
+-- how a proof stores a note
+abbrev pub note_code : Coded NoteValue
+note_code = code_by (ℕ × Option ℕ) (coded× coded_ℕ (coded_option coded_ℕ)) (λ n. (n.cell, n.place))
+    (λ p. record { cell = p.0; place = p.1 }) (λ _. refl)

@@ -102,7 +102,7 @@ fn receipt_of<L: Opening, R: Wait + Abort>(
     rt: &R,
     alloc: Global,
     shared: &Shared<L>,
-    seat: &Seat<L>,
+    seat: &mut Seat<L>,
 ) -> Result<Receipt, Fail> {
     let line = tables::addition(alloc, &tables::Line(2, &[-1], &[1], &[]))?;
     let case = shared.take(rt, seat, &line)?;

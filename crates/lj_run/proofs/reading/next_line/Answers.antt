@@ -1,7 +1,7 @@
 use Rattle.std.proofs.Common.{◌+◌, ◌++◌, Option, Some, Ok, refl, sym, ap, ◌∙◌, subst}
 use Rattle.lj_text.specs.LinesRead.{LineReaderStandsAt, IsReadingAt, last_number, handed_out}
 use Rattle.lj_text.specs.Streams.{source_state}
-use Rattle.lj_run.proofs.ReadingLemmas.{fed_none, line_of_text, fault_of_text, right_of_text, line_read, line_faulty, read_behind, missed_behind}
+use Rattle.lj_run.proofs.ReadingLemmas.{fed_none, line_of_text, fault_of_text, right_of_text, whole_answered, whole_said_at, line_read, line_faulty, read_behind, missed_behind}
 use Rattle.lj_run.proofs.reading.next_line.Goals as goal
 
 pub returns-in-Ok-Some-clause-line : goal.returns-in-Ok-Some-clause-line
@@ -17,7 +17,7 @@ returns-in-Ok-Some-clause-line g c = λ fed handed was.
     let n = c.in-Ok-Some.ensures.at (fed ++ f.piece) handed reading refl in
     let here = line_of_text old.max (fed ++ f.piece) handed new.at (last_number (fed ++ f.piece)) line e n in
     let stands = subst (λ o. LineReaderStandsAt new (fed ++ f.piece) (handed + handed_out (Ok o))) is (c.in-Ok-Some.ensures.stands (fed ++ f.piece) handed f.stands) in
-    line_read old.max fed handed old new (seen c.args.source.now) (seen c.args.source.now) (Some line) f here stands (λ none. cc)
+    line_read old.max fed handed old new (seen c.args.source.now) (seen c.args.source.now) (Some line) f here stands (λ none. cc) (whole_answered old.max (fed ++ f.piece) handed line (seen c.args.source.now) e)
 
 pub returns-in-Err-clause-miss : goal.returns-in-Err-clause-miss
 returns-in-Err-clause-miss g c = λ fed handed was.
@@ -29,6 +29,7 @@ returns-in-Err-clause-miss g c = λ fed handed was.
     line_faulty old.max fed handed c.next.new.self.at old (seen c.args.source.now) (seen c.args.source.now) fault f
     (λ memory. fault_of_text old.max (fed ++ f.piece) handed fault (c.in-Err.ensures.answer (fed ++ f.piece) handed reading memory))
     (λ memory. right_of_text old.max (fed ++ f.piece) handed fault.line (c.in-Err.ensures.line (fed ++ f.piece) handed reading) (c.in-Err.ensures.right (fed ++ f.piece) handed reading memory))
+    (whole_said_at old.max (fed ++ f.piece) handed fault.line (seen c.args.source.now) (c.in-Err.ensures.line (fed ++ f.piece) handed reading))
 
 pub returns-in-Ok-None-clause-line : goal.returns-in-Ok-None-clause-line
 returns-in-Ok-None-clause-line g c =

@@ -1,11 +1,11 @@
-use Rattle.std.proofs.Common.{rules, ◌≡◌, ◌+◌, ◌++◌, Option, Some, Ok, Err, refl, sym, ap, ◌∙◌, subst}
+use Rattle.std.proofs.Common.{rules, inr, ◌≡◌, ◌+◌, ◌++◌, Option, Some, Ok, Err, refl, sym, ap, ◌∙◌, subst}
 use Rattle.std.specs.Prelude.{slice_get}
 use Rattle.lj_text.specs.Lines.{all_said}
 use Rattle.lj_text.specs.LinesRead.{LineReaderStandsAt, IsReadingAt, last_number, handed_out}
 use Rattle.lj_text.specs.Streams.{source_state}
 use Rattle.lj_run.specs.inner.Reading.{IsNext}
-use Rattle.lj_run.specs.Reading.{IsRightLine}
-use Rattle.lj_run.proofs.ReadingLemmas.{line_of_text, fault_of_text, last_of_text, right_of_text, right_at_end, faulted, fed_on, line_read, line_faulty, piece_missed, passed_on}
+use Rattle.lj_run.specs.Reading.{IsRightLine, AreWhole}
+use Rattle.lj_run.proofs.ReadingLemmas.{line_of_text, fault_of_text, last_of_text, right_of_text, right_at_end, whole_answered, whole_said_at, faulted, fed_on, line_read, line_faulty, piece_missed, passed_on}
 use Rattle.lj_run.proofs.reading.read_on.Goals as goal
 
 pub returns-in-Ok-Some-clause-line : goal.returns-in-Ok-Some-clause-line
@@ -23,6 +23,7 @@ returns-in-Ok-Some-clause-line g c = λ fed handed was.
     (line_of_text c.loop.reader.max (fed ++ f.piece) handed at (last_number (fed ++ f.piece)) line e n) in
     let stands = subst (λ o. LineReaderStandsAt c.next-in-loop.new.self (fed ++ f.piece) (handed + handed_out (Ok o))) is (c.in-Ok-Some.ensures.stands (fed ++ f.piece) handed f.stands) in
     line_read max fed handed c.loop.reader c.next-in-loop.new.self (seen c.args.source.now) (seen c.loop.source) (Some line) f here stands (λ none. cc)
+    (subst (λ m. AreWhole m (fed ++ f.piece) (seen c.loop.source) (handed + 1)) c.loop.invariant.max (whole_answered c.loop.reader.max (fed ++ f.piece) handed line (seen c.loop.source) e))
 
 pub returns-in-Err-next-clause-miss : goal.returns-in-Err-next-clause-miss
 returns-in-Err-next-clause-miss g c = λ fed handed was.
@@ -36,6 +37,8 @@ returns-in-Err-next-clause-miss g c = λ fed handed was.
     (fault_of_text c.loop.reader.max (fed ++ f.piece) handed fault (c.in-Err-next.ensures.answer (fed ++ f.piece) handed reading memory)))
     (λ memory. subst (λ m. IsRightLine m (fed ++ f.piece) handed fault.line) c.loop.invariant.max
     (right_of_text c.loop.reader.max (fed ++ f.piece) handed fault.line (c.in-Err-next.ensures.line (fed ++ f.piece) handed reading) (c.in-Err-next.ensures.right (fed ++ f.piece) handed reading memory)))
+    (subst (λ m. AreWhole m (fed ++ f.piece) (seen c.loop.source) (handed + 1)) c.loop.invariant.max
+    (whole_said_at c.loop.reader.max (fed ++ f.piece) handed fault.line (seen c.loop.source) (c.in-Err-next.ensures.line (fed ++ f.piece) handed reading)))
 
 pub returns-in-Ok-clause-line : goal.returns-in-Ok-clause-line
 returns-in-Ok-clause-line g c = λ fed handed was.
@@ -47,7 +50,7 @@ returns-in-Ok-clause-line g c = λ fed handed was.
     let at = c.finish.new.self.at in
     let next = subst (λ m. IsNext (all_said m (fed ++ f.piece)) handed at line) c.loop.invariant.max
     (last_of_text c.loop.reader.max (fed ++ f.piece) handed at (last_number (fed ++ f.piece)) line (c.in-Ok.ensures.answer (fed ++ f.piece) handed reading refl) (c.in-Ok.ensures.at (fed ++ f.piece) handed reading refl)) in
-    line_read max fed handed c.loop.reader c.finish.new.self (seen c.args.source.now) (seen c.loop.source) line f next (c.in-Ok.ensures.stands (fed ++ f.piece) handed f.stands) (λ e. c.loop.invariant.ended c.if-ended.true)
+    line_read max fed handed c.loop.reader c.finish.new.self (seen c.args.source.now) (seen c.loop.source) line f next (c.in-Ok.ensures.stands (fed ++ f.piece) handed f.stands) (λ e. c.loop.invariant.ended c.if-ended.true) (inr (c.loop.invariant.ended c.if-ended.true))
 
 pub returns-in-Err-clause-miss : goal.returns-in-Err-clause-miss
 returns-in-Err-clause-miss g c = λ fed handed was.
@@ -60,7 +63,7 @@ returns-in-Err-clause-miss g c = λ fed handed was.
     subst (λ m. slice_get (all_said m (fed ++ f.piece)) handed ≡ Some (record { line = fault.line; says = Err fault.kind })) c.loop.invariant.max
     (faulted (slice_get (all_said c.loop.reader.max (fed ++ f.piece)) handed) fault (c.in-Err.ensures.answer (fed ++ f.piece) handed reading memory)))
     (λ memory. subst (λ m. IsRightLine m (fed ++ f.piece) handed fault.line) c.loop.invariant.max
-    (right_at_end c.loop.reader.max (fed ++ f.piece) handed fault.line (c.in-Err.ensures.line (fed ++ f.piece) handed reading) (c.in-Err.ensures.right (fed ++ f.piece) handed reading memory)))
+    (right_at_end c.loop.reader.max (fed ++ f.piece) handed fault.line (c.in-Err.ensures.line (fed ++ f.piece) handed reading) (c.in-Err.ensures.right (fed ++ f.piece) handed reading memory))) (inr (c.loop.invariant.ended c.if-ended.true))
 
 pub returns-in_err-pull_piece-clause-miss : goal.returns-in_err-pull_piece-clause-miss
 returns-in_err-pull_piece-clause-miss g c = passed_on c.from_residual.result c.in_err-pull_piece.field-0.0 _ c.from_residual.ensures.1 (λ fed handed was.

@@ -7,7 +7,7 @@ use Rattle.lj_run.specs.InTurn.{streams_by_seat}
 use Rattle.lj_run.specs.inner.Joint.{is_confirmed}
 use Rattle.lj_run.specs.Joint.{IsBookOfRun, accepted_count}
 use Rattle.lj_run.specs.Run.{has_verdict}
-use Rattle.lj_run.proofs.JointRunLemmas.{streams_counted, fresh_seats, length-new_seats, as_many_ran, no_other_test, opened_by, beside_of, entries_counted, book_of_run, unconfirmed}
+use Rattle.lj_run.proofs.JointRunLemmas.{streams_counted, fresh_seats, length-new_seats, as_many_ran, no_other_test, opened_by, run_by, beside_of, entries_counted, book_of_run, unconfirmed}
 use Rattle.lj_run.proofs.joint.opened.run_opened.Goals as goal
 
 pub run_all-requires-clause-seats : goal.run_all-requires-clause-seats
@@ -25,7 +25,7 @@ unreachable-requires g c =
     let n = c.len.result + c.from.result in
     let many = streams_counted c.args.streams.items c.args.closing c.len.result c.from.result (search rules) (search rules) in
     let seats = ap length c.in_ok-shared.ensures.seats ∙ length-new_seats n ∙ many in
-    let ran = as_many_ran seen (λ r. r.seat) (λ r. r.report) c.in_ok-shared.seats.items streams c.in_ok-ran.ran.items seats c.in_ok-ran.ensures in
+    let ran = as_many_ran seen g.L.Opening.formula g.L.Opening.seats g.L.Opening.max_steps (λ r. r.seat) (λ r. r.report) c.in_ok-shared.seats.items streams c.in_ok-ran.ran.items seats c.in_ok-ran.ensures in
     no_other_test (length c.in_ok-seats.seats.items) g.L.Opening.seats (ap length c.in_ok-seats.ensures.seats ∙ ran ∙ sym c.requires.seats) c.in_default.ensures.all
 
 pub returns-then-not-are_confirmed-clause-fault : goal.returns-then-not-are_confirmed-clause-fault
@@ -36,10 +36,11 @@ returns-then-not-are_confirmed-clause-fault g c =
     let s = c.in-Ok.closed in
     let many = streams_counted c.args.streams.items c.args.closing c.len.result c.from.result (search rules) (search rules) in
     let opened = opened_by g.L.Opening.formula c.args.formula g.L.Opening.seats (length streams) g.L.Opening.max_steps c.args.max_steps s c.requires.formula c.requires.seats c.requires.limit c.book.ensures.opened in
-    let ran = beside_of seen (λ r. r.seat) (λ r. r.report) s.history (c.len.result + c.from.result) c.in_ok-shared.seats.items streams c.in_ok-ran.ran.items c.in_ok-seats.seats.items reports
+    let ran = beside_of seen g.L.Opening.formula g.L.Opening.seats g.L.Opening.max_steps (λ r. r.seat) (λ r. r.report) s.history (c.len.result + c.from.result) c.in_ok-shared.seats.items streams c.in_ok-ran.ran.items c.in_ok-seats.seats.items reports
     c.in_ok-shared.ensures.seats many c.in_ok-ran.ensures c.in_ok-seats.ensures.seats c.in_ok-seats.ensures.reports c.in-Ok.ensures.calls in
+    let run = run_by seen g.L.Opening.formula c.args.formula g.L.Opening.seats (length streams) g.L.Opening.max_steps c.args.max_steps s.history streams reports c.requires.formula c.requires.seats c.requires.limit ran in
     let told = ap (λ b. list_all (λ r. is_confirmed (has_verdict b) r.end) reports) (sym c.book.ensures.book) ∙ ap (list_all (λ r. is_confirmed (has_verdict c.book.result.now) r.end)) (sym c.deref.ensures.value) ∙ sym c.are_confirmed.ensures in
-    unconfirmed seen c.args.formula c.args.max_steps streams reports s opened c.in-Ok.ensures.legal ran (told ∙ c.if-not-are_confirmed.true)
+    unconfirmed seen c.args.formula c.args.max_steps streams reports s opened c.in-Ok.ensures.legal run (told ∙ c.if-not-are_confirmed.true)
 
 pub returns-clause-ran : goal.returns-clause-ran
 returns-clause-ran g c =
@@ -49,10 +50,11 @@ returns-clause-ran g c =
     let s = c.in-Ok.closed in
     let many = streams_counted c.args.streams.items c.args.closing c.len.result c.from.result (search rules) (search rules) in
     let opened = opened_by g.L.Opening.formula c.args.formula g.L.Opening.seats (length streams) g.L.Opening.max_steps c.args.max_steps s c.requires.formula c.requires.seats c.requires.limit c.book.ensures.opened in
-    let ran = beside_of seen (λ r. r.seat) (λ r. r.report) s.history (c.len.result + c.from.result) c.in_ok-shared.seats.items streams c.in_ok-ran.ran.items c.in_ok-seats.seats.items reports
+    let ran = beside_of seen g.L.Opening.formula g.L.Opening.seats g.L.Opening.max_steps (λ r. r.seat) (λ r. r.report) s.history (c.len.result + c.from.result) c.in_ok-shared.seats.items streams c.in_ok-ran.ran.items c.in_ok-seats.seats.items reports
     c.in_ok-shared.ensures.seats many c.in_ok-ran.ensures c.in_ok-seats.ensures.seats c.in_ok-seats.ensures.reports c.in-Ok.ensures.calls in
-    let counted = c.in-Ok.ensures.entries ∙ ap entries_made c.in_ok-seats.ensures.seats ∙ entries_counted seen (λ r. r.seat) (λ r. r.report) (zip c.in_ok-shared.seats.items streams) c.in_ok-ran.ran.items c.in_ok-ran.ensures
+    let run = run_by seen g.L.Opening.formula c.args.formula g.L.Opening.seats (length streams) g.L.Opening.max_steps c.args.max_steps s.history streams reports c.requires.formula c.requires.seats c.requires.limit ran in
+    let counted = c.in-Ok.ensures.entries ∙ ap entries_made c.in_ok-seats.ensures.seats ∙ entries_counted seen g.L.Opening.formula g.L.Opening.seats g.L.Opening.max_steps (λ r. r.seat) (λ r. r.report) (zip c.in_ok-shared.seats.items streams) c.in_ok-ran.ran.items c.in_ok-ran.ensures
     ∙ ap (sum_by accepted_count) (sym c.in_ok-seats.ensures.reports) in
     let told = ap (λ b. list_all (λ r. is_confirmed (has_verdict b) r.end) reports) (sym c.book.ensures.book) ∙ ap (list_all (λ r. is_confirmed (has_verdict c.book.result.now) r.end)) (sym c.deref.ensures.value) ∙ sym c.are_confirmed.ensures in
-    let book = book_of_run seen c.args.formula c.args.max_steps streams reports s opened c.in-Ok.ensures.legal counted ran (told ∙ c.if-not-are_confirmed.false) in
+    let book = book_of_run seen c.args.formula c.args.max_steps streams reports s opened c.in-Ok.ensures.legal counted run (told ∙ c.if-not-are_confirmed.false) in
     subst (λ b. IsBookOfRun seen c.args.formula c.args.max_steps streams (has_verdict b) reports b) (sym c.into_book.ensures.book) book

@@ -1,13 +1,15 @@
 use Rattle.std.proofs.Common.{rules, true, [], ◌∷◌, length, length-append, take, Option, Some, None, sym, ap, ◌∙◌, subst, arith}
 use Rattle.lj_text.specs.Lines.{all_said}
+use Rattle.lj_clause.specs.Truth.{IsUnsatisfiable}
 use Rattle.lj_share.specs.Entries.{call_of}
+use Rattle.lj_share.specs.Refusals.{IsLineRefused}
 use Rattle.lj_text.specs.Streams.{source_state}
 use Rattle.lj_run.specs.Joint.{IsStreamBeside, AreCountsOf}
 use Rattle.lj_run.specs.inner.Joint.{report_of}
 use Rattle.lj_text.specs.LinesRead.{LinesRead}
 use Rattle.lj_run.specs.inner.Reading.{LineRead, LineMissed, MayRead}
 use Rattle.lj_run.specs.declared.stream.Tally.{Tally}
-use Rattle.lj_run.proofs.JointLemmas.{beside_stopped, beside_ended, beside_missed, beside_refused, entered_on, counts_on, as_many_counted, EnteredTo}
+use Rattle.lj_run.proofs.JointLemmas.{with_some, beside_stopped, beside_ended, beside_missed, beside_refused, entered_on, counts_on, as_many_counted, EnteredTo}
 use Rattle.lj_run.specs.inner.Tally.{with_count}
 use Rattle.lj_run.proofs.joint.worker.run_lines.Goals as goal
 use Rattle.lj_clause.specs.declared.lit.TheConstants.{MAX_VARIABLE}
@@ -16,8 +18,9 @@ pub returns-then-is_some-clause-report : goal.returns-then-is_some-clause-report
 returns-then-is_some-clause-report g c =
     let seen = source_state g.S.Source.given g.S.Source.ended g.S.Source.rest g.S.Source.failures in
     let i = c.loop.invariant in
-    let run = beside_stopped seen c.args.source.now c.loop.source c.loop.seat.calls c.loop.tally c.loop.reader i.runs i.counts i.unfailed in
-    subst (λ (t : Tally). IsStreamBeside seen true c.loop.seat.calls c.args.source.now (report_of t c.loop.source)) (sym c.ending.ensures) run
+    let run = beside_stopped seen (IsLineRefused g.L.Opening.formula g.L.Opening.seats g.L.Opening.max_steps) (IsUnsatisfiable g.L.Opening.formula) c.args.source.now c.loop.source c.loop.seat c.loop.tally c.loop.reader i.runs i.counts i.unfailed
+    (with_some c.verdict_seen.result (IsUnsatisfiable g.L.Opening.formula) c.verdict_seen.ensures.unsatisfiable (sym c.is_some.ensures ∙ c.if-is_some.true)) in
+    subst (λ (t : Tally). IsStreamBeside seen (IsLineRefused g.L.Opening.formula g.L.Opening.seats g.L.Opening.max_steps) (IsUnsatisfiable g.L.Opening.formula) c.loop.seat c.args.source.now (report_of t c.loop.source)) (sym c.ending.ensures) run
 
 pub returns-in-Ok-None-clause-report : goal.returns-in-Ok-None-clause-report
 returns-in-Ok-None-clause-report g c =
@@ -29,8 +32,8 @@ returns-in-Ok-None-clause-report g c =
     let new = c.next_line.new.reader in
     let told = subst (λ (o : Option _). LineRead c.loop.reader.max r.text r.handed new before after o) c.in-Ok-None.field-0-is (c.in-Ok-None.ensures.line r.text r.handed r.stands) in
     let read = subst (λ m. LineRead m r.text r.handed new before after None) i.max told in
-    let run = beside_ended seen c.args.source.now c.loop.source c.next_line.new.source c.loop.seat.calls c.loop.tally c.loop.reader new r read i.counts c.in-Ok-None.ensures.unfailed in
-    subst (λ (t : Tally). IsStreamBeside seen true c.loop.seat.calls c.args.source.now (report_of t c.next_line.new.source)) (sym c.ending-in-Ok-None.ensures) run
+    let run = beside_ended seen (IsLineRefused g.L.Opening.formula g.L.Opening.seats g.L.Opening.max_steps) (IsUnsatisfiable g.L.Opening.formula) c.args.source.now c.loop.source c.next_line.new.source c.loop.seat c.loop.tally c.loop.reader new r read i.counts c.in-Ok-None.ensures.unfailed in
+    subst (λ (t : Tally). IsStreamBeside seen (IsLineRefused g.L.Opening.formula g.L.Opening.seats g.L.Opening.max_steps) (IsUnsatisfiable g.L.Opening.formula) c.loop.seat c.args.source.now (report_of t c.next_line.new.source)) (sym c.ending-in-Ok-None.ensures) run
 
 pub returns-in-Err-clause-report : goal.returns-in-Err-clause-report
 returns-in-Err-clause-report g c =
@@ -41,9 +44,9 @@ returns-in-Err-clause-report g c =
     let after = seen c.next_line.new.source in
     let told = subst (λ m. LineMissed m r.text r.handed c.next_line.new.reader.at before after c.in-Err.miss) i.max (c.in-Err.ensures.miss r.text r.handed r.stands) in
     let miss = subst (λ n. LineMissed MAX_VARIABLE r.text r.handed n before after c.in-Err.miss) (sym c.at.ensures) told in
-    let run = beside_missed seen c.args.source.now c.loop.source c.next_line.new.source c.loop.seat.calls c.loop.tally c.loop.reader r c.at.result c.in-Err.miss miss i.counts c.in-Err.ensures.failures in
+    let run = beside_missed seen (IsLineRefused g.L.Opening.formula g.L.Opening.seats g.L.Opening.max_steps) (IsUnsatisfiable g.L.Opening.formula) c.args.source.now c.loop.source c.next_line.new.source c.loop.seat c.loop.tally c.loop.reader r c.at.result c.in-Err.miss miss i.counts c.in-Err.ensures.failures in
     let ended = c.ending-in-Err.ensures ∙ ap (λ e. record c.loop.tally { end = e }) c.missed.ensures in
-    subst (λ (t : Tally). IsStreamBeside seen true c.loop.seat.calls c.args.source.now (report_of t c.next_line.new.source)) (sym ended) run
+    subst (λ (t : Tally). IsStreamBeside seen (IsLineRefused g.L.Opening.formula g.L.Opening.seats g.L.Opening.max_steps) (IsUnsatisfiable g.L.Opening.formula) c.loop.seat c.args.source.now (report_of t c.next_line.new.source)) (sym ended) run
 
 pub returns-in-Err-enter-clause-report : goal.returns-in-Err-enter-clause-report
 returns-in-Err-enter-clause-report g c =
@@ -55,7 +58,7 @@ returns-in-Err-enter-clause-report g c =
     let new = c.next_line.new.reader in
     let told = subst (λ (o : Option _). LineRead c.loop.reader.max r.text r.handed new before after o) c.in-Ok-Some.field-0-is (c.in-Ok-Some.ensures.line r.text r.handed r.stands) in
     let read = subst (λ m. LineRead m r.text r.handed new before after (Some c.in-Ok-Some.line)) i.max told in
-    let run = beside_refused seen c.args.source.now c.loop.source c.next_line.new.source c.loop.seat.calls c.loop.tally c.loop.reader new r c.in-Ok-Some.line c.in-Err-enter.refusal read i.counts c.in-Ok-Some.ensures.unfailed in
+    let run = beside_refused seen (IsLineRefused g.L.Opening.formula g.L.Opening.seats g.L.Opening.max_steps) (IsUnsatisfiable g.L.Opening.formula) c.args.source.now c.loop.source c.next_line.new.source c.loop.seat c.loop.tally c.loop.reader new r c.in-Ok-Some.line c.in-Err-enter.refusal read i.counts c.in-Ok-Some.ensures.unfailed c.in-Err-enter.ensures.refusal in
     search rules
 
 pub count-requires-in-Ok : goal.count-requires-in-Ok
@@ -88,6 +91,7 @@ loop-preserved g c =
       ended = c.in-Ok-Some.ensures.ended;
       max = ap (λ (q : LinesRead). q.max) c.reuse.ensures ∙ c.in-Ok-Some.ensures.max ∙ i.max;
       room = search rules;
+      note = c.verdict_seen.ensures.cell ∙ i.note;
       number = ap (λ s. s.number) c.in-Ok.ensures.made ∙ i.number;
       counts = subst (λ (t : Tally). AreCountsOf c.enter.new.seat.calls t.added t.deleted t.imported) (sym c.count-in-Ok.ensures)
           (subst (λ made. AreCountsOf made (with_count c.loop.tally c.in-Ok.count).added (with_count c.loop.tally c.in-Ok.count).deleted (with_count c.loop.tally c.in-Ok.count).imported) (sym calls) counts);

@@ -17,6 +17,7 @@ invariant-loop g l =
       ended : l.ended ≡ true → HasEnded (seen l.source);
       max : l.reader.max ≡ MAX_VARIABLE;
       room : length l.room ≡ 65536;
+      note : l.note.cell ≡ l.shared;
       number : l.seat.number ≡ l.fn.seat.number;
       counts : AreCountsOf l.seat.calls l.tally.added l.tally.deleted l.tally.imported;
       runs : EnteredTo (seen l.fn.source) (seen l.source) l.seat.calls l.reader;

@@ -1,4 +1,5 @@
-use Rattle.lj_share.proofs.Opened.{desk_on, desk_kept, one_more}
+use Rattle.std.proofs.Common.{inl}
+use Rattle.lj_share.proofs.Opened.{desk_on, desk_agreed, one_more}
 use Rattle.lj_share.proofs.desk.Desk.add_inside.Goals.{in-Ok, in-Err}
 use Rattle.lj_share.proofs.desk.Desk.add_inside.Goals as goal
 
@@ -16,5 +17,5 @@ pub invariant_of-self : goal.invariant_of-self
 invariant_of-self g c =
     elim c.match-add_inside.branch [
       | in-Ok w ↦ rw w.self-inside-is (desk_on _ _ _ _ _ _ _ _ _ _ _ _ _ c.number-number.ensures w.in-Ok.ensures.ok w.count_one.ensures.entries w.count_one.ensures.lists c.self.invariant)
-      | in-Err w ↦ rw w.self-inside-is (desk_kept _ _ _ _ _ _ _ _ _ w.in-Err.ensures.err c.self.invariant)
+      | in-Err w ↦ rw w.self-inside-is (desk_agreed _ _ _ _ _ _ _ _ _ _ w.in-Err.ensures.err w.agree.ensures.lists c.self.invariant)
     ]

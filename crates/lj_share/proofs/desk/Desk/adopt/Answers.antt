@@ -1,7 +1,7 @@
 use Rattle.std.proofs.Common.{sym, ap, ◌∙◌}
 use Rattle.lj_share.specs.Seats.{SeatValue}
 use Rattle.lj_share.specs.Seats.{making}
-use Rattle.lj_share.proofs.Opened.{desk_on, desk_kept, one_more}
+use Rattle.lj_share.proofs.Opened.{desk_on, desk_agreed, one_more}
 use Rattle.lj_share.proofs.desk.Desk.adopt.Goals.{in-Ok, in-Err}
 use Rattle.lj_share.proofs.desk.Desk.adopt.Goals as goal
 
@@ -19,5 +19,5 @@ pub invariant_of-self : goal.invariant_of-self
 invariant_of-self g c =
     elim c.match-adopt_telling.branch [
       | in-Ok w ↦ rw w.self-inside-is (desk_on _ _ _ _ _ _ _ _ _ _ _ _ _ (c.number.ensures ∙ ap (λ (s : SeatValue). s.number) (sym w.bind_live.ensures)) w.in-Ok.ensures.ok w.count_one.ensures.entries w.count_one.ensures.lists c.self.invariant)
-      | in-Err w ↦ rw w.self-inside-is (desk_kept _ _ _ _ _ _ _ _ _ w.in-Err.ensures.err c.self.invariant)
+      | in-Err w ↦ rw w.self-inside-is (desk_agreed _ _ _ _ _ _ _ _ _ _ w.in-Err.ensures.err w.agree.ensures.lists c.self.invariant)
     ]

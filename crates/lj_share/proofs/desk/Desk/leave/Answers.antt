@@ -1,4 +1,4 @@
-use Rattle.lj_share.proofs.Opened.{desk_on, desk_kept, one_more}
+use Rattle.lj_share.proofs.Opened.{desk_on, desk_agreed, one_more}
 use Rattle.lj_share.proofs.desk.Desk.leave.Goals.{in-Ok, in-Err}
 use Rattle.lj_share.proofs.desk.Desk.leave.Goals as goal
 
@@ -16,5 +16,5 @@ pub invariant_of-self : goal.invariant_of-self
 invariant_of-self g c =
     elim c.match-leave_telling.branch [
       | in-Ok w ↦ rw w.self-inside-is (desk_on _ _ _ _ _ _ _ _ _ _ _ _ _ c.number.ensures w.in-Ok.ensures.ok w.count_one.ensures.entries w.count_one.ensures.lists c.self.invariant)
-      | in-Err w ↦ rw w.self-inside-is (desk_kept _ _ _ _ _ _ _ _ _ w.in-Err.ensures.err c.self.invariant)
+      | in-Err w ↦ rw w.self-inside-is (desk_agreed _ _ _ _ _ _ _ _ _ _ w.in-Err.ensures.err w.agree.ensures.lists c.self.invariant)
     ]

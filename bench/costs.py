@@ -1,0 +1,278 @@
+"""The rows of `costs.sh`: makes their inputs, runs the program on them under valgrind, and prints their counts."""
+import pathlib
+import re
+import subprocess
+import sys
+import tempfile
+from typing import NamedTuple
+
+# How many times as much twice the input may take.
+TWICE = 2.3
+# A write takes at least so many bytes of a proof, but for a few writes.
+PIECE = 32_768
+FEW = 4
+
+
+class Input(NamedTuple):
+    """A formula, the streams, and the words behind their paths."""
+
+    formula: str
+    streams: list[str]
+    words: tuple[str, ...] = ("--in-turn",)
+
+
+class Row(NamedTuple):
+    """Two inputs, and how many times as much the second may take."""
+
+    name: str
+    first: Input
+    second: Input
+    bound: float = TWICE
+
+
+def twice(name, make, count):
+    """The row of an input, and of one of twice the size."""
+    return Row(name, make(count), make(2 * count))
+
+
+def text(numbers):
+    return " ".join(map(str, [*numbers, 0]))
+
+
+def lines(each):
+    return "".join(f"{line}\n" for line in each)
+
+
+def formula(clauses):
+    greatest = max(abs(lit) for clause in clauses for lit in clause)
+    return f"p cnf {greatest} {len(clauses)}\n" + lines(map(text, clauses))
+
+
+# The lists of the clauses that hold a literal
+
+
+def rat_lines_as_given(count):
+    """RAT lines with the group of the one candidate, among clauses that don't hold its literal."""
+    clauses = [[-1, 2], [2], *[[2, 3]] * count]
+    return Input(formula(clauses), [lines(f"{count + 3 + k} 1 0 -1 2 0" for k in range(count))])
+
+
+def behind_dead_clauses(clause, line, count):
+    """Lines that look through a list whose clauses died, but for one; an import before makes the lists."""
+    lemmas = range(4, count + 4)
+    stream = ["3 i 5 6 0", *(f"{k} {text(clause)} 1 0" for k in lemmas), f"3 d {text(lemmas)}"]
+    stream += (f"{count + 4 + k} {line}" for k in range(count))
+    return Input(formula([clause, [5, 6]]), [lines(stream)])
+
+
+def imports_behind_dead_clauses(count):
+    return behind_dead_clauses([1, 2], "i 1 2 0", count)
+
+
+def candidates_behind_dead_clauses(count):
+    return behind_dead_clauses([-1, 2], "1 -2 0 0", count)
+
+
+def imports(common, rare, count):
+    """Imports of the clause of a literal that all clauses hold and of one that no other clause holds."""
+    clauses = [[rare, common], *([common, 3 + k] for k in range(count))]
+    return Input(formula(clauses), [lines(f"{count + 2 + k} i {rare} {common} 0" for k in range(count))])
+
+
+def imports_common_first(count):
+    return imports(1, 2, count)
+
+
+def imports_common_last(count):
+    return imports(2, 1, count)
+
+
+def imports_through_a_list(count, dead):
+    """Imports through a list of so many clauses, the last of which are dead: all live, or just half."""
+    clauses = [[1, 2], *[[1, 2, 3]] * (count - 1)]
+    stream = [f"{count + 1} i 1 2 0", f"{count + 1} d {text(range(count - dead + 1, count + 1))}"]
+    stream += (f"{count + 2 + k} i 1 2 0" for k in range(count))
+    return Input(formula(clauses), [lines(stream)])
+
+
+# Deletions
+
+
+def one_deletion(count, also=()):
+    """Lemmas that one line deletes, the last one first."""
+    lemmas = range(2, count + 2)
+    stream = [*(f"{k} 1 0 1 0" for k in lemmas), f"2 d {text([*also, *reversed(lemmas)])}"]
+    return Input(formula([[1]]), [lines(stream)])
+
+
+def one_deletion_of_a_great_number_too(count):
+    return one_deletion(count, [9_999_999_999])
+
+
+def one_deletion_on_threads(count):
+    alone = one_deletion(count)
+    return Input(alone.formula, alone.streams * 2, ())
+
+
+# Lines that are read, and a proof that is written
+
+
+def short_lines(count, head):
+    """Deletions that delete nothing, each behind these bytes."""
+    return Input(formula([[1]]), [lines([f"{head}1 d 0"] * count)])
+
+
+def many_lines(count):
+    """Lemmas of a few literals, whose joint proof is written."""
+    stream = lines(f"{k} 1 2 3 4 5 0 1 0" for k in range(3, count + 3))
+    return Input(formula([[1], [2, 3, 4, 5]]), [stream], ("--in-turn", "--proof", "out"))
+
+
+# Groups
+
+
+def groups_of_one_line(count):
+    """A RAT line with the group of each of many candidates, the last one first."""
+    groups = " ".join(f"-{k}" for k in range(count, 0, -1))
+    return Input(formula([[-1, 2]] * count), [f"{count + 1} 1 -2 0 {groups} 0\n"])
+
+
+def groups_of_many_lines(count, order):
+    """RAT lines of eight candidates, whose groups stand in this order."""
+    groups = " ".join(f"-{k}" for k in order)
+    return Input(formula([[-1, 2]] * 8), [lines(f"{9 + k} 1 -2 0 {groups} 0" for k in range(count))])
+
+
+# Trimming
+
+
+def chain(count, words, numbers=None, more=0):
+    """Lemmas each of which needs the one before, to the empty clause, under these numbers; each has more hints."""
+    clauses = [[1], *([-k, k + 1] for k in range(1, count + 1)), [-count - 1]]
+    own = [1, *(numbers or range(len(clauses) + 1, len(clauses) + count + 1))]
+    hints = "1 " * more
+    stream = [f"{own[k]} {k + 1} 0 {hints}{own[k - 1]} {k + 1} 0" for k in range(1, count + 1)]
+    stream.append(f"{3 * count} 0 {own[count]} {count + 2} 0")
+    return Input(formula(clauses), [lines(stream)], ("--in-turn", "--proof", "out", *words))
+
+
+def trimmed_chain(count):
+    return chain(count, ["--trim"])
+
+
+def trimmed_chain_of_falling_numbers(count):
+    return chain(count, ["--trim"], range(2 * count + 2, count + 2, -1))
+
+
+# Walks and seats
+
+
+def walk_of_many_hints(count):
+    return Input(formula([[1], [2, 3]]), [f"3 2 0 {text([1] * count)}\n"])
+
+
+def walks_along_a_chain(count):
+    """Lemmas whose walk takes each clause of a chain. Up to 511 variables, no stamp stands in a tree."""
+    clauses = [[-k, k + 1] for k in range(1, count + 1)]
+    proof = f"-1 {count + 1} 0 {text(range(1, count + 1))}"
+    return Input(formula(clauses), [lines(f"{count + 1 + k} {proof}" for k in range(100))])
+
+
+def walks_of_a_long_lemma(count):
+    """Lemmas of many literals, and a hint for each that leaves one literal more."""
+    clauses = [*([k, -count - k] for k in range(1, count + 1)), range(count + 1, 2 * count + 1)]
+    proof = f"{text(range(1, count + 1))} {text(range(1, count + 2))}"
+    return Input(formula(clauses), [lines(f"{count + 2 + k} {proof}" for k in range(100))])
+
+
+def many_seats(count):
+    """Seats that each add some lemmas and delete them."""
+    lemmas = range(2, 40)
+    stream = lines([*(f"{k} 1 0 1 0" for k in lemmas), f"2 d {text(lemmas)}"])
+    return Input(formula([[1]]), [stream] * count, ())
+
+
+def rows():
+    rising, falling = range(1, 9), range(8, 0, -1)
+    yield twice("RAT lines whose groups are as given", rat_lines_as_given, 1_500)
+    yield twice("imports behind dead clauses", imports_behind_dead_clauses, 1_500)
+    yield twice("candidates behind dead clauses", candidates_behind_dead_clauses, 1_500)
+    yield twice("imports whose first literal is common", imports_common_first, 1_500)
+    yield twice("imports whose last literal is common", imports_common_last, 1_500)
+    halved, living = imports_through_a_list(600, 300), imports_through_a_list(600, 0)
+    yield Row("imports through a living list, beside a half dead one", halved, living, 1.4)
+    yield twice("a deletion of many numbers", one_deletion, 5_000)
+    yield twice("a deletion of many numbers and a great one", one_deletion_of_a_great_number_too, 5_000)
+    yield twice("a deletion of many numbers, on threads", one_deletion_on_threads, 4_000)
+    yield Row("usual lines, beside lines behind a blank", short_lines(8_000, " "), short_lines(8_000, ""), 0.8)
+    yield twice("a RAT line of many groups", groups_of_one_line, 4_000)
+    turned, recorded = groups_of_many_lines(4_000, falling), groups_of_many_lines(4_000, rising)
+    yield Row("groups as recorded, beside falling ones", turned, recorded, 0.92)
+    whole, trimmed = chain(3_000, [], more=20), chain(3_000, ["--trim"], more=20)
+    yield Row("a chain that is trimmed, beside one that isn't", whole, trimmed, 1.6)
+    yield twice("a chain that is trimmed", trimmed_chain, 3_000)
+    yield twice("a chain of falling numbers that is trimmed", trimmed_chain_of_falling_numbers, 3_000)
+    yield twice("a walk of many hints", walk_of_many_hints, 8_000)
+    yield twice("walks along a chain", walks_along_a_chain, 200)
+    yield twice("walks of a long lemma", walks_of_a_long_lemma, 120)
+    yield twice("many seats", many_seats, 32)
+
+
+class Bench:
+    """The program, and a scratch folder for what it reads and writes."""
+
+    def __init__(self, program, folder):
+        self.program = program
+        self.folder = pathlib.Path(folder)
+
+    def log(self, given, *options):
+        """What valgrind tells of a run on an input. Ends all where the program didn't accept each line."""
+        names = [f"stream{seat}" for seat in range(len(given.streams))]
+        for name, said in zip(["formula", *names], [given.formula, *given.streams]):
+            (self.folder / name).write_text(said)
+        words = ["valgrind", *options, "--log-file=log", self.program, "formula", *names, *given.words]
+        ran = subprocess.run(words, cwd=self.folder, capture_output=True, text=True)
+        reports = re.findall(r"^c stream \d+: (\d+) added, (\d+) deleted, (\d+) imported", ran.stdout, re.M)
+        if [sum(map(int, it)) for it in reports] != [it.count("\n") for it in given.streams]:
+            print(f"costs.sh: not all lines are accepted: {ran.stdout[:300]}{ran.stderr[:300]}", file=sys.stderr)
+            sys.exit(2)
+        return (self.folder / "log").read_text()
+
+    def instructions(self, given):
+        log = self.log(given, "--tool=callgrind", "--callgrind-out-file=/dev/null")
+        return int(re.search(r"Collected : (\d+)", log)[1])
+
+    def writes(self, given):
+        """How many writes the proof may take, and how many the program takes."""
+        log = self.log(given, "--tool=none", "--trace-syscalls=yes")
+        return (self.folder / "out").stat().st_size // PIECE + FEW, len(re.findall(r"sys_p?writev?\d* ", log))
+
+
+def show(name, first, second, bound):
+    """Prints a row. Returns whether its ratio is within the bound."""
+    right = second <= bound * first
+    ending = "" if right else "  wrong"
+    print(f"{name:<54}{first:>13,}{second:>13,}{second / first:>7.2f}{bound:>6.2f}{ending}", flush=True)
+    return right
+
+
+def main(program, words):
+    print(f"{'':<54}{'first':>13}{'second':>13}{'ratio':>7}{'bound':>6}")
+    with tempfile.TemporaryDirectory() as folder:
+        bench = Bench(program, folder)
+        right = [
+            show(row.name, bench.instructions(row.first), bench.instructions(row.second), row.bound)
+            for row in rows()
+            if words in row.name
+        ]
+        name = "writes of a proof, beside those that it may take"
+        if words in name:
+            right.append(show(name, *bench.writes(many_lines(20_000)), 1))
+    if not right:
+        print(f"costs.sh: no row's name holds {words}", file=sys.stderr)
+        sys.exit(2)
+    sys.exit(0 if all(right) else 1)
+
+
+if __name__ == "__main__":
+    main(*sys.argv[1:])
