@@ -1,107 +1,91 @@
-//! Examples of the book: lists of events with their replies, and calls by themselves.
-mod calls;
-mod candidates;
-mod events;
-
-use crate::tables::{Line, ListedStep, addition, assert_entries, clause, formula};
-use lj_book::{Book, Event, Reply};
-use lj_clause::NoMemory;
-use lj_text::Numbers;
+//! Values that no caller of one book comes by: a receipt of another, and clauses of which none lives.
+use crate::tables::{BINARY, Line, addition, formula};
+use lj_book::{Book, Refusal};
+use lj_clause::{ClauseView, Lit, NoMemory};
+use lj_hint::{Case, Live, Marks, Receipt, Tested, rat_test};
 use std::alloc::Global;
 use std::process::Abort;
 use std::test::Fail;
 
-/// An event as a table lists it, first its seat.
-#[derive(Clone, Copy)]
-enum Listed<'a> {
-    Take(u32, Line<'a>),
-    Test(u32),
-    Commit(u32),
-    Inside(u32, Line<'a>),
-    Drop(u32, &'a [u64]),
-    Adopt(u32, u64, u64),
-    Import(u32, u64, &'a [i32]),
-    Leave(u32),
-}
-
-/// An event and its reply.
-type Row<'a> = (Listed<'a>, Reply);
-
-/// A list of events on a new book, by its name in the documents.
-#[derive(Clone, Copy)]
-struct Example<'a> {
-    name: &'a str,
-    clauses: &'a [&'a [i32]],
-    seats: u32,
-    max_steps: u32,
-    script: &'a [Row<'a>],
-    /// What the history holds then.
-    entries: &'a [(u32, ListedStep<'a>)],
-}
-
-fn event(alloc: Global, listed: &Listed) -> Result<Event, NoMemory> {
-    Ok(match listed {
-        Listed::Take(seat, line) => Event::Take(*seat, addition(alloc, line)?),
-        Listed::Test(seat) => Event::Test(*seat),
-        Listed::Commit(seat) => Event::Commit(*seat),
-        Listed::Inside(seat, line) => Event::Inside(*seat, addition(alloc, line)?),
-        Listed::Drop(seat, numbers) => Event::Drop(*seat, Numbers::from_slice(alloc, numbers)?),
-        Listed::Adopt(seat, own, joint) => Event::Adopt(*seat, *own, *joint),
-        Listed::Import(seat, own, lits) => Event::Import(*seat, *own, clause(alloc, lits)?),
-        Listed::Leave(seat) => Event::Leave(*seat),
-    })
-}
-
-/// A book over these clauses.
-fn opened(
-    rt: &impl Abort,
-    alloc: Global,
-    clauses: &[&[i32]],
-    seats: u32,
-    max_steps: u32,
-) -> Result<Book, Fail> {
-    assert!(rt; seats > 0);
+/// A book of one seat over these clauses.
+fn opened(rt: &impl Abort, alloc: Global, clauses: &[&[i32]]) -> Result<Book, Fail> {
     let formula = formula(rt, alloc, clauses)?;
-    Ok(Book::open(alloc, formula, seats, max_steps)?)
+    Ok(Book::open(alloc, formula, 1, 9)?)
 }
 
-fn event_list(alloc: Global, script: &[Row]) -> Result<Vec<Event>, NoMemory> {
-    let mut events = Vec::new(alloc);
-    for (listed, _) in script {
-        events.push(event(alloc, listed)?)?;
+fn case_of(alloc: Global, book: &Book, line: &Line) -> Result<Case, Fail> {
+    Ok(book.take(0, &addition(alloc, line)?)?)
+}
+
+/// The receipt of an addition that is taken and tested.
+fn receipt_of(rt: &impl Abort, alloc: Global, book: &Book, line: &Line) -> Result<Receipt, Fail> {
+    let case = case_of(alloc, book, line)?;
+    match case.test(&mut Marks::new(alloc)) {
+        Tested::Closed(receipt) => Ok(receipt),
+        _ => panic!(rt; "not closed"),
     }
-    Ok(events)
 }
 
-fn replies(alloc: Global, book: &mut Book, script: &[Row]) -> Result<Vec<Reply>, NoMemory> {
-    book.play(&event_list(alloc, script)?)
+/// Asserts that a receipt of another book is stale, by its first hint.
+fn assert_stale(rt: &impl Abort, book: &mut Book, receipt: Receipt) {
+    let Err((refusal, _)) = book.commit(receipt) else {
+        panic!(rt; "entered");
+    };
+    assert!(rt; refusal == Refusal::Stale(1));
 }
 
-/// Plays an example's events, and asserts that the replies and the entries are those that it lists.
-fn assert_plays(
-    rt: &impl Abort,
-    alloc: Global,
-    book: &mut Book,
-    example: &Example,
-) -> Result<(), Fail> {
-    let replies = replies(alloc, book, example.script)?;
-    assert!(rt; replies.len() == example.script.len());
-    for (reply, (_, wanted)) in replies.iter().zip(example.script) {
-        assert!(rt; reply == wanted, "{}", example.name);
-    }
-    assert_entries(rt, book, example.entries);
+/// The receipt of the empty lemma over two units.
+fn receipt_over_units(rt: &impl Abort, alloc: Global) -> Result<Receipt, Fail> {
+    let units = opened(rt, alloc, &[&[1], &[-1]])?;
+    receipt_of(rt, alloc, &units, &Line(5, &[], &[1, 2]))
+}
+
+/// Under the number of its first hint another clause lives in the second book.
+#[test]
+fn a_receipt_of_another_book_is_stale(rt: HostRuntime) -> Result<(), Fail> {
+    let receipt = receipt_over_units(&rt, rt.alloc())?;
+    let mut book = opened(&rt, rt.alloc(), &BINARY)?;
+    assert_stale(&rt, &mut book, receipt);
     Ok(())
 }
 
-fn assert_example(rt: &impl Abort, alloc: Global, example: &Example) -> Result<(), Fail> {
-    let mut book = opened(rt, alloc, example.clauses, example.seats, example.max_steps)?;
-    assert_plays(rt, alloc, &mut book, example)
+/// A book in which no clause lives.
+#[derive(Drop)]
+struct NothingLives {
+    alloc: Global,
 }
 
-#[test]
-fn played(rt: HostRuntime) -> Result<(), Fail> {
-    for example in events::EXAMPLES.iter().chain(&candidates::EXAMPLES) {
-        assert_example(&rt, rt.alloc(), example)?;
+impl Live for NothingLives {
+    ghost use Rattle.std.specs.FinMap as fin;
+
+    ghost live = { λ _. fin.empty };
+
+    fn clause(&self, _joint: u64) -> Option<ClauseView<'_>> {
+        None
     }
+
+    fn candidates(&self, _lit: Lit) -> Result<Vec<u64>, NoMemory> {
+        Ok(Vec::new(self.alloc))
+    }
+}
+
+/// How many groups a case that stays open takes over no clauses, where none is missing.
+fn groups_over_nothing(alloc: Global, case: Case) -> Option<usize> {
+    let mut marks = Marks::new(alloc);
+    let Tested::Open(case) = case.test(&mut marks) else {
+        return None;
+    };
+    match rat_test(&NothingLives { alloc }, &case, &mut marks) {
+        Ok(groups) => Some(groups.len()),
+        Err(_) => None,
+    }
+}
+
+/// A lemma whose pivot's negation no live clause holds needs no group.
+#[test]
+fn an_open_case_has_no_candidates(rt: HostRuntime) -> Result<(), Fail> {
+    let book = opened(&rt, rt.alloc(), &BINARY)?;
+    let case = case_of(rt.alloc(), &book, &Line(5, &[3], &[]))?;
+    assert!(rt; groups_over_nothing(rt.alloc(), case) == Some(0));
     Ok(())
 }

@@ -1,18 +1,16 @@
-//! Worked examples, computed by hand and run against the public calls below the runs. They stand in a crate of their own,
-//! so that no other is proved a second time for its tests.
+//! Examples that need a value which only code can make, run against public calls below the runs. They stand in a crate of
+//! their own, so that no other is proved a second time for its tests. All other examples are scripts.
 #![tactic(auto)]
 
 #[cfg(test)]
 mod book;
 #[cfg(test)]
-mod clauses;
+mod numbers;
 #[cfg(test)]
-mod scans;
+mod readers;
 #[cfg(test)]
 mod shared;
 #[cfg(test)]
 mod tables;
-#[cfg(test)]
-mod text;
 #[cfg(test)]
 mod walks;

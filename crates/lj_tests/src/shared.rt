@@ -1,127 +1,128 @@
-//! Examples by the calls of the shared book: each entry is told by its token, and each refusal is the right one.
-mod entered;
-mod provers;
+//! Provers on threads of their own, and a book that is closed with a seat missing.
+ghost use Rattle.std.specs.Prelude.{◌≡◌};
 
-use crate::tables::{Line, ListedStep, addition, assert_numbers, assert_step, clause};
-use lj_book::{Call, Entry, Refusal};
-use lj_share::{Closed, NoGate, Opening, Seat, Shared, Told};
-use lj_text::{Boxed, Line as ProofLine, Numbers};
+use crate::tables::{self, BINARY, clause, formula};
+use lj_clause::{Formula, NoMemory};
+use lj_share::{Blank, Opening, Seat, SeatsOut, Shared};
+use lj_text::{Boxed, Line};
 use std::alloc::Global;
+use std::marker::Brand;
 use std::process::Abort;
 use std::sync::Wait;
 use std::test::Fail;
+use std::thread::{Threads, join};
 
-/// A call as a table lists it. The first three are submitted as lines.
-#[derive(Clone, Copy)]
-enum Called<'a> {
-    Add(Line<'a>),
-    Drop(&'a [u64]),
-    Import(u64, &'a [i32]),
-    Adopt(u64, u64),
-    Leave,
+fn addition(alloc: Global, number: u64, lemma: &[i32], hints: &[u64]) -> Result<Line, NoMemory> {
+    let listed = tables::Line(number, lemma, hints);
+    let addition = tables::addition(alloc, &listed)?;
+    Ok(Line::Add(Boxed::new(alloc, addition)?))
 }
 
-/// A seat's call, and the step of its entry or its refusal.
-type Row<'a> = (u32, Called<'a>, Result<ListedStep<'a>, Refusal>);
+fn import(alloc: Global, number: u64, literals: &[i32]) -> Result<Line, NoMemory> {
+    let clause = Boxed::new(alloc, clause(alloc, literals)?)?;
+    Ok(Line::Import { number, clause })
+}
 
-/// The line that is submitted for the call, if one is.
-fn line_of(alloc: Global, called: &Called) -> Result<Option<ProofLine>, Refusal> {
-    let line = match called {
-        Called::Add(line) => ProofLine::Add(Boxed::new(alloc, addition(alloc, line)?)?),
-        Called::Drop(numbers) => {
-            ProofLine::Delete(Boxed::new(alloc, Numbers::from_slice(alloc, numbers)?)?)
-        }
-        Called::Import(number, lits) => ProofLine::Import {
-            number: *number,
-            clause: Boxed::new(alloc, clause(alloc, lits)?)?,
-        },
-        Called::Adopt(_, _) | Called::Leave => return Ok(None),
+#[test]
+fn a_book_of_two_seats_is_closed_with_both(rt: HostRuntime) -> Result<(), Fail> {
+    let formula = formula(&rt, rt.alloc(), &BINARY)?;
+    close_with_one::<Brand, _>(&rt, rt.alloc(), Blank::new(rt.alloc(), 2)?, formula)
+}
+
+fn close_with_one<L: Opening, R: Abort>(
+    rt: &R,
+    alloc: Global,
+    blank: Blank,
+    formula: Formula,
+) -> Result<(), Fail>
+    requires name { blank.name ≡ L.name }
+    requires parts { (blank.parts ≡ L.parts) × (blank.parts ≡ 2) }
+    requires lists { blank.lists ≡ L.lists }
+    requires formula { formula ≡ L.formula }
+    requires seats { L.seats ≡ 2 }
+    requires limit { L.max_steps ≡ 9 }
+{
+    let (shared, seats) = Shared::<L>::open(alloc, blank, formula, 2, 9)?;
+    assert_closed_with_both(rt, shared, seats)
+}
+
+fn assert_closed_with_both<L: Opening>(
+    rt: &impl Abort,
+    shared: Shared<L>,
+    mut seats: Vec<Seat<L>>,
+) -> Result<(), Fail>
+    requires { L.parts ≡ L.seats }
+{
+    let Some(second) = seats.pop() else {
+        panic!(rt; "no seat");
     };
-    Ok(Some(line))
+    let Err(SeatsOut { shared, mut seats }) = shared.close(seats) else {
+        panic!(rt; "closed with one seat");
+    };
+    assert!(rt; seats.len() == 1);
+    seats.push(second)?;
+    assert!(rt; shared.close(seats).is_ok());
+    Ok(())
 }
 
-/// Makes the call for the seat.
-fn call<L: Opening, R: Wait>(
+#[test]
+fn two_provers_refute_the_binary_clauses(rt: HostRuntime) -> Result<(), Fail> {
+    let formula = formula(&rt, rt.alloc(), &BINARY)?;
+    refute::<Brand, _>(&rt, rt.alloc(), Blank::new(rt.alloc(), 3)?, formula)
+}
+
+fn refute<L: Opening + Send + Sync, R: Threads + Wait + Abort + Sync>(
     rt: &R,
     alloc: Global,
-    shared: &Shared<L>,
-    seat: &mut Seat<L>,
-    called: &Called,
-) -> Result<Told, Refusal> {
-    match (line_of(alloc, called)?, called) {
-        (Some(line), _) => shared.submit(rt, seat, &line),
-        (None, Called::Adopt(own, joint)) => shared.adopt(rt, seat, *own, *joint),
-        (None, _) => shared.leave(rt, seat),
-    }
-}
-
-/// The same without a token, if the call is a line.
-fn call_untold<L: Opening, R: Wait>(
-    rt: &R,
-    alloc: Global,
-    shared: &Shared<L>,
-    seat: &mut Seat<L>,
-    called: &Called,
-) -> Result<(), Refusal> {
-    if let Some(line) = line_of(alloc, called)? {
-        return shared.enter_at(rt, seat, &line, 1, &NoGate);
-    }
-    call(rt, alloc, shared, seat, called)?;
+    blank: Blank,
+    formula: Formula,
+) -> Result<(), Fail>
+    requires name { blank.name ≡ L.name }
+    requires parts { (blank.parts ≡ L.parts) × (blank.parts ≡ 3) }
+    requires lists { blank.lists ≡ L.lists }
+    requires formula { formula ≡ L.formula }
+    requires seats { L.seats ≡ 3 }
+    requires limit { L.max_steps ≡ 9 }
+{
+    let (shared, mut seats) = Shared::<L>::open(alloc, blank, formula, 3, 9)?;
+    let Some(mut third) = seats.pop() else {
+        panic!(rt; "no third seat");
+    };
+    let Some(mut second) = seats.pop() else {
+        panic!(rt; "no second seat");
+    };
+    let Some(mut first) = seats.pop() else {
+        panic!(rt; "no first seat");
+    };
+    let line = addition(alloc, 5, &[2], &[1, 2])?;
+    let other = addition(alloc, 5, &[-2], &[3, 4])?;
+    let (one, two) = join(
+        rt,
+        || shared.submit(rt, &mut first, &line),
+        || shared.submit(rt, &mut second, &other),
+    );
+    let mut of_first = Vec::new(alloc);
+    of_first.push(one?)?;
+    let mut of_second = Vec::new(alloc);
+    of_second.push(two?)?;
+    let mut of_third = Vec::new(alloc);
+    of_third.push(shared.submit(rt, &mut third, &import(alloc, 7, &[2])?)?)?;
+    of_third.push(shared.submit(rt, &mut third, &import(alloc, 8, &[-2])?)?)?;
+    assert!(rt; shared.verdict_now().is_none());
+    of_third.push(shared.submit(rt, &mut third, &addition(alloc, 9, &[], &[7, 8])?)?)?;
+    assert!(rt; shared.verdict_now() == Some(4));
+    assert!(rt; first.count() == 1 && second.count() == 1 && third.count() == 3);
+    seats.push(third)?;
+    seats.push(first)?;
+    seats.push(second)?;
+    let Ok(closed) = shared.close(seats) else {
+        panic!(rt; "not closed");
+    };
+    assert!(rt; closed.book().history_len() == 5);
+    assert!(rt; closed.confirm(0, &of_first) && closed.confirm(1, &of_second));
+    assert!(rt; closed.confirm(2, &of_third));
+    assert!(rt; !closed.confirm(2, &of_third[..2]));
+    of_third.swap(0, 1);
+    assert!(rt; !closed.confirm(2, &of_third));
     Ok(())
-}
-
-/// Asserts that the entry is of this seat, this call and this step.
-fn assert_entry(
-    rt: &impl Abort,
-    alloc: Global,
-    entry: &Entry,
-    seat: u32,
-    called: &Called,
-    step: &ListedStep,
-) -> Result<(), Fail> {
-    assert!(rt; entry.seat == seat);
-    assert_call(rt, alloc, &entry.call, called)?;
-    assert_step(rt, entry.step.as_ref(), step);
-    Ok(())
-}
-
-fn assert_call(rt: &impl Abort, alloc: Global, call: &Call, called: &Called) -> Result<(), Fail> {
-    match (call, called) {
-        (Call::Add { own, lemma }, Called::Add(line)) => {
-            let wanted = addition(alloc, line)?;
-            assert!(rt; *own == wanted.number && lemma.pivot() == wanted.lemma.pivot());
-            assert!(rt; lemma.clause().same(wanted.lemma.clause()));
-        }
-        (Call::Drop { numbers }, Called::Drop(wanted)) => assert_numbers(rt, numbers, wanted),
-        (Call::Import { own, clause: made }, Called::Import(number, lits)) => {
-            assert!(rt; own == number && made.same(&clause(alloc, lits)?));
-        }
-        (Call::Adopt { own, joint }, Called::Adopt(number, of)) => {
-            assert!(rt; own == number && joint == of);
-        }
-        (Call::Leave, Called::Leave) => {}
-        _ => panic!(rt; "another call"),
-    }
-    Ok(())
-}
-
-/// Asserts that the seat's tokens are confirmed, and neither with one left out nor with two exchanged.
-fn assert_confirmed<L: Opening>(
-    rt: &impl Abort,
-    closed: &Closed<L>,
-    seat: u32,
-    tokens: &mut [Told],
-) {
-    assert!(rt; closed.confirm(seat, tokens));
-    if let Some((_, rest)) = tokens.split_first() {
-        assert!(rt; !closed.confirm(seat, rest));
-    }
-    if let Some((_, rest)) = tokens.split_last() {
-        assert!(rt; !closed.confirm(seat, rest));
-    }
-    if tokens.len() > 1 {
-        tokens.swap(0, 1);
-        assert!(rt; !closed.confirm(seat, tokens));
-        tokens.swap(0, 1);
-    }
 }

@@ -1,4 +1,4 @@
-use Rattle.lj_tests.proofs.shared.provers.two_provers_refute_the_binary_clauses.Given as goal
+use Rattle.lj_tests.proofs.shared.two_provers_refute_the_binary_clauses.Given as goal
 
 abbrev pub ghosts-refute-L-Opening : goal.ghosts-refute-L-Opening
 ghosts-refute-L-Opening g a = record { formula = a.formula; seats = 3; max_steps = 9; lists = a.blank.lists }

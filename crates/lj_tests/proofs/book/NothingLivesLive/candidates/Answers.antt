@@ -3,7 +3,7 @@ use Rattle.std.proofs.Common.{◌≡◌, ℕ, List, [], ◌∷◌, length, map, 
 use Rattle.std.specs.List.{filter}
 use Rattle.std.specs.FinMap as fin
 use Rattle.lj_clause.specs.LiteralSet.{LiteralSet, holds}
-use Rattle.lj_tests.proofs.book.calls.NothingLivesLive.candidates.Goals as goal
+use Rattle.lj_tests.proofs.book.NothingLivesLive.candidates.Goals as goal
 
 no_entries : {X : Type 0} (es : List X) → length es ≡ 0 → es ≡ []
 no_entries [] e = refl

@@ -6,7 +6,7 @@ use Rattle.lj_hint.specs.Case.{CaseValue, walk_of}
 use Rattle.lj_hint.specs.Tested.{tested_of}
 use Rattle.lj_hint.specs.declared.tested.Tested.{Tested}
 use Rattle.lj_hint.specs.declared.tested.Tested.TheVariants as tests
-use Rattle.lj_tests.proofs.book.calls.groups_over_nothing.Goals as goal
+use Rattle.lj_tests.proofs.book.groups_over_nothing.Goals as goal
 
 same_case : (c d : CaseValue) → ◌≡◌ {A = Tested} (tests.Open c) (tests.Open d) → c ≡ d
 same_case c d e = cc

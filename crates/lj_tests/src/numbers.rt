@@ -1,0 +1,60 @@
+//! Lists of numbers of all widths, and their room, which is used again.
+use crate::tables::assert_numbers;
+use lj_text::Numbers;
+use std::alloc::Global;
+use std::process::Abort;
+use std::test::Fail;
+
+/// The least number that has no room in four bytes.
+const LONG: u64 = 4_294_967_296;
+
+/// The numbers as they are pushed into a list whose room is used again, and a copy of its own of them.
+fn pushed(rt: &impl Abort, room: &mut Numbers, numbers: &[u64]) -> Result<Numbers, Fail> {
+    room.clear();
+    assert!(rt; room.is_empty());
+    for number in numbers {
+        room.push(*number)?;
+    }
+    Ok(room.copy()?)
+}
+
+fn assert_are(rt: &impl Abort, numbers: &Numbers, wanted: &[u64; 3]) {
+    assert_numbers(rt, numbers, wanted);
+    assert!(rt; numbers.get(1) == Some(wanted[1]) && numbers.get(3).is_none());
+}
+
+fn assert_widths(rt: &impl Abort, alloc: Global) -> Result<(), Fail> {
+    let mut room = Numbers::with_capacity(alloc, 9)?;
+    for wanted in [
+        [1, 7, LONG - 1],
+        [1, LONG, 7],
+        [LONG / 2, LONG, LONG - 1],
+        [7, 1, 1],
+    ] {
+        let pushed = pushed(rt, &mut room, &wanted)?;
+        assert_are(rt, &pushed, &wanted);
+        assert_are(rt, &Numbers::from_slice(alloc, &wanted)?, &wanted);
+        assert_are(rt, &Numbers::new(pushed.to_vec()?).copy()?, &wanted);
+    }
+    Ok(())
+}
+
+fn assert_room_again(rt: &impl Abort, alloc: Global) -> Result<(), Fail> {
+    let mut numbers = Numbers::from_slice(alloc, &[1, 7, LONG])?;
+    for wanted in [[1, 7, LONG - 1], [7, 1, 1]] {
+        let mut room = numbers.take_room(9).unwrap_or(Vec::new(alloc));
+        assert!(rt; numbers.is_empty() && room.is_empty() && room.capacity() >= 9);
+        for number in wanted {
+            room.push(number as u32)?;
+        }
+        numbers = Numbers::from_short(room);
+        assert_are(rt, &numbers, &wanted);
+    }
+    Ok(())
+}
+
+#[test]
+fn numbers_of_all_widths(rt: HostRuntime) -> Result<(), Fail> {
+    assert_widths(&rt, rt.alloc())?;
+    assert_room_again(&rt, rt.alloc())
+}
