@@ -23,7 +23,7 @@ struct Caller {
     greatest: Vec<u64>,
 }
 
-/// What stands of all calls: the callers, the room of their tests, and the greatest number that a token has shown.
+/// What stands of all calls: the callers, the room of their tests, and the greatest joint number so far.
 #[derive(Drop)]
 struct Callers {
     alloc: Global,
@@ -166,7 +166,7 @@ fn make_call<L: Opening, R: Wait>(
     };
     match word {
         "submit" => submit(rt, shared, seat, callers, rest, out),
-        "enter" => enter(rt, shared, seat, callers.alloc, rest, out),
+        "enter" => enter(rt, shared, seat, callers, rest, out),
         "take" => take(rt, shared, seat, callers, rest, out),
         "commit" => commit(rt, shared, seat, callers, out),
         "adopt" => adopt(rt, shared, seat, callers, rest, out),
@@ -260,15 +260,18 @@ fn enter<L: Opening, R: Wait>(
     rt: &R,
     shared: &Shared<L>,
     seat: &mut Seat<L>,
-    alloc: Global,
+    callers: &mut Callers,
     rest: &str,
     out: &mut Out,
 ) -> Result<(), Stop> {
-    let line = line_of(alloc, rest)?;
-    match enter_again(rt, shared, seat, &line) {
-        Ok(()) => Ok(out.put("Entered\n")?),
-        Err(refusal) => Ok(out.reply(&Reply::Refused(refusal))?),
+    let line = line_of(callers.alloc, rest)?;
+    if let Err(refusal) = enter_again(rt, shared, seat, &line) {
+        return Ok(out.reply(&Reply::Refused(refusal))?);
     }
+    if let Line::Add(_) = line {
+        callers.greatest = callers.greatest.saturating_add(1);
+    }
+    Ok(out.put("Entered\n")?)
 }
 
 fn enter_again<L: Opening, R: Wait>(
@@ -326,7 +329,13 @@ fn commit<L: Opening, R: Wait>(
     let number = seat.number() as usize;
     match callers.take_receipt(number) {
         Some(receipt) if receipt.seat() == seat.number() => {
-            let answer = commit_again(rt, shared, seat, receipt);
+            let answer = match commit_again(rt, shared, seat, receipt) {
+                Ok(told) => Ok(told),
+                Err((refusal, receipt)) => {
+                    callers.set_pending(number, Pending::Receipt(receipt));
+                    Err(refusal)
+                }
+            };
             answered(shared, callers, number, "Added", answer, out)
         }
         _ => Ok(out.reply(&Reply::Nothing)?),
@@ -338,16 +347,12 @@ fn commit_again<L: Opening, R: Wait>(
     shared: &Shared<L>,
     seat: &mut Seat<L>,
     receipt: Receipt,
-) -> Result<Told, Refusal>
+) -> Result<Told, (Refusal, Receipt)>
     requires { receipt.seat ≡ seat.old.number }
 {
-    let answer = match shared.commit(rt, seat, receipt) {
+    match shared.commit(rt, seat, receipt) {
         Err((Refusal::NoMemory(_), receipt)) => shared.commit(rt, seat, receipt),
         answer => answer,
-    };
-    match answer {
-        Ok(told) => Ok(told),
-        Err((refusal, _)) => Err(refusal),
     }
 }
 

@@ -1,7 +1,8 @@
-//! Lists of numbers of all widths, and their room, which is used again.
+//! Lists of numbers of all widths, their room, which is used again, and the width of literals and what they print as.
 use crate::tables::assert_numbers;
+use lj_clause::{Lit, NoMemory};
 use lj_text::Numbers;
-use std::alloc::Global;
+use std::alloc::{AllocError, Global};
 use std::process::Abort;
 use std::test::Fail;
 
@@ -50,6 +51,16 @@ fn assert_room_again(rt: &impl Abort, alloc: Global) -> Result<(), Fail> {
         numbers = Numbers::from_short(room);
         assert_are(rt, &numbers, &wanted);
     }
+    Ok(())
+}
+
+#[test]
+fn literals_take_four_bytes_and_print_as_numbers(rt: HostRuntime) -> Result<(), Fail> {
+    let not_three = Lit::of(3, true);
+    let refused = NoMemory::from(AllocError);
+    let text = format!(in rt.alloc(); "{not_three} {not_three:?} {refused} {refused:?}")?;
+    assert_eq!(rt; text.as_str(), "-3 -3 NoMemory NoMemory");
+    assert_eq!(rt; size_of::<Lit>(), 4);
     Ok(())
 }
 
