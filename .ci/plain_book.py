@@ -1,0 +1,204 @@
+"""A book of several seats by plain scans over plain lists, from the definitions alone: what the commands of a script have to
+answer, and what `show` has to print. A clause is a set of numbers; a lemma is the list of its literals as they are written,
+its pivot first."""
+
+
+def in_order(literals):
+    """Each literal once, by variable, the positive one first."""
+    return sorted(set(literals), key=lambda literal: (abs(literal), -literal))
+
+
+def words(*parts):
+    """Numbers, words and lists of them, with blanks between."""
+    flat = []
+    for part in parts:
+        flat += part if isinstance(part, (list, tuple)) else [part]
+    return " ".join(map(str, flat))
+
+
+def lemma_words(lemma):
+    """The pivot, and then the other literals in order."""
+    return lemma[:1] + [literal for literal in in_order(lemma) if literal != lemma[0]]
+
+
+def addition_words(number, lemma, hints, groups):
+    """The text of an addition."""
+    listed = [word for candidate, own in groups for word in (-candidate, *own)]
+    return words(number, lemma_words(lemma), 0, hints, listed, 0)
+
+
+def walk(held, hints, clause_of):
+    """The walk of a set of literals over hints: Closed and how many hints it read, Open and the set, or Stuck and the place."""
+    held = set(held)
+    if any(-literal in held for literal in held):
+        return "Closed", 0
+    for place, hint in enumerate(hints, 1):
+        clause = clause_of(hint)
+        left = [] if clause is None else [literal for literal in clause if -literal not in held]
+        if clause is None or len(left) > 1:
+            return "Stuck", place
+        if not left:
+            return "Closed", place
+        held.add(left[0])
+    return "Open", held
+
+
+def rat(held, pivot, live, groups):
+    """The groups that cover the candidates of a pivot, or else the first refusal. `live` has the live clauses by number."""
+    covered = []
+    for number in sorted(number for number, clause in live.items() if -pivot in clause):
+        own = next((hints for candidate, hints in groups if candidate == number), None)
+        others = {-literal for literal in live[number] if literal != -pivot}
+        how, place = walk(held | others, own or [], live.get)
+        if how == "Closed":
+            covered.append((number, (own or [])[:place]))
+        elif own is None:
+            return None, f"MissingGroup({number})"
+        else:
+            return None, f"GroupStuck({number}, {place})" if how == "Stuck" else f"GroupOpen({number})"
+    return covered, None
+
+
+class Refused(Exception):
+    """A call that is refused, and why."""
+
+
+class Book:
+    """The clauses that were given a number, the own numbers of each seat, and the entries."""
+
+    def __init__(self, clauses, seats, limit):
+        self.given = {number: frozenset(clause) for number, clause in enumerate(clauses, 1)}
+        self.formula, self.limit = len(self.given), limit
+        self.tables = [{number: number for number in self.given} for _ in range(seats)]
+        self.pending = [None] * seats
+        self.entries, self.steps, self.verdict = [], [], None
+
+    def live(self):
+        held = {joint for table in self.tables if table is not None for joint in table.values()}
+        return {joint: clause for joint, clause in self.given.items() if joint in held}
+
+    def candidates(self, literal):
+        return [number for number, clause in sorted(self.live().items()) if literal in clause]
+
+    def joint(self, seat, own):
+        table = self.tables[seat] if seat < len(self.tables) else None
+        return None if table is None else table.get(own)
+
+    def table(self, seat, own=None):
+        """The seat's table, where the own number is free, if one is named."""
+        if seat >= len(self.tables) or self.tables[seat] is None:
+            raise Refused("SeatGone")
+        if own in self.tables[seat]:
+            raise Refused("NumberTaken")
+        return self.tables[seat]
+
+    def enter(self, seat, call, step=None):
+        """Makes an entry, and answers its place."""
+        self.entries.append(f"entry {words(seat, call)}" + (f" : {step}" if step else ""))
+        if step:
+            self.steps.append(step)
+        return len(self.entries) - 1
+
+    def add(self, seat, own, lemma, hints, groups):
+        """Enters a lemma that was tested."""
+        if len(self.given) - self.formula == self.limit:
+            raise Refused("Full")
+        number = len(self.given) + 1
+        place = self.enter(seat, f"add {words(own, lemma_words(lemma), 0)}", addition_words(number, lemma, hints, groups))
+        self.given[number] = frozenset(lemma)
+        self.tables[seat][own] = number
+        if not lemma and self.verdict is None:
+            self.verdict = place
+        return f"Added({place}, {number})"
+
+    def case(self, seat, own, hints, groups):
+        """The hints and the groups in joint numbers."""
+        table = self.table(seat, own)
+        for named in [*hints, *(number for candidate, more in groups for number in (candidate, *more))]:
+            if named not in table:
+                raise Refused(f"UnknownNumber({named})")
+        seen = set()
+        for candidate, _ in groups:
+            if table[candidate] in seen:
+                raise Refused(f"GroupRepeated({candidate})")
+            seen.add(table[candidate])
+        return [table[hint] for hint in hints], [(table[candidate], [table[hint] for hint in own]) for candidate, own in groups]
+
+    def take(self, seat, own, lemma, hints, groups=()):
+        if seat < len(self.pending):
+            self.pending[seat] = None
+        joint, _ = self.case(seat, own, hints, groups)
+        self.pending[seat] = "case", own, lemma, [(number, self.given[number]) for number in joint]
+        return "Taken"
+
+    def test(self, seat):
+        if not self.pending[seat] or self.pending[seat][0] != "case":
+            return "Nothing"
+        _, own, lemma, pairs = self.pending[seat]
+        how, place = walk({-literal for literal in lemma}, range(len(pairs)), lambda at: pairs[at][1])
+        self.pending[seat] = ("receipt", own, lemma, pairs[:place]) if how == "Closed" else None
+        return f"Stuck({place})" if how == "Stuck" else how
+
+    def commit(self, seat):
+        if not self.pending[seat] or self.pending[seat][0] != "receipt":
+            return "Nothing"
+        _, own, lemma, pairs = self.pending[seat]
+        self.pending[seat] = None
+        self.table(seat, own)
+        live = self.live()
+        for number, clause in pairs:
+            if live.get(number) != clause:
+                raise Refused(f"Stale({number})")
+        return self.add(seat, own, lemma, [number for number, _ in pairs], [])
+
+    def inside(self, seat, own, lemma, hints, groups=()):
+        hints, groups = self.case(seat, own, hints, groups)
+        live = self.live()
+        how, place = walk({-literal for literal in lemma}, hints, live.get)
+        if how == "Stuck":
+            raise Refused(f"HintNotUnit({place})")
+        if how == "Closed":
+            return self.add(seat, own, lemma, hints[:place], [])
+        if not lemma:
+            raise Refused("EmptyOpen")
+        covered, refusal = rat(place, lemma[0], live, groups)
+        if refusal:
+            raise Refused(refusal)
+        return self.add(seat, own, lemma, hints, covered)
+
+    def end_of(self, before):
+        """The step that deletes what lived before and doesn't any more."""
+        dead = sorted(set(before) - set(self.live()))
+        return words(len(self.given), "d", dead, 0) if dead else None
+
+    def drop(self, seat, numbers):
+        table, before = self.table(seat), self.live()
+        lost = [number for number in set(numbers) if table.pop(number, None) is not None]
+        return f"Dropped({self.enter(seat, words('drop', numbers, 0), self.end_of(before))}, {len(lost)})"
+
+    def adopt(self, seat, own, joint):
+        table = self.table(seat, own)
+        if joint not in self.live():
+            raise Refused("NoSuchClause")
+        table[own] = joint
+        return f"Adopted({self.enter(seat, f'adopt {own} {joint}')})"
+
+    def bind(self, seat, own, literals):
+        """An import."""
+        table = self.table(seat, own)
+        found = [number for number, clause in sorted(self.live().items()) if clause == set(literals)]
+        if not found:
+            raise Refused("NoSuchClause")
+        table[own] = found[0]
+        return f"Imported({self.enter(seat, words('import', own, in_order(literals), 0))}, {found[0]})"
+
+    def leave(self, seat):
+        self.table(seat)
+        before, self.tables[seat] = self.live(), None
+        return f"Left({self.enter(seat, 'leave', self.end_of(before))})"
+
+    def show(self):
+        """What `show` prints."""
+        live = [f"live {words(number, in_order(clause), 0)}" for number, clause in sorted(self.live().items())]
+        verdict = "no verdict" if self.verdict is None else f"verdict {self.verdict}"
+        return [*self.entries, *live, verdict]
