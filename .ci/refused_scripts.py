@@ -1,0 +1,152 @@
+"""Refuses each growth of memory in turn to the program that plays scripts, in scripts that reach each call of a book and of a
+shared book: the Nth request alone, and in a second run all from the Nth on. A call that is refused for want of memory is made
+once more, so where one request is refused the program prints the script's whole output, or a beginning of its lines and then
+`line L: NoMemory`, where L is the line whose command would have printed what comes next. Where all are refused from the Nth
+on it prints a beginning and then that, or a beginning and then a reply `Refused(NoMemory)`; what comes after that is free.
+Where the memory for the script's own text is refused it ends with status 1 and prints nothing."""
+import functools
+import pathlib
+import re
+import subprocess
+import sys
+import tempfile
+import threading
+
+from refusing import ALL, SECONDS, refuse_each, run_refused
+
+SCRIPTS = pathlib.Path(__file__).resolve().parent.parent / "crates" / "lj_script" / "scripts"
+NAMES = (
+    *("found", "groups", "imports", "stale_receipts", "trimming", "verdicts", "walks", "rat_lines"),
+    *("shared", "shared_receipts", "shared_untold"),
+)
+# The least count of runs of a program that have to tell NoMemory.
+LEAST = 2000
+REFUSED = "Refused(NoMemory)"
+NO_START = "Error: Kind(OutOfMemory)\n"
+
+
+class Script:
+    """A stored script: its text, its output, and after each line of the script how many lines of the output there are."""
+
+    def __init__(self, name, text, wanted, counts):
+        self.name, self.text, self.wanted, self.counts = name, text, wanted.splitlines(), counts
+
+
+def stored(program, name):
+    """The script of this name, whose counts the program tells by its output of each beginning."""
+    text, wanted = ((SCRIPTS / f"{name}.{ending}").read_text() for ending in ("txt", "out"))
+    lines, counts = text.splitlines(), [0]
+    for number in range(1, len(lines) + 1):
+        beginning = "".join(line + "\n" for line in lines[:number])
+        ran = subprocess.run([program], input=beginning, capture_output=True, text=True, timeout=SECONDS)
+        counts.append(sum(not line.startswith("line ") for line in ran.stdout.splitlines()))
+    return Script(name, text, wanted, counts)
+
+
+def is_beginning(front, lines):
+    return lines[: len(front)] == front
+
+
+def judge(script, is_behind, status, out, err):
+    """What is wrong with how a script ended where a request was refused, or also all behind it, and what it told: "NoMemory", a
+    "start" that failed, or "nothing"."""
+    if (status, out, err) == (1, "", NO_START):
+        return None, "start"
+    lines = out.splitlines()
+    if status not in (0, 2) or err or out and not out.endswith("\n"):
+        return f"status {status}, on standard output {out[-200:]!r}, and on standard error {err!r}", None
+    if lines == script.wanted and status == 0:
+        return None, "nothing"
+    if is_behind and REFUSED in lines:
+        front = lines[: lines.index(REFUSED)]
+        return (None, "NoMemory") if is_beginning(front, script.wanted) else (f"the lines {lines[-3:]}", None)
+    end = re.fullmatch(r"line ([1-9]\d*): NoMemory", lines[-1]) if lines else None
+    if not end or status != 2 or not is_beginning(lines[:-1], script.wanted):
+        return f"status {status}, and the last lines {lines[-3:]}", None
+    at = int(end[1])
+    if at >= len(script.counts) or not script.counts[at - 1] <= len(lines) - 1 <= script.counts[at]:
+        return f"{lines[-1]!r} behind {len(lines) - 1} lines", None
+    return None, "NoMemory"
+
+
+def check_judge():
+    """Sees that wrong ends are told from right ones."""
+    script = Script("", "", "Added(0, 2)\nlive 1 0\nno verdict\n", [0, 0, 0, 1, 3])
+    right = [
+        (False, 1, "", NO_START),
+        (False, 0, "Added(0, 2)\nlive 1 0\nno verdict\n", ""),
+        (False, 2, "line 2: NoMemory\n", ""),
+        (False, 2, "Added(0, 2)\nlive 1 0\nline 4: NoMemory\n", ""),
+        (True, 2, "Added(0, 2)\nline 4: NoMemory\n", ""),
+        (True, 0, "Refused(NoMemory)\nno verdict\n", ""),
+        (True, 2, "Refused(NoMemory)\nline 4: NoMemory\n", ""),
+    ]
+    wrong = [
+        (False, -6, "", ""),
+        (False, 1, "Added(0, 2)\n", NO_START),
+        (False, 0, "Added(0, 2)\nlive 1 0\n", ""),
+        (False, 2, "Added(0, 2)\nlive 1 0\nno verdict\n", ""),
+        (False, 0, "Refused(NoMemory)\nno verdict\n", ""),
+        (False, 2, "Added(0, 2)\nlive 1line 4: NoMemory\n", ""),
+        (False, 2, "Added(0, 2)\nlive 2 0\nline 4: NoMemory\n", ""),
+        (False, 2, "Added(0, 2)\nline 3: Full\n", ""),
+        (False, 2, "Added(0, 2)\nline 2: NoMemory\n", ""),
+        (False, 2, "line 4: NoMemory\n", ""),
+        (False, 2, "Added(0, 2)\nlive 1 0\nline 5: NoMemory\n", ""),
+        (False, 0, "Added(0, 2)\nlive 1 0\nline 4: NoMemory\n", ""),
+        (True, 0, "Added(0, 3)\nRefused(NoMemory)\n", ""),
+        (True, 0, "Added(0, 2)\nlive 1 0\n", ""),
+    ]
+    for ends, is_wrong in ((right, False), (wrong, True)):
+        for end in ends:
+            if bool(judge(script, *end)[0]) != is_wrong:
+                raise SystemExit(f"the judgement of {end} is wrong: {judge(script, *end)}")
+
+
+class Player:
+    """Plays scripts on a program, in a folder of the thread's own."""
+
+    def __init__(self, program, library, room):
+        self.program, self.library, self.room = program, library, room
+        self.own = threading.local()
+
+    def play(self, script, first, last):
+        """Refuses the requests from the first to the last. Answers how many there were, how many were refused, what was told
+        and what is wrong."""
+        if not hasattr(self.own, "folder"):
+            self.own.folder = pathlib.Path(tempfile.mkdtemp(dir=self.room))
+        named = f"{self.program.name}, script {script.name}, requests {first} to {last}"
+        ran, counts = run_refused([self.program], self.library, self.own.folder, first, last, input=script.text)
+        if not ran:
+            return 0, 1, None, f"{named}: not done after {SECONDS} seconds"
+        wrong, told = judge(script, last > first, ran.returncode, ran.stdout, ran.stderr)
+        if not wrong and not counts:
+            wrong = "nothing told of its requests"
+        asked, refused = counts if not wrong else (0, 1)
+        if not wrong and not refused and told != "nothing":
+            wrong = f"nothing was refused, and {told} told"
+        return asked, refused, told, wrong and f"{named}: {wrong}"
+
+
+def refuse_all(program, library, room, pool):
+    """Refuses each request of each script to a program. Answers whether all was well."""
+    player, kinds = Player(program, library, room), {"NoMemory": 0, "start": 0, "nothing": 0}
+    for script in pool.map(functools.partial(stored, program), NAMES):
+        asked, refused, _, wrong = player.play(script, ALL, ALL)
+        faults = [wrong] if wrong else []
+        if refused and not faults:
+            faults.append(f"{program.name}, script {script.name}: {refused} requests refused where none was to be")
+        for last in (None, ALL):
+            if not faults:
+                count, faults = refuse_each(functools.partial(player.play, script), last, pool, kinds)
+                if not faults and count < asked:
+                    faults.append(f"{program.name}, script {script.name}: only {count} of {asked} requests were refused")
+        if faults:
+            print("\n".join(faults[:9]), file=sys.stderr)
+            return False
+    if kinds["NoMemory"] < LEAST:
+        print(f"{program.name}: {kinds['NoMemory']} runs tell NoMemory, and not {LEAST}", file=sys.stderr)
+        return False
+    told = f"{kinds['NoMemory']} told NoMemory, {kinds['start']} didn't start, {kinds['nothing']} did without"
+    print(f"{program.name}: memory was refused in {sum(kinds.values())} runs, {told}")
+    return True
