@@ -4,11 +4,12 @@ use lj_clause::{Formula, Lemma, Lit, NoMemory};
 use lj_text::{Addition, Line, Numbers, NumbersIter, Step};
 use std::alloc::Global;
 
-/// The lines that are printed.
+/// The lines that are printed, and one that isn't whole yet.
 #[derive(Drop)]
 pub struct Out {
     alloc: Global,
     text: String,
+    line: String,
 }
 
 impl Out {
@@ -16,19 +17,31 @@ impl Out {
         Out {
             alloc,
             text: String::new(alloc),
+            line: String::new(alloc),
         }
     }
 
+    /// The whole lines.
     pub fn text(&self) -> &str {
         self.text.as_str()
+    }
+
+    /// The line that isn't whole yet.
+    pub fn line_so_far(&self) -> &str {
+        self.line.as_str()
     }
 
     pub fn allocator(&self) -> Global {
         self.alloc
     }
 
+    /// Puts a text behind the others. One that ends with LF ends the line.
     pub fn put(&mut self, text: &str) -> Result<(), NoMemory> {
-        self.text.push_str(text)?;
+        self.line.push_str(text)?;
+        if text.ends_with('\n') {
+            self.text.push_str(self.line.as_str())?;
+            self.line.clear();
+        }
         Ok(())
     }
 

@@ -60,15 +60,15 @@ fn pieces_of(alloc: Global, bytes: &[u8], place: usize) -> Result<Vec<&[u8]>, No
 pub fn show(alloc: Global, grammar: Grammar, text: &str, out: &mut Out) -> Result<(), Stop> {
     let bytes = unescaped(alloc, text)?;
     let whole = told(alloc, grammar, &bytes, bytes.len())?;
-    out.put(whole.text())?;
+    out.put(whole.line_so_far())?;
     out.put("\n")?;
     for place in 0..bytes.len().saturating_add(2) {
         let cut = told(alloc, grammar, &bytes, place)?;
-        if cut.text() != whole.text() {
+        if cut.line_so_far() != whole.line_so_far() {
             out.put("cut at")?;
             out.number(place as u64)?;
             out.put(": ")?;
-            out.put(cut.text())?;
+            out.put(cut.line_so_far())?;
             out.put("\n")?;
         }
     }
@@ -148,7 +148,7 @@ fn tell(
 }
 
 fn put_separator(out: &mut Out) -> Result<(), NoMemory> {
-    if out.text().is_empty() {
+    if out.line_so_far().is_empty() {
         return Ok(());
     }
     out.put("; ")
