@@ -3,7 +3,9 @@ shared book: the Nth request alone, and in a second run all from the Nth on. A c
 once more, so where one request is refused the program prints the script's whole output, or a beginning of its lines and then
 `line L: NoMemory`, where L is the line whose command would have printed what comes next. Where all are refused from the Nth
 on it prints a beginning and then that, or a beginning and then a reply `Refused(NoMemory)`; what comes after that is free.
-Where the memory for the script's own text is refused it ends with status 1 and prints nothing."""
+A command `verdict` of a shared book may print `no verdict` where there is one: the call that would have told it was accepted,
+though the memory for telling it was refused. Where the memory for the script's own text is refused the program ends with
+status 1 and prints nothing."""
 import functools
 import pathlib
 import re
@@ -16,7 +18,7 @@ from refusing import ALL, SECONDS, refuse_each, run_refused
 
 SCRIPTS = pathlib.Path(__file__).resolve().parent.parent / "crates" / "lj_script" / "scripts"
 NAMES = (
-    *("found", "groups", "imports", "stale_receipts", "trimming", "verdicts", "walks", "rat_lines"),
+    *("stale_receipts", "given_up", "imports", "groups", "found", "verdicts", "trimming", "walks", "rat_lines"),
     *("shared", "shared_receipts", "shared_untold"),
 )
 # The least count of runs of a program that have to tell NoMemory.
@@ -30,6 +32,14 @@ class Script:
 
     def __init__(self, name, text, wanted, counts):
         self.name, self.text, self.wanted, self.counts = name, text, wanted.splitlines(), counts
+        self.verdicts = {counts[at] for at, line in enumerate(text.splitlines()) if line == "verdict"}
+
+    def begins_with(self, lines):
+        """Whether these are the first lines of its output."""
+        pairs = enumerate(zip(lines, self.wanted))
+        return len(lines) <= len(self.wanted) and all(
+            line == wanted or line == "no verdict" and at in self.verdicts for at, (line, wanted) in pairs
+        )
 
 
 def stored(program, name):
@@ -43,10 +53,6 @@ def stored(program, name):
     return Script(name, text, wanted, counts)
 
 
-def is_beginning(front, lines):
-    return lines[: len(front)] == front
-
-
 def judge(script, is_behind, status, out, err):
     """What is wrong with how a script ended where a request was refused, or also all behind it, and what it told: "NoMemory", a
     "start" that failed, or "nothing"."""
@@ -55,13 +61,13 @@ def judge(script, is_behind, status, out, err):
     lines = out.splitlines()
     if status not in (0, 2) or err or out and not out.endswith("\n"):
         return f"status {status}, on standard output {out[-200:]!r}, and on standard error {err!r}", None
-    if lines == script.wanted and status == 0:
+    if len(lines) == len(script.wanted) and script.begins_with(lines) and status == 0:
         return None, "nothing"
     if is_behind and REFUSED in lines:
         front = lines[: lines.index(REFUSED)]
-        return (None, "NoMemory") if is_beginning(front, script.wanted) else (f"the lines {lines[-3:]}", None)
+        return (None, "NoMemory") if script.begins_with(front) else (f"the lines {front[-3:]}", None)
     end = re.fullmatch(r"line ([1-9]\d*): NoMemory", lines[-1]) if lines else None
-    if not end or status != 2 or not is_beginning(lines[:-1], script.wanted):
+    if not end or status != 2 or not script.begins_with(lines[:-1]):
         return f"status {status}, and the last lines {lines[-3:]}", None
     at = int(end[1])
     if at >= len(script.counts) or not script.counts[at - 1] <= len(lines) - 1 <= script.counts[at]:
@@ -71,10 +77,12 @@ def judge(script, is_behind, status, out, err):
 
 def check_judge():
     """Sees that wrong ends are told from right ones."""
-    script = Script("", "", "Added(0, 2)\nlive 1 0\nno verdict\n", [0, 0, 0, 1, 3])
+    script = Script("", "\n\ncommit 0\nshow\nverdict\n", "Added(0, 2)\nlive 1 0\nno verdict\nverdict 0\n", [0, 0, 0, 1, 3, 4])
     right = [
         (False, 1, "", NO_START),
-        (False, 0, "Added(0, 2)\nlive 1 0\nno verdict\n", ""),
+        (False, 0, "Added(0, 2)\nlive 1 0\nno verdict\nverdict 0\n", ""),
+        (False, 0, "Added(0, 2)\nlive 1 0\nno verdict\nno verdict\n", ""),
+        (False, 2, "Added(0, 2)\nlive 1 0\nno verdict\nline 5: NoMemory\n", ""),
         (False, 2, "line 2: NoMemory\n", ""),
         (False, 2, "Added(0, 2)\nlive 1 0\nline 4: NoMemory\n", ""),
         (True, 2, "Added(0, 2)\nline 4: NoMemory\n", ""),
@@ -85,7 +93,10 @@ def check_judge():
         (False, -6, "", ""),
         (False, 1, "Added(0, 2)\n", NO_START),
         (False, 0, "Added(0, 2)\nlive 1 0\n", ""),
-        (False, 2, "Added(0, 2)\nlive 1 0\nno verdict\n", ""),
+        (False, 0, "Added(0, 2)\nlive 1 0\nno verdict\n", ""),
+        (False, 0, "Added(0, 2)\nlive 1 0\nno verdict\nverdict 1\n", ""),
+        (False, 0, "no verdict\nlive 1 0\nno verdict\nverdict 0\n", ""),
+        (False, 2, "Added(0, 2)\nlive 1 0\nno verdict\nverdict 0\n", ""),
         (False, 0, "Refused(NoMemory)\nno verdict\n", ""),
         (False, 2, "Added(0, 2)\nlive 1line 4: NoMemory\n", ""),
         (False, 2, "Added(0, 2)\nlive 2 0\nline 4: NoMemory\n", ""),
@@ -93,6 +104,7 @@ def check_judge():
         (False, 2, "Added(0, 2)\nline 2: NoMemory\n", ""),
         (False, 2, "line 4: NoMemory\n", ""),
         (False, 2, "Added(0, 2)\nlive 1 0\nline 5: NoMemory\n", ""),
+        (False, 2, "Added(0, 2)\nlive 1 0\nline 6: NoMemory\n", ""),
         (False, 0, "Added(0, 2)\nlive 1 0\nline 4: NoMemory\n", ""),
         (True, 0, "Added(0, 3)\nRefused(NoMemory)\n", ""),
         (True, 0, "Added(0, 2)\nlive 1 0\n", ""),
