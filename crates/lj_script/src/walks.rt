@@ -2,7 +2,7 @@
 use crate::out::Out;
 use crate::stop::Stop;
 use crate::words::addition_of;
-use lj_book::{Book, Reply};
+use lj_book::{Book, Refusal, Reply};
 use lj_clause::{Formula, NoMemory};
 use lj_hint::{Case, Marks, Pair, Tested};
 use lj_text::{Addition, Numbers};
@@ -72,7 +72,12 @@ fn show_entered(
     addition: &Addition,
     out: &mut Out,
 ) -> Result<(), NoMemory> {
-    if let Err(refusal) = book.add_inside(0, addition, &mut Marks::new(alloc)) {
+    let mut marks = Marks::new(alloc);
+    let answer = match book.add_inside(0, addition, &mut marks) {
+        Err(Refusal::NoMemory(_)) => book.add_inside(0, addition, &mut marks),
+        answer => answer,
+    };
+    if let Err(refusal) = answer {
         return out.reply(&Reply::Refused(refusal));
     }
     if let Some(entry) = book.entry(0)? {
