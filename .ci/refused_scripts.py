@@ -3,9 +3,9 @@ shared book: the Nth request alone, and in a second run all from the Nth on. A c
 once more, so where one request is refused the program prints the script's whole output, or a beginning of its lines and then
 `line L: NoMemory`, where L is the line whose command would have printed what comes next. Where all are refused from the Nth
 on it prints a beginning and then that, or a beginning and then a reply `Refused(NoMemory)`; what comes after that is free.
-A command `verdict` of a shared book may print `no verdict` where there is one: the call that would have told it was accepted,
-though the memory for telling it was refused. Where the memory for the script's own text is refused the program ends with
-status 1 and prints nothing."""
+A command `verdict` right behind the line that adds the empty clause to a shared book may print `no verdict`: that call was
+accepted, though the memory for its verdict was refused, and the next call makes up for it. Where the memory for the script's
+own text is refused the program ends with status 1 and prints nothing."""
 import functools
 import pathlib
 import re
@@ -32,7 +32,8 @@ class Script:
 
     def __init__(self, name, text, wanted, counts):
         self.name, self.text, self.wanted, self.counts = name, text, wanted.splitlines(), counts
-        self.verdicts = {counts[at] for at, line in enumerate(text.splitlines()) if line == "verdict"}
+        before = re.finditer(r"^(submit|enter) \d+ \d+ 0 .*\n(?=verdict$)", text, flags=re.M)
+        self.verdicts = {counts[text.count("\n", 0, found.end())] for found in before}
 
     def begins_with(self, lines):
         """Whether these are the first lines of its output."""
@@ -77,10 +78,11 @@ def judge(script, is_behind, status, out, err):
 
 def check_judge():
     """Sees that wrong ends are told from right ones."""
-    script = Script("", "\n\ncommit 0\nshow\nverdict\n", "Added(0, 2)\nlive 1 0\nno verdict\nverdict 0\n", [0, 0, 0, 1, 3, 4])
+    wanted = "Added(0, 2)\nlive 1 0\nno verdict\nverdict 0\n"
+    script = Script("", "\n\nshow\nsubmit 0 1 0 0\nverdict\n", wanted, [0, 0, 0, 1, 3, 4])
     right = [
         (False, 1, "", NO_START),
-        (False, 0, "Added(0, 2)\nlive 1 0\nno verdict\nverdict 0\n", ""),
+        (False, 0, wanted, ""),
         (False, 0, "Added(0, 2)\nlive 1 0\nno verdict\nno verdict\n", ""),
         (False, 2, "Added(0, 2)\nlive 1 0\nno verdict\nline 5: NoMemory\n", ""),
         (False, 2, "line 2: NoMemory\n", ""),
