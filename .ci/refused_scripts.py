@@ -22,7 +22,7 @@ NAMES = (
     *("shared", "shared_receipts", "shared_untold"),
 )
 # The least count of runs of a program that have to tell NoMemory.
-LEAST = 2000
+LEAST = 10_000
 REFUSED = "Refused(NoMemory)"
 NO_START = "Error: Kind(OutOfMemory)\n"
 
