@@ -89,13 +89,18 @@ pub fn verified(book: &Book, out: &mut Out) -> Result<(), NoMemory> {
 fn steps_of(alloc: Global, book: &Book) -> Result<Vec<Step>, NoMemory> {
     let mut steps = Vec::new(alloc);
     for place in 0..book.history_len() {
-        if let Some(entry) = book.entry(place)? {
-            if let Some(step) = entry.step {
-                steps.push(step)?;
-            }
+        if let Some(step) = step_at(book, place)? {
+            steps.push(step)?;
         }
     }
     Ok(steps)
+}
+
+fn step_at(book: &Book, place: u64) -> Result<Option<Step>, NoMemory> {
+    match book.entry(place)? {
+        Some(entry) => Ok(entry.step),
+        None => Ok(None),
+    }
 }
 
 /// The trimmed steps of the history.
