@@ -8,9 +8,9 @@ from typing import NamedTuple
 
 # How many times as much twice the input may take.
 TWICE = 2.3
-# A write takes at least so many bytes of a proof, but for a few writes.
+# A read takes at least so many bytes of an input, and a write of a proof, but for a few.
 PIECE = 32_768
-FEW = 4
+FEW = 8
 
 
 class Input(NamedTuple):
@@ -95,6 +95,14 @@ def imports_through_a_list(count, dead):
     return Input(formula(clauses), [lines(stream)])
 
 
+def new_variables(tries):
+    """Variables that come in with long lemmas, and so many lines that look through those of one for its negation."""
+    rest, stream = text(range(1, 500)), []
+    for variable in range(500, 505):
+        stream += [f"{variable} {rest} 1 0", *[f"{rest} 1 0"] * 19, *[f"{variable} 0 0"] * tries]
+    return Input(formula([[1]]), [lines(f"{2 + k} {line}" for k, line in enumerate(stream))])
+
+
 # Deletions
 
 
@@ -117,6 +125,11 @@ def one_deletion_on_threads(count):
 # Lines that are read, and a proof that is written
 
 
+def one_long_line(count):
+    """A line whose bytes stand in many pieces: a deletion of nothing, with blanks."""
+    return Input(formula([[1]]), [f"1 d{' ' * count} 0\n"])
+
+
 def short_lines(count, head):
     """Deletions that delete nothing, each behind these bytes."""
     return Input(formula([[1]]), [lines([f"{head}1 d 0"] * count)])
@@ -128,6 +141,12 @@ def many_lines(count):
     return Input(formula([[1], [2, 3, 4, 5]]), [stream], ("--in-turn", "--proof", "out"))
 
 
+def lemmas_over_a_great_formula(count):
+    """Lemmas of two seats on threads, as many of each as the formula has clauses."""
+    clauses = [[1], *[[2, 3]] * count]
+    return Input(formula(clauses), [lines(f"{count + 2 + k} 1 0 1 0" for k in range(count))] * 2, ())
+
+
 # Groups
 
 
@@ -137,10 +156,11 @@ def groups_of_one_line(count):
     return Input(formula([[-1, 2]] * count), [f"{count + 1} 1 -2 0 {groups} 0\n"])
 
 
-def groups_of_many_lines(count, order):
-    """RAT lines of eight candidates, whose groups stand in this order."""
-    groups = " ".join(f"-{k}" for k in order)
-    return Input(formula([[-1, 2]] * 8), [lines(f"{9 + k} 1 -2 0 {groups} 0" for k in range(count))])
+def groups_of_many_lines(count, more=""):
+    """RAT lines of eight candidates, whose groups are as they are recorded, but for hints more of the last one."""
+    clauses = [*[[-1, 2]] * 8, [2, 4, 5], [-5]]
+    groups = " ".join(f"-{k} 9 10" for k in range(1, 9))
+    return Input(formula(clauses), [lines(f"{11 + k} 1 4 0 {groups}{more} 0" for k in range(count))])
 
 
 # Trimming
@@ -185,15 +205,13 @@ def walks_of_a_long_lemma(count):
     return Input(formula(clauses), [lines(f"{count + 2 + k} {proof}" for k in range(100))])
 
 
-def many_seats(count):
-    """Seats that each add some lemmas and delete them."""
-    lemmas = range(2, 40)
-    stream = lines([*(f"{k} 1 0 1 0" for k in lemmas), f"2 d {text(lemmas)}"])
-    return Input(formula([[1]]), [stream] * count, ())
+def one_busy_seat(seats, *words):
+    """Lemmas of one seat, each of which it deletes, beside seats that do nothing."""
+    stream = lines(f"{k} 1 0 1 0\n{k} d {k} 0" for k in range(2, 32_000))
+    return Input(formula([[1]]), [stream, *[""] * (seats - 1)], words)
 
 
 def rows():
-    rising, falling = range(1, 9), range(8, 0, -1)
     yield twice("RAT lines whose groups are as given", rat_lines_as_given, 1_500)
     yield twice("imports behind dead clauses", imports_behind_dead_clauses, 1_500)
     yield twice("candidates behind dead clauses", candidates_behind_dead_clauses, 1_500)
@@ -201,21 +219,27 @@ def rows():
     yield twice("imports whose last literal is common", imports_common_last, 1_500)
     halved, living = imports_through_a_list(600, 300), imports_through_a_list(600, 0)
     yield Row("imports through a living list, beside a half dead one", halved, living, 1.4)
-    yield twice("a deletion of many numbers", one_deletion, 5_000)
-    yield twice("a deletion of many numbers and a great one", one_deletion_of_a_great_number_too, 5_000)
-    yield twice("a deletion of many numbers, on threads", one_deletion_on_threads, 4_000)
-    yield Row("usual lines, beside lines behind a blank", short_lines(8_000, " "), short_lines(8_000, ""), 0.8)
-    yield twice("a RAT line of many groups", groups_of_one_line, 4_000)
-    turned, recorded = groups_of_many_lines(4_000, falling), groups_of_many_lines(4_000, rising)
-    yield Row("groups as recorded, beside falling ones", turned, recorded, 0.92)
+    unasked, asked = new_variables(0), new_variables(40)
+    yield Row("new variables that are asked for, beside unasked ones", unasked, asked, 1.35)
+    yield twice("a deletion of many numbers", one_deletion, 1_500)
+    yield twice("a deletion of many numbers and a great one", one_deletion_of_a_great_number_too, 1_500)
+    yield twice("a deletion of many numbers, on threads", one_deletion_on_threads, 1_500)
+    yield Row("usual lines, beside lines behind a blank", short_lines(8_000, " "), short_lines(8_000, ""), 0.84)
+    yield twice("a RAT line of many groups", groups_of_one_line, 2_000)
+    copied, recorded = groups_of_many_lines(1_000, " 10"), groups_of_many_lines(1_000)
+    yield Row("groups as recorded, beside those with an unread hint", copied, recorded, 0.92)
     whole, trimmed = chain(3_000, [], more=20), chain(3_000, ["--trim"], more=20)
-    yield Row("a chain that is trimmed, beside one that isn't", whole, trimmed, 1.6)
+    yield Row("a chain that is trimmed, beside one that isn't", whole, trimmed, 1.38)
     yield twice("a chain that is trimmed", trimmed_chain, 3_000)
-    yield twice("a chain of falling numbers that is trimmed", trimmed_chain_of_falling_numbers, 3_000)
-    yield twice("a walk of many hints", walk_of_many_hints, 8_000)
+    yield twice("a chain of falling numbers that is trimmed", trimmed_chain_of_falling_numbers, 800)
+    yield twice("a walk of many hints", walk_of_many_hints, 2_000)
     yield twice("walks along a chain", walks_along_a_chain, 200)
     yield twice("walks of a long lemma", walks_of_a_long_lemma, 120)
-    yield twice("many seats", many_seats, 32)
+    alone, among = one_busy_seat(1, "--in-turn"), one_busy_seat(64, "--in-turn")
+    yield Row("a seat among 63 idle ones, beside it alone", alone, among, 1.11)
+    yield Row("a seat among 63 on threads, beside it among one", one_busy_seat(2), one_busy_seat(64), 1.08)
+    yield twice("lemmas over a great formula", lemmas_over_a_great_formula, 1_500)
+    yield twice("a line of many pieces", one_long_line, 1_200_000)
 
 
 class Bench:
@@ -242,6 +266,12 @@ class Bench:
         log = self.log(given, "--tool=callgrind", "--callgrind-out-file=/dev/null")
         return int(re.search(r"Collected : (\d+)", log)[1])
 
+    def reads(self, given):
+        """How many reads the input may take, and how many the program takes."""
+        log = self.log(given, "--tool=none", "--trace-syscalls=yes")
+        size = sum(map(len, [given.formula, *given.streams]))
+        return size // PIECE + FEW, len(re.findall(r"sys_p?readv?\d* ", log))
+
     def writes(self, given):
         """How many writes the proof may take, and how many the program takes."""
         log = self.log(given, "--tool=none", "--trace-syscalls=yes")
@@ -265,9 +295,11 @@ def main(program, words):
             for row in rows()
             if words in row.name
         ]
-        name = "writes of a proof, beside those that it may take"
-        if words in name:
-            right.append(show(name, *bench.writes(many_lines(20_000)), 1))
+        calls = {"reads of a stream": bench.reads, "writes of a proof": bench.writes}
+        for what, counts in calls.items():
+            name = f"{what}, beside those that it may take"
+            if words in name:
+                right.append(show(name, *counts(many_lines(20_000)), 1))
     if not right:
         print(f"costs.sh: no row's name holds {words}", file=sys.stderr)
         sys.exit(2)
