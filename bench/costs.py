@@ -282,12 +282,12 @@ def show(name, first, second, bound):
     """Prints a row. Returns whether its ratio is within the bound."""
     right = second <= bound * first
     ending = "" if right else "  wrong"
-    print(f"{name:<54}{first:>13,}{second:>13,}{second / first:>7.2f}{bound:>6.2f}{ending}", flush=True)
+    print(f"{name:<54}{first:>13,}{second:>13,}{second / first:>10.2f}{bound:>6.2f}{ending}", flush=True)
     return right
 
 
 def main(program, words):
-    print(f"{'':<54}{'first':>13}{'second':>13}{'ratio':>7}{'bound':>6}")
+    print(f"{'':<54}{'first':>13}{'second':>13}{'ratio':>10}{'bound':>6}")
     with tempfile.TemporaryDirectory() as folder:
         bench = Bench(program, folder)
         right = [
