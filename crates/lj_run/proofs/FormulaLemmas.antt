@@ -1,6 +1,7 @@
 -- The steps of reading a formula.
-use Rattle.std.proofs.Common.{◌≡◌, ℕ, List, [], Result, Ok, Err, sym, subst}
+use Rattle.std.proofs.Common.{◌≡◌, ℕ, List, [], ◌++◌, Result, Ok, Err, sym, subst}
 use Rattle.std.specs.Prelude.{IfOk, IfErr, IsErrAnd}
+use Rattle.std.specs.Io.KnownBytes.{Keeps}
 use Rattle.lj_clause.specs.ClauseMap.{FormulaValue}
 use Rattle.lj_text.specs.Cnf.{Spells, HasFault}
 use Rattle.lj_text.specs.CnfRead.{CnfRead}
@@ -8,10 +9,10 @@ use Rattle.lj_text.specs.Streams.{SourceState, HasEnded, HasGiven}
 use Rattle.lj_run.specs.declared.outcome.RunFault.{RunFault}
 use Rattle.lj_run.specs.declared.outcome.RunFault.TheVariants.{Formula, FormulaRead, NoMemory, Unconfirmed}
 use Rattle.lj_run.specs.inner.FormulaReading.{FormulaReadOn, IsFaultAtEnd}
-use Rattle.lj_run.specs.FormulaReading.{IsFormulaFault, GaveAll, GaveFormula}
+use Rattle.lj_run.specs.FormulaReading.{FailedReading, IsFormulaFault, GaveAll, GaveFormula}
 use Rattle.lj_run.specs.Joint.{IsJointFault}
 use Rattle.lj_clause.specs.declared.memory.NoMemory.{NoMemory as Want}
-use Rattle.lj_run.proofs.GivenLemmas.{given_none, given_on}
+use Rattle.lj_run.proofs.GivenLemmas.{given_failed, given_none, given_on}
 use Rattle.lj_clause.specs.declared.lit.TheConstants.{MAX_VARIABLE}
 
 -- nothing is fed yet
@@ -39,6 +40,12 @@ fault_told (Err Unconfirmed) reader start after max all told = absurd told
 -- the bytes that were read until the source ended
 pub all_given : (reader : CnfRead) (start after : SourceState) → HasGiven start after reader.fed → HasEnded after → after.failures ≡ 0 → GaveAll start after reader.fed
 all_given reader start after gave ended unfailed = record { gave = gave; ended = ended; unfailed = unfailed }
+
+-- a read that failed behind what the source had given
+pub failed_reading : (start before after : SourceState) (text : List ℕ) → HasGiven start before text → after.given ≡ before.given → Keeps before.rest after.rest → after.failures ≡ 1
+    → FailedReading start after
+failed_reading start before after text gave none kept failed =
+    record { text = text ++ []; gave = given_on start before after text [] gave (given_failed before after none kept); failed = failed }
 
 -- want of memory behind the formula's source, which gave all, is passed up as it is
 pub want_told : {X : Type 0} (r : Result X RunFault) (start after : SourceState) (text : List ℕ) (e : Want) → GaveAll start after text → IsErrAnd r (λ fault. fault ≡ NoMemory e)

@@ -11,6 +11,7 @@ use Rattle.lj_run.specs.FormulaReading.{GaveAll}
 use Rattle.lj_run.specs.Program.{HasInputs, IfRun, IsCreated, IsFaultOf, IsOpened, IsRunAnswered, IsRunPrinted, RunInputs, SpellsUnsatisfiable, failed_outputs, proof_status, status_code, verdict_status}
 use Rattle.lj_run.specs.inner.Program.{IsAnOpenFault, IsAnswerTo, IsAskedFor, IsCreateFault, IsLostAt, IsOpenFault, fault_at, is_told_late}
 use Rattle.lj_run.specs.Proof.{SinkState, IsProof}
+use Rattle.lj_run.specs.Tried.{MayCreate, Tried, with_created, with_uncreated, with_unopened}
 use Rattle.lj_run.specs.declared.outcome.ProofEnd.{ProofEnd}
 use Rattle.lj_run.specs.declared.outcome.ProofEnd.TheVariants.{NotAsked, Written, Failed}
 use Rattle.lj_clause.specs.ClauseMap.{FormulaValue}
@@ -139,44 +140,52 @@ few_streams seen content items path streams some few h =
     (omega (arith, n, one.0, one.1, all), omega (arith, n, one.0, one.1, all))
 
 -- the file at one of a run's paths, of which this was told after the others were opened, can't be opened
-pub open_fault : {I W : Type 0} (seen : I → SourceState) (sink : W → SinkState) (run : AskedRun) (before content : List ℕ → Option (List ℕ)) (paths : List (List ℕ)) (fault : Fault)
-    → ((path : List ℕ) → Contains paths path → (path ≡ run.formula) ⊎ Contains (paths_by_seat run) path) → ((other : List ℕ) → content other ≡ before other)
-    → IsAnOpenFault content paths fault → IsFaultOf seen sink (a_run run) before fault
-open_fault seen sink run before content paths (faults.Formula path f) among same h = absurd h
-open_fault seen sink run before content paths (faults.CannotRead path) among same h = inl (among path.now h.0, sym (same path.now) ∙ h.1)
-open_fault seen sink run before content paths faults.CannotWrite among same h = absurd h
-open_fault seen sink run before content paths (faults.CannotCreate path) among same h = absurd h
-open_fault seen sink run before content paths (faults.ProofLost path f) among same h = absurd h
-open_fault seen sink run before content paths (faults.NoMemory e) among same h = tt
-open_fault seen sink run before content paths faults.OutOfMemory among same h = tt
-open_fault seen sink run before content paths faults.Unconfirmed among same h = absurd h
-open_fault seen sink run before content paths (faults.Usage text) among same h = absurd h
+pub open_fault : {I W : Type 0} (seen : I → SourceState) (sink : W → SinkState) (run : AskedRun) (before content : List ℕ → Option (List ℕ)) (old mid new : Tried) (paths : List (List ℕ)) (fault : Fault)
+    → ((path : List ℕ) → Contains paths path → (path ≡ run.formula) ⊎ Contains (paths_by_seat run) path) → ((other : List ℕ) → content other ≡ before other) → mid ≡ old
+    → IsAnOpenFault content paths mid new fault → IsFaultOf seen sink (a_run run) before old new fault
+open_fault seen sink run before content old mid new paths (faults.Formula path f) among same tried h = absurd h
+open_fault seen sink run before content old mid new paths (faults.CannotRead path) among same tried h = inl (among path.now h.0, sym (same path.now) ∙ h.1, h.2 ∙ ap (with_unopened path.now) tried)
+open_fault seen sink run before content old mid new paths faults.CannotWrite among same tried h = absurd h
+open_fault seen sink run before content old mid new paths (faults.CannotCreate path) among same tried h = absurd h
+open_fault seen sink run before content old mid new paths (faults.ProofLost path f) among same tried h = absurd h
+open_fault seen sink run before content old mid new paths (faults.NoMemory e) among same tried h = tt
+open_fault seen sink run before content old mid new paths faults.OutOfMemory among same tried h = tt
+open_fault seen sink run before content old mid new paths faults.Unconfirmed among same tried h = absurd h
+open_fault seen sink run before content old mid new paths (faults.Usage text) among same tried h = absurd h
 
 -- FORMULA's file can't be opened
-pub formula_unopened : {I W : Type 0} (seen : I → SourceState) (sink : W → SinkState) (run : AskedRun) (before : List ℕ → Option (List ℕ)) (fault : Fault)
-    → IsOpenFault run.formula (before run.formula) fault → IsFaultOf seen sink (a_run run) before fault
-formula_unopened seen sink run before (faults.Formula path f) h = absurd h
-formula_unopened seen sink run before (faults.CannotRead path) h = inl (inl h.0, ap before h.0 ∙ h.1)
-formula_unopened seen sink run before faults.CannotWrite h = absurd h
-formula_unopened seen sink run before (faults.CannotCreate path) h = absurd h
-formula_unopened seen sink run before (faults.ProofLost path f) h = absurd h
-formula_unopened seen sink run before (faults.NoMemory e) h = tt
-formula_unopened seen sink run before faults.OutOfMemory h = tt
-formula_unopened seen sink run before faults.Unconfirmed h = absurd h
-formula_unopened seen sink run before (faults.Usage text) h = absurd h
+pub formula_unopened : {I W : Type 0} (seen : I → SourceState) (sink : W → SinkState) (run : AskedRun) (before : List ℕ → Option (List ℕ)) (old new : Tried) (fault : Fault)
+    → IsOpenFault run.formula (before run.formula) old new fault → IsFaultOf seen sink (a_run run) before old new fault
+formula_unopened seen sink run before old new (faults.Formula path f) h = absurd h
+formula_unopened seen sink run before old new (faults.CannotRead path) h = inl (inl h.0, ap before h.0 ∙ h.1, h.2)
+formula_unopened seen sink run before old new faults.CannotWrite h = absurd h
+formula_unopened seen sink run before old new (faults.CannotCreate path) h = absurd h
+formula_unopened seen sink run before old new (faults.ProofLost path f) h = absurd h
+formula_unopened seen sink run before old new (faults.NoMemory e) h = tt
+formula_unopened seen sink run before old new faults.OutOfMemory h = tt
+formula_unopened seen sink run before old new faults.Unconfirmed h = absurd h
+formula_unopened seen sink run before old new (faults.Usage text) h = absurd h
 
 -- OUT can't be created
-pub create_fault : {I W : Type 0} (seen : I → SourceState) (sink : W → SinkState) (run : AskedRun) (before : List ℕ → Option (List ℕ)) (fault : Fault)
-    → IsCreateFault run.proof fault → IsFaultOf seen sink (a_run run) before fault
-create_fault seen sink run before (faults.Formula path f) h = absurd h
-create_fault seen sink run before (faults.CannotRead path) h = absurd h
-create_fault seen sink run before faults.CannotWrite h = absurd h
-create_fault seen sink run before (faults.CannotCreate path) h = h
-create_fault seen sink run before (faults.ProofLost path f) h = absurd h
-create_fault seen sink run before (faults.NoMemory e) h = tt
-create_fault seen sink run before faults.OutOfMemory h = tt
-create_fault seen sink run before faults.Unconfirmed h = absurd h
-create_fault seen sink run before (faults.Usage text) h = absurd h
+pub create_fault : {I W : Type 0} (seen : I → SourceState) (sink : W → SinkState) (run : AskedRun) (before : List ℕ → Option (List ℕ)) (old mid new : Tried) (fault : Fault) → mid ≡ old
+    → IsCreateFault run.proof mid new fault → IsFaultOf seen sink (a_run run) before old new fault
+create_fault seen sink run before old mid new (faults.Formula path f) tried h = absurd h
+create_fault seen sink run before old mid new (faults.CannotRead path) tried h = absurd h
+create_fault seen sink run before old mid new faults.CannotWrite tried h = absurd h
+create_fault seen sink run before old mid new (faults.CannotCreate path) tried h = (h.0, h.1 ∙ ap (with_uncreated path.now) tried)
+create_fault seen sink run before old mid new (faults.ProofLost path f) tried h = absurd h
+create_fault seen sink run before old mid new (faults.NoMemory e) tried h = tt
+create_fault seen sink run before old mid new faults.OutOfMemory tried h = tt
+create_fault seen sink run before old mid new faults.Unconfirmed tried h = absurd h
+create_fault seen sink run before old mid new (faults.Usage text) tried h = absurd h
+
+-- no more files were created, where these were tried before
+pub none_more : (path : Option (List ℕ)) (old mid : Tried) (created : List (List ℕ)) → mid ≡ old → created ≡ mid.created → (created ≡ old.created) ⊎ (created ≡ (with_created path old).created)
+none_more path old mid created tried none = inl (none ∙ ap (λ (t : Tried). t.created) tried)
+
+-- OUT was created, where it is asked for
+pub one_created : (path : Option (List ℕ)) (old mid new : Tried) → mid ≡ old → new ≡ with_created path mid → MayCreate path old new
+one_created path old mid new tried is = inr (ap (λ (t : Tried). t.created) (is ∙ ap (with_created path) tried))
 
 -- the paths of the streams, and that of the closing one, are the run's
 pub among_streams : (given items : List (Bor (List ℕ))) (closing : Option (List ℕ)) (path : List ℕ) → given ≡ items → Contains (map (λ p. p.now) given) path
@@ -215,15 +224,15 @@ of_content P content before after text opened all h =
 
 -- what is told of a check that has no answer
 pub check_fault : {I W : Type 0} (seen : I → SourceState) (sink : W → SinkState) (run : AskedRun) (content : List ℕ → Option (List ℕ)) (path : Bor (List ℕ)) (inputs : RunInputs seen content run)
-    (old new : List ℕ) (fault : CheckFault) → path.now ≡ run.formula → IsCheckFault run.way (seen inputs.opened) (seen inputs.after) seen run.max_steps inputs.streams old new fault
-    → IsFaultOf seen sink (a_run run) content (fault_at path fault)
-check_fault seen sink run content path inputs old new (check_faults.Run (run_faults.Formula fault)) is h =
+    (before after : Tried) (old new : List ℕ) (fault : CheckFault) → path.now ≡ run.formula → IsCheckFault run.way (seen inputs.opened) (seen inputs.after) seen run.max_steps inputs.streams old new fault
+    → IsFaultOf seen sink (a_run run) content before after (fault_at path fault)
+check_fault seen sink run content path inputs before after old new (check_faults.Run (run_faults.Formula fault)) is h =
     let gave = formula_fault run.way (seen inputs.opened) (seen inputs.after) seen run.max_steps inputs.streams fault h.0 in
     (is, of_content (λ text. HasFault MAX_VARIABLE text fault) (content run.formula) (seen inputs.opened) (seen inputs.after) gave.text inputs.formula_is gave.all gave.has, record { inputs = inputs; fault_is = h.0 })
-check_fault seen sink run content path inputs old new (check_faults.Run run_faults.FormulaRead) is h = inr (is, record { inputs = inputs; fault_is = h.0 })
-check_fault seen sink run content path inputs old new (check_faults.Run (run_faults.NoMemory e)) is h = tt
-check_fault seen sink run content path inputs old new (check_faults.Run run_faults.Unconfirmed) is h = record { inputs = inputs; fault_is = h.0 }
-check_fault seen sink run content path inputs old new check_faults.CannotWrite is h = λ e. cc
+check_fault seen sink run content path inputs before after old new (check_faults.Run run_faults.FormulaRead) is h = inr (is, record { inputs = inputs; fault_is = h.0 })
+check_fault seen sink run content path inputs before after old new (check_faults.Run (run_faults.NoMemory e)) is h = tt
+check_fault seen sink run content path inputs before after old new (check_faults.Run run_faults.Unconfirmed) is h = record { inputs = inputs; fault_is = h.0 }
+check_fault seen sink run content path inputs before after old new check_faults.CannotWrite is h = λ e. cc
 
 -- the check whose output failed
 pub check_cut : {I : Type 0} (way : Way) (seen : I → SourceState) (formula : Bor (List ℕ)) (before after : SourceState) (max : ℕ) (streams : List I) (old new : List ℕ) (fault : CheckFault)
@@ -288,17 +297,17 @@ err_more P Q (Ok t) f h = tt
 err_more P Q (Err e) f h = f e h
 
 -- what is known of the fault of a proof that couldn't be written
-pub lost_fault : {I W : Type 0} (seen : I → SourceState) (sink : W → SinkState) (run : AskedRun) (content : List ℕ → Option (List ℕ)) (checked : Checked) (text : List ℕ) (fault : Fault)
-    → IsRunPrinted seen sink content run checked text → IsLostAt run.proof checked.proof fault → IsFaultOf seen sink (a_run run) content fault
-lost_fault seen sink run content checked text (faults.Formula path f) printed h = absurd h
-lost_fault seen sink run content checked text (faults.CannotRead path) printed h = absurd h
-lost_fault seen sink run content checked text faults.CannotWrite printed h = absurd h
-lost_fault seen sink run content checked text (faults.CannotCreate path) printed h = absurd h
-lost_fault seen sink run content checked text (faults.ProofLost path f) printed h = (h.0, record { checked = checked; text = text; printed = printed; failed = h.1 })
-lost_fault seen sink run content checked text (faults.NoMemory e) printed h = absurd h
-lost_fault seen sink run content checked text faults.OutOfMemory printed h = absurd h
-lost_fault seen sink run content checked text faults.Unconfirmed printed h = absurd h
-lost_fault seen sink run content checked text (faults.Usage text') printed h = absurd h
+pub lost_fault : {I W : Type 0} (seen : I → SourceState) (sink : W → SinkState) (run : AskedRun) (content : List ℕ → Option (List ℕ)) (before after : Tried) (checked : Checked) (text : List ℕ) (fault : Fault)
+    → IsRunPrinted seen sink content run checked text → IsLostAt run.proof checked.proof fault → IsFaultOf seen sink (a_run run) content before after fault
+lost_fault seen sink run content before after checked text (faults.Formula path f) printed h = absurd h
+lost_fault seen sink run content before after checked text (faults.CannotRead path) printed h = absurd h
+lost_fault seen sink run content before after checked text faults.CannotWrite printed h = absurd h
+lost_fault seen sink run content before after checked text (faults.CannotCreate path) printed h = absurd h
+lost_fault seen sink run content before after checked text (faults.ProofLost path f) printed h = (h.0, record { checked = checked; text = text; printed = printed; failed = h.1 })
+lost_fault seen sink run content before after checked text (faults.NoMemory e) printed h = absurd h
+lost_fault seen sink run content before after checked text faults.OutOfMemory printed h = absurd h
+lost_fault seen sink run content before after checked text faults.Unconfirmed printed h = absurd h
+lost_fault seen sink run content before after checked text (faults.Usage text') printed h = absurd h
 
 pub lost_late : (path : Option (List ℕ)) (end : ProofEnd) (fault : Fault) → IsLostAt path end fault → (is_told_late fault ≡ true) × (fault ≡ faults.CannotWrite → ⊥) × (failed_outputs fault ≡ 0)
 lost_late path end (faults.Formula p f) h = absurd h

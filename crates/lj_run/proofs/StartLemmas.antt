@@ -3,10 +3,11 @@ use Rattle.std.proofs.Common.{◌≡◌, ◌≢◌, ◌<◌, ◌≤◌, ℕ, suc
 use Rattle.std.specs.Prelude.{◌⊎◌, IfSome}
 use Rattle.std.proofs.lemmas.List.{take_all}
 use Rattle.lj_text.specs.Streams.{SourceState}
-use Rattle.lj_run.specs.Program.{IfRun, IsFaultTold, IsOther, IsProofLost, IsRunAnswered, IsRunCut, MayEnd, SpellsUnsatisfiable}
+use Rattle.lj_run.specs.Program.{CreatesAtMost, IfRun, IsFaultTold, IsOther, IsProofLost, IsRunAnswered, IsRunCut, MayEnd, SpellsUnsatisfiable}
 use Rattle.lj_run.specs.Proof.{SinkState}
 use Rattle.lj_run.specs.Starting.{ProgramEnds}
 use Rattle.lj_run.specs.CommandLine.{asked_by}
+use Rattle.lj_run.specs.Tried.{Tried}
 
 -- a list without its first, which it may lack
 pub without_first : {X : Type 0} (xs : List X) (n : ℕ) → n ≡ min (length xs) 1 → take (length xs - n) (drop n xs) ≡ drop 1 xs
@@ -18,19 +19,20 @@ without_first {X} (x ∷ xs) n e =
     subst P (sym (e ∙ one)) (ap (λ k. take k xs) less ∙ take_all (length xs) xs (omega arith))
 
 -- what the program's clauses say of these words and this status, said of those behind the first argument and of how the process ends
-pub program_ends : {I W : Type 0} (seen : I → SourceState) (sink : W → SinkState) (before after : List ℕ → Option (List ℕ)) (given words : List (List ℕ)) (out_old out_new : List ℕ) (failures : ℕ)
+pub program_ends : {I W : Type 0} (seen : I → SourceState) (sink : W → SinkState) (before after : List ℕ → Option (List ℕ)) (tried_old tried_new : Tried) (given words : List (List ℕ)) (out_old out_new : List ℕ) (failures : ℕ)
     (err_old err_new : List ℕ) (errors status code : ℕ) → given ≡ words → code ≡ status
     → MayEnd (asked_by given) status
     → (status < 2 → IfRun (asked_by given) (λ run. IsRunAnswered seen sink before run out_old out_new status))
     → (status ≡ 0 → IfRun (asked_by given) (λ run. IfSome (before run.formula) SpellsUnsatisfiable))
     → (status < 2 → failures ≡ 0) → (status < 2 → err_new ≡ err_old) → (2 ≤ status → failures ≡ 0 → (out_new ≡ out_old) ⊎ IsProofLost seen sink before (asked_by given) out_old out_new)
     → (failures ≢ 0 → IfRun (asked_by given) (λ run. IsRunCut seen before run out_old out_new))
-    → (2 ≤ status → errors ≡ 0 → IsFaultTold seen sink (asked_by given) before failures err_old err_new status)
+    → (2 ≤ status → errors ≡ 0 → IsFaultTold seen sink (asked_by given) before tried_old tried_new failures err_old err_new status)
     → ((path : List ℕ) → IsOther (asked_by given) path → after path ≡ before path)
-    → ProgramEnds seen sink before after (asked_by words) out_old out_new failures err_old err_new errors code
-program_ends seen sink before after given words out_old out_new failures err_old err_new errors status code same code_is may_end printed refuted told quiet untouched cut fault files =
-    subst (λ ws. ProgramEnds seen sink before after (asked_by ws) out_old out_new failures err_old err_new errors code) same
-    (subst (λ n. ProgramEnds seen sink before after (asked_by given) out_old out_new failures err_old err_new errors n) (sym code_is) (record {
+    → CreatesAtMost (asked_by given) tried_old tried_new
+    → ProgramEnds seen sink before after tried_old tried_new (asked_by words) out_old out_new failures err_old err_new errors code
+program_ends seen sink before after tried_old tried_new given words out_old out_new failures err_old err_new errors status code same code_is may_end printed refuted told quiet untouched cut fault files created =
+    subst (λ ws. ProgramEnds seen sink before after tried_old tried_new (asked_by ws) out_old out_new failures err_old err_new errors code) same
+    (subst (λ n. ProgramEnds seen sink before after tried_old tried_new (asked_by given) out_old out_new failures err_old err_new errors n) (sym code_is) (record {
       may_end = may_end;
       printed = printed;
       refuted = refuted;
@@ -40,6 +42,7 @@ program_ends seen sink before after given words out_old out_new failures err_old
       cut = cut;
       fault = fault;
       same_files = files;
+      created = created;
     }))
 
 -- what is untouched is so in what it took

@@ -1,5 +1,5 @@
 -- What a check answers and prints.
-use Rattle.std.specs.Prelude.{◌≡◌, ◌≢◌, ◌<◌, ℕ, Bool, List, ◌++◌, length, take, Option, Some, None}
+use Rattle.std.specs.Prelude.{◌≡◌, ◌≢◌, ◌⊎◌, ◌<◌, ℕ, Bool, List, ◌++◌, length, take, Option, Some, None}
 use Rattle.lj_clause.specs.ClauseMap.{FormulaValue}
 use Rattle.lj_text.specs.Streams.{SourceState}
 use Rattle.lj_clause.specs.Truth.{IsUnsatisfiable}
@@ -96,8 +96,17 @@ pub record LeavesAnswer {S W O : Type 0} (way : Way) (before after : SourceState
       checked text
   pub unfailed : (output out_new).failures ≡ 0
 
+-- The sink of the proof is as it was, or the run has an outcome, and the proof is what the run made of it: nothing else comes to the sink,
+-- whatever is told.
+abbrev pub LeavesProof : {S W : Type 0} → Way → SourceState → SourceState → (S → SourceState)
+    → (W → SinkState) → ℕ → Bool → List S → Option W → Option W → Type 0
+LeavesProof way before after seen sink max_steps trims streams proof_old proof_new =
+    (proof_new ≡ proof_old)
+    ⊎ HasOutcome way before after seen sink max_steps trims streams proof_old proof_new
+
 -- What a check leaves where it has no answer for this reason. Where the output failed, it failed once, and the proof is what the run made
--- of it; else the output is as it was. After an early fault the sink of the proof is as it was, too.
+-- of it; else the output is as it was. After an early fault the sink of the proof is as it was, too; after want of memory it is as it was,
+-- or as the run leaves it that has an outcome.
 pub record LeavesFault {S W O : Type 0} (way : Way) (before after : SourceState)
     (seen : S → SourceState) (sink : W → SinkState) (max_steps : ℕ) (trims : Bool)
     (streams : List S) (proof_old proof_new : Option W) (output : O → SinkState)
@@ -109,3 +118,4 @@ pub record LeavesFault {S W O : Type 0} (way : Way) (before after : SourceState)
   pub written : fault ≡ CannotWrite → HasOutcome way before after seen sink max_steps trims streams
       proof_old proof_new
   pub early : IsEarlyFault fault → proof_new ≡ proof_old
+  pub proof : LeavesProof way before after seen sink max_steps trims streams proof_old proof_new

@@ -26,9 +26,15 @@ pub record GaveFault (before after : SourceState) (fault : CnfFault) : Type 0 wh
   pub all : GaveAll before after text
   pub has : HasFault MAX_VARIABLE text fault
 
+-- A read of the source failed, once it had given these bytes.
+pub record FailedReading (before after : SourceState) : Type 0 where
+  pub text : List ℕ
+  pub gave : HasGiven before after text
+  pub failed : after.failures ≡ 1
+
 -- Why there is no formula: all that the source gave has this fault, a read failed, or memory ran out. Nothing is confirmed here.
 abbrev pub IsFormulaFault : SourceState → SourceState → RunFault → Type 0
 IsFormulaFault before after (Formula fault) = GaveFault before after fault
-IsFormulaFault before after FormulaRead = after.failures ≡ 1
+IsFormulaFault before after FormulaRead = FailedReading before after
 IsFormulaFault before after (NoMemory _) = after.failures ≡ 0
 IsFormulaFault before after Unconfirmed = ⊥

@@ -8,6 +8,7 @@ pub mod Joint
 pub mod Ways
 pub mod OutcomeText
 pub mod Checking
+pub mod Tried
 pub mod Files
 pub mod CommandLine
 pub mod Program

@@ -10,6 +10,7 @@ use Rattle.lj_clause.specs.Truth.{IsUnsatisfiable}
 use Rattle.lj_run.specs.Checking.{IsChecked, IsCutText}
 use Rattle.lj_run.specs.Ways.{IsFaultBy}
 use Rattle.lj_run.specs.Proof.{SinkState}
+use Rattle.lj_run.specs.Tried.{MayCreate, NoneCreated, Tried, with_uncreated, with_unopened}
 use Rattle.lj_run.specs.declared.checking.Checked.{Checked}
 use Rattle.lj_run.specs.declared.outcome.ProofEnd.{ProofEnd}
 use Rattle.lj_run.specs.declared.outcome.ProofEnd.TheVariants.{NotAsked, Written, Failed}
@@ -200,33 +201,47 @@ IsProofLost seen sink content asked old new = IsRunAnd asked
 abbrev pub IsOther : Asked → List ℕ → Type 0
 IsOther asked path = IfRun asked (λ run. run.proof ≢ Some path)
 
--- the file at this path is to be read, and isn't told; one that is told can be opened
-abbrev pub IsUnopened : (List ℕ → Option (List ℕ)) → AskedRun → List ℕ → Type 0
-IsUnopened content run path = ((path ≡ run.formula) ⊎ Contains (paths_by_seat run) path)
-    × (content path ≡ None)
+-- what is created where words ask for this: the file of the proof, once at most, where there is one, and nothing else
+abbrev pub CreatesAtMost : Asked → Tried → Tried → Type 0
+CreatesAtMost (a_run run) before after = MayCreate run.proof before after
+CreatesAtMost the_help before after = NoneCreated before after
+CreatesAtMost the_version before after = NoneCreated before after
+CreatesAtMost the_usage before after = NoneCreated before after
 
--- The fault is right of what words ask for, where this is told of files: the fault of the text that FORMULA's file gave; a path that can't
--- be opened, or FORMULA, of which a read failed; an output that failed, where there is something to print; OUT that can't be created, or
--- that failed; a run that isn't confirmed; usage. Want of memory may stand in place of each that memory is taken for.
+-- The file at this path is to be read, and isn't told; one that is told can be opened. Its opening was tried and refused, and nothing
+-- else by then: no file was created.
+abbrev pub IsUnopened : (List ℕ → Option (List ℕ)) → Tried → Tried → AskedRun → List ℕ → Type 0
+IsUnopened content before after run path = ((path ≡ run.formula)
+    ⊎ Contains (paths_by_seat run) path)
+    × (content path ≡ None) × (after ≡ with_unopened path before)
+
+-- a proof is asked for at this path, and a creation there was tried and refused, and nothing else
+abbrev pub IsUncreated : Tried → Tried → AskedRun → List ℕ → Type 0
+IsUncreated before after run path = (run.proof ≡ Some path) × (after ≡ with_uncreated path before)
+
+-- The fault is right of what words ask for, where this is told of files, and this was tried of them before and after: the fault of the
+-- text that FORMULA's file gave; a path that can't be opened, or FORMULA, of which a read failed; an output that failed, where there is
+-- something to print; OUT that can't be created, or that failed; a run that isn't confirmed; usage. Want of memory may stand in place of
+-- each that memory is taken for.
 abbrev pub IsFaultOf : {I W : Type 0} → (I → SourceState) → (W → SinkState) → Asked
-    → (List ℕ → Option (List ℕ)) → Fault → Type 0
-IsFaultOf seen sink asked content (faults.Formula path fault) = IsRunAnd asked
+    → (List ℕ → Option (List ℕ)) → Tried → Tried → Fault → Type 0
+IsFaultOf seen sink asked content before after (faults.Formula path fault) = IsRunAnd asked
     (λ run. (path.now ≡ run.formula)
     × IfSome (content run.formula) (λ text. HasFault MAX_VARIABLE text fault)
     × HasNoOutcome seen content run (run_faults.Formula fault))
-IsFaultOf seen sink asked content (faults.CannotRead path) =
-    IsRunAnd asked (λ run. IsUnopened content run path.now
+IsFaultOf seen sink asked content before after (faults.CannotRead path) =
+    IsRunAnd asked (λ run. IsUnopened content before after run path.now
     ⊎ ((path.now ≡ run.formula) × HasNoOutcome seen content run run_faults.FormulaRead))
-IsFaultOf seen sink asked content faults.CannotWrite = asked ≢ the_usage
-IsFaultOf seen sink asked content (faults.CannotCreate path) = IsRunAnd asked
-    (λ run. run.proof ≡ Some path.now)
-IsFaultOf seen sink asked content (faults.ProofLost path fault) =
+IsFaultOf seen sink asked content before after faults.CannotWrite = asked ≢ the_usage
+IsFaultOf seen sink asked content before after (faults.CannotCreate path) = IsRunAnd asked
+    (λ run. IsUncreated before after run path.now)
+IsFaultOf seen sink asked content before after (faults.ProofLost path fault) =
     IsRunAnd asked (λ run. (run.proof ≡ Some path.now) × HasLostProof seen sink content run fault)
-IsFaultOf seen sink asked content (faults.NoMemory e) = Unit {0}
-IsFaultOf seen sink asked content faults.OutOfMemory = Unit {0}
-IsFaultOf seen sink asked content faults.Unconfirmed = IsRunAnd asked
+IsFaultOf seen sink asked content before after (faults.NoMemory e) = Unit {0}
+IsFaultOf seen sink asked content before after faults.OutOfMemory = Unit {0}
+IsFaultOf seen sink asked content before after faults.Unconfirmed = IsRunAnd asked
     (λ run. HasNoOutcome seen content run run_faults.Unconfirmed)
-IsFaultOf seen sink asked content (faults.Usage text) = asked ≡ the_usage
+IsFaultOf seen sink asked content before after (faults.Usage text) = asked ≡ the_usage
 
 -- how often the output has failed where this fault is told: an output that failed is told, and nothing else then
 abbrev pub failed_outputs : Fault → ℕ
@@ -235,10 +250,10 @@ failed_outputs fault = 0
 
 -- A right fault was told, and this is its status.
 pub record IsFaultTold {I W : Type 0} (seen : I → SourceState) (sink : W → SinkState)
-    (asked : Asked) (content : List ℕ → Option (List ℕ)) (failures : ℕ) (old new : List ℕ)
-    (status : ℕ) : Type 0 where
+    (asked : Asked) (content : List ℕ → Option (List ℕ)) (before after : Tried) (failures : ℕ)
+    (old new : List ℕ) (status : ℕ) : Type 0 where
   pub fault : Fault
-  pub right : IsFaultOf seen sink asked content fault
+  pub right : IsFaultOf seen sink asked content before after fault
   pub output : failures ≡ failed_outputs fault
   pub took : new ≡ old ++ fault_text fault
   pub status_is : status ≡ status_code (status_of_fault fault)

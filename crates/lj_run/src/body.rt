@@ -3,7 +3,7 @@ ghost use Rattle.std.specs.Prelude.{◌≡◌, ◌≢◌, ◌⊎◌, ◌<◌, �
 ghost use Rattle.lj_text.specs.Streams.{source_state};
 ghost use Rattle.lj_run.specs.CommandLine.{a_run, asked_by};
 ghost use Rattle.lj_run.specs.inner.CommandLine.{line_asked};
-ghost use Rattle.lj_run.specs.Program.{IfRun, IsFaultOf, IsFaultTold, IsOther, IsProofLost, IsRunAnswered, IsRunCut, MayEnd, SpellsUnsatisfiable, checked_status, failed_outputs, status_code};
+ghost use Rattle.lj_run.specs.Program.{CreatesAtMost, IfRun, IsFaultOf, IsFaultTold, IsOther, IsProofLost, IsRunAnswered, IsRunCut, MayEnd, SpellsUnsatisfiable, checked_status, failed_outputs, status_code};
 ghost use Rattle.lj_run.specs.inner.Program.{IsAnswerTo, IsAskedFor, IsLostAt, is_lost, is_told_late};
 ghost use Rattle.lj_run.specs.Proof.{sink_state};
 ghost use Rattle.lj_run.specs.declared.fault.Fault.TheVariants as faults;
@@ -58,11 +58,13 @@ pub fn program<R: Threads + Wait + Sync, S: AsStr, F: Files, O: Sink, E: Sink>(
     ensures fault { 2 ≤ result → E.failures err.new ≡ 0
         → IsFaultTold (source_state F.Input.given F.Input.ended F.Input.rest F.Input.failures)
         (sink_state F.Output.taken F.Output.failures) (asked_by (map S.text words.now))
-        (λ path. F.content files.old path) (O.failures out.new) (E.taken err.old) (E.taken err.new)
-        result }
+        (λ path. F.content files.old path) (F.tried files.old) (F.tried files.new)
+        (O.failures out.new) (E.taken err.old) (E.taken err.new) result }
 
     ensures same_files { (path : List ℕ) → IsOther (asked_by (map S.text words.now)) path
         → F.content files.new path ≡ F.content files.old path }
+    ensures created { CreatesAtMost (asked_by (map S.text words.now)) (F.tried files.old)
+        (F.tried files.new) }
 {
     match answer(rt, alloc, words, files, out) {
         Ok(status) => status.code(),
@@ -92,7 +94,7 @@ fn answer<'a, R: Threads + Wait + Sync, S: AsStr, F: Files, O: Sink>(
     ensures fault { IfErr result (IsFaultOf
         (source_state F.Input.given F.Input.ended F.Input.rest F.Input.failures)
         (sink_state F.Output.taken F.Output.failures) (asked_by (map S.text words.entry.now))
-        (λ path. F.content files.old path)) }
+        (λ path. F.content files.old path) (F.tried files.old) (F.tried files.new)) }
     ensures output { IfErr result (λ fault. O.failures out.new ≡ failed_outputs fault) }
     ensures untouched { IfErr result (λ fault. is_told_late fault ≡ false → out.new ≡ out.old) }
     ensures lost { IfErr result (λ fault. is_lost fault ≡ true → IsProofLost
@@ -105,6 +107,8 @@ fn answer<'a, R: Threads + Wait + Sync, S: AsStr, F: Files, O: Sink>(
         (λ path. F.content files.old path) run (O.taken out.old) (O.taken out.new))) }
     ensures same_files { (path : List ℕ) → IsOther (asked_by (map S.text words.entry.now)) path
         → F.content files.new path ≡ F.content files.old path }
+    ensures created { CreatesAtMost (asked_by (map S.text words.entry.now)) (F.tried files.old)
+        (F.tried files.new) }
 {
     match read_words(alloc, words)? {
         Request::Run(line) => run(rt, alloc, &line, files, out),
@@ -145,7 +149,7 @@ fn run<'a, R: Threads + Wait + Sync, F: Files, O: Sink>(
     ensures fault { IfErr result (IsFaultOf
         (source_state F.Input.given F.Input.ended F.Input.rest F.Input.failures)
         (sink_state F.Output.taken F.Output.failures) (a_run (line_asked line.now))
-        (λ path. F.content files.old path)) }
+        (λ path. F.content files.old path) (F.tried files.old) (F.tried files.new)) }
     ensures output { IfErr result (λ fault. O.failures out.new ≡ failed_outputs fault) }
     ensures untouched { IfErr result (λ fault. is_told_late fault ≡ false → out.new ≡ out.old) }
     ensures lost { IfErr result (λ fault. is_lost fault ≡ true → IsProofLost
@@ -158,6 +162,8 @@ fn run<'a, R: Threads + Wait + Sync, F: Files, O: Sink>(
         (O.taken out.old) (O.taken out.new)) }
     ensures same_files { (path : List ℕ) → IsOther (a_run (line_asked line.now)) path
         → F.content files.new path ≡ F.content files.old path }
+    ensures created { CreatesAtMost (a_run (line_asked line.now)) (F.tried files.old)
+        (F.tried files.new) }
 {
     let mut formula = open(files, line.formula)?;
     let streams = open_all(alloc, files, &line.proofs)?;

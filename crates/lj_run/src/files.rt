@@ -1,9 +1,11 @@
 //! Files by their paths: those of the machine, and those of a map in memory.
-ghost use Rattle.std.specs.Prelude.{◌≡◌, ◌≢◌, ℕ, Option, List, [], None, Err, false, IsTrue, IsSome, IfOk, OnSome, OnOk, OnErr};
+ghost use Rattle.std.specs.Prelude.{◌≡◌, ◌≢◌, ℕ, Option, List, [], None, Some, Err, false, IsTrue, IsSome, IfOk, OnSome, OnOk, OnErr};
 ghost use Rattle.std.specs.Io.KnownBytes.{Keeps};
 ghost use Rattle.lj_run.specs.Files.{AllStay, OthersStay};
+ghost use Rattle.lj_run.specs.Tried.{Tried, with_created, with_uncreated, with_unopened};
 ghost use Rattle.lj_run.specs.declared.files.FileFault.TheVariants as file_faults;
 
+use crate::paths_so_far::PathsSoFar;
 use lj_clause::NoMemory;
 use lj_text::{MemorySink, MemorySource, ReaderSource, Sink, SinkFault, Source, WriterSink};
 use std::alloc::{AllocError, AllocFailed, Global};
@@ -50,6 +52,9 @@ pub trait Files {
     /// The bytes at a path, where the files tell them.
     ghost content: { Self → List ℕ → Option (List ℕ) };
 
+    /// What was tried: the paths of refused openings and creations, and those of files that were created.
+    ghost tried: { Self → Tried };
+
     /// The bytes of the file at a path, from their front on. A file whose bytes are told can be opened. The files stay as they are.
     /// Takes the time of the system's call; in memory O(log n) time for n files, and time linear in the bytes.
     fn open(&mut self, path: &str) -> Result<Self::Input, FileFault>
@@ -58,19 +63,49 @@ pub trait Files {
         ensures bytes { IfOk result
             (λ input. Keeps (content self.old path.now) (Self.Input.rest input)) }
         ensures there { IsSome (content self.old path.now) → result ≢ Err file_faults.CannotOpen }
-        ensures same { AllStay (content self.old) (content self.new) };
+        ensures same { AllStay (content self.old) (content self.new) }
+        ensures refused { result ≡ Err file_faults.CannotOpen
+            → tried self.new ≡ with_unopened path.now (tried self.old) }
+        ensures untried { result ≢ Err file_faults.CannotOpen → tried self.new ≡ tried self.old };
 
     /// An empty file at a path, in place of one that stood there. The others stay as they are. Takes the time of the
     /// system's call; in memory O(log n) time for n files.
     fn create(&mut self, path: &str) -> Result<Self::Output, FileFault>
         ensures unfailed { IfOk result (λ output. Self.Output.failures output ≡ 0) }
         ensures fresh { IfOk result (λ output. Self.Output.taken output ≡ []) }
-        ensures others { OthersStay path.now (content self.old) (content self.new) };
+        ensures others { OthersStay path.now (content self.old) (content self.new) }
+        ensures created { OnOk result
+            (tried self.new ≡ with_created (Some path.now) (tried self.old)) }
+        ensures refused { result ≡ Err file_faults.CannotOpen
+            → tried self.new ≡ with_uncreated path.now (tried self.old) }
+        ensures untried { OnErr result (result ≢ Err file_faults.CannotOpen
+            → tried self.new ≡ tried self.old) };
 }
 
 /// The files of the machine that the runtime reaches. It tells no bytes.
 #[derive(Drop)]
-pub struct MachineFiles<'a, R>(pub &'a R);
+pub struct MachineFiles<'a, R> {
+    runtime: &'a R,
+    unopened: PathsSoFar,
+    uncreated: PathsSoFar,
+    created: PathsSoFar,
+}
+
+impl<'a, R> MachineFiles<'a, R> {
+    /// The files that a runtime reaches, of which nothing was tried yet.
+    pub fn new(runtime: &'a R) -> Self
+        ensures unopened { result.unopened.paths ≡ [] }
+        ensures uncreated { result.uncreated.paths ≡ [] }
+        ensures created { result.created.paths ≡ [] }
+    {
+        MachineFiles {
+            runtime,
+            unopened: PathsSoFar::new(),
+            uncreated: PathsSoFar::new(),
+            created: PathsSoFar::new(),
+        }
+    }
+}
 
 impl<'a, R: std::rt::Files> Files for MachineFiles<'a, R>
 where
@@ -82,17 +117,32 @@ where
 
     ghost content = { λ _ _. None };
 
+    ghost tried = { λ files. record {
+      unopened = files.unopened.paths;
+      uncreated = files.uncreated.paths;
+      created = files.created.paths;
+    } };
+
     fn open(&mut self, path: &str) -> Result<ReaderSource<R::File>, FileFault> {
-        match fs::open(self.0, path) {
+        match fs::open(self.runtime, path) {
             Ok(file) => Ok(ReaderSource::new(file)),
-            Err(_) => Err(FileFault::CannotOpen),
+            Err(_) => {
+                self.unopened = self.unopened.and(path.as_bytes());
+                Err(FileFault::CannotOpen)
+            }
         }
     }
 
     fn create(&mut self, path: &str) -> Result<WriterSink<R::File>, FileFault> {
-        match fs::create(self.0, path) {
-            Ok(file) => Ok(WriterSink::new(file)),
-            Err(_) => Err(FileFault::CannotOpen),
+        match fs::create(self.runtime, path) {
+            Ok(file) => {
+                self.created = self.created.and(path.as_bytes());
+                Ok(WriterSink::new(file))
+            }
+            Err(_) => {
+                self.uncreated = self.uncreated.and(path.as_bytes());
+                Err(FileFault::CannotOpen)
+            }
         }
     }
 }
@@ -120,8 +170,6 @@ impl Drop for MemoryFile {
 }
 
 impl Sink for MemoryFile {
-    ghost use Rattle.std.specs.Prelude.{Some};
-
     ghost taken = { λ file. file.0 };
 
     ghost contents = { λ file. Some file.0 };
@@ -139,10 +187,11 @@ pub struct MemoryFiles {
     alloc: Global,
     added: BTreeMap<String, Vec<u8>>,
     created: BTreeMap<String, Rc<RefCell<Vec<u8>>>>,
+    unopened: PathsSoFar,
+    made: PathsSoFar,
 }
 
 impl MemoryFiles {
-    ghost use Rattle.std.specs.Prelude.{Some};
     ghost use Rattle.lj_run.specs.Files.{bytes_at, is_file};
 
     /// No file at all. Takes constant time.
@@ -153,6 +202,8 @@ impl MemoryFiles {
             alloc,
             added: BTreeMap::new(alloc),
             created: BTreeMap::new(alloc),
+            unopened: PathsSoFar::new(),
+            made: PathsSoFar::new(),
         }
     }
 
@@ -177,6 +228,23 @@ impl MemoryFiles {
     {
         copy_of(self.alloc, self.created.get(path)?).ok()
     }
+
+    /// A copy of the bytes of the file at a path.
+    fn bytes_of(&self, path: &str) -> Result<Vec<u8>, FileFault>
+        ensures bytes { IfOk result
+            (λ bytes. Keeps (bytes_at self.now path.now) (Some bytes.items)) }
+        ensures there { IsSome (bytes_at self.now path.now) → result ≢ Err file_faults.CannotOpen }
+        ensures missing { is_file self.now path.now ≡ false → result ≡ Err file_faults.CannotOpen }
+    {
+        let bytes = match self.added.get(path) {
+            Some(bytes) => bytes.as_slice().to_vec(self.alloc)?,
+            None => match self.created.get(path) {
+                Some(slot) => copy_of(self.alloc, slot)?,
+                None => return Err(FileFault::CannotOpen),
+            },
+        };
+        Ok(bytes)
+    }
 }
 
 fn copy_of(alloc: Global, slot: &Rc<RefCell<Vec<u8>>>) -> Result<Vec<u8>, FileFault> {
@@ -191,10 +259,11 @@ impl Files for MemoryFiles {
 
     type Output = MemoryFile;
 
-    ghost use Rattle.lj_run.specs.Files.{bytes_at, is_file};
-    ghost use Rattle.std.specs.Prelude.{Some};
+    ghost use Rattle.lj_run.specs.Files.{bytes_at, is_file, tried_of};
 
     ghost content = { bytes_at };
+
+    ghost tried = { tried_of };
 
     fn open(&mut self, path: &str) -> Result<MemorySource, FileFault>
         ensures fresh { IfOk result (λ input. input.given ≡ []) }
@@ -203,16 +272,19 @@ impl Files for MemoryFiles {
         ensures there { IsSome (bytes_at self.old path.now) → result ≢ Err file_faults.CannotOpen }
         ensures missing { is_file self.old path.now ≡ false → result ≡ Err file_faults.CannotOpen }
         ensures same { AllStay (bytes_at self.old) (bytes_at self.new) }
-        ensures unchanged { self.new ≡ self.old }
+        ensures known { AllStay (is_file self.old) (is_file self.new) }
+        ensures refused { result ≡ Err file_faults.CannotOpen
+            → tried_of self.new ≡ with_unopened path.now (tried_of self.old) }
+        ensures unchanged { result ≢ Err file_faults.CannotOpen → self.new ≡ self.old }
     {
-        let bytes = match self.added.get(path) {
-            Some(bytes) => bytes.as_slice().to_vec(self.alloc)?,
-            None => match self.created.get(path) {
-                Some(slot) => copy_of(self.alloc, slot)?,
-                None => return Err(FileFault::CannotOpen),
-            },
-        };
-        Ok(MemorySource::new(bytes))
+        match self.bytes_of(path) {
+            Ok(bytes) => Ok(MemorySource::new(bytes)),
+            Err(FileFault::CannotOpen) => {
+                self.unopened = self.unopened.and(path.as_bytes());
+                Err(FileFault::CannotOpen)
+            }
+            Err(FileFault::NoMemory(e)) => Err(FileFault::NoMemory(e)),
+        }
     }
 
     fn create(&mut self, path: &str) -> Result<MemoryFile, FileFault>
@@ -222,12 +294,17 @@ impl Files for MemoryFiles {
         ensures others_known { OthersStay path.now (is_file self.old) (is_file self.new) }
         ensures untold { OnOk result (bytes_at self.new path.now ≡ None) }
         ensures known { OnOk result (IsTrue (is_file self.new path.now)) }
+        ensures created { OnOk result
+            (tried_of self.new ≡ with_created (Some path.now) (tried_of self.old)) }
+        ensures not_refused { result ≢ Err file_faults.CannotOpen }
+        ensures untried { OnErr result (tried_of self.new ≡ tried_of self.old) }
     {
         let slot = Rc::new(self.alloc, RefCell::new(Vec::new(self.alloc)))?;
         let shared = slot.clone()?;
         let key = String::from_str(self.alloc, path)?;
         self.created.insert(key, shared)?;
         let _ = self.added.remove(path);
+        self.made = self.made.and(path.as_bytes());
         let sink = MemorySink::new(self.alloc);
         Ok(MemoryFile { sink, slot })
     }

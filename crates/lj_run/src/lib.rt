@@ -12,6 +12,7 @@ mod in_turn;
 mod joint;
 mod opening;
 pub mod outcome;
+mod paths_so_far;
 mod printing;
 mod proving;
 mod reading;

@@ -1,5 +1,6 @@
 //! Formulas and the lines of streams, read from their sources in pieces.
 ghost use Rattle.std.specs.Prelude.{◌≡◌, ◌<◌, ℕ, List, [], length, true, false, OnOk, OnErr, IfOk, IfErr};
+ghost use Rattle.std.specs.Io.KnownBytes.{Keeps};
 ghost use Rattle.lj_text.specs.Cnf.{Spells};
 ghost use Rattle.lj_text.specs.LinesRead.{LineReaderStandsAt};
 ghost use Rattle.lj_text.specs.Streams.{source_state, HasEnded};
@@ -60,6 +61,8 @@ fn pull_formula<F: Source>(
 
     ensures unfailed { OnOk result (F.failures source.new ≡ 0) }
     ensures failed { OnErr result (F.failures source.new ≡ 1) }
+    ensures none_given { OnErr result (F.given source.new ≡ F.given source.old) }
+    ensures kept { OnErr result (Keeps (F.rest source.old) (F.rest source.new)) }
     ensures max { reader.new.max ≡ reader.old.max }
 {
     let count = source.pull(room)?;

@@ -33,6 +33,7 @@ pub fn start<R: Threads + Wait + Sync, F: Files, O: Sink, E: Sink>(
         (source_state F.Input.given F.Input.ended F.Input.rest F.Input.failures)
         (sink_state F.Output.taken F.Output.failures)
         (λ path. F.content files.old path) (λ path. F.content files.new path)
+        (F.tried files.old) (F.tried files.new)
         (asked_by (map string_bytes (drop 1 all.items)))
         (O.taken out.old) (O.taken out.new) (O.failures out.new)
         (E.taken err.old) (E.taken err.new) (E.failures err.new)

@@ -11,7 +11,7 @@ use std::sync::Wait;
 use std::test::Fail;
 use std::thread::Threads;
 
-/// Files in memory, of which `fails` fails once its bytes were pulled. None can be created.
+/// Files in memory, of which `fails` fails once its bytes were pulled.
 #[derive(Drop)]
 struct FailingFiles(MemoryFiles);
 
@@ -20,15 +20,22 @@ impl Files for FailingFiles {
 
     type Output = MemoryFile;
 
+    ghost use Rattle.lj_run.specs.Files.{tried_of};
+
     ghost content = { λ _ _. None };
+
+    ghost tried = { λ files. tried_of files.0 };
 
     fn open(&mut self, path: &str) -> Result<FailingSource<MemorySource>, FileFault> {
         let pulls = if path == "fails" { 1 } else { 2 };
-        Ok(FailingSource::new(self.0.open(path)?, pulls))
+        match self.0.open(path) {
+            Ok(input) => Ok(FailingSource::new(input, pulls)),
+            Err(fault) => Err(fault),
+        }
     }
 
-    fn create(&mut self, _: &str) -> Result<MemoryFile, FileFault> {
-        Err(FileFault::CannotOpen)
+    fn create(&mut self, path: &str) -> Result<MemoryFile, FileFault> {
+        self.0.create(path)
     }
 }
 

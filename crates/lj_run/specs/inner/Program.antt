@@ -3,6 +3,7 @@ use Rattle.std.specs.Prelude.{◌≡◌, Bool, true, false, Some, ℕ, List, Opt
 use Rattle.std.specs.Borrow.{Bor}
 use Rattle.lj_text.specs.Streams.{SourceState}
 use Rattle.lj_run.specs.Proof.{SinkState}
+use Rattle.lj_run.specs.Tried.{Tried, with_uncreated, with_unopened}
 use Rattle.lj_run.specs.declared.outcome.ProofEnd.{ProofEnd}
 use Rattle.lj_run.specs.declared.outcome.ProofEnd.TheVariants.{NotAsked, Written, Failed}
 use Rattle.lj_run.specs.CommandLine.{Asked, a_run, the_help, the_version, the_usage}
@@ -31,20 +32,25 @@ IsNoMemory (faults.NoMemory e) = Unit {0}
 IsNoMemory faults.OutOfMemory = Unit {0}
 IsNoMemory fault = ⊥
 
--- the file at this path, whose bytes are told so, can't be opened, or memory was refused; a file whose bytes are told can be opened
-abbrev pub IsOpenFault : List ℕ → Option (List ℕ) → Fault → Type 0
-IsOpenFault path content (faults.CannotRead p) = (p.now ≡ path) × (content ≡ None)
-IsOpenFault path content fault = IsNoMemory fault
+-- The file at this path, whose bytes are told so, can't be opened, or memory was refused; a file whose bytes are told can be opened. The
+-- opening was tried, and nothing beside it.
+abbrev pub IsOpenFault : List ℕ → Option (List ℕ) → Tried → Tried → Fault → Type 0
+IsOpenFault path content before after (faults.CannotRead p) = (p.now ≡ path) × (content ≡ None)
+    × (after ≡ with_unopened p.now before)
+IsOpenFault path content before after fault = IsNoMemory fault
 
--- the file at one of these paths can't be opened, or memory was refused
-abbrev pub IsAnOpenFault : (List ℕ → Option (List ℕ)) → List (List ℕ) → Fault → Type 0
-IsAnOpenFault content paths (faults.CannotRead p) = Contains paths p.now × (content p.now ≡ None)
-IsAnOpenFault content paths fault = IsNoMemory fault
+-- the same of the file at one of these paths
+abbrev pub IsAnOpenFault : (List ℕ → Option (List ℕ)) → List (List ℕ) → Tried → Tried → Fault
+    → Type 0
+IsAnOpenFault content paths before after (faults.CannotRead p) = Contains paths p.now
+    × (content p.now ≡ None) × (after ≡ with_unopened p.now before)
+IsAnOpenFault content paths before after fault = IsNoMemory fault
 
--- the file of the proof, which is asked for at this path, can't be created, or memory was refused
-abbrev pub IsCreateFault : Option (List ℕ) → Fault → Type 0
-IsCreateFault path (faults.CannotCreate p) = path ≡ Some p.now
-IsCreateFault path fault = IsNoMemory fault
+-- the file of the proof, which is asked for at this path, can't be created, which was tried, or memory was refused
+abbrev pub IsCreateFault : Option (List ℕ) → Tried → Tried → Fault → Type 0
+IsCreateFault path before after (faults.CannotCreate p) = (path ≡ Some p.now)
+    × (after ≡ with_uncreated p.now before)
+IsCreateFault path before after fault = IsNoMemory fault
 
 -- ---- how the program ends
 

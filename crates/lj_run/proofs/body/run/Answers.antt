@@ -5,7 +5,7 @@ use Rattle.lj_run.specs.inner.Program.{IsAskedFor, is_told_late}
 use Rattle.lj_run.specs.Program.{status_code}
 use Rattle.lj_run.specs.Proof.{sink_state}
 use Rattle.lj_run.specs.inner.CommandLine.{line_asked}
-use Rattle.lj_run.proofs.ProgramLemmas.{among_closing, among_streams, asked_proof, check_cut, check_fault, create_fault, created_unfailed, err_more, formula_unopened, lost_fault, lost_late, ok_more, few_streams, inputs_unfailed, open_fault, passed_on, streams_before, run_inputs}
+use Rattle.lj_run.proofs.ProgramLemmas.{among_closing, among_streams, asked_proof, check_cut, check_fault, create_fault, created_unfailed, err_more, formula_unopened, lost_fault, lost_late, ok_more, few_streams, inputs_unfailed, none_more, one_created, open_fault, passed_on, streams_before, run_inputs}
 use Rattle.lj_run.proofs.body.run.Goals as goal
 
 pub check_with_steps-requires-clause-run : goal.check_with_steps-requires-clause-run
@@ -64,7 +64,7 @@ returns-in-Ok-clause-lost g c =
 
 pub returns-in-Ok-clause-fault : goal.returns-in-Ok-clause-fault
 returns-in-Ok-clause-fault g c =
-    err_more _ _ c.ended.result (λ fault is. lost_fault _ _ (line_asked c.args.line.now) _ c.in-Ok.checked c.in-Ok.ensures.answer.text fault (record {
+    err_more _ _ c.ended.result (λ fault is. lost_fault _ _ (line_asked c.args.line.now) _ _ _ c.in-Ok.checked c.in-Ok.ensures.answer.text fault (record {
       inputs = run_inputs _ _ _ _ c.args.line.now _ c.in_ok-formula.formula c.check_with_steps.new.formula c.in_ok-streams.streams.items c.in_ok-closing.closing c.deref.ensures.value c.in_ok-formula.ensures.same
           c.in_ok-streams.ensures.same c.in_ok-formula.ensures.opened c.in_ok-streams.ensures.opened c.in_ok-closing.ensures.opened;
       created = c.in_ok-proof.proof;
@@ -93,26 +93,49 @@ pub returns-clause-fault : goal.returns-clause-fault
 returns-clause-fault g c =
     rw c.fault_of.ensures (check_fault _ _ (line_asked c.args.line.now) _ c.args.line.now.formula
     (run_inputs _ _ _ _ c.args.line.now _ c.in_ok-formula.formula c.check_with_steps.new.formula c.in_ok-streams.streams.items c.in_ok-closing.closing c.deref.ensures.value c.in_ok-formula.ensures.same
-    c.in_ok-streams.ensures.same c.in_ok-formula.ensures.opened c.in_ok-streams.ensures.opened c.in_ok-closing.ensures.opened) _ _ c.in-Err.fault refl c.in-Err.ensures.fault.why)
+    c.in_ok-streams.ensures.same c.in_ok-formula.ensures.opened c.in_ok-streams.ensures.opened c.in_ok-closing.ensures.opened) _ _ _ _ c.in-Err.fault refl c.in-Err.ensures.fault.why)
 
 pub returns-in_err-formula-clause-fault : goal.returns-in_err-formula-clause-fault
 returns-in_err-formula-clause-fault g c = passed_on _ c.from_residual.result _ c.from_residual.ensures.1
     (formula_unopened (source_state g.F.Input.Source.given g.F.Input.Source.ended g.F.Input.Source.rest g.F.Input.Source.failures)
-    (sink_state g.F.Output.Sink.taken g.F.Output.Sink.failures) (line_asked c.args.line.now) (λ path. g.F.Files.content c.args.files.now path) c.in_err-formula.field-0.0
+    (sink_state g.F.Output.Sink.taken g.F.Output.Sink.failures) (line_asked c.args.line.now) (λ path. g.F.Files.content c.args.files.now path) _ _ c.in_err-formula.field-0.0
     c.in_err-formula.ensures.fault)
 
 pub returns-in_err-proof-clause-fault : goal.returns-in_err-proof-clause-fault
 returns-in_err-proof-clause-fault g c = passed_on _ c.from_residual-in_err-proof.result _ c.from_residual-in_err-proof.ensures.1
     (create_fault (source_state g.F.Input.Source.given g.F.Input.Source.ended g.F.Input.Source.rest g.F.Input.Source.failures)
-    (sink_state g.F.Output.Sink.taken g.F.Output.Sink.failures) (line_asked c.args.line.now) (λ path. g.F.Files.content c.args.files.now path) c.in_err-proof.field-0.0
-    c.in_err-proof.ensures.fault)
+    (sink_state g.F.Output.Sink.taken g.F.Output.Sink.failures) (line_asked c.args.line.now) (λ path. g.F.Files.content c.args.files.now path) _ _ _ c.in_err-proof.field-0.0
+    (c.in_ok-closing.ensures.tried ∙ c.in_ok-streams.ensures.tried ∙ c.in_ok-formula.ensures.tried) c.in_err-proof.ensures.fault)
 
 pub returns-in_err-streams-clause-fault : goal.returns-in_err-streams-clause-fault
 returns-in_err-streams-clause-fault g c = passed_on _ c.from_residual-in_err-streams.result _ c.from_residual-in_err-streams.ensures.1
-    (open_fault _ _ (line_asked c.args.line.now) _ _ _ _
-    (λ path h. inr (among_streams _ c.args.line.now.proofs.items (line_asked c.args.line.now).closing path c.deref.ensures.value h)) c.in_ok-formula.ensures.same c.in_err-streams.ensures.fault)
+    (open_fault _ _ (line_asked c.args.line.now) _ _ _ _ _ _ _
+    (λ path h. inr (among_streams _ c.args.line.now.proofs.items (line_asked c.args.line.now).closing path c.deref.ensures.value h)) c.in_ok-formula.ensures.same c.in_ok-formula.ensures.tried
+    c.in_err-streams.ensures.fault)
 
 pub returns-in_err-closing-clause-fault : goal.returns-in_err-closing-clause-fault
 returns-in_err-closing-clause-fault g c = passed_on _ c.from_residual-in_err-closing.result _ c.from_residual-in_err-closing.ensures.1
-    (open_fault _ _ (line_asked c.args.line.now) _ _ _ _
-    (λ path h. inr (among_closing (line_asked c.args.line.now).proofs c.args.line.now.closing path h)) (λ other. c.in_ok-streams.ensures.same other ∙ c.in_ok-formula.ensures.same other) c.in_err-closing.ensures.fault)
+    (open_fault _ _ (line_asked c.args.line.now) _ _ _ _ _ _ _
+    (λ path h. inr (among_closing (line_asked c.args.line.now).proofs c.args.line.now.closing path h)) (λ other. c.in_ok-streams.ensures.same other ∙ c.in_ok-formula.ensures.same other)
+    (c.in_ok-streams.ensures.tried ∙ c.in_ok-formula.ensures.tried) c.in_err-closing.ensures.fault)
+
+pub returns-in_err-formula-clause-created : goal.returns-in_err-formula-clause-created
+returns-in_err-formula-clause-created g c = none_more _ _ _ _ refl c.in_err-formula.ensures.none_created
+
+pub returns-in_err-streams-clause-created : goal.returns-in_err-streams-clause-created
+returns-in_err-streams-clause-created g c = none_more _ _ _ _ c.in_ok-formula.ensures.tried c.in_err-streams.ensures.none_created
+
+pub returns-in_err-closing-clause-created : goal.returns-in_err-closing-clause-created
+returns-in_err-closing-clause-created g c = none_more _ _ _ _ (c.in_ok-streams.ensures.tried ∙ c.in_ok-formula.ensures.tried) c.in_err-closing.ensures.none_created
+
+pub returns-in_err-proof-clause-created : goal.returns-in_err-proof-clause-created
+returns-in_err-proof-clause-created g c =
+    none_more _ _ _ _ (c.in_ok-closing.ensures.tried ∙ c.in_ok-streams.ensures.tried ∙ c.in_ok-formula.ensures.tried) c.in_err-proof.ensures.none_created
+
+pub returns-in-Ok-clause-created : goal.returns-in-Ok-clause-created
+returns-in-Ok-clause-created g c =
+    one_created _ _ _ _ (c.in_ok-closing.ensures.tried ∙ c.in_ok-streams.ensures.tried ∙ c.in_ok-formula.ensures.tried) c.in_ok-proof.ensures.tried
+
+pub returns-clause-created : goal.returns-clause-created
+returns-clause-created g c =
+    one_created _ _ _ _ (c.in_ok-closing.ensures.tried ∙ c.in_ok-streams.ensures.tried ∙ c.in_ok-formula.ensures.tried) c.in_ok-proof.ensures.tried

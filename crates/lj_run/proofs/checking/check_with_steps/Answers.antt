@@ -1,6 +1,6 @@
-use Rattle.std.proofs.Common.{◌+◌, ◌∙◌, ap, refl}
+use Rattle.std.proofs.Common.{◌+◌, ◌∙◌, ap, refl, inr}
 use Rattle.lj_run.specs.Checking.{verdict_of}
-use Rattle.lj_run.proofs.CheckLemmas.{checked_of, text_printed}
+use Rattle.lj_run.proofs.CheckLemmas.{checked_of, text_printed, text_refused}
 use Rattle.lj_run.proofs.checking.check_with_steps.Goals as goal
 
 pub returns-in-Ok-clause-answer : goal.returns-in-Ok-clause-answer
@@ -25,4 +25,8 @@ returns-in-Err-clause-fault g c = record {
   failed = λ _. c.in-Err.ensures.err ∙ ap (λ n. n + 1) c.requires.out_unfailed;
   written = λ _. (c.in_ok-outcome.outcome, c.in_ok-outcome.ensures.outcome);
   early = λ e. absurd e;
+  proof = inr (c.in_ok-outcome.outcome, c.in_ok-outcome.ensures.outcome);
 }
+
+pub returns-in_err-text-clause-fault : goal.returns-in_err-text-clause-fault
+returns-in_err-text-clause-fault g c = text_refused _ _ _ _ _ _ _ _ _ _ _ _ _ c.from_residual-in_err-text.result c.in_ok-outcome.outcome c.from_residual-in_err-text.ensures.1 c.in_ok-outcome.ensures.outcome refl
