@@ -31,8 +31,6 @@ mod OccurrenceLaws
 mod LongClauses
 mod Chains
 mod FirstUseLaws
-mod FamilyLaws
-mod RowLaws
 pub mod InsideLaws
 pub mod LineLaws
 pub mod WordLaws

@@ -1,6 +1,6 @@
 -- What is written of an entry is read again, and stays when more is written behind it.
 use Rattle.std.proofs.Common.{◌≡◌, ap, refl, sym, ◌∙◌, ◌+◌, ◌*◌, ◌%◌, ◌/◌, ◌<◌, ◌≤◌, arith, append_assoc, length-append, subst}
-use Rattle.std.specs.Prelude.{ℕ, zero, suc, ℤ, Bool, true, false, List, [], ◌∷◌, ◌++◌, length, take, drop, get_or, Option, Some, None, map, filter_map, flat_map, nat_lt, ◌==◌, ◌||◌, ◌&&◌, if◌then◌else◌}
+use Rattle.std.specs.Prelude.{ℕ, zero, suc, ℤ, Bool, true, false, List, [], ◌∷◌, ◌++◌, length, take, drop, get_or, Option, Some, None, filter_map, flat_map, nat_lt, ◌==◌, ◌||◌, ◌&&◌, if◌then◌else◌}
 use Rattle.std.specs.List.{cons_option, list_any}
 use Rattle.std.proofs.lemmas.Bool.{false≢true, and_parts, eqb-true}
 use Rattle.std.proofs.lemmas.Bool.Decides.{nat_tests}
@@ -22,7 +22,6 @@ use Rattle.lj_text.specs.Needed.{if_some}
 use Rattle.lj_book.specs.declared.entry.Call.TheVariants as calls
 use Rattle.lj_book.specs.declared.entry.Entry.{Entry}
 use Rattle.lj_book.specs.declared.history.sizes.Sizes.{Sizes}
-use Rattle.lj_book.specs.inner.Rows.{RowsByNumber, unpacked, unpacked_addition, unpacked_step, unpacked_entry}
 use Rattle.lj_book.specs.inner.Words.{number_words, list_words, hint_group_words, number_in, list_in, many_in, hint_group_in}
 use Rattle.lj_book.specs.inner.Records.{own_code, own_words, own_in, once_code, drop_once_words, lemma_lits, pivot_before, some_lits, addition_sizes, are_few, size_code, size_words, sizes_in, wide_sizes_in, coded_sizes, wide_code, seat_in, kind_in, code_in, head_words, add_words, drop_words, adopt_words, import_words, leave_words, lits_at, lits_in, addition_in, sized_addition, sized_call, sized_lits, call_in, step_in, entry_in, named_in, read_in, entry_of, call_lits, IsWritten, AreWritten, entries_in}
 use Rattle.lj_book.proofs.Lists.{not_empty}
@@ -207,11 +206,6 @@ own_then s own joint ws more = by (own == joint) refl
         ∙ ap (λ b. read_by b ((number_words own ++ on) ++ more)) (is_below (size_code s) (few_sizes s))
         ∙ number_then own on more
 
-named_then : (lits : List ℤ) (at n : ℕ) (ws more : List ℕ) → lits_in lits ((number_words at ++ (number_words n ++ ws)) ++ more) ≡ some_lits lits at n
-named_then lits at n ws more =
-    ap (λ (p : ℕ × List ℕ). some_lits lits p.0 (number_in p.1).0) (number_then at (number_words n ++ ws) more)
-    ∙ ap (λ (p : ℕ × List ℕ). some_lits lits at p.0) (number_then n ws more)
-
 -- ---- what each kind of entry is read as
 
 added_back : (lits : List ℤ) (a : Addition) (at : ℕ) (more : List ℕ) → IsLemma a.lemma → some_lits lits at (length (lemma_lits a.lemma)) ≡ lemma_lits a.lemma → addition_in lits (addition_sizes a) ((number_words a.number ++ (number_words at ++ (flat_map number_words a.hints ++ flat_map hint_group_words a.groups))) ++ more) ≡ a
@@ -370,8 +364,8 @@ more_words_entries lits words ws starts e back are =
 
 -- ---- what is compared
 
-pub same_addition : (fs : RowsByNumber) (lits : List ℤ) (s : Sizes) (ws : List ℕ) (a : Addition) → IsLemma a.lemma → (number_in ws).0 ≡ a.number → lits_at lits s.lits (number_in ws).1 ≡ lemma_lits a.lemma → (many_in number_in s.hints (number_in (number_in ws).1).1).0 ≡ a.hints → unpacked fs (many_in hint_group_in s.groups (many_in number_in s.hints (number_in (number_in ws).1).1).1).0 ≡ a.groups → unpacked_addition fs (addition_in lits s ws) ≡ a
-same_addition fs lits s ws a is number literals hints groups =
+pub same_addition : (lits : List ℤ) (s : Sizes) (ws : List ℕ) (a : Addition) → IsLemma a.lemma → (number_in ws).0 ≡ a.number → lits_at lits s.lits (number_in ws).1 ≡ lemma_lits a.lemma → (many_in number_in s.hints (number_in (number_in ws).1).1).0 ≡ a.hints → (many_in hint_group_in s.groups (many_in number_in s.hints (number_in (number_in ws).1).1).1).0 ≡ a.groups → addition_in lits s ws ≡ a
+same_addition lits s ws a is number literals hints groups =
     λ i. record { number = number i; lemma = (ap lemma_of literals ∙ lemma_back a.lemma is) i; hints = hints i; groups = groups i }
 
 pub same_import : (n own : ℕ) (ls : List ℤ) (clause : LiteralSet) → n ≡ own → ls ≡ literals clause → calls.Import n (from_literals ls) ≡ calls.Import own clause
@@ -379,23 +373,13 @@ same_import n own ls clause number literals = λ i. calls.Import (number i) ((ap
 
 -- ---- the steps of what is written
 
-pub step_at : RowsByNumber → List ℤ → List ℕ → ℕ → Option Step
-step_at fs lits words start = unpacked_step fs (entry_in lits (drop start words)).step
+pub step_at : List ℤ → List ℕ → ℕ → Option Step
+step_at lits words start = (entry_in lits (drop start words)).step
 
-pub steps_at : (fs : RowsByNumber) (lits : List ℤ) (words starts : List ℕ) → filter_map (λ e. unpacked_step fs e.step) (entries_in lits words starts) ≡ filter_map (step_at fs lits words) starts
+pub steps_at : (lits : List ℤ) (words starts : List ℕ) → filter_map (λ e. e.step) (entries_in lits words starts) ≡ filter_map (step_at lits words) starts
 unfolding step_at
-steps_at fs lits words [] = refl
-steps_at fs lits words (s ∷ ss) = ap (λ (xs : List Step). cons_option (unpacked_step fs (entry_in lits (drop s words)).step) xs) (steps_at fs lits words ss)
-
--- those of entries as they are meant
-pub steps_meant : (fs : RowsByNumber) (es : List Entry) → filter_map (λ e. e.step) (map (unpacked_entry fs) es) ≡ filter_map (λ e. unpacked_step fs e.step) es
-steps_meant fs [] = refl
-steps_meant fs (e ∷ es) = ap (λ (xs : List Step). cons_option (unpacked_step fs e.step) xs) (steps_meant fs es)
-
-pub no_step : (fs : RowsByNumber) (o : Option Step) → unpacked_step fs o ≡ None → o ≡ None
-no_step fs None e = refl
-no_step fs (Some (steps.Add a)) e = absurd (let no : ⊥ = cc in no)
-no_step fs (Some (steps.Delete ns)) e = absurd (let no : ⊥ = cc in no)
+steps_at lits words [] = refl
+steps_at lits words (s ∷ ss) = ap (λ (xs : List Step). cons_option (entry_in lits (drop s words)).step xs) (steps_at lits words ss)
 
 pub no_step_left : {X Y : Type 0} (f : X → Option Y) (xs : List X) (k : ℕ) (d : X) → k < length xs → filter_map f xs ≡ [] → f (get_or xs k d) ≡ None
 no_step_left f [] k d lt e = absurd (let no : ⊥ = omega (arith, lt) in no)
@@ -410,9 +394,9 @@ no_step_left f (x ∷ xs) (suc k) d lt e = no_step_left f xs k d (omega (arith, 
     others None ys e = e
     others (Some y) ys e = absurd (not_empty y ys e)
 
-pub step_at-is : (fs : RowsByNumber) (lits : List ℤ) (words : List ℕ) (start : ℕ) → step_at fs lits words start ≡ unpacked_step fs (entry_in lits (drop start words)).step
+pub step_at-is : (lits : List ℤ) (words : List ℕ) (start : ℕ) → step_at lits words start ≡ (entry_in lits (drop start words)).step
 unfolding step_at
-step_at-is fs lits words start = refl
+step_at-is lits words start = refl
 
 take_all : {X : Type 0} (xs : List X) (k : ℕ) → length xs ≤ k → take k xs ≡ xs
 take_all [] zero le = refl
@@ -420,8 +404,8 @@ take_all [] (suc k) le = refl
 take_all (x ∷ xs) zero le = absurd (let no : ⊥ = omega (arith, le) in no)
 take_all (x ∷ xs) (suc k) le = ap (λ ys. x ∷ ys) (take_all xs k (omega (arith, le)))
 
-pub all_steps : (fs : RowsByNumber) (lits : List ℤ) (words starts : List ℕ) (k : ℕ) (steps : List Step) → steps ≡ filter_map (step_at fs lits words) (take k starts) → length starts ≤ k → steps ≡ filter_map (λ e. e.step) (map (unpacked_entry fs) (entries_in lits words starts))
-all_steps fs lits words starts k steps are le = are ∙ ap (λ (xs : List ℕ). filter_map (step_at fs lits words) xs) (take_all starts k le) ∙ sym (steps_at fs lits words starts) ∙ sym (steps_meant fs (entries_in lits words starts))
+pub all_steps : (lits : List ℤ) (words starts : List ℕ) (k : ℕ) (steps : List Step) → steps ≡ filter_map (step_at lits words) (take k starts) → length starts ≤ k → steps ≡ filter_map (λ e. e.step) (entries_in lits words starts)
+all_steps lits words starts k steps are le = are ∙ ap (λ (xs : List ℕ). filter_map (step_at lits words) xs) (take_all starts k le) ∙ sym (steps_at lits words starts)
 
-pub some_step : (fs : RowsByNumber) (lits : List ℤ) (words starts : List ℕ) (k : ℕ) → k < length starts → (step_at fs lits words (get_or starts k 0) ≡ None → ⊥) → filter_map (λ e. e.step) (map (unpacked_entry fs) (entries_in lits words starts)) ≡ [] → ⊥
-some_step fs lits words starts k lt there none = there (no_step_left (step_at fs lits words) starts k 0 lt (sym (steps_at fs lits words starts) ∙ sym (steps_meant fs (entries_in lits words starts)) ∙ none))
+pub some_step : (lits : List ℤ) (words starts : List ℕ) (k : ℕ) → k < length starts → (step_at lits words (get_or starts k 0) ≡ None → ⊥) → filter_map (λ e. e.step) (entries_in lits words starts) ≡ [] → ⊥
+some_step lits words starts k lt there none = there (no_step_left (step_at lits words) starts k 0 lt (sym (steps_at lits words starts) ∙ none))

@@ -23,8 +23,6 @@ use Rattle.lj_text.specs.WordWriting.{WordState, MayBeGiven, WasGiven}
 use Rattle.lj_text.proofs.WritingLemmas.{beginning-self, beginning-trans}
 use Rattle.lj_book.specs.inner.Words.{number_in}
 use Rattle.lj_book.specs.inner.Records.{lemma_lits, kind_in, code_in, step_in}
-use Rattle.lj_text.specs.declared.step.Step.TheVariants as steps
-use Rattle.lj_book.specs.inner.Rows.{RowsByNumber, unpacked_step}
 use Rattle.lj_book.proofs.RecordLaws.{step_at, step_at-is}
 use Rattle.lj_book.specs.inner.StepLines.{kept_as_written, entry_text, entry_greatest, ends_proof, Remains}
 
@@ -152,26 +150,15 @@ deleted n [] h = absurd (h refl)
 deleted n (m ∷ ns) h = refl
 
 -- what is left of the text, by the next entry
-pub entry_next : (fs : RowsByNumber) (lits : List ℤ) (words starts : List ℕ) (i n : ℕ) → i < length starts
-    → text_after n (up_to_empty (filter_map (step_at fs lits words) (drop i starts)))
-    ≡ text_after n (up_to_empty (cons_option (step_at fs lits words (get_or starts i 0)) (filter_map (step_at fs lits words) (drop (i + 1) starts))))
-entry_next fs lits words starts i n lt = ap (λ xs. text_after n (up_to_empty (filter_map (step_at fs lits words) xs)))
+pub entry_next : (lits : List ℤ) (words starts : List ℕ) (i n : ℕ) → i < length starts
+    → text_after n (up_to_empty (filter_map (step_at lits words) (drop i starts)))
+    ≡ text_after n (up_to_empty (cons_option (step_at lits words (get_or starts i 0)) (filter_map (step_at lits words) (drop (i + 1) starts))))
+entry_next lits words starts i n lt = ap (λ xs. text_after n (up_to_empty (filter_map (step_at lits words) xs)))
     (drop-cons starts i 0 lt ∙ (λ j. get_or starts i 0 ∷ drop (sym (add-one i) j) starts))
 
 -- the step of an entry, by what stands behind its first number
-pub step_there : (fs : RowsByNumber) (lits : List ℤ) (words ws : List ℕ) (start head : ℕ) (rest : List ℕ) → ws ≡ drop start words → head ≡ (number_in ws).0 → rest ≡ (number_in ws).1 → unpacked_step fs (step_in lits (kind_in head) (code_in head) rest) ≡ step_at fs lits words start
-step_there fs lits words ws start head rest e f g =
-    (λ i. unpacked_step fs (step_in lits (kind_in (f i)) (code_in (f i)) (g i)))
-    ∙ ap (λ us. unpacked_step fs (step_in lits (kind_in (number_in us).0) (code_in (number_in us).0) (number_in us).1)) e
-    ∙ sym (step_at-is fs lits words start)
-
--- whether a step is the last, and its number, don't ask which groups it has
-pub ends_alike : (fs : RowsByNumber) (o : Option Step) → ends_proof (unpacked_step fs o) ≡ ends_proof o
-ends_alike fs None = refl
-ends_alike fs (Some (steps.Add a)) = refl
-ends_alike fs (Some (steps.Delete ns)) = refl
-
-pub greatest_alike : (fs : RowsByNumber) (n : ℕ) (o : Option Step) → entry_greatest n (unpacked_step fs o) ≡ entry_greatest n o
-greatest_alike fs n None = refl
-greatest_alike fs n (Some (steps.Add a)) = refl
-greatest_alike fs n (Some (steps.Delete ns)) = refl
+pub step_there : (lits : List ℤ) (words ws : List ℕ) (start head : ℕ) (rest : List ℕ) → ws ≡ drop start words → head ≡ (number_in ws).0 → rest ≡ (number_in ws).1 → step_in lits (kind_in head) (code_in head) rest ≡ step_at lits words start
+step_there lits words ws start head rest e f g =
+    (λ i. step_in lits (kind_in (f i)) (code_in (f i)) (g i))
+    ∙ ap (λ us. step_in lits (kind_in (number_in us).0) (code_in (number_in us).0) (number_in us).1) e
+    ∙ sym (step_at-is lits words start)

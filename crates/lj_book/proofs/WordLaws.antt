@@ -1,11 +1,11 @@
 -- What is written as words is read again.
-use Rattle.std.proofs.Common.{◌≡◌, ap, refl, sym, ◌∙◌, ◌+◌, ◌*◌, ◌%◌, ◌/◌, ◌<◌, arith, append_assoc, subst}
+use Rattle.std.proofs.Common.{◌≡◌, ap, refl, sym, ◌∙◌, ◌+◌, ◌*◌, ◌%◌, ◌/◌, ◌<◌, arith, append_assoc}
 use Rattle.std.specs.Prelude.{ℕ, zero, suc, true, false, List, [], ◌∷◌, ◌++◌, length, flat_map, drop, nat_lt, get_or, ◌==◌, if◌then◌else◌}
 use Rattle.std.specs.List.{list_any}
-use Rattle.std.proofs.lemmas.Bool.{and_parts, or_parts}
+use Rattle.std.proofs.lemmas.Bool.{or_parts}
 use Rattle.std.proofs.lemmas.Bool.Decides.{nat_tests}
 use Rattle.lj_clause.specs.Rat.{HintGroup}
-use Rattle.lj_book.specs.inner.Words.{long_mark, number_words, number_in, list_words, list_in, many_in, is_name, hint_group_words, grouped, group_behind, hint_group_in, with_first, read_behind, long_in, Matches, Agree}
+use Rattle.lj_book.specs.inner.Words.{long_mark, number_words, number_in, list_words, list_in, many_in, hint_group_words, grouped, hint_group_in, with_first, read_behind, long_in, Matches}
 
 whole_of_halves : (n : ℕ) → n % 4294967296 + 4294967296 * (n / 4294967296) ≡ n
 whole_of_halves n = omega arith
@@ -33,33 +33,14 @@ counted_back one words back xs ws =
 pub list_back : (ns : List ℕ) (ws : List ℕ) → list_in (list_words ns ++ ws) ≡ (ns, ws)
 list_back = counted_back number_in number_words number_back
 
-pub numbers_back : (ns : List ℕ) (ws : List ℕ) → many_in number_in (length ns) (flat_map number_words ns ++ ws) ≡ (ns, ws)
-numbers_back = many_back number_in number_words number_back
-
-is_equal : (m n : ℕ) → (m == n) ≡ true → n ≡ m
-is_equal m n e = grind (arith, nat_tests)
-
-name_parts : (g : HintGroup) → is_name g ≡ true → (0 ≡ g.candidate) × (1 ≡ length g.hints)
-name_parts g e =
-    let both = and_parts (g.candidate == 0) (length g.hints == 1) e in
-    (is_equal g.candidate 0 both.0, is_equal (length g.hints) 1 both.1)
-
 pub group_back : (g : HintGroup) (ws : List ℕ) → hint_group_in (hint_group_words g ++ ws) ≡ (g, ws)
 group_back g ws =
-    let hints_on : List ℕ = flat_map number_words g.hints in
-    let long : List ℕ = number_words (suc (length g.hints)) ++ (number_words g.candidate ++ hints_on) in
-    elim (is_name g) as (λ b. is_name g ≡ b → hint_group_in ((if b then 0 ∷ hints_on else long) ++ ws) ≡ (g, ws)) [
-      | true ↦ λ e.
-          ap (λ n. grouped 0 (many_in number_in n (hints_on ++ ws))) (name_parts g e).1
-          ∙ ap (grouped 0) (numbers_back g.hints ws)
-          ∙ ap (λ n. grouped n (g.hints, ws)) (name_parts g e).0
-      | false ↦ λ e.
-          ap hint_group_in (append_assoc (number_words (suc (length g.hints))) (number_words g.candidate ++ hints_on) ws)
-          ∙ ap (λ (p : ℕ × List ℕ). group_behind p.0 p.1) (number_back (suc (length g.hints)) ((number_words g.candidate ++ hints_on) ++ ws))
-          ∙ ap (λ us. grouped (number_in us).0 (many_in number_in (length g.hints) (number_in us).1)) (append_assoc (number_words g.candidate) hints_on ws)
-          ∙ ap (λ (p : ℕ × List ℕ). grouped p.0 (many_in number_in (length g.hints) p.1)) (number_back g.candidate (hints_on ++ ws))
-          ∙ ap (grouped g.candidate) (numbers_back g.hints ws)
-    ] refl
+    ap hint_group_in (append_assoc (number_words g.candidate) (list_words g.hints) ws)
+    ∙ ap (λ (p : ℕ × List ℕ). grouped p.0 (list_in p.1)) (number_back g.candidate (list_words g.hints ++ ws))
+    ∙ ap (grouped g.candidate) (list_back g.hints ws)
+
+pub numbers_back : (ns : List ℕ) (ws : List ℕ) → many_in number_in (length ns) (flat_map number_words ns ++ ws) ≡ (ns, ws)
+numbers_back = many_back number_in number_words number_back
 
 pub groups_back : (gs : List HintGroup) (ws : List ℕ) → many_in hint_group_in (length gs) (flat_map hint_group_words gs ++ ws) ≡ (gs, ws)
 groups_back = many_back hint_group_in hint_group_words group_back
@@ -95,41 +76,6 @@ next_matches one whole wanted rest a left e m = record {
 
 pub next_differs : {A : Type 0} (one : List ℕ → A × List ℕ) (whole : List A × List ℕ) (wanted : List A) (rest : List ℕ) (a : A) (left : List A) → ((one rest).0 ≡ a → ⊥) → Matches one whole wanted rest (a ∷ left) → whole.0 ≡ wanted → ⊥
 next_differs one whole wanted rest a left differ m is = differ (first_is (one rest).0 a (many_in one (length left) (one rest).1).0 left (m.other is))
-
--- ---- what is compared of two words
-
-pub all_agree : {A : Type 0} (one : List ℕ → A × List ℕ) (n : ℕ) (ws us : List ℕ) → Agree one (many_in one n ws) (many_in one n us) ws us n
-all_agree one n ws us = record { same = λ is. is; back = λ is. is; rest_is = refl; other_is = refl }
-
-pub next_agrees : {A : Type 0} (one : List ℕ → A × List ℕ) (whole other : List A × List ℕ) (ws us : List ℕ) (n : ℕ) → (one ws).0 ≡ (one us).0 → Agree one whole other ws us (suc n) → Agree one whole other (one ws).1 (one us).1 n
-next_agrees one whole other ws us n e m = record {
-  same = λ is. m.same (λ i. e i ∷ is i);
-  back = λ is. others_are (one ws).0 (one us).0 (many_in one n (one ws).1).0 (many_in one n (one us).1).0 (m.back is);
-  rest_is = m.rest_is;
-  other_is = m.other_is;
-}
-
-pub next_disagrees : {A : Type 0} (one : List ℕ → A × List ℕ) (whole other : List A × List ℕ) (ws us : List ℕ) (n : ℕ) → ((one ws).0 ≡ (one us).0 → ⊥) → Agree one whole other ws us (suc n) → whole.0 ≡ other.0 → ⊥
-next_disagrees one whole other ws us n differ m is = differ (first_is (one ws).0 (one us).0 (many_in one n (one ws).1).0 (many_in one n (one us).1).0 (m.back is))
-
--- the same where the loop has read both numbers
-pub step_agrees : {A : Type 0} (one : List ℕ → A × List ℕ) (whole other : List A × List ℕ) (ws us after other_after : List ℕ) (left n : ℕ) → left ≡ suc n → (one ws).0 ≡ (one us).0 → after ≡ (one ws).1 → other_after ≡ (one us).1 → Agree one whole other ws us left → Agree one whole other after other_after n
-step_agrees one whole other ws us after other_after left n e same a b m =
-    subst (λ xs. Agree one whole other xs other_after n) (sym a)
-    (subst (λ ys. Agree one whole other (one ws).1 ys n) (sym b)
-    (next_agrees one whole other ws us n same (subst (λ k. Agree one whole other ws us k) e m)))
-
-pub step_disagrees : {A : Type 0} (one : List ℕ → A × List ℕ) (whole other : List A × List ℕ) (ws us : List ℕ) (left n : ℕ) → left ≡ suc n → ((one ws).0 ≡ (one us).0 → ⊥) → Agree one whole other ws us left → whole.0 ≡ other.0 → ⊥
-step_disagrees one whole other ws us left n e differ m = next_disagrees one whole other ws us n differ (subst (λ k. Agree one whole other ws us k) e m)
-
--- the same where the loop has read all
-pub all_agreed : {A : Type 0} (one : List ℕ → A × List ℕ) (whole other : List A × List ℕ) (ws us : List ℕ) (left : ℕ) → left ≡ 0 → Agree one whole other ws us left → (whole.0 ≡ other.0) × ((ws ≡ whole.1) × (us ≡ other.1))
-all_agreed one whole other ws us left e m =
-    let last : Agree one whole other ws us 0 = subst (λ k. Agree one whole other ws us k) e m in
-    (last.same refl, (last.rest_is, last.other_is))
-
-pub same_count : {A : Type 0} (one : List ℕ → A × List ℕ) (n m : ℕ) (ws us : List ℕ) → (many_in one n ws).0 ≡ (many_in one m us).0 → n ≡ m
-same_count one n m ws us e = sym (length-many one n ws) ∙ ap length e ∙ length-many one m us
 
 -- ---- what is read as far as a loop has come
 

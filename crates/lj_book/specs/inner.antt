@@ -1,9 +1,6 @@
 -- What invariants, private functions and proofs say. No public contract names any of it.
 pub mod Words
-pub mod Families
-pub mod Rows
 pub mod Records
-pub mod Packing
 pub mod StepLines
 pub mod Codes
 pub mod Tables

@@ -11,10 +11,7 @@ ghost use Rattle.lj_book.specs.inner.Records.{lemma_lits, addition_numbers, bind
 
 mod lines;
 mod matching;
-mod packing;
 mod reading;
-mod recorded_groups;
-mod rows;
 mod sizes;
 mod starts;
 mod writing;
@@ -24,13 +21,11 @@ use crate::lent_addition::LentAddition;
 use lines::write_entries;
 use lj_clause::{Clause, Lit, NoMemory};
 use lj_text::{Numbers, Sink, SinkFault, Step, WordWriter};
-use packing::put_recorded;
 use reading::{words_at, words_from};
-use rows::Rows;
 use starts::Starts;
 use std::alloc::Global;
 use std::marker::Model;
-use writing::{put_adopt, put_drop, put_drop_once, put_import, put_leave};
+use writing::{put_addition, put_adopt, put_drop, put_drop_once, put_import, put_leave};
 
 /// How many kinds of entries the first number of one tells apart.
 const KINDS: u64 = 8;
@@ -61,32 +56,26 @@ pub(crate) struct History {
     lits: Vec<Lit>,
     /// Where the words of each entry begin.
     starts: Starts,
-    /// The rows of candidates that additions share.
-    rows: Rows,
 }
 
 impl Model for History {
-    ghost use Rattle.std.specs.Prelude.{◌-◌, map, vec_len, vec_capacity};
+    ghost use Rattle.std.specs.Prelude.{◌-◌, vec_len, vec_capacity};
     ghost use Rattle.lj_book.specs.inner.Codes.{entries_code};
     ghost use Rattle.lj_book.specs.inner.Records.{Entries, AreWritten, entries_in};
-    ghost use Rattle.lj_book.specs.inner.Rows.{unpacked_entry, AreStable};
 
     ghost Value = { Entries };
 
     ghost coded = { entries_code };
 
     ghost view = { λ h. record {
-      entries = map (unpacked_entry h.rows)
-          (entries_in h.lits.items h.words.items h.starts.items);
+      entries = entries_in h.lits.items h.words.items h.starts.items;
       lits = h.lits.items;
       word_room = vec_capacity h.words - vec_len h.words;
       lit_room = vec_capacity h.lits - vec_len h.lits;
       entry_room = h.starts.room;
     } };
 
-    ghost invariant = { λ h. (AreWritten h.lits.items h.words.items h.starts.items)
-        × AreStable h.rows
-        (entries_in h.lits.items h.words.items h.starts.items) };
+    ghost invariant = { λ h. AreWritten h.lits.items h.words.items h.starts.items };
 }
 
 impl History {
@@ -99,7 +88,6 @@ impl History {
             words: Vec::new(alloc),
             lits,
             starts: Starts::new(alloc),
-            rows: Rows::new(alloc),
         }
     }
 
@@ -216,14 +204,8 @@ impl History {
     {
         let _ = step.lemma.pivot();
         let start = self.words.len() as u64;
-        let History {
-            words,
-            lits,
-            starts,
-            rows,
-        } = self;
-        put_recorded(words, lits, rows, seat, own, step);
-        starts.push(start);
+        put_addition(&mut self.words, &mut self.lits, seat, own, step);
+        self.starts.push(start);
     }
 
     /// Takes a seat's drop of these numbers behind the others, by which these joint numbers died. Takes time linear in
@@ -341,12 +323,7 @@ impl History {
         ensures { IfOk result (λ entry. entry ≡ slice_get self.now.entries place) }
     {
         match words_at(&self.starts, &self.words, place) {
-            Some(words) => Ok(Some(reading::entry(
-                self.allocator(),
-                &self.lits,
-                &self.rows,
-                words,
-            )?)),
+            Some(words) => Ok(Some(reading::entry(self.allocator(), &self.lits, words)?)),
             None => Ok(None),
         }
     }
@@ -364,7 +341,7 @@ impl History {
         let mut steps = Vec::new(alloc);
         for index in 0..self.starts.len() {
             let words = words_from(&self.words, self.starts.at(index));
-            if let Some(step) = reading::entry_step(alloc, &self.lits, &self.rows, words)? {
+            if let Some(step) = reading::entry_step(alloc, &self.lits, words)? {
                 steps.push(step)?;
             }
         }
@@ -398,7 +375,6 @@ impl History {
             sink,
             clauses,
             &self.lits,
-            &self.rows,
             &self.words,
             &self.starts,
         );
@@ -420,7 +396,7 @@ impl History {
         ensures { IsTrue result ↔ (slice_get self.now.entries place ≡ Some entry.now) }
     {
         match words_at(&self.starts, &self.words, place) {
-            Some(words) => matching::is_entry(&self.lits, &self.rows, words, entry),
+            Some(words) => matching::is_entry(&self.lits, words, entry),
             None => false,
         }
     }
@@ -431,12 +407,11 @@ impl History {
 fn numbers_of(step: &LentAddition<'_>) -> usize
     ensures { result < 2 ^ 63 → addition_numbers step.now ≤ result }
 {
-    let grouped = if step.groups.is_empty() {
-        0
-    } else {
-        packing::numbers_of(step.groups)
-    };
-    grouped.saturating_add(step.hints.len()).saturating_add(9)
+    let mut count = step.hints.len().saturating_add(7);
+    for group in step.groups.iter() {
+        count = count.saturating_add(group.hints.len()).saturating_add(2);
+    }
+    count
 }
 
 /// Whether the list has these numbers, as far as a look at numbers of four bytes tells.

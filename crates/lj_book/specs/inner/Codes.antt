@@ -18,7 +18,6 @@ use Rattle.lj_book.specs.Tables.{Tables}
 use Rattle.lj_clause.specs.ClauseMap.{ClauseMap, FormulaValue}
 use Rattle.lj_book.specs.State.{State}
 use Rattle.lj_book.specs.inner.Records.{Entries, Beginnings}
-use Rattle.lj_book.specs.inner.Rows.{RowsByNumber}
 use Rattle.lj_book.specs.declared.place.Place.{Place}
 use Rattle.lj_book.specs.inner.Places.{Recorded}
 
@@ -99,9 +98,6 @@ entries_code = code_by (List Entry × (List ℤ × (ℕ × (ℕ × ℕ))))
     (λ h. (h.entries, (h.lits, (h.word_room, (h.lit_room, h.entry_room)))))
     (λ p. record { entries = p.0; lits = p.1.0; word_room = p.1.1.0; lit_room = p.1.1.1.0; entry_room = p.1.1.1.1 })
     (λ _. refl)
-
-abbrev pub rows_code : Coded RowsByNumber
-rows_code = coded_list (coded_list coded_ℕ)
 
 abbrev pub beginnings_code : Coded Beginnings
 beginnings_code = code_by (List ℕ × ℕ) (coded× (coded_list coded_ℕ) coded_ℕ) (λ s. (s.items, s.room))

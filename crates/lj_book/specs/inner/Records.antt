@@ -237,7 +237,7 @@ entries_in lits words starts = map (λ start. entry_in lits (drop start words)) 
 
 -- how many numbers stand in the words of an addition
 abbrev pub addition_numbers : Addition → ℕ
-addition_numbers a = 9 + length a.hints + groups_numbers a.groups
+addition_numbers a = 7 + length a.hints + groups_numbers a.groups
 
 -- The entries, the literals that they name or that stood there before them, and how many more words, literals and
 -- entries have room.

@@ -1,5 +1,5 @@
 -- Numbers as words of four bytes, and how they are read again.
-use Rattle.std.specs.Prelude.{◌≡◌, ℕ, zero, suc, ◌+◌, ◌*◌, ◌%◌, ◌/◌, ◌==◌, ◌&&◌, Bool, List, [], ◌∷◌, ◌++◌, length, flat_map, nat_lt, if◌then◌else◌}
+use Rattle.std.specs.Prelude.{◌≡◌, ℕ, zero, suc, ◌+◌, ◌*◌, ◌%◌, ◌/◌, List, [], ◌∷◌, ◌++◌, length, flat_map, nat_lt, if◌then◌else◌}
 use Rattle.lj_clause.specs.Rat.{HintGroup}
 
 -- the word that stands before a number which takes two words
@@ -41,26 +41,15 @@ list_words ns = number_words (length ns) ++ flat_map number_words ns
 abbrev pub list_in : List ℕ → List ℕ × List ℕ
 list_in ws = many_in number_in (number_in ws).0 (number_in ws).1
 
--- whether a group is one of candidate 0 with one hint, as one that names a row is
-abbrev pub is_name : HintGroup → Bool
-is_name g = g.candidate == 0 && length g.hints == 1
-
--- the words of a group: those of the count of its hints and one more, of its candidate, and of its hints; or a 0 and the hint of a name
 abbrev pub hint_group_words : HintGroup → List ℕ
-hint_group_words g = if is_name g then 0 ∷ flat_map number_words g.hints
-    else number_words (suc (length g.hints)) ++ (number_words g.candidate ++ flat_map number_words g.hints)
+hint_group_words g = number_words g.candidate ++ list_words g.hints
 
--- a group by its candidate, and its hints and what stands behind them
+-- a group by its candidate, and its list and what stands behind it
 abbrev pub grouped : ℕ → List ℕ × List ℕ → HintGroup × List ℕ
 grouped candidate read = (record { candidate = candidate; hints = read.0 }, read.1)
 
--- a group by the first of its numbers, and the words behind that
-abbrev pub group_behind : ℕ → List ℕ → HintGroup × List ℕ
-group_behind zero ws = grouped 0 (many_in number_in 1 ws)
-group_behind (suc count) ws = grouped (number_in ws).0 (many_in number_in count (number_in ws).1)
-
 abbrev pub hint_group_in : List ℕ → HintGroup × List ℕ
-hint_group_in ws = group_behind (number_in ws).0 (number_in ws).1
+hint_group_in ws = grouped (number_in ws).0 (list_in (number_in ws).1)
 
 -- how many numbers stand in the words of a group, and in those of groups
 abbrev pub group_numbers : HintGroup → ℕ
@@ -76,12 +65,3 @@ pub record Matches {A : Type 0} (one : List ℕ → A × List ℕ) (whole : List
   pub same : (many_in one (length left) rest).0 ≡ left
       → whole ≡ (wanted, (many_in one (length left) rest).1)
   pub other : whole.0 ≡ wanted → (many_in one (length left) rest).0 ≡ left
-
--- What is read of two words as wholes is the same exactly where so many values at the front of their rests are, and the words
--- behind them are the same as behind the wholes.
-pub record Agree {A : Type 0} (one : List ℕ → A × List ℕ) (whole other : List A × List ℕ)
-    (rest other_rest : List ℕ) (left : ℕ) : Type 0 where
-  pub same : (many_in one left rest).0 ≡ (many_in one left other_rest).0 → whole.0 ≡ other.0
-  pub back : whole.0 ≡ other.0 → (many_in one left rest).0 ≡ (many_in one left other_rest).0
-  pub rest_is : (many_in one left rest).1 ≡ whole.1
-  pub other_is : (many_in one left other_rest).1 ≡ other.1

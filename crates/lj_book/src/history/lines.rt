@@ -8,14 +8,11 @@ ghost use Rattle.lj_text.specs.Needed.{if_some, up_to_empty};
 ghost use Rattle.lj_text.specs.StepText.{group_words, addition_text, text_after};
 ghost use Rattle.lj_text.specs.inner.Writing.{spaced_words};
 ghost use Rattle.lj_text.specs.WordWriting.{word_state, MayBeGiven, WasGiven};
-ghost use Rattle.lj_book.specs.inner.Words.{number_in, list_in, many_in};
+ghost use Rattle.lj_book.specs.inner.Words.{number_in, list_in, many_in, hint_group_in};
 ghost use Rattle.lj_book.specs.inner.Records.{lemma_lits, addition_in, kind_in, code_in, call_in, step_in, named_in, call_lits, lits_at, entries_in, AreWritten};
-ghost use Rattle.lj_book.specs.inner.Rows.{unpacked_addition, unpacked_step, unpacked_entry};
 ghost use Rattle.lj_book.specs.inner.StepLines.{kept_as_written, entry_text, entry_greatest, ends_proof};
 
 use super::reading::{added_literals, head_own, head_sizes, placed, words_from};
-use super::recorded_groups::{RecordedGroups, WordGroup, recorded_groups};
-use super::rows::Rows;
 use super::sizes::Sizes;
 use super::starts::Starts;
 use super::{ADDITION, ADOPT, DROP, IMPORT, KINDS};
@@ -59,29 +56,32 @@ fn write_numbers<'a, W: Sink>(
     rest
 }
 
-/// Writes groups.
-fn write_groups<W: Sink>(writer: &mut WordWriter, sink: &mut W, recorded: RecordedGroups<'_>)
+/// Writes the group at the front of the words, and answers what stands behind it.
+fn write_group<'a, W: Sink>(writer: &mut WordWriter, sink: &mut W, words: &'a [u32]) -> &'a [u32]
     requires { MayBeGiven (word_state (W.taken sink.old) (W.failures sink.old) writer.old) }
 
     ensures given { WasGiven (word_state (W.taken sink.old) (W.failures sink.old) writer.old)
-        (spaced_words (flat_map group_words recorded.entry))
+        (spaced_words (group_words (hint_group_in words.now).0))
         (word_state (W.taken sink.new) (W.failures sink.new) writer.new) }
+    ensures rest { result.now ≡ (hint_group_in words.now).1 }
 {
-    for group in recorded {
-        write_group(writer, sink, group);
-    }
+    let (candidate, rest) = number(words);
+    writer.word(sink, LineWord::Candidate(candidate));
+    write_list(writer, sink, rest)
 }
 
-/// Writes a group.
-fn write_group<W: Sink>(writer: &mut WordWriter, sink: &mut W, group: WordGroup<'_>)
+/// Writes so many groups at the front of the words.
+fn write_groups<W: Sink>(writer: &mut WordWriter, sink: &mut W, count: u64, words: &[u32])
     requires { MayBeGiven (word_state (W.taken sink.old) (W.failures sink.old) writer.old) }
 
     ensures given { WasGiven (word_state (W.taken sink.old) (W.failures sink.old) writer.old)
-        (spaced_words (group_words group.entry))
+        (spaced_words (flat_map group_words (many_in hint_group_in count words.now).0))
         (word_state (W.taken sink.new) (W.failures sink.new) writer.new) }
 {
-    writer.word(sink, LineWord::Candidate(group.candidate));
-    write_numbers(writer, sink, group.count, group.words);
+    let mut rest = words;
+    for _ in 0..count {
+        rest = write_group(writer, sink, rest);
+    }
 }
 
 /// Writes the literals other than the pivot.
@@ -119,7 +119,6 @@ fn write_addition<W: Sink>(
     writer: &mut WordWriter,
     sink: &mut W,
     lits: &[Lit],
-    rows: &Rows,
     sizes: Sizes,
     words: &[u32],
 ) -> u64
@@ -128,8 +127,7 @@ fn write_addition<W: Sink>(
         ≡ lemma_lits (addition_in lits.now sizes words.now).lemma }
 
     ensures given { WasGiven (word_state (W.taken sink.old) (W.failures sink.old) writer.old)
-        (addition_text
-        (unpacked_addition rows.now (addition_in lits.now sizes words.now)))
+        (addition_text (addition_in lits.now sizes words.now))
         (word_state (W.taken sink.new) (W.failures sink.new) writer.new) }
     ensures number { result ≡ (addition_in lits.now sizes words.now).number }
 {
@@ -139,7 +137,7 @@ fn write_addition<W: Sink>(
     write_literals(writer, sink, literals);
     writer.word(sink, LineWord::End);
     let rest = write_numbers(writer, sink, sizes.hints, rest);
-    write_groups(writer, sink, recorded_groups(rows, sizes.groups, rest));
+    write_groups(writer, sink, sizes.groups, rest);
     writer.word(sink, LineWord::End);
     writer.end_line(sink);
     joint
@@ -171,7 +169,6 @@ fn write_step<W: Sink>(
     sink: &mut W,
     greatest: u64,
     lits: &[Lit],
-    rows: &Rows,
     head: u64,
     words: &[u32],
 ) -> u64
@@ -180,8 +177,7 @@ fn write_step<W: Sink>(
         ≡ call_lits (call_in lits.now (kind_in head) (code_in head) words.now) }
 
     ensures given { WasGiven (word_state (W.taken sink.old) (W.failures sink.old) writer.old)
-        (entry_text greatest (unpacked_step rows.now
-        (step_in lits.now (kind_in head) (code_in head) words.now)))
+        (entry_text greatest (step_in lits.now (kind_in head) (code_in head) words.now))
         (word_state (W.taken sink.new) (W.failures sink.new) writer.new) }
     ensures greatest { result
         ≡ entry_greatest greatest (step_in lits.now (kind_in head) (code_in head) words.now) }
@@ -190,7 +186,7 @@ fn write_step<W: Sink>(
         ADDITION => {
             let (sizes, rest) = head_sizes(head, words);
             let (_, rest) = head_own(head, rest);
-            greatest.max(write_addition(writer, sink, lits, rows, sizes, rest))
+            greatest.max(write_addition(writer, sink, lits, sizes, rest))
         }
         DROP => {
             write_deletion(writer, sink, greatest, behind_list(words));
@@ -223,7 +219,6 @@ pub(super) fn write_entries<W: Sink>(
     sink: &mut W,
     clauses: u64,
     lits: &[Lit],
-    rows: &Rows,
     words: &[u32],
     starts: &Starts,
 )
@@ -232,14 +227,13 @@ pub(super) fn write_entries<W: Sink>(
 
     ensures given { WasGiven (word_state (W.taken sink.old) (W.failures sink.old) writer.old)
         (text_after clauses (up_to_empty
-        (filter_map (λ e. e.step) (map (unpacked_entry rows.now)
-        (entries_in lits.now words.now starts.now.items)))))
+        (filter_map (λ e. e.step) (entries_in lits.now words.now starts.now.items))))
         (word_state (W.taken sink.new) (W.failures sink.new) writer.new) }
 {
     let mut greatest = clauses;
     for index in 0..starts.len() {
         let (head, rest) = number(words_from(words, starts.at(index)));
-        greatest = write_step(writer, sink, greatest, lits, rows, head, rest);
+        greatest = write_step(writer, sink, greatest, lits, head, rest);
         if ends_proof(lits, head, rest) {
             return;
         }

@@ -4,16 +4,13 @@ ghost use Rattle.lj_clause.specs.LiteralSet.{literals, from_literals};
 ghost use Rattle.lj_text.specs.Needed.{if_some};
 ghost use Rattle.lj_book.specs.inner.Words.{number_in, list_in, many_in, hint_group_in};
 ghost use Rattle.lj_book.specs.inner.Records.{lemma_lits, lits_at, lits_in, call_lits, addition_in, sizes_in, sized_addition, sized_lits, sized_call, kind_in, code_in, call_in, step_in, entry_in, read_in, named_in};
-ghost use Rattle.lj_book.specs.inner.Rows.{unpacked, unpacked_addition, unpacked_step, unpacked_entry};
 
 use super::reading::{head_own, head_sizes, named, placed};
-use super::recorded_groups::{are_groups, recorded_groups};
-use super::rows::Rows;
 use super::sizes::Sizes;
 use super::{ADDITION, ADOPT, DROP, DROP_ONCE, IMPORT, KINDS, SEATS};
 use crate::entry::{Call, Entry};
 use crate::same::same_lemma;
-use crate::words::{are_numbers, list_matches, number, numbers_match};
+use crate::words::{are_groups, are_numbers, list_matches, number, numbers_match};
 use lj_clause::{Lemma, Lit};
 use lj_text::{Addition, Step};
 
@@ -38,29 +35,23 @@ pub(super) fn same_lits(lits: &[Lit], others: &[Lit]) -> bool
 }
 
 /// Whether the hints and the groups at the front of the words, so many, are those of the addition.
-fn are_hints_of(rows: &Rows, sizes: Sizes, words: &[u32], addition: &Addition) -> bool
+fn are_hints_of(sizes: Sizes, words: &[u32], addition: &Addition) -> bool
     ensures { IsTrue result
         ↔ (((many_in number_in sizes.hints words.now).0 ≡ addition.now.hints)
-        × (unpacked rows.now
-        (many_in hint_group_in sizes.groups (many_in number_in sizes.hints words.now).1).0
+        × ((many_in hint_group_in sizes.groups (many_in number_in sizes.hints words.now).1).0
         ≡ addition.now.groups)) }
 {
     match are_numbers(words, sizes.hints, &addition.hints) {
-        Some(rest) => {
-            let recorded = recorded_groups(rows, sizes.groups, rest);
-            are_groups(recorded, &addition.groups)
-        }
+        Some(rest) => are_groups(rest, sizes.groups, &addition.groups).is_some(),
         None => false,
     }
 }
 
 /// Whether the addition of these sizes behind its own number is this one.
-fn is_added(lits: &[Lit], rows: &Rows, sizes: Sizes, words: &[u32], addition: &Addition) -> bool
+fn is_added(lits: &[Lit], sizes: Sizes, words: &[u32], addition: &Addition) -> bool
     requires { lits_at lits.now sizes.lits (number_in words.now).1
         ≡ lemma_lits (addition_in lits.now sizes words.now).lemma }
-    ensures { IsTrue result
-        ↔ (unpacked_addition rows.now (addition_in lits.now sizes words.now)
-        ≡ addition.now) }
+    ensures { IsTrue result ↔ (addition_in lits.now sizes words.now ≡ addition.now) }
 {
     let (joint, rest) = number(words);
     let (literals, rest) = placed(lits, sizes.lits, rest);
@@ -71,24 +62,16 @@ fn is_added(lits: &[Lit], rows: &Rows, sizes: Sizes, words: &[u32], addition: &A
     if !are_of_lemma(literals, &addition.lemma) {
         return false;
     }
-    are_hints_of(rows, sizes, rest, addition)
+    are_hints_of(sizes, rest, addition)
 }
 
 /// Whether the words behind the head of an addition are those of this call and this step.
-fn is_addition(
-    lits: &[Lit],
-    rows: &Rows,
-    head: u64,
-    words: &[u32],
-    call: &Call,
-    step: &Option<Step>,
-) -> bool
+fn is_addition(lits: &[Lit], head: u64, words: &[u32], call: &Call, step: &Option<Step>) -> bool
     requires { sized_lits lits.now (code_in head) (sizes_in (code_in head) words.now)
         ≡ lemma_lits
         (sized_addition lits.now (code_in head) (sizes_in (code_in head) words.now)).lemma }
     ensures { IsTrue result ↔ ((call_in lits.now 0 (code_in head) words.now ≡ call.now)
-        × (unpacked_step rows.now (step_in lits.now 0 (code_in head) words.now)
-        ≡ step.now)) }
+        × (step_in lits.now 0 (code_in head) words.now ≡ step.now)) }
 {
     let (sizes, rest) = head_sizes(head, words);
     let (found, rest) = head_own(head, rest);
@@ -96,7 +79,7 @@ fn is_addition(
         (Call::Add { own, lemma }, Some(Step::Add(addition))) => {
             found == *own
                 && same_lemma(lemma, &addition.lemma)
-                && is_added(lits, rows, sizes, rest, addition)
+                && is_added(lits, sizes, rest, addition)
         }
         _ => false,
     }
@@ -178,23 +161,15 @@ fn is_import(lits: &[Lit], words: &[u32], call: &Call, step: &Option<Step>) -> b
 }
 
 /// Whether the words behind the head of an entry are those of this call and this step.
-fn is_behind(
-    lits: &[Lit],
-    rows: &Rows,
-    head: u64,
-    words: &[u32],
-    call: &Call,
-    step: &Option<Step>,
-) -> bool
+fn is_behind(lits: &[Lit], head: u64, words: &[u32], call: &Call, step: &Option<Step>) -> bool
     requires { named_in lits.now (kind_in head) (code_in head) words.now
         ≡ call_lits (call_in lits.now (kind_in head) (code_in head) words.now) }
     ensures { IsTrue result
         ↔ ((call_in lits.now (kind_in head) (code_in head) words.now ≡ call.now)
-        × (unpacked_step rows.now
-        (step_in lits.now (kind_in head) (code_in head) words.now) ≡ step.now)) }
+        × (step_in lits.now (kind_in head) (code_in head) words.now ≡ step.now)) }
 {
     match head % KINDS {
-        ADDITION => is_addition(lits, rows, head, words, call, step),
+        ADDITION => is_addition(lits, head, words, call, step),
         DROP => is_drop(lits, words, call, step),
         DROP_ONCE => is_drop_once(lits, words, call, step),
         ADOPT => is_adoption(lits, words, call, step),
@@ -204,14 +179,12 @@ fn is_behind(
 }
 
 /// Whether the entry whose words these begin with is this one.
-pub(super) fn is_entry(lits: &[Lit], rows: &Rows, words: &[u32], entry: &Entry) -> bool
+pub(super) fn is_entry(lits: &[Lit], words: &[u32], entry: &Entry) -> bool
     requires named { (read_in lits.now words.now).1
         ≡ call_lits (read_in lits.now words.now).0.call }
     requires seated { (entry_in lits.now words.now).seat < 4294967296 }
-    ensures { IsTrue result
-        ↔ (unpacked_entry rows.now (entry_in lits.now words.now) ≡ entry.now) }
+    ensures { IsTrue result ↔ (entry_in lits.now words.now ≡ entry.now) }
 {
     let (head, rest) = number(words);
-    head / SEATS == u64::from(entry.seat)
-        && is_behind(lits, rows, head, rest, &entry.call, &entry.step)
+    head / SEATS == u64::from(entry.seat) && is_behind(lits, head, rest, &entry.call, &entry.step)
 }

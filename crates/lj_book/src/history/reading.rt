@@ -3,15 +3,12 @@ ghost use Rattle.std.specs.Prelude.{◌≡◌, ◌≢◌, ◌<◌, IfOk, OnErr, 
 ghost use Rattle.lj_text.specs.Needed.{if_some};
 ghost use Rattle.lj_book.specs.inner.Words.{number_in, list_in};
 ghost use Rattle.lj_book.specs.inner.Records.{some_lits, lits_at, lits_in, addition_in, sized_call, sized_lits, sizes_in, own_in, seat_in, kind_in, code_in, call_in, step_in, entry_in};
-ghost use Rattle.lj_book.specs.inner.Rows.{unpacked_addition, unpacked_step, unpacked_entry};
 
-use super::recorded_groups::{recorded_groups, to_groups};
-use super::rows::Rows;
 use super::sizes::{Sizes, read_own, read_sizes};
 use super::starts::Starts;
 use super::{ADDITION, ADOPT, DROP, DROP_ONCE, IMPORT, KINDS, SEATS};
 use crate::entry::{Call, Entry};
-use crate::words::{behind_list, list, number, numbers};
+use crate::words::{behind_list, groups, list, number, numbers};
 use lj_clause::{Clause, Lemma, Lit, NoMemory};
 use lj_text::{Addition, Step};
 use std::alloc::Global;
@@ -82,15 +79,9 @@ fn some_lits(lits: &[Lit], at: u64, count: u64) -> &[Lit]
 ///
 /// # Errors
 /// [`NoMemory`] where a growth was refused.
-fn addition(
-    alloc: Global,
-    lits: &[Lit],
-    rows: &Rows,
-    sizes: Sizes,
-    words: &[u32],
-) -> Result<Addition, NoMemory>
+fn addition(alloc: Global, lits: &[Lit], sizes: Sizes, words: &[u32]) -> Result<Addition, NoMemory>
     ensures { IfOk result (λ addition. addition
-        ≡ unpacked_addition rows.now (addition_in lits.now sizes words.now)) }
+        ≡ addition_in lits.now sizes words.now) }
 {
     let (joint, rest) = number(words);
     let (literals, rest) = placed(lits, sizes.lits, rest);
@@ -99,7 +90,7 @@ fn addition(
         number: joint,
         lemma: Lemma::from_lits(alloc, literals)?,
         hints,
-        groups: to_groups(alloc, recorded_groups(rows, sizes.groups, rest))?,
+        groups: groups(alloc, sizes.groups, rest)?,
     })
 }
 
@@ -125,12 +116,11 @@ fn deletion(alloc: Global, words: &[u32]) -> Result<Option<Step>, NoMemory>
 pub(super) fn step(
     alloc: Global,
     lits: &[Lit],
-    rows: &Rows,
     head: u64,
     words: &[u32],
 ) -> Result<Option<Step>, NoMemory>
-    ensures same { IfOk result (λ step. step ≡ unpacked_step rows.now
-        (step_in lits.now (kind_in head) (code_in head) words.now)) }
+    ensures same { IfOk result (λ step. step
+        ≡ step_in lits.now (kind_in head) (code_in head) words.now) }
     ensures some { OnErr result
         (step_in lits.now (kind_in head) (code_in head) words.now ≢ None) }
 {
@@ -138,7 +128,7 @@ pub(super) fn step(
         ADDITION => {
             let (sizes, rest) = head_sizes(head, words);
             let (_, rest) = head_own(head, rest);
-            Ok(Some(Step::Add(addition(alloc, lits, rows, sizes, rest)?)))
+            Ok(Some(Step::Add(addition(alloc, lits, sizes, rest)?)))
         }
         DROP => deletion(alloc, behind_list(words)),
         ADOPT | IMPORT => Ok(None),
@@ -207,21 +197,16 @@ fn call(alloc: Global, lits: &[Lit], head: u64, words: &[u32]) -> Result<Call, N
 ///
 /// # Errors
 /// [`NoMemory`] where a growth was refused.
-pub(super) fn entry(
-    alloc: Global,
-    lits: &[Lit],
-    rows: &Rows,
-    words: &[u32],
-) -> Result<Entry, NoMemory>
+pub(super) fn entry(alloc: Global, lits: &[Lit], words: &[u32]) -> Result<Entry, NoMemory>
     requires { (entry_in lits.now words.now).seat < 4294967296 }
     ensures { IfOk result
-        (λ entry. entry ≡ unpacked_entry rows.now (entry_in lits.now words.now)) }
+        (λ entry. entry ≡ entry_in lits.now words.now) }
 {
     let (head, rest) = number(words);
     Ok(Entry {
         seat: (head / SEATS) as u32,
         call: call(alloc, lits, head, rest)?,
-        step: step(alloc, lits, rows, head, rest)?,
+        step: step(alloc, lits, head, rest)?,
     })
 }
 
@@ -232,15 +217,13 @@ pub(super) fn entry(
 pub(super) fn entry_step(
     alloc: Global,
     lits: &[Lit],
-    rows: &Rows,
     words: &[u32],
 ) -> Result<Option<Step>, NoMemory>
-    ensures same { IfOk result (λ step. step
-        ≡ unpacked_step rows.now (entry_in lits.now words.now).step) }
+    ensures same { IfOk result (λ step. step ≡ (entry_in lits.now words.now).step) }
     ensures some { OnErr result ((entry_in lits.now words.now).step ≢ None) }
 {
     let (head, rest) = number(words);
-    step(alloc, lits, rows, head, rest)
+    step(alloc, lits, head, rest)
 }
 
 /// The seat of the entry whose words these begin with.

@@ -1,8 +1,7 @@
 //! How many literals, hints and groups an addition has, and its own number, as words.
-ghost use Rattle.std.specs.Prelude.{◌≡◌, ◌+◌, ◌*◌, ◌≤◌, ◌<◌, ◌++◌, length, vec_len, vec_capacity};
+ghost use Rattle.std.specs.Prelude.{◌≡◌, ◌+◌, ◌*◌, ◌≤◌, ◌<◌, ◌++◌, vec_len, vec_capacity};
 ghost use Rattle.lj_book.specs.inner.Words.{number_words};
 ghost use Rattle.lj_book.specs.inner.Records.{addition_sizes, are_few, size_code, size_words, sizes_in, wide_sizes_in, own_code, own_words, own_in};
-ghost use Rattle.lj_book.specs.inner.Rows.{apart_if};
 
 use crate::lent_addition::LentAddition;
 use crate::words::{number, put_number};
@@ -21,16 +20,15 @@ pub(crate) struct Sizes {
     pub groups: u64,
 }
 
-/// How many literals, hints and groups this addition has, with a group more where one of nothing is put before them.
+/// How many literals, hints and groups this addition has.
 #[inline]
-pub(super) fn sizes_of(step: &LentAddition<'_>, apart: bool) -> Sizes
-    requires { length step.now.groups < 9223372036854775808 }
-    ensures { result ≡ addition_sizes (apart_if apart step.now) }
+pub(super) fn sizes_of(step: &LentAddition<'_>) -> Sizes
+    ensures { result ≡ addition_sizes step.now }
 {
     Sizes {
         lits: step.clause.lits().len() as u64 + u64::from(step.lemma.pivot().is_some()),
         hints: step.hints.len() as u64,
-        groups: step.groups.len() as u64 + u64::from(apart),
+        groups: step.groups.len() as u64,
     }
 }
 

@@ -1,16 +1,14 @@
 //! Entries that are written as words and literals.
-ghost use Rattle.std.specs.Prelude.{◌≡◌, ◌+◌, ◌*◌, ◌<◌, ◌≤◌, ◌++◌, length, flat_map, vec_len, vec_capacity};
+ghost use Rattle.std.specs.Prelude.{◌≡◌, ◌+◌, ◌*◌, ◌<◌, ◌≤◌, ◌++◌, length, vec_len, vec_capacity};
 ghost use Rattle.lj_clause.specs.LiteralSet.{literals};
 ghost use Rattle.lj_book.specs.inner.Records.{lemma_lits, head_words, add_words, drop_words, drop_once_words, adopt_words, import_words, leave_words, addition_numbers};
-ghost use Rattle.lj_book.specs.inner.Rows.{apart_groups, apart_if};
-ghost use Rattle.lj_book.specs.inner.Words.{hint_group_words, groups_numbers};
 
 use super::sizes::{own_code, put_own, put_sizes, size_code, sizes_of};
 use super::{ADDITION, ADOPT, DROP, DROP_ONCE, IMPORT, KINDS, LEAVE, SEATS};
 use crate::lent_addition::LentAddition;
 use crate::words::{put_all, put_groups, put_list, put_number, put_numbers};
 use lj_clause::{Clause, Lit};
-use lj_text::{Groups, Numbers};
+use lj_text::Numbers;
 
 /// So many literals are copied one by one, and more as they stand.
 const FEW: usize = 8;
@@ -56,8 +54,7 @@ fn put_lits(lits: &mut Vec<Lit>, more: &[Lit])
     }
 }
 
-/// Puts the words and the literals of a seat's addition behind the others, which have room for them: with one group of nothing before
-/// its own, where that is asked for.
+/// Puts the words and the literals of a seat's addition behind the others, which have room for them.
 #[inline(always)]
 pub(super) fn put_addition(
     words: &mut Vec<u32>,
@@ -65,17 +62,16 @@ pub(super) fn put_addition(
     seat: u32,
     own: u64,
     step: &LentAddition<'_>,
-    apart: bool,
 )
     requires words { vec_len words.old + 3 * addition_numbers step.now ≤ vec_capacity words.old }
     requires lits { vec_len lits.old + length (lemma_lits step.now.lemma) ≤ vec_capacity lits.old }
     ensures words { words.new.items
-        ≡ words.old.items ++ add_words seat own (apart_if apart step.now) (length lits.old.items) }
+        ≡ words.old.items ++ add_words seat own step.now (length lits.old.items) }
     ensures lits { lits.new.items ≡ lits.old.items ++ lemma_lits step.now.lemma }
 {
     let at = lits.len();
     put_lemma(lits, step);
-    let sizes = sizes_of(step, apart);
+    let sizes = sizes_of(step);
     let code = size_code(sizes) + own_code(own, step.number);
     put_head(words, seat, KINDS * code + ADDITION);
     put_sizes(words, sizes);
@@ -83,23 +79,7 @@ pub(super) fn put_addition(
     put_number(words, step.number);
     put_number(words, at as u64);
     put_all(words, step.hints);
-    put_groups_apart(words, apart, step.groups);
-}
-
-/// Puts groups behind the words, which have room for them, with one of nothing before them where that is asked for.
-#[inline]
-fn put_groups_apart(words: &mut Vec<u32>, apart: bool, groups: &Groups)
-    requires { vec_len words.old + 3 * (2 + groups_numbers groups.now) ≤ vec_capacity words.old }
-    ensures { words.new.items
-        ≡ words.old.items ++ flat_map hint_group_words (apart_groups apart groups.now) }
-{
-    if apart {
-        put_number(words, 1);
-        put_number(words, 0);
-    }
-    if !groups.is_empty() {
-        put_groups(words, groups);
-    }
+    put_groups(words, step.groups);
 }
 
 /// Puts the words of a seat's drop behind the others, which have room for them.

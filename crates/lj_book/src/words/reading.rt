@@ -1,10 +1,10 @@
 //! Numbers that are read from words.
 ghost use Rattle.std.specs.Prelude.{◌≡◌, ◌≢◌, [], IfOk, OnErr};
-ghost use Rattle.lj_book.specs.inner.Words.{long_in, number_in, list_in, many_in};
+ghost use Rattle.lj_book.specs.inner.Words.{long_in, number_in, list_in, many_in, hint_group_in};
 
 use super::LONG_MARK;
 use lj_clause::NoMemory;
-use lj_text::Numbers;
+use lj_text::{Group, Groups, Numbers};
 use std::alloc::Global;
 
 /// The number at the front of the words, and what stands behind it.
@@ -36,15 +36,7 @@ fn long_number(words: &[u32]) -> (u64, &[u32])
 pub(crate) fn behind_list(words: &[u32]) -> &[u32]
     ensures { result.now ≡ (list_in words.now).1 }
 {
-    let (count, rest) = number(words);
-    behind_numbers(count, rest)
-}
-
-/// What stands behind so many numbers at the front of the words. Takes time linear in how many they are.
-pub(crate) fn behind_numbers(count: u64, words: &[u32]) -> &[u32]
-    ensures { result.now ≡ (many_in number_in count words.now).1 }
-{
-    let mut rest = words;
+    let (count, mut rest) = number(words);
     for _ in 0..count {
         let (_, after) = number(rest);
         rest = after;
@@ -89,4 +81,34 @@ pub(crate) fn numbers(
         rest = after;
     }
     Ok((list, rest))
+}
+
+/// The group at the front of the words, and what stands behind it.
+///
+/// # Errors
+/// [`NoMemory`] where a growth was refused.
+fn group(alloc: Global, words: &[u32]) -> Result<(Group, &[u32]), NoMemory>
+    ensures group { IfOk result (λ read. read.0 ≡ (hint_group_in words.now).0) }
+    ensures rest { IfOk result (λ read. read.1.now ≡ (hint_group_in words.now).1) }
+{
+    let (candidate, behind) = number(words);
+    let (hints, rest) = list(alloc, behind)?;
+    Ok((Group { candidate, hints }, rest))
+}
+
+/// So many groups at the front of the words. Takes time linear in the groups and their hints.
+///
+/// # Errors
+/// [`NoMemory`] where a growth was refused.
+pub(crate) fn groups(alloc: Global, count: u64, words: &[u32]) -> Result<Groups, NoMemory>
+    ensures { IfOk result (λ groups. groups ≡ (many_in hint_group_in count words.now).0) }
+{
+    let mut groups = Groups::new(alloc);
+    let mut rest = words;
+    for _ in 0..count {
+        let (next, after) = group(alloc, rest)?;
+        groups.push(next.candidate, next.hints.iter())?;
+        rest = after;
+    }
+    Ok(groups)
 }

@@ -129,13 +129,8 @@ fn put_group(words: &mut Vec<u32>, group: LentGroup<'_>)
     ensures len { vec_len words.new ≤ vec_len words.old + 3 * group_numbers group.entry }
     ensures capacity { vec_capacity words.old ≤ vec_capacity words.new }
 {
-    let count = group.hints.len() as u64;
-    if group.candidate == 0 && count == 1 {
-        put_number(words, 0);
-    } else {
-        put_number(words, count + 1);
-        put_number(words, group.candidate);
-    }
+    put_number(words, group.candidate);
+    put_number(words, group.hints.len() as u64);
     put_left(words, group.hints);
 }
 

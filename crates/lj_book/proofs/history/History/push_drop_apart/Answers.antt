@@ -4,32 +4,11 @@ use Rattle.lj_text.specs.Needed.{if_some}
 use Rattle.lj_book.specs.declared.entry.Call.TheVariants as calls
 use Rattle.lj_book.specs.declared.entry.Entry.{Entry}
 use Rattle.lj_book.specs.inner.Records.{entry_of, drop_words, AreWritten, entries_in}
-use Rattle.lj_book.proofs.RowLaws.{plain_deaths, stable_pushed, meant_pushed}
 use Rattle.lj_book.proofs.RecordLaws.{drop_back, more_words_written, more_words_entries}
 use Rattle.lj_book.proofs.history.History.push_drop_apart.Goals as goal
 
 pub invariant_of-self : goal.invariant_of-self
 invariant_of-self c =
-    let fs = c.self.inside.rows in
-    let ls : List ℤ = c.self.inside.lits.items in
-    let ws : List ℕ = c.self.inside.words.items in
-    let ss : List ℕ = c.self.inside.starts.items in
-    let words : List ℕ = drop_words c.args.seat c.args.given.now c.args.died.now in
-    let entry : Entry = entry_of c.args.seat (calls.Drop c.args.given.now) (if_some c.args.died.now) in
-    let at : c.len-start.result ≡ length ws = c.len-start.ensures ∙ c.self.inside.words.ok.0 in
-    let starts : c.push.new.self.items ≡ ss ++ length ws ∷ [] = c.push.ensures ∙ ap (λ (k : ℕ). ss ++ k ∷ []) at in (
-      subst (λ (us : List ℕ). AreWritten ls us c.push.new.self.items) (sym c.put_drop.ensures)
-          (subst (λ (us : List ℕ). AreWritten ls (ws ++ words) us) (sym starts)
-          (more_words_written ls ws words ss entry (omega (arith, c.ranges.seat)) refl (λ all more. drop_back all c.args.seat c.args.given.now c.args.died.now more) c.self.invariant.0)),
-      stable_pushed fs (entries_in ls ws ss) _ entry
-          ((λ i. entries_in ls (c.put_drop.ensures i) (starts i))
-          ∙ more_words_entries ls ws words ss entry (λ all more. drop_back all c.args.seat c.args.given.now c.args.died.now more) c.self.invariant.0)
-          (λ gs. plain_deaths gs _ _ _) c.self.invariant.1,
-    )
-
-pub returns-clause-entries : goal.returns-clause-entries
-returns-clause-entries c =
-    let fs = c.self.inside.rows in
     let ls : List ℤ = c.self.inside.lits.items in
     let ws : List ℕ = c.self.inside.words.items in
     let ss : List ℕ = c.self.inside.starts.items in
@@ -37,8 +16,19 @@ returns-clause-entries c =
     let entry : Entry = entry_of c.args.seat (calls.Drop c.args.given.now) (if_some c.args.died.now) in
     let at : c.len-start.result ≡ length ws = c.len-start.ensures ∙ c.self.inside.words.ok.0 in
     let starts : c.push.new.self.items ≡ ss ++ length ws ∷ [] = c.push.ensures ∙ ap (λ (k : ℕ). ss ++ k ∷ []) at in
-    meant_pushed fs (entries_in ls ws ss) _ entry
-    ((λ i. entries_in ls (c.put_drop.ensures i) (starts i))
-    ∙ more_words_entries ls ws words ss entry (λ all more. drop_back all c.args.seat c.args.given.now c.args.died.now more) c.self.invariant.0)
-    (plain_deaths fs _ _ _)
+    subst (λ (us : List ℕ). AreWritten ls us c.push.new.self.items) (sym c.put_drop.ensures)
+    (subst (λ (us : List ℕ). AreWritten ls (ws ++ words) us) (sym starts)
+    (more_words_written ls ws words ss entry (omega (arith, c.ranges.seat)) refl (λ all more. drop_back all c.args.seat c.args.given.now c.args.died.now more) c.self.invariant))
+
+pub returns-clause-entries : goal.returns-clause-entries
+returns-clause-entries c =
+    let ls : List ℤ = c.self.inside.lits.items in
+    let ws : List ℕ = c.self.inside.words.items in
+    let ss : List ℕ = c.self.inside.starts.items in
+    let words : List ℕ = drop_words c.args.seat c.args.given.now c.args.died.now in
+    let entry : Entry = entry_of c.args.seat (calls.Drop c.args.given.now) (if_some c.args.died.now) in
+    let at : c.len-start.result ≡ length ws = c.len-start.ensures ∙ c.self.inside.words.ok.0 in
+    let starts : c.push.new.self.items ≡ ss ++ length ws ∷ [] = c.push.ensures ∙ ap (λ (k : ℕ). ss ++ k ∷ []) at in
+    (λ i. entries_in ls (c.put_drop.ensures i) (starts i))
+    ∙ more_words_entries ls ws words ss entry (λ all more. drop_back all c.args.seat c.args.given.now c.args.died.now more) c.self.invariant
     ∙ ap (λ (es : List Entry). es ++ entry ∷ []) (ap (λ h. h.entries) c.self.view_is)

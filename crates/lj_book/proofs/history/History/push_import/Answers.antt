@@ -4,34 +4,11 @@ use Rattle.lj_clause.specs.LiteralSet.{literals}
 use Rattle.lj_book.specs.declared.entry.Call.TheVariants as calls
 use Rattle.lj_book.specs.declared.entry.Entry.{Entry}
 use Rattle.lj_book.specs.inner.Records.{entry_of, import_words, AreWritten, entries_in}
-use Rattle.lj_book.proofs.RowLaws.{stable_pushed, meant_pushed}
 use Rattle.lj_book.proofs.RecordLaws.{import_back, more_written, more_entries}
 use Rattle.lj_book.proofs.history.History.push_import.Goals as goal
 
 pub invariant_of-self : goal.invariant_of-self
 invariant_of-self c =
-    let fs = c.self.inside.rows in
-    let ls : List ℤ = c.self.inside.lits.items in
-    let ws : List ℕ = c.self.inside.words.items in
-    let ss : List ℕ = c.self.inside.starts.items in
-    let new : List ℤ = literals c.args.clause.now in
-    let words : List ℕ = import_words c.args.seat c.args.own c.args.clause.now (length ls) in
-    let entry : Entry = entry_of c.args.seat (calls.Import c.args.own c.args.clause.now) None in
-    let at : c.len-start.result ≡ length ws = c.len-start.ensures ∙ c.self.inside.words.ok.0 in
-    let starts : c.push.new.self.items ≡ ss ++ length ws ∷ [] = c.push.ensures ∙ ap (λ (k : ℕ). ss ++ k ∷ []) at in (
-      subst (λ (xs : List ℤ). AreWritten xs c.put_import.new.words.items c.push.new.self.items) (sym c.put_import.ensures.lits)
-          (subst (λ (us : List ℕ). AreWritten (ls ++ new) us c.push.new.self.items) (sym c.put_import.ensures.words)
-          (subst (λ (us : List ℕ). AreWritten (ls ++ new) (ws ++ words) us) (sym starts)
-          (more_written ls new ws words ss entry (omega (arith, c.ranges.seat)) refl (λ all more there. import_back all c.args.seat c.args.own c.args.clause.now (length ls) more there) c.self.invariant.0))),
-      stable_pushed fs (entries_in ls ws ss) _ entry
-          ((λ i. entries_in (c.put_import.ensures.lits i) (c.put_import.ensures.words i) (starts i))
-          ∙ more_entries ls new ws words ss entry (λ all more there. import_back all c.args.seat c.args.own c.args.clause.now (length ls) more there) c.self.invariant.0)
-          (λ gs. refl) c.self.invariant.1,
-    )
-
-pub returns-clause-entries : goal.returns-clause-entries
-returns-clause-entries c =
-    let fs = c.self.inside.rows in
     let ls : List ℤ = c.self.inside.lits.items in
     let ws : List ℕ = c.self.inside.words.items in
     let ss : List ℕ = c.self.inside.starts.items in
@@ -40,8 +17,21 @@ returns-clause-entries c =
     let entry : Entry = entry_of c.args.seat (calls.Import c.args.own c.args.clause.now) None in
     let at : c.len-start.result ≡ length ws = c.len-start.ensures ∙ c.self.inside.words.ok.0 in
     let starts : c.push.new.self.items ≡ ss ++ length ws ∷ [] = c.push.ensures ∙ ap (λ (k : ℕ). ss ++ k ∷ []) at in
-    meant_pushed fs (entries_in ls ws ss) _ entry
-    ((λ i. entries_in (c.put_import.ensures.lits i) (c.put_import.ensures.words i) (starts i))
-    ∙ more_entries ls new ws words ss entry (λ all more there. import_back all c.args.seat c.args.own c.args.clause.now (length ls) more there) c.self.invariant.0)
-    refl
+    subst (λ (xs : List ℤ). AreWritten xs c.put_import.new.words.items c.push.new.self.items) (sym c.put_import.ensures.lits)
+    (subst (λ (us : List ℕ). AreWritten (ls ++ new) us c.push.new.self.items) (sym c.put_import.ensures.words)
+    (subst (λ (us : List ℕ). AreWritten (ls ++ new) (ws ++ words) us) (sym starts)
+    (more_written ls new ws words ss entry (omega (arith, c.ranges.seat)) refl (λ all more there. import_back all c.args.seat c.args.own c.args.clause.now (length ls) more there) c.self.invariant)))
+
+pub returns-clause-entries : goal.returns-clause-entries
+returns-clause-entries c =
+    let ls : List ℤ = c.self.inside.lits.items in
+    let ws : List ℕ = c.self.inside.words.items in
+    let ss : List ℕ = c.self.inside.starts.items in
+    let new : List ℤ = literals c.args.clause.now in
+    let words : List ℕ = import_words c.args.seat c.args.own c.args.clause.now (length ls) in
+    let entry : Entry = entry_of c.args.seat (calls.Import c.args.own c.args.clause.now) None in
+    let at : c.len-start.result ≡ length ws = c.len-start.ensures ∙ c.self.inside.words.ok.0 in
+    let starts : c.push.new.self.items ≡ ss ++ length ws ∷ [] = c.push.ensures ∙ ap (λ (k : ℕ). ss ++ k ∷ []) at in
+    (λ i. entries_in (c.put_import.ensures.lits i) (c.put_import.ensures.words i) (starts i))
+    ∙ more_entries ls new ws words ss entry (λ all more there. import_back all c.args.seat c.args.own c.args.clause.now (length ls) more there) c.self.invariant
     ∙ ap (λ (es : List Entry). es ++ entry ∷ []) (ap (λ h. h.entries) c.self.view_is)

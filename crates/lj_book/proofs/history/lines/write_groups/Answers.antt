@@ -1,22 +1,20 @@
-use Rattle.std.proofs.Common.{ap, sym, ◌∙◌, List}
+use Rattle.std.proofs.Common.{◌≡◌, ap, sym, ◌∙◌, ◌+◌, ◌-◌, ◌++◌, ℕ, suc, arith}
 use Rattle.std.specs.Prelude.{flat_map}
-use Rattle.lj_clause.specs.Rat.{HintGroup}
 use Rattle.lj_text.specs.StepText.{group_words}
 use Rattle.lj_text.specs.inner.Writing.{spaced_words}
+use Rattle.lj_book.specs.inner.Words.{hint_group_in, many_in}
 use Rattle.lj_text.proofs.WrittenWords.{spaced_words-append}
-use Rattle.lj_book.proofs.StepLineLemmas.{remains_all, remains_as, remains_less}
+use Rattle.lj_book.proofs.StepLineLemmas.{remains_less}
 use Rattle.lj_book.proofs.history.lines.write_groups.Goals as goal
 
-pub loop-group-preserved : goal.loop-group-preserved
-loop-group-preserved g c = record {
-  remains = remains_less _ _ _ _ _ _ _ c.loop-group.invariant.remains
-      (ap (λ (gs : List HintGroup). spaced_words (flat_map group_words gs)) c.in-Some.ensures.steps
-      ∙ spaced_words-append (group_words c.in-Some.group) (flat_map group_words c.next.new.self))
-      c.write_group.ensures.given;
-}
-
-pub loop-group-init : goal.loop-group-init
-loop-group-init g c = record {
-  remains = remains_as _ _ _ _ _ (remains_all _ (spaced_words (flat_map group_words c.args.recorded)))
-      (ap (λ (gs : List HintGroup). spaced_words (flat_map group_words gs)) (sym c.into_iter-group-iterator.ensures.into_iter_gives));
-}
+pub loop-preserved : goal.loop-preserved
+loop-preserved g c =
+    let n : ℕ = c.args.count - (c.loop.counter + 1) in
+    let left : c.args.count - c.loop.counter ≡ suc n = omega (arith, c.loop-test.true) in
+    record {
+      remains = remains_less _ _ _ _ _ _ _ c.loop.invariant.remains
+          (ap (λ k. spaced_words (flat_map group_words (many_in hint_group_in k c.loop.rest.now).0)) left
+          ∙ spaced_words-append (group_words (hint_group_in c.loop.rest.now).0) (flat_map group_words (many_in hint_group_in n (hint_group_in c.loop.rest.now).1).0)
+          ∙ ap (λ ws. spaced_words (group_words (hint_group_in c.loop.rest.now).0) ++ spaced_words (flat_map group_words (many_in hint_group_in n ws).0)) (sym c.write_group-rest.ensures.rest))
+          c.write_group-rest.ensures.given;
+    }

@@ -4,13 +4,11 @@ use Rattle.lj_text.specs.declared.line.Addition.{Addition}
 use Rattle.lj_book.specs.declared.history.sizes.Sizes.{Sizes}
 use Rattle.lj_book.specs.inner.Words.{number_in, many_in, hint_group_in}
 use Rattle.lj_book.specs.inner.Records.{lits_at, lemma_lits}
-use Rattle.lj_book.specs.inner.Rows.{unpacked}
 use Rattle.lj_book.proofs.RecordLaws.{same_addition}
 use Rattle.lj_book.proofs.history.matching.is_added.Goals as goal
 
 pub returns : goal.returns
 returns c =
-    let fs = c.args.rows.now in
     let ls : List ℤ = c.args.lits.now in
     let ws : List ℕ = c.args.words.now in
     let s : Sizes = c.args.sizes in
@@ -19,12 +17,12 @@ returns c =
     let same : lits_at ls s.lits (number_in ws).1 ≡ lemma_lits a.lemma = search rules in
     let rest : c.placed.result.1.now ≡ (number_in (number_in ws).1).1 = c.placed.ensures.rest ∙ ap (λ us. (number_in us).1) c.number-joint.ensures.rest in (
       λ yes.
-          same_addition fs ls s ws a c.pivot.ensures.lemma number same
+          same_addition ls s ws a c.pivot.ensures.lemma number same
           (ap (λ us. (many_in number_in s.hints us).0) (sym rest) ∙ (c.are_hints_of.ensures.0 yes).0)
-          (ap (λ us. unpacked fs (many_in hint_group_in s.groups (many_in number_in s.hints us).1).0) (sym rest) ∙ (c.are_hints_of.ensures.0 yes).1),
+          (ap (λ us. (many_in hint_group_in s.groups (many_in number_in s.hints us).1).0) (sym rest) ∙ (c.are_hints_of.ensures.0 yes).1),
       λ e.
           c.are_hints_of.ensures.1 (
             ap (λ us. (many_in number_in s.hints us).0) rest ∙ ap (λ b. b.hints) e,
-            ap (λ us. unpacked fs (many_in hint_group_in s.groups (many_in number_in s.hints us).1).0) rest ∙ ap (λ b. b.groups) e,
+            ap (λ us. (many_in hint_group_in s.groups (many_in number_in s.hints us).1).0) rest ∙ ap (λ b. b.groups) e,
           ),
     )
