@@ -21,8 +21,8 @@ use Rattle.lj_text.specs.Writing.{IsCutShort, spaced_word}
 use Rattle.lj_text.specs.inner.Writing.{spaced_words}
 use Rattle.lj_text.specs.WordWriting.{WordState, MayBeGiven, WasGiven}
 use Rattle.lj_text.proofs.WritingLemmas.{beginning-self, beginning-trans}
-use Rattle.lj_book.specs.inner.Words.{number_in}
-use Rattle.lj_book.specs.inner.Records.{lemma_lits, kind_in, code_in, step_in}
+use Rattle.lj_book.specs.inner.Words.{number_in, many_in}
+use Rattle.lj_book.specs.inner.Records.{lemma_lits, kind_in, step_in}
 use Rattle.lj_book.proofs.RecordLaws.{step_at, step_at-is}
 use Rattle.lj_book.specs.inner.StepLines.{kept_as_written, entry_text, entry_greatest, ends_proof, Remains}
 
@@ -119,6 +119,13 @@ given_as s t x y w e = subst (λ z. WasGiven s z t) e w
 pub remains_as : (s t : WordState) (whole x y : List ℕ) → Remains s whole t x → x ≡ y → Remains s whole t y
 remains_as s t whole x y r e = subst (λ z. Remains s whole t z) e r
 
+-- what is read before a loop
+pub all_left : {A : Type 0} (one : List ℕ → A × List ℕ) (n m : ℕ) (ws us : List ℕ) → n ≡ m → ws ≡ us → many_in one (n - 0) ws ≡ many_in one m us
+all_left one n m ws us e f = (λ i. many_in one (none i) (f i))
+  where
+    none : n - 0 ≡ m
+    none = omega (arith, e)
+
 -- ---- the literals that a lemma is kept by
 
 -- its pivot, and then the others
@@ -157,8 +164,8 @@ entry_next lits words starts i n lt = ap (λ xs. text_after n (up_to_empty (filt
     (drop-cons starts i 0 lt ∙ (λ j. get_or starts i 0 ∷ drop (sym (add-one i) j) starts))
 
 -- the step of an entry, by what stands behind its first number
-pub step_there : (lits : List ℤ) (words ws : List ℕ) (start head : ℕ) (rest : List ℕ) → ws ≡ drop start words → head ≡ (number_in ws).0 → rest ≡ (number_in ws).1 → step_in lits (kind_in head) (code_in head) rest ≡ step_at lits words start
+pub step_there : (lits : List ℤ) (words ws : List ℕ) (start head : ℕ) (rest : List ℕ) → ws ≡ drop start words → head ≡ (number_in ws).0 → rest ≡ (number_in ws).1 → step_in lits (kind_in head) rest ≡ step_at lits words start
 step_there lits words ws start head rest e f g =
-    (λ i. step_in lits (kind_in (f i)) (code_in (f i)) (g i))
-    ∙ ap (λ us. step_in lits (kind_in (number_in us).0) (code_in (number_in us).0) (number_in us).1) e
+    (λ i. step_in lits (kind_in (f i)) (g i))
+    ∙ ap (λ us. step_in lits (kind_in (number_in us).0) (number_in us).1) e
     ∙ sym (step_at-is lits words start)

@@ -5,7 +5,7 @@ use Rattle.std.specs.List.{list_any}
 use Rattle.std.proofs.lemmas.Bool.{or_parts}
 use Rattle.std.proofs.lemmas.Bool.Decides.{nat_tests}
 use Rattle.lj_clause.specs.Rat.{HintGroup}
-use Rattle.lj_book.specs.inner.Words.{long_mark, number_words, number_in, list_words, list_in, many_in, hint_group_words, grouped, hint_group_in, with_first, read_behind, long_in, Matches}
+use Rattle.lj_book.specs.inner.Words.{long_mark, number_words, number_in, list_words, list_in, many_in, hint_group_words, grouped, hint_group_in, hint_groups_words, hint_groups_in, with_first, read_behind, long_in, Matches}
 
 whole_of_halves : (n : ℕ) → n % 4294967296 + 4294967296 * (n / 4294967296) ≡ n
 whole_of_halves n = omega arith
@@ -39,11 +39,8 @@ group_back g ws =
     ∙ ap (λ (p : ℕ × List ℕ). grouped p.0 (list_in p.1)) (number_back g.candidate (list_words g.hints ++ ws))
     ∙ ap (grouped g.candidate) (list_back g.hints ws)
 
-pub numbers_back : (ns : List ℕ) (ws : List ℕ) → many_in number_in (length ns) (flat_map number_words ns ++ ws) ≡ (ns, ws)
-numbers_back = many_back number_in number_words number_back
-
-pub groups_back : (gs : List HintGroup) (ws : List ℕ) → many_in hint_group_in (length gs) (flat_map hint_group_words gs ++ ws) ≡ (gs, ws)
-groups_back = many_back hint_group_in hint_group_words group_back
+pub groups_back : (gs : List HintGroup) (ws : List ℕ) → hint_groups_in (hint_groups_words gs ++ ws) ≡ (gs, ws)
+groups_back = counted_back hint_group_in hint_group_words group_back
 
 -- ---- how long what was read is
 
@@ -86,9 +83,6 @@ one_more_read one front n rest = ap (λ xs. (xs, (many_in one n (one rest).1).1)
 
 pub number_then : (n : ℕ) (ws more : List ℕ) → number_in ((number_words n ++ ws) ++ more) ≡ (n, ws ++ more)
 number_then n ws more = ap number_in (append_assoc (number_words n) ws more) ∙ number_back n (ws ++ more)
-
-pub numbers_then : (ns ws more : List ℕ) → many_in number_in (length ns) ((flat_map number_words ns ++ ws) ++ more) ≡ (ns, ws ++ more)
-numbers_then ns ws more = ap (many_in number_in (length ns)) (append_assoc (flat_map number_words ns) ws more) ∙ numbers_back ns (ws ++ more)
 
 pub list_then : (ns ws more : List ℕ) → list_in ((list_words ns ++ ws) ++ more) ≡ (ns, ws ++ more)
 list_then ns ws more = ap list_in (append_assoc (list_words ns) ws more) ∙ list_back ns (ws ++ more)

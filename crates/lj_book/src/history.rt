@@ -12,7 +12,6 @@ ghost use Rattle.lj_book.specs.inner.Records.{lemma_lits, addition_numbers, bind
 mod lines;
 mod matching;
 mod reading;
-mod sizes;
 mod starts;
 mod writing;
 
@@ -27,11 +26,8 @@ use std::alloc::Global;
 use std::marker::Model;
 use writing::{put_addition, put_adopt, put_drop, put_drop_once, put_import, put_leave};
 
-/// How many kinds of entries the first number of one tells apart.
+/// How many kinds of entries the first number of one tells apart. The seat is multiplied by it there.
 const KINDS: u64 = 8;
-
-/// What the seat is multiplied by in that number.
-const SEATS: u64 = 16_777_216;
 
 const ADDITION: u64 = 0;
 

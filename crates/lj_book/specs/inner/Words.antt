@@ -51,6 +51,13 @@ grouped candidate read = (record { candidate = candidate; hints = read.0 }, read
 abbrev pub hint_group_in : List ℕ → HintGroup × List ℕ
 hint_group_in ws = grouped (number_in ws).0 (list_in (number_in ws).1)
 
+-- the words of a list of groups: those of its length, and then of each group
+abbrev pub hint_groups_words : List HintGroup → List ℕ
+hint_groups_words gs = number_words (length gs) ++ flat_map hint_group_words gs
+
+abbrev pub hint_groups_in : List ℕ → List HintGroup × List ℕ
+hint_groups_in ws = many_in hint_group_in (number_in ws).0 (number_in ws).1
+
 -- how many numbers stand in the words of a group, and in those of groups
 abbrev pub group_numbers : HintGroup → ℕ
 group_numbers g = 2 + length g.hints

@@ -8,12 +8,11 @@ ghost use Rattle.lj_text.specs.Needed.{if_some, up_to_empty};
 ghost use Rattle.lj_text.specs.StepText.{group_words, addition_text, text_after};
 ghost use Rattle.lj_text.specs.inner.Writing.{spaced_words};
 ghost use Rattle.lj_text.specs.WordWriting.{word_state, MayBeGiven, WasGiven};
-ghost use Rattle.lj_book.specs.inner.Words.{number_in, list_in, many_in, hint_group_in};
-ghost use Rattle.lj_book.specs.inner.Records.{lemma_lits, addition_in, kind_in, code_in, call_in, step_in, named_in, call_lits, lits_at, entries_in, AreWritten};
+ghost use Rattle.lj_book.specs.inner.Words.{number_in, list_in, hint_group_in, hint_groups_in};
+ghost use Rattle.lj_book.specs.inner.Records.{lemma_lits, addition_in, call_in, step_in, named_in, call_lits, lits_in, entries_in, AreWritten};
 ghost use Rattle.lj_book.specs.inner.StepLines.{kept_as_written, entry_text, entry_greatest, ends_proof};
 
-use super::reading::{added_literals, head_own, head_sizes, placed, words_from};
-use super::sizes::Sizes;
+use super::reading::{named, words_from};
 use super::starts::Starts;
 use super::{ADDITION, ADOPT, DROP, IMPORT, KINDS};
 use crate::words::{behind_list, number};
@@ -29,25 +28,7 @@ fn write_list<'a, W: Sink>(writer: &mut WordWriter, sink: &mut W, words: &'a [u3
         (word_state (W.taken sink.new) (W.failures sink.new) writer.new) }
     ensures rest { result.now ≡ (list_in words.now).1 }
 {
-    let (count, rest) = number(words);
-    write_numbers(writer, sink, count, rest)
-}
-
-/// Writes so many numbers at the front of the words, and answers what stands behind them.
-fn write_numbers<'a, W: Sink>(
-    writer: &mut WordWriter,
-    sink: &mut W,
-    count: u64,
-    words: &'a [u32],
-) -> &'a [u32]
-    requires { MayBeGiven (word_state (W.taken sink.old) (W.failures sink.old) writer.old) }
-
-    ensures given { WasGiven (word_state (W.taken sink.old) (W.failures sink.old) writer.old)
-        (spaced_words (map decimal (many_in number_in count words.now).0))
-        (word_state (W.taken sink.new) (W.failures sink.new) writer.new) }
-    ensures rest { result.now ≡ (many_in number_in count words.now).1 }
-{
-    let mut rest = words;
+    let (count, mut rest) = number(words);
     for _ in 0..count {
         let (next, after) = number(rest);
         writer.word(sink, LineWord::Number(next));
@@ -70,15 +51,15 @@ fn write_group<'a, W: Sink>(writer: &mut WordWriter, sink: &mut W, words: &'a [u
     write_list(writer, sink, rest)
 }
 
-/// Writes so many groups at the front of the words.
-fn write_groups<W: Sink>(writer: &mut WordWriter, sink: &mut W, count: u64, words: &[u32])
+/// Writes the list of groups at the front of the words.
+fn write_groups<W: Sink>(writer: &mut WordWriter, sink: &mut W, words: &[u32])
     requires { MayBeGiven (word_state (W.taken sink.old) (W.failures sink.old) writer.old) }
 
     ensures given { WasGiven (word_state (W.taken sink.old) (W.failures sink.old) writer.old)
-        (spaced_words (flat_map group_words (many_in hint_group_in count words.now).0))
+        (spaced_words (flat_map group_words (hint_groups_in words.now).0))
         (word_state (W.taken sink.new) (W.failures sink.new) writer.new) }
 {
-    let mut rest = words;
+    let (count, mut rest) = number(words);
     for _ in 0..count {
         rest = write_group(writer, sink, rest);
     }
@@ -114,30 +95,29 @@ fn write_literals<W: Sink>(writer: &mut WordWriter, sink: &mut W, literals: &[Li
     }
 }
 
-/// Writes the line of the addition of these sizes behind its own number, and answers its number.
+/// Writes the line of the addition behind its own number, and answers its number.
 fn write_addition<W: Sink>(
     writer: &mut WordWriter,
     sink: &mut W,
     lits: &[Lit],
-    sizes: Sizes,
     words: &[u32],
 ) -> u64
     requires may { MayBeGiven (word_state (W.taken sink.old) (W.failures sink.old) writer.old) }
-    requires named { lits_at lits.now sizes.lits (number_in words.now).1
-        ≡ lemma_lits (addition_in lits.now sizes words.now).lemma }
+    requires named { lits_in lits.now (number_in words.now).1
+        ≡ lemma_lits (addition_in lits.now words.now).lemma }
 
     ensures given { WasGiven (word_state (W.taken sink.old) (W.failures sink.old) writer.old)
-        (addition_text (addition_in lits.now sizes words.now))
+        (addition_text (addition_in lits.now words.now))
         (word_state (W.taken sink.new) (W.failures sink.new) writer.new) }
-    ensures number { result ≡ (addition_in lits.now sizes words.now).number }
+    ensures number { result ≡ (addition_in lits.now words.now).number }
 {
     let (joint, rest) = number(words);
-    let (literals, rest) = placed(lits, sizes.lits, rest);
+    let (literals, rest) = named(lits, rest);
     writer.begin_line(sink, joint);
     write_literals(writer, sink, literals);
     writer.word(sink, LineWord::End);
-    let rest = write_numbers(writer, sink, sizes.hints, rest);
-    write_groups(writer, sink, sizes.groups, rest);
+    let rest = write_list(writer, sink, rest);
+    write_groups(writer, sink, rest);
     writer.word(sink, LineWord::End);
     writer.end_line(sink);
     joint
@@ -162,31 +142,29 @@ fn write_deletion<W: Sink>(writer: &mut WordWriter, sink: &mut W, greatest: u64,
     writer.end_line(sink);
 }
 
-/// Writes the line of the step of an entry, behind its first number, the head, if there is a step. A deletion begins with
+/// Writes the line of the step of a kind, behind the first number of its entry, if there is a step. A deletion begins with
 /// the number `greatest`. Answers the greater of that and the number of an addition.
 fn write_step<W: Sink>(
     writer: &mut WordWriter,
     sink: &mut W,
     greatest: u64,
     lits: &[Lit],
-    head: u64,
+    kind: u64,
     words: &[u32],
 ) -> u64
     requires may { MayBeGiven (word_state (W.taken sink.old) (W.failures sink.old) writer.old) }
-    requires named { named_in lits.now (kind_in head) (code_in head) words.now
-        ≡ call_lits (call_in lits.now (kind_in head) (code_in head) words.now) }
+    requires named { named_in lits.now kind words.now
+        ≡ call_lits (call_in lits.now kind words.now) }
 
     ensures given { WasGiven (word_state (W.taken sink.old) (W.failures sink.old) writer.old)
-        (entry_text greatest (step_in lits.now (kind_in head) (code_in head) words.now))
+        (entry_text greatest (step_in lits.now kind words.now))
         (word_state (W.taken sink.new) (W.failures sink.new) writer.new) }
-    ensures greatest { result
-        ≡ entry_greatest greatest (step_in lits.now (kind_in head) (code_in head) words.now) }
+    ensures greatest { result ≡ entry_greatest greatest (step_in lits.now kind words.now) }
 {
-    match head % KINDS {
+    match kind {
         ADDITION => {
-            let (sizes, rest) = head_sizes(head, words);
-            let (_, rest) = head_own(head, rest);
-            greatest.max(write_addition(writer, sink, lits, sizes, rest))
+            let (_, rest) = number(words);
+            greatest.max(write_addition(writer, sink, lits, rest))
         }
         DROP => {
             write_deletion(writer, sink, greatest, behind_list(words));
@@ -200,16 +178,18 @@ fn write_step<W: Sink>(
     }
 }
 
-/// Whether the step of an entry, behind its first number, the head, adds the empty clause.
-fn ends_proof(lits: &[Lit], head: u64, words: &[u32]) -> bool
-    requires { named_in lits.now (kind_in head) (code_in head) words.now
-        ≡ call_lits (call_in lits.now (kind_in head) (code_in head) words.now) }
-    ensures { result ≡ ends_proof (step_in lits.now (kind_in head) (code_in head) words.now) }
+/// Whether the step of a kind, behind the first number of its entry, adds the empty clause.
+fn ends_proof(lits: &[Lit], kind: u64, words: &[u32]) -> bool
+    requires { named_in lits.now kind words.now ≡ call_lits (call_in lits.now kind words.now) }
+    ensures { result ≡ ends_proof (step_in lits.now kind words.now) }
 {
-    if head % KINDS != ADDITION {
+    if kind != ADDITION {
         return false;
     }
-    added_literals(lits, head, words).is_empty()
+    let (_, rest) = number(words);
+    let (_, rest) = number(rest);
+    let (literals, _) = named(lits, rest);
+    literals.is_empty()
 }
 
 /// Writes the lines of the steps of the entries that begin at these places, up to and including the first addition of the
@@ -233,8 +213,9 @@ pub(super) fn write_entries<W: Sink>(
     let mut greatest = clauses;
     for index in 0..starts.len() {
         let (head, rest) = number(words_from(words, starts.at(index)));
-        greatest = write_step(writer, sink, greatest, lits, head, rest);
-        if ends_proof(lits, head, rest) {
+        let kind = head % KINDS;
+        greatest = write_step(writer, sink, greatest, lits, kind, rest);
+        if ends_proof(lits, kind, rest) {
             return;
         }
     }

@@ -2,15 +2,14 @@
 ghost use Rattle.std.specs.Prelude.{◌≡◌, ◌↔◌, ◌<◌, IsTrue};
 ghost use Rattle.lj_clause.specs.LiteralSet.{literals, from_literals};
 ghost use Rattle.lj_text.specs.Needed.{if_some};
-ghost use Rattle.lj_book.specs.inner.Words.{number_in, list_in, many_in, hint_group_in};
-ghost use Rattle.lj_book.specs.inner.Records.{lemma_lits, lits_at, lits_in, call_lits, addition_in, sizes_in, sized_addition, sized_lits, sized_call, kind_in, code_in, call_in, step_in, entry_in, read_in, named_in};
+ghost use Rattle.lj_book.specs.inner.Words.{number_in, list_in, hint_groups_in};
+ghost use Rattle.lj_book.specs.inner.Records.{lemma_lits, lits_in, call_lits, addition_in, call_in, step_in, entry_in, read_in, named_in};
 
-use super::reading::{head_own, head_sizes, named, placed};
-use super::sizes::Sizes;
-use super::{ADDITION, ADOPT, DROP, DROP_ONCE, IMPORT, KINDS, SEATS};
+use super::reading::named;
+use super::{ADDITION, ADOPT, DROP, DROP_ONCE, IMPORT, KINDS};
 use crate::entry::{Call, Entry};
 use crate::same::same_lemma;
-use crate::words::{are_groups, are_numbers, list_matches, number, numbers_match};
+use crate::words::{groups_match, list_matches, number, numbers_match};
 use lj_clause::{Lemma, Lit};
 use lj_text::{Addition, Step};
 
@@ -34,27 +33,25 @@ pub(super) fn same_lits(lits: &[Lit], others: &[Lit]) -> bool
     lits == others
 }
 
-/// Whether the hints and the groups at the front of the words, so many, are those of the addition.
-fn are_hints_of(sizes: Sizes, words: &[u32], addition: &Addition) -> bool
-    ensures { IsTrue result
-        ↔ (((many_in number_in sizes.hints words.now).0 ≡ addition.now.hints)
-        × ((many_in hint_group_in sizes.groups (many_in number_in sizes.hints words.now).1).0
-        ≡ addition.now.groups)) }
+/// Whether the hints and the groups at the front of the words are those of the addition.
+fn are_hints_of(words: &[u32], addition: &Addition) -> bool
+    ensures { IsTrue result ↔ (((list_in words.now).0 ≡ addition.now.hints)
+        × ((hint_groups_in (list_in words.now).1).0 ≡ addition.now.groups)) }
 {
-    match are_numbers(words, sizes.hints, &addition.hints) {
-        Some(rest) => are_groups(rest, sizes.groups, &addition.groups).is_some(),
+    match list_matches(words, &addition.hints) {
+        Some(rest) => groups_match(rest, &addition.groups).is_some(),
         None => false,
     }
 }
 
-/// Whether the addition of these sizes behind its own number is this one.
-fn is_added(lits: &[Lit], sizes: Sizes, words: &[u32], addition: &Addition) -> bool
-    requires { lits_at lits.now sizes.lits (number_in words.now).1
-        ≡ lemma_lits (addition_in lits.now sizes words.now).lemma }
-    ensures { IsTrue result ↔ (addition_in lits.now sizes words.now ≡ addition.now) }
+/// Whether the addition behind its own number is this one.
+fn is_added(lits: &[Lit], words: &[u32], addition: &Addition) -> bool
+    requires { lits_in lits.now (number_in words.now).1
+        ≡ lemma_lits (addition_in lits.now words.now).lemma }
+    ensures { IsTrue result ↔ (addition_in lits.now words.now ≡ addition.now) }
 {
     let (joint, rest) = number(words);
-    let (literals, rest) = placed(lits, sizes.lits, rest);
+    let (literals, rest) = named(lits, rest);
     let _ = addition.lemma.pivot();
     if joint != addition.number {
         return false;
@@ -62,24 +59,20 @@ fn is_added(lits: &[Lit], sizes: Sizes, words: &[u32], addition: &Addition) -> b
     if !are_of_lemma(literals, &addition.lemma) {
         return false;
     }
-    are_hints_of(sizes, rest, addition)
+    are_hints_of(rest, addition)
 }
 
-/// Whether the words behind the head of an addition are those of this call and this step.
-fn is_addition(lits: &[Lit], head: u64, words: &[u32], call: &Call, step: &Option<Step>) -> bool
-    requires { sized_lits lits.now (code_in head) (sizes_in (code_in head) words.now)
-        ≡ lemma_lits
-        (sized_addition lits.now (code_in head) (sizes_in (code_in head) words.now)).lemma }
-    ensures { IsTrue result ↔ ((call_in lits.now 0 (code_in head) words.now ≡ call.now)
-        × (step_in lits.now 0 (code_in head) words.now ≡ step.now)) }
+/// Whether the words behind the first number of an addition are those of this call and this step.
+fn is_addition(lits: &[Lit], words: &[u32], call: &Call, step: &Option<Step>) -> bool
+    requires { lits_in lits.now (number_in (number_in words.now).1).1
+        ≡ lemma_lits (addition_in lits.now (number_in words.now).1).lemma }
+    ensures { IsTrue result
+        ↔ ((call_in lits.now 0 words.now ≡ call.now) × (step_in lits.now 0 words.now ≡ step.now)) }
 {
-    let (sizes, rest) = head_sizes(head, words);
-    let (found, rest) = head_own(head, rest);
+    let (found, rest) = number(words);
     match (call, step) {
         (Call::Add { own, lemma }, Some(Step::Add(addition))) => {
-            found == *own
-                && same_lemma(lemma, &addition.lemma)
-                && is_added(lits, sizes, rest, addition)
+            found == *own && same_lemma(lemma, &addition.lemma) && is_added(lits, rest, addition)
         }
         _ => false,
     }
@@ -100,8 +93,8 @@ fn is_deletion(words: &[u32], step: &Option<Step>) -> bool
 
 /// Whether the words behind the first number of a drop are those of this call and this step.
 fn is_drop(lits: &[Lit], words: &[u32], call: &Call, step: &Option<Step>) -> bool
-    ensures { IsTrue result ↔ ((call_in lits.now 1 0 words.now ≡ call.now)
-        × (step_in lits.now 1 0 words.now ≡ step.now)) }
+    ensures { IsTrue result ↔ ((call_in lits.now 1 words.now ≡ call.now)
+        × (step_in lits.now 1 words.now ≡ step.now)) }
 {
     let Call::Drop { numbers } = call else {
         return false;
@@ -114,8 +107,8 @@ fn is_drop(lits: &[Lit], words: &[u32], call: &Call, step: &Option<Step>) -> boo
 
 /// Whether the words behind the first number of a drop whose numbers stand once are those of this call and this step.
 fn is_drop_once(lits: &[Lit], words: &[u32], call: &Call, step: &Option<Step>) -> bool
-    ensures { IsTrue result ↔ ((call_in lits.now 5 0 words.now ≡ call.now)
-        × (step_in lits.now 5 0 words.now ≡ step.now)) }
+    ensures { IsTrue result ↔ ((call_in lits.now 5 words.now ≡ call.now)
+        × (step_in lits.now 5 words.now ≡ step.now)) }
 {
     let Call::Drop { numbers } = call else {
         return false;
@@ -128,8 +121,8 @@ fn is_drop_once(lits: &[Lit], words: &[u32], call: &Call, step: &Option<Step>) -
 
 /// Whether the words behind the first number of an adoption are those of this call and this step.
 fn is_adoption(lits: &[Lit], words: &[u32], call: &Call, step: &Option<Step>) -> bool
-    ensures { IsTrue result ↔ ((call_in lits.now 2 0 words.now ≡ call.now)
-        × (step_in lits.now 2 0 words.now ≡ step.now)) }
+    ensures { IsTrue result ↔ ((call_in lits.now 2 words.now ≡ call.now)
+        × (step_in lits.now 2 words.now ≡ step.now)) }
 {
     let (found, rest) = number(words);
     let (bound, _) = number(rest);
@@ -143,11 +136,11 @@ fn is_adoption(lits: &[Lit], words: &[u32], call: &Call, step: &Option<Step>) ->
 fn is_import(lits: &[Lit], words: &[u32], call: &Call, step: &Option<Step>) -> bool
     requires { lits_in lits.now (number_in words.now).1
         ≡ literals (from_literals (lits_in lits.now (number_in words.now).1)) }
-    ensures { IsTrue result ↔ ((call_in lits.now 3 0 words.now ≡ call.now)
-        × (step_in lits.now 3 0 words.now ≡ step.now)) }
+    ensures { IsTrue result ↔ ((call_in lits.now 3 words.now ≡ call.now)
+        × (step_in lits.now 3 words.now ≡ step.now)) }
 {
     let (found, rest) = number(words);
-    let literals = named(lits, rest);
+    let (literals, _) = named(lits, rest);
     let Call::Import { own, clause } = call else {
         return false;
     };
@@ -160,16 +153,14 @@ fn is_import(lits: &[Lit], words: &[u32], call: &Call, step: &Option<Step>) -> b
     step.is_none()
 }
 
-/// Whether the words behind the head of an entry are those of this call and this step.
-fn is_behind(lits: &[Lit], head: u64, words: &[u32], call: &Call, step: &Option<Step>) -> bool
-    requires { named_in lits.now (kind_in head) (code_in head) words.now
-        ≡ call_lits (call_in lits.now (kind_in head) (code_in head) words.now) }
-    ensures { IsTrue result
-        ↔ ((call_in lits.now (kind_in head) (code_in head) words.now ≡ call.now)
-        × (step_in lits.now (kind_in head) (code_in head) words.now ≡ step.now)) }
+/// Whether the words behind the first number of an entry of a kind are those of this call and this step.
+fn is_of_kind(lits: &[Lit], kind: u64, words: &[u32], call: &Call, step: &Option<Step>) -> bool
+    requires { named_in lits.now kind words.now ≡ call_lits (call_in lits.now kind words.now) }
+    ensures { IsTrue result ↔ ((call_in lits.now kind words.now ≡ call.now)
+        × (step_in lits.now kind words.now ≡ step.now)) }
 {
-    match head % KINDS {
-        ADDITION => is_addition(lits, head, words, call, step),
+    match kind {
+        ADDITION => is_addition(lits, words, call, step),
         DROP => is_drop(lits, words, call, step),
         DROP_ONCE => is_drop_once(lits, words, call, step),
         ADOPT => is_adoption(lits, words, call, step),
@@ -186,5 +177,6 @@ pub(super) fn is_entry(lits: &[Lit], words: &[u32], entry: &Entry) -> bool
     ensures { IsTrue result ↔ (entry_in lits.now words.now ≡ entry.now) }
 {
     let (head, rest) = number(words);
-    head / SEATS == u64::from(entry.seat) && is_behind(lits, head, rest, &entry.call, &entry.step)
+    head / KINDS == u64::from(entry.seat)
+        && is_of_kind(lits, head % KINDS, rest, &entry.call, &entry.step)
 }

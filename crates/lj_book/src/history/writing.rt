@@ -3,10 +3,9 @@ ghost use Rattle.std.specs.Prelude.{◌≡◌, ◌+◌, ◌*◌, ◌<◌, ◌≤
 ghost use Rattle.lj_clause.specs.LiteralSet.{literals};
 ghost use Rattle.lj_book.specs.inner.Records.{lemma_lits, head_words, add_words, drop_words, drop_once_words, adopt_words, import_words, leave_words, addition_numbers};
 
-use super::sizes::{own_code, put_own, put_sizes, size_code, sizes_of};
-use super::{ADDITION, ADOPT, DROP, DROP_ONCE, IMPORT, KINDS, LEAVE, SEATS};
+use super::{ADDITION, ADOPT, DROP, DROP_ONCE, IMPORT, KINDS, LEAVE};
 use crate::lent_addition::LentAddition;
-use crate::words::{put_all, put_groups, put_list, put_number, put_numbers};
+use crate::words::{put_groups, put_list, put_number, put_numbers};
 use lj_clause::{Clause, Lit};
 use lj_text::Numbers;
 
@@ -16,13 +15,13 @@ const FEW: usize = 8;
 /// Puts the first number of an entry behind the words, which have room for it.
 #[inline]
 pub(super) fn put_head(words: &mut Vec<u32>, seat: u32, kind: u64)
-    requires kind { kind < 16777216 }
+    requires kind { kind < 8 }
     requires room { vec_len words.old + 3 ≤ vec_capacity words.old }
     ensures words { words.new.items ≡ words.old.items ++ head_words seat kind }
     ensures len { vec_len words.new ≤ vec_len words.old + 3 }
     ensures capacity { vec_capacity words.old ≤ vec_capacity words.new }
 {
-    put_number(words, SEATS * u64::from(seat) + kind);
+    put_number(words, KINDS * u64::from(seat) + kind);
 }
 
 /// Puts the literals of a lemma behind the others, which have room for them: its pivot first.
@@ -71,14 +70,13 @@ pub(super) fn put_addition(
 {
     let at = lits.len();
     put_lemma(lits, step);
-    let sizes = sizes_of(step);
-    let code = size_code(sizes) + own_code(own, step.number);
-    put_head(words, seat, KINDS * code + ADDITION);
-    put_sizes(words, sizes);
-    put_own(words, own, step.number);
+    let count = lits.len() - at;
+    put_head(words, seat, ADDITION);
+    put_number(words, own);
     put_number(words, step.number);
     put_number(words, at as u64);
-    put_all(words, step.hints);
+    put_number(words, count as u64);
+    put_list(words, step.hints);
     put_groups(words, step.groups);
 }
 

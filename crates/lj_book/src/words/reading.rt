@@ -1,6 +1,6 @@
 //! Numbers that are read from words.
 ghost use Rattle.std.specs.Prelude.{◌≡◌, ◌≢◌, [], IfOk, OnErr};
-ghost use Rattle.lj_book.specs.inner.Words.{long_in, number_in, list_in, many_in, hint_group_in};
+ghost use Rattle.lj_book.specs.inner.Words.{long_in, number_in, list_in, hint_group_in, hint_groups_in};
 
 use super::LONG_MARK;
 use lj_clause::NoMemory;
@@ -44,7 +44,7 @@ pub(crate) fn behind_list(words: &[u32]) -> &[u32]
     rest
 }
 
-/// The list of numbers at the front of the words, and what stands behind it.
+/// The list of numbers at the front of the words, and what stands behind it. Takes time linear in how many they are.
 ///
 /// # Errors
 /// [`NoMemory`] where a growth was refused, and only where there is a number.
@@ -54,27 +54,11 @@ pub(crate) fn list(alloc: Global, words: &[u32]) -> Result<(Numbers, &[u32]), No
     ensures some { OnErr result ((list_in words.now).0 ≢ []) }
 {
     let (count, behind) = number(words);
-    numbers(alloc, count, behind)
-}
-
-/// So many numbers at the front of the words, and what stands behind them. Takes time linear in how many they are.
-///
-/// # Errors
-/// [`NoMemory`] where a growth was refused, and only where there is a number.
-pub(crate) fn numbers(
-    alloc: Global,
-    count: u64,
-    words: &[u32],
-) -> Result<(Numbers, &[u32]), NoMemory>
-    ensures list { IfOk result (λ read. read.0 ≡ (many_in number_in count words.now).0) }
-    ensures rest { IfOk result (λ read. read.1.now ≡ (many_in number_in count words.now).1) }
-    ensures some { OnErr result ((many_in number_in count words.now).0 ≢ []) }
-{
     if count == 0 {
-        return Ok((Numbers::new(Vec::new(alloc)), words));
+        return Ok((Numbers::new(Vec::new(alloc)), behind));
     }
     let mut list = Numbers::with_capacity(alloc, count as usize)?;
-    let mut rest = words;
+    let mut rest = behind;
     for _ in 0..count {
         let (next, after) = number(rest);
         list.push(next)?;
@@ -96,15 +80,15 @@ fn group(alloc: Global, words: &[u32]) -> Result<(Group, &[u32]), NoMemory>
     Ok((Group { candidate, hints }, rest))
 }
 
-/// So many groups at the front of the words. Takes time linear in the groups and their hints.
+/// The list of groups at the front of the words. Takes time linear in the groups and their hints.
 ///
 /// # Errors
 /// [`NoMemory`] where a growth was refused.
-pub(crate) fn groups(alloc: Global, count: u64, words: &[u32]) -> Result<Groups, NoMemory>
-    ensures { IfOk result (λ groups. groups ≡ (many_in hint_group_in count words.now).0) }
+pub(crate) fn groups(alloc: Global, words: &[u32]) -> Result<Groups, NoMemory>
+    ensures { IfOk result (λ groups. groups ≡ (hint_groups_in words.now).0) }
 {
     let mut groups = Groups::new(alloc);
-    let mut rest = words;
+    let (count, mut rest) = number(words);
     for _ in 0..count {
         let (next, after) = group(alloc, rest)?;
         groups.push(next.candidate, next.hints.iter())?;

@@ -1,6 +1,6 @@
 //! Numbers that are written as words.
 ghost use Rattle.std.specs.Prelude.{◌≡◌, ◌+◌, ◌*◌, ◌/◌, ◌%◌, ◌≤◌, ◌++◌, ◌∷◌, [], length, flat_map, vec_len, vec_capacity};
-ghost use Rattle.lj_book.specs.inner.Words.{long_mark, number_words, list_words, hint_group_words, group_numbers, groups_numbers};
+ghost use Rattle.lj_book.specs.inner.Words.{long_mark, number_words, list_words, hint_group_words, hint_groups_words, group_numbers, groups_numbers};
 
 use super::LONG_MARK;
 use lj_text::{Groups, LentGroup, Numbers, NumbersIter};
@@ -78,17 +78,6 @@ pub(crate) fn put_list(words: &mut Vec<u32>, numbers: &Numbers)
     ensures capacity { vec_capacity words.old ≤ vec_capacity words.new }
 {
     put_number(words, numbers.len() as u64);
-    put_all(words, numbers);
-}
-
-/// Puts numbers behind the words, which have room for them.
-#[inline(always)]
-pub(crate) fn put_all(words: &mut Vec<u32>, numbers: &Numbers)
-    requires { vec_len words.old + 3 * length numbers.now ≤ vec_capacity words.old }
-    ensures words { words.new.items ≡ words.old.items ++ flat_map number_words numbers.now }
-    ensures len { vec_len words.new ≤ vec_len words.old + 3 * length numbers.now }
-    ensures capacity { vec_capacity words.old ≤ vec_capacity words.new }
-{
     if let Some(short) = numbers.as_short() {
         put_short(words, short);
         return;
@@ -134,13 +123,14 @@ fn put_group(words: &mut Vec<u32>, group: LentGroup<'_>)
     put_left(words, group.hints);
 }
 
-/// Puts groups behind the words, which have room for them. Takes time linear in the groups and their hints.
+/// Puts a list of groups behind the words, which have room for it. Takes time linear in the groups and their hints.
 pub(crate) fn put_groups(words: &mut Vec<u32>, groups: &Groups)
-    requires { vec_len words.old + 3 * groups_numbers groups.now ≤ vec_capacity words.old }
-    ensures words { words.new.items ≡ words.old.items ++ flat_map hint_group_words groups.now }
-    ensures len { vec_len words.new ≤ vec_len words.old + 3 * groups_numbers groups.now }
+    requires { vec_len words.old + 3 * (1 + groups_numbers groups.now) ≤ vec_capacity words.old }
+    ensures words { words.new.items ≡ words.old.items ++ hint_groups_words groups.now }
+    ensures len { vec_len words.new ≤ vec_len words.old + 3 * (1 + groups_numbers groups.now) }
     ensures capacity { vec_capacity words.old ≤ vec_capacity words.new }
 {
+    put_number(words, groups.len() as u64);
     for group in groups.iter() {
         put_group(words, group);
     }

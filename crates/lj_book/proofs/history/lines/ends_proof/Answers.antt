@@ -1,6 +1,7 @@
 use Rattle.std.proofs.Common.{◌≡◌, ℕ, ℤ, List, ap, sym, ◌∙◌, length}
 use Rattle.std.specs.Prelude.{◌==◌}
-use Rattle.lj_book.specs.inner.Records.{kind_in, code_in, sizes_in, sized_lits, step_in}
+use Rattle.lj_book.specs.inner.Words.{number_in}
+use Rattle.lj_book.specs.inner.Records.{lits_in, step_in}
 use Rattle.lj_book.specs.inner.StepLines.{ends_proof}
 use Rattle.lj_book.proofs.StepLineLemmas.{kept_none}
 use Rattle.lj_book.proofs.history.lines.ends_proof.Goals as goal
@@ -9,6 +10,8 @@ pub returns : goal.returns
 returns c =
     let ls : List ℤ = c.args.lits.now in
     let ws : List ℕ = c.args.words.now in
-    let kept : List ℤ = sized_lits ls (code_in c.args.head) (sizes_in (code_in c.args.head) ws) in
-    let kind : kind_in c.args.head ≡ 0 = c.if-head-ne-ADDITION.false in
-    c.is_empty.ensures ∙ ap (λ ys. length ys == 0) c.added_literals.ensures ∙ kept_none kept ∙ ap (λ k. ends_proof (step_in ls k (code_in c.args.head) ws)) (sym kind)
+    let kept : List ℤ = lits_in ls (number_in (number_in ws).1).1 in
+    let is : c.named.result.0.now ≡ kept =
+    c.named.ensures.lits ∙ ap (lits_in ls) (c.number-2.ensures.rest ∙ ap (λ us. (number_in us).1) c.number.ensures.rest) in
+    let kind : c.args.kind ≡ 0 = c.if-kind-ne-ADDITION.false in
+    c.is_empty.ensures ∙ ap (λ ys. length ys == 0) is ∙ kept_none kept ∙ ap (λ k. ends_proof (step_in ls k ws)) (sym kind)

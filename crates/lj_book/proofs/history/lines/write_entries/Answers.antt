@@ -4,7 +4,7 @@ use Rattle.std.proofs.Math.ListN.{drop_of_length-le}
 use Rattle.lj_text.specs.declared.step.Step.{Step}
 use Rattle.lj_text.specs.Needed.{up_to_empty}
 use Rattle.lj_text.specs.StepText.{text_after}
-use Rattle.lj_book.specs.inner.Records.{kind_in, code_in, step_in}
+use Rattle.lj_book.specs.inner.Records.{kind_in, step_in}
 use Rattle.lj_book.specs.inner.StepLines.{entry_text, entry_greatest, ends_proof}
 use Rattle.lj_book.proofs.RecordLaws.{step_at, steps_at}
 use Rattle.lj_book.proofs.StepLineLemmas.{given_as, remains_less, remains_none, remains_as, line_more, line_last, entry_next, step_there}
@@ -19,7 +19,7 @@ returns-then-ends_proof g c =
     let n : ℕ = c.loop-index.greatest in
     let lt : i < length ss = omega (arith, c.len-index-end.ensures.len, c.loop-index-test.true) in
     let left : List Step = filter_map (step_at ls ws) (drop (i + 1) ss) in
-    let there : step_in ls (kind_in c.number-head.result.0) (code_in c.number-head.result.0) c.number-head.result.1.now ≡ step_at ls ws (get_or ss i 0) =
+    let there : step_in ls (kind_in c.number-head.result.0) c.number-head.result.1.now ≡ step_at ls ws (get_or ss i 0) =
     step_there ls ws _ _ _ _ (c.words_from.ensures ∙ ap (λ (k : ℕ). drop k ws) c.at.ensures) c.number-head.ensures.number c.number-head.ensures.rest in
     let ends : ends_proof (step_at ls ws (get_or ss i 0)) ≡ true = ap ends_proof (sym there) ∙ sym c.ends_proof.ensures ∙ c.if-ends_proof.true in
     record {
@@ -39,7 +39,7 @@ loop-index-preserved g c =
     let n : ℕ = c.loop-index.greatest in
     let lt : i < length ss = omega (arith, c.len-index-end.ensures.len, c.loop-index-test.true) in
     let left : List Step = filter_map (step_at ls ws) (drop (i + 1) ss) in
-    let there : step_in ls (kind_in c.number-head.result.0) (code_in c.number-head.result.0) c.number-head.result.1.now ≡ step_at ls ws (get_or ss i 0) =
+    let there : step_in ls (kind_in c.number-head.result.0) c.number-head.result.1.now ≡ step_at ls ws (get_or ss i 0) =
     step_there ls ws _ _ _ _ (c.words_from.ensures ∙ ap (λ (k : ℕ). drop k ws) c.at.ensures) c.number-head.ensures.number c.number-head.ensures.rest in
     let goes_on : ends_proof (step_at ls ws (get_or ss i 0)) ≡ false = ap ends_proof (sym there) ∙ sym c.ends_proof.ensures ∙ c.if-ends_proof.false in
     record {

@@ -1,16 +1,23 @@
-use Rattle.std.proofs.Common.{◌≡◌, ap, sym, ◌∙◌, ◌+◌, ◌-◌, ◌++◌, ℕ, suc, arith}
+use Rattle.std.proofs.Common.{◌≡◌, ap, sym, ◌∙◌, ◌+◌, ◌-◌, ◌++◌, ℕ, suc, arith, List}
 use Rattle.std.specs.Prelude.{flat_map}
 use Rattle.lj_text.specs.StepText.{group_words}
 use Rattle.lj_text.specs.inner.Writing.{spaced_words}
-use Rattle.lj_book.specs.inner.Words.{hint_group_in, many_in}
+use Rattle.lj_book.specs.inner.Words.{hint_group_in, hint_groups_in, many_in}
+use Rattle.lj_clause.specs.Rat.{HintGroup}
 use Rattle.lj_text.proofs.WrittenWords.{spaced_words-append}
-use Rattle.lj_book.proofs.StepLineLemmas.{remains_less}
+use Rattle.lj_book.proofs.StepLineLemmas.{all_left, remains_all, remains_as, remains_less}
 use Rattle.lj_book.proofs.history.lines.write_groups.Goals as goal
+
+pub loop-init : goal.loop-init
+loop-init g c =
+    let ws : List ℕ = c.args.words.now in
+    let is : many_in hint_group_in (c.number-count.result.0 - 0) c.number-count.result.1.now ≡ hint_groups_in ws = all_left hint_group_in _ _ _ _ c.number-count.ensures.number c.number-count.ensures.rest in
+    record { remains = remains_as _ _ _ _ _ (remains_all _ _) (ap (λ (p : List HintGroup × List ℕ). spaced_words (flat_map group_words p.0)) (sym is)) }
 
 pub loop-preserved : goal.loop-preserved
 loop-preserved g c =
-    let n : ℕ = c.args.count - (c.loop.counter + 1) in
-    let left : c.args.count - c.loop.counter ≡ suc n = omega (arith, c.loop-test.true) in
+    let n : ℕ = c.number-count.result.0 - (c.loop.counter + 1) in
+    let left : c.number-count.result.0 - c.loop.counter ≡ suc n = omega (arith, c.loop-test.true) in
     record {
       remains = remains_less _ _ _ _ _ _ _ c.loop.invariant.remains
           (ap (λ k. spaced_words (flat_map group_words (many_in hint_group_in k c.loop.rest.now).0)) left

@@ -1,9 +1,8 @@
 use Rattle.std.proofs.Common.{◌≡◌, ap, sym, ◌∙◌, rules}
 use Rattle.std.specs.Prelude.{ℤ, List, ℕ}
 use Rattle.lj_text.specs.declared.line.Addition.{Addition}
-use Rattle.lj_book.specs.declared.history.sizes.Sizes.{Sizes}
-use Rattle.lj_book.specs.inner.Words.{number_in, many_in, hint_group_in}
-use Rattle.lj_book.specs.inner.Records.{lits_at, lemma_lits}
+use Rattle.lj_book.specs.inner.Words.{number_in, list_in, hint_groups_in}
+use Rattle.lj_book.specs.inner.Records.{lits_in, behind_lits, lemma_lits}
 use Rattle.lj_book.proofs.RecordLaws.{same_addition}
 use Rattle.lj_book.proofs.history.matching.is_added.Goals as goal
 
@@ -11,18 +10,17 @@ pub returns : goal.returns
 returns c =
     let ls : List ℤ = c.args.lits.now in
     let ws : List ℕ = c.args.words.now in
-    let s : Sizes = c.args.sizes in
     let a : Addition = c.args.addition.now in
     let number : (number_in ws).0 ≡ a.number = sym c.number-joint.ensures.number ∙ c.if-joint-addition.false in
-    let same : lits_at ls s.lits (number_in ws).1 ≡ lemma_lits a.lemma = search rules in
-    let rest : c.placed.result.1.now ≡ (number_in (number_in ws).1).1 = c.placed.ensures.rest ∙ ap (λ us. (number_in us).1) c.number-joint.ensures.rest in (
+    let same : lits_in ls (number_in ws).1 ≡ lemma_lits a.lemma = search rules in
+    let rest : c.named.result.1.now ≡ behind_lits (number_in ws).1 = c.named.ensures.rest ∙ ap behind_lits c.number-joint.ensures.rest in (
       λ yes.
-          same_addition ls s ws a c.pivot.ensures.lemma number same
-          (ap (λ us. (many_in number_in s.hints us).0) (sym rest) ∙ (c.are_hints_of.ensures.0 yes).0)
-          (ap (λ us. (many_in hint_group_in s.groups (many_in number_in s.hints us).1).0) (sym rest) ∙ (c.are_hints_of.ensures.0 yes).1),
+          same_addition ls ws a c.pivot.ensures.lemma number same
+          (ap (λ us. (list_in us).0) (sym rest) ∙ (c.are_hints_of.ensures.0 yes).0)
+          (ap (λ us. (hint_groups_in (list_in us).1).0) (sym rest) ∙ (c.are_hints_of.ensures.0 yes).1),
       λ e.
           c.are_hints_of.ensures.1 (
-            ap (λ us. (many_in number_in s.hints us).0) rest ∙ ap (λ b. b.hints) e,
-            ap (λ us. (many_in hint_group_in s.groups (many_in number_in s.hints us).1).0) rest ∙ ap (λ b. b.groups) e,
+            ap (λ us. (list_in us).0) rest ∙ ap (λ b. b.hints) e,
+            ap (λ us. (hint_groups_in (list_in us).1).0) rest ∙ ap (λ b. b.groups) e,
           ),
     )

@@ -6,8 +6,8 @@ use Rattle.lj_book.proofs.words.reading.groups.Goals as goal
 
 pub loop-preserved : goal.loop-preserved
 loop-preserved c =
-    let n : ℕ = c.args.count - (c.loop.counter + 1) in
-    let left : c.args.count - c.loop.counter ≡ suc n = omega (arith, c.loop-test.true) in
+    let n : ℕ = c.number-count.result.0 - (c.loop.counter + 1) in
+    let left : c.number-count.result.0 - c.loop.counter ≡ suc n = omega (arith, c.loop-test.true) in
     let made : List ℕ → HintGroup = λ hs. record { candidate = c.next.inside.candidate; hints = hs } in
     let behind : HintGroup → List HintGroup = λ g. c.loop.groups ++ g ∷ [] in
     let pushed : c.push.new.self ≡ behind (hint_group_in c.loop.rest.now).0 =
