@@ -1,5 +1,5 @@
 -- What is written of an entry is read again, and stays when more is written behind it.
-use Rattle.std.proofs.Common.{◌≡◌, ap, refl, sym, ◌∙◌, ◌+◌, ◌*◌, ◌%◌, ◌/◌, ◌<◌, ◌≤◌, arith, append_assoc, length-append, subst}
+use Rattle.std.proofs.Common.{◌≡◌, ap, refl, sym, ◌∙◌, ◌+◌, ◌*◌, ◌<◌, ◌≤◌, arith, append_assoc, length-append, subst}
 use Rattle.std.specs.Prelude.{ℕ, zero, suc, ℤ, Bool, true, false, List, [], ◌∷◌, ◌++◌, length, take, drop, get_or, Option, Some, None, filter_map, ◌||◌}
 use Rattle.std.specs.List.{cons_option, list_any}
 use Rattle.std.proofs.lemmas.Bool.{false≢true}
@@ -21,7 +21,7 @@ use Rattle.lj_text.specs.Needed.{if_some}
 use Rattle.lj_book.specs.declared.entry.Call.TheVariants as calls
 use Rattle.lj_book.specs.declared.entry.Entry.{Entry}
 use Rattle.lj_book.specs.inner.Words.{number_words, list_words, hint_groups_words, number_in, list_in, hint_groups_in}
-use Rattle.lj_book.specs.inner.Records.{drop_once_words, lemma_lits, pivot_before, some_lits, seat_in, kind_in, head_words, add_words, drop_words, adopt_words, import_words, leave_words, lits_in, behind_lits, addition_in, call_in, step_in, entry_in, named_in, read_in, entry_of, call_lits, IsWritten, AreWritten, entries_in}
+use Rattle.lj_book.specs.inner.Records.{lemma_lits, pivot_before, some_lits, seat_in, kind_in, head_words, add_words, drop_words, adopt_words, import_words, leave_words, lits_in, behind_lits, addition_in, call_in, step_in, entry_in, named_in, read_in, entry_of, call_lits, IsWritten, AreWritten, entries_in}
 use Rattle.lj_book.proofs.Lists.{not_empty}
 use Rattle.lj_book.proofs.WordLaws.{number_back, number_then, list_back, list_then, groups_back}
 
@@ -116,11 +116,6 @@ drop_back lits seat given died more =
     head_then lits seat 1 (list_words given ++ list_words died) more (omega arith)
     ∙ ap (λ (p : List ℕ × List ℕ). (entry_of seat (calls.Drop p.0) (if_some (list_in p.1).0), [])) (list_then given (list_words died) more)
     ∙ ap (λ (p : List ℕ × List ℕ). (entry_of seat (calls.Drop given) (if_some p.0), [])) (list_back died more)
-
-pub drop_once_back : (lits : List ℤ) (seat : ℕ) (given more : List ℕ) → read_in lits (drop_once_words seat given ++ more) ≡ (entry_of seat (calls.Drop given) (if_some given), [])
-drop_once_back lits seat given more =
-    head_then lits seat 5 (list_words given) more (omega arith)
-    ∙ ap (λ (p : List ℕ × List ℕ). (entry_of seat (calls.Drop p.0) (if_some p.0), [])) (list_back given more)
 
 pub adopt_back : (lits : List ℤ) (seat own joint : ℕ) (more : List ℕ) → read_in lits (adopt_words seat own joint ++ more) ≡ (entry_of seat (calls.Adopt own joint) None, [])
 adopt_back lits seat own joint more =

@@ -1,5 +1,5 @@
 //! The history of a book.
-ghost use Rattle.std.specs.Prelude.{◌≡◌, ◌≢◌, ◌↔◌, ◌+◌, ◌*◌, ◌<◌, ◌≤◌, ◌++◌, ◌∷◌, [], ◌^◌, length, IfOk, OnOk, OnErr, IsTrue, true, IfSome, Some, None, option_copied, slice_get, option_map};
+ghost use Rattle.std.specs.Prelude.{◌≡◌, ◌≢◌, ◌↔◌, ◌+◌, ◌*◌, ◌<◌, ◌≤◌, ◌++◌, ◌∷◌, [], ◌^◌, length, IfOk, OnOk, OnErr, IsTrue, IfSome, Some, None, option_copied, slice_get, option_map};
 ghost use Rattle.lj_clause.specs.LiteralSet.{literals};
 ghost use Rattle.lj_text.specs.declared.step.Step.TheVariants.{Add};
 ghost use Rattle.lj_text.specs.Needed.{if_some, up_to_empty};
@@ -24,7 +24,7 @@ use reading::{words_at, words_from};
 use starts::Starts;
 use std::alloc::Global;
 use std::marker::Model;
-use writing::{put_addition, put_adopt, put_drop, put_drop_once, put_import, put_leave};
+use writing::{put_addition, put_adopt, put_drop, put_import, put_leave};
 
 /// How many kinds of entries the first number of one tells apart. The seat is multiplied by it there.
 const KINDS: u64 = 8;
@@ -38,9 +38,6 @@ const ADOPT: u64 = 2;
 const IMPORT: u64 = 3;
 
 const LEAVE: u64 = 4;
-
-/// A drop whose own numbers are the joint numbers that died, and stand once.
-const DROP_ONCE: u64 = 5;
 
 /// How many words and literals have room from the opening on: in so much memory, each list stands apart from others.
 const FIRST_WORDS: usize = 33_000;
@@ -207,34 +204,6 @@ impl History {
     /// Takes a seat's drop of these numbers behind the others, by which these joint numbers died. Takes time linear in
     /// the numbers of both.
     pub(crate) fn push_drop(&mut self, seat: u32, given: &Numbers, died: &[u64])
-        requires words { 3 * (3 + length given.now + length died.now) ≤ self.old.word_room }
-        requires room { 0 < self.old.entry_room }
-        ensures entries { self.new.entries ≡ self.old.entries
-            ++ entry_of seat (calls.Drop given.now) (if_some died.now) ∷ [] }
-        ensures lits { self.new.lits ≡ self.old.lits }
-    {
-        if has_numbers(given, died) {
-            self.push_drop_once(seat, given);
-        } else {
-            self.push_drop_apart(seat, given, died);
-        }
-    }
-
-    /// The same where the own numbers are the joint numbers that died.
-    fn push_drop_once(&mut self, seat: u32, given: &Numbers)
-        requires words { 3 * (2 + length given.now) ≤ self.old.word_room }
-        requires room { 0 < self.old.entry_room }
-        ensures entries { self.new.entries ≡ self.old.entries
-            ++ entry_of seat (calls.Drop given.now) (if_some given.now) ∷ [] }
-        ensures lits { self.new.lits ≡ self.old.lits }
-    {
-        let start = self.words.len() as u64;
-        put_drop_once(&mut self.words, seat, given);
-        self.starts.push(start);
-    }
-
-    /// The same where they may be others.
-    fn push_drop_apart(&mut self, seat: u32, given: &Numbers, died: &[u64])
         requires words { 3 * (3 + length given.now + length died.now) ≤ self.old.word_room }
         requires room { 0 < self.old.entry_room }
         ensures entries { self.new.entries ≡ self.old.entries
@@ -408,29 +377,4 @@ fn numbers_of(step: &LentAddition<'_>) -> usize
         count = count.saturating_add(group.hints.len()).saturating_add(2);
     }
     count
-}
-
-/// Whether the list has these numbers, as far as a look at numbers of four bytes tells.
-fn has_numbers(numbers: &Numbers, others: &[u64]) -> bool
-    ensures { result ≡ true → numbers.now ≡ others.now }
-{
-    match numbers.as_short() {
-        Some(short) => are_same(short, others),
-        None => false,
-    }
-}
-
-/// Whether the two lists are the same.
-fn are_same(numbers: &[u32], others: &[u64]) -> bool
-    ensures { result ≡ true → numbers.now ≡ others.now }
-{
-    if numbers.len() != others.len() {
-        return false;
-    }
-    for index in 0..numbers.len() {
-        if u64::from(numbers[index]) != others[index] {
-            return false;
-        }
-    }
-    true
 }

@@ -40,10 +40,6 @@ import_kind = 3
 abbrev pub leave_kind : ℕ
 leave_kind = 4
 
--- a drop whose own numbers are the joint numbers that died, and stand once
-abbrev pub drop_once_kind : ℕ
-drop_once_kind = 5
-
 abbrev pub head_words : ℕ → ℕ → List ℕ
 head_words seat kind = number_words (8 * seat + kind)
 
@@ -56,9 +52,6 @@ add_words seat own a at =
 -- the words of own numbers that were given up, and of the joint numbers that died
 abbrev pub drop_words : ℕ → List ℕ → List ℕ → List ℕ
 drop_words seat given died = head_words seat drop_kind ++ (list_words given ++ list_words died)
-
-abbrev pub drop_once_words : ℕ → List ℕ → List ℕ
-drop_once_words seat given = head_words seat drop_once_kind ++ list_words given
 
 abbrev pub adopt_words : ℕ → ℕ → ℕ → List ℕ
 adopt_words seat own joint = head_words seat adopt_kind ++ (number_words own ++ number_words joint)
@@ -92,7 +85,6 @@ abbrev pub call_in : List ℤ → ℕ → List ℕ → Call
 call_in lits kind ws =
     if kind == addition_kind then calls.Add (number_in ws).0 (addition_in lits (number_in ws).1).lemma
     else if kind == drop_kind then calls.Drop (list_in ws).0
-    else if kind == drop_once_kind then calls.Drop (list_in ws).0
     else if kind == adopt_kind then calls.Adopt (number_in ws).0 (number_in (number_in ws).1).0
     else if kind == import_kind then calls.Import (number_in ws).0 (from_literals (lits_in lits (number_in ws).1))
     else calls.Leave

@@ -6,7 +6,7 @@ ghost use Rattle.lj_book.specs.inner.Words.{number_in, list_in, hint_groups_in};
 ghost use Rattle.lj_book.specs.inner.Records.{lemma_lits, lits_in, call_lits, addition_in, call_in, step_in, entry_in, read_in, named_in};
 
 use super::reading::named;
-use super::{ADDITION, ADOPT, DROP, DROP_ONCE, IMPORT, KINDS};
+use super::{ADDITION, ADOPT, DROP, IMPORT, KINDS};
 use crate::entry::{Call, Entry};
 use crate::same::same_lemma;
 use crate::words::{groups_match, list_matches, number, numbers_match};
@@ -105,20 +105,6 @@ fn is_drop(lits: &[Lit], words: &[u32], call: &Call, step: &Option<Step>) -> boo
     }
 }
 
-/// Whether the words behind the first number of a drop whose numbers stand once are those of this call and this step.
-fn is_drop_once(lits: &[Lit], words: &[u32], call: &Call, step: &Option<Step>) -> bool
-    ensures { IsTrue result ↔ ((call_in lits.now 5 words.now ≡ call.now)
-        × (step_in lits.now 5 words.now ≡ step.now)) }
-{
-    let Call::Drop { numbers } = call else {
-        return false;
-    };
-    if list_matches(words, numbers).is_none() {
-        return false;
-    }
-    is_deletion(words, step)
-}
-
 /// Whether the words behind the first number of an adoption are those of this call and this step.
 fn is_adoption(lits: &[Lit], words: &[u32], call: &Call, step: &Option<Step>) -> bool
     ensures { IsTrue result ↔ ((call_in lits.now 2 words.now ≡ call.now)
@@ -162,7 +148,6 @@ fn is_of_kind(lits: &[Lit], kind: u64, words: &[u32], call: &Call, step: &Option
     match kind {
         ADDITION => is_addition(lits, words, call, step),
         DROP => is_drop(lits, words, call, step),
-        DROP_ONCE => is_drop_once(lits, words, call, step),
         ADOPT => is_adoption(lits, words, call, step),
         IMPORT => is_import(lits, words, call, step),
         _ => matches!(call, Call::Leave) && is_deletion(words, step),

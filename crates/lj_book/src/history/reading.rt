@@ -5,7 +5,7 @@ ghost use Rattle.lj_book.specs.inner.Words.{number_in, list_in};
 ghost use Rattle.lj_book.specs.inner.Records.{some_lits, lits_in, behind_lits, addition_in, seat_in, call_in, step_in, entry_in};
 
 use super::starts::Starts;
-use super::{ADDITION, ADOPT, DROP, DROP_ONCE, IMPORT, KINDS};
+use super::{ADDITION, ADOPT, DROP, IMPORT, KINDS};
 use crate::entry::{Call, Entry};
 use crate::words::{behind_list, groups, list, number};
 use lj_clause::{Clause, Lemma, Lit, NoMemory};
@@ -120,7 +120,7 @@ fn call(alloc: Global, lits: &[Lit], kind: u64, words: &[u32]) -> Result<Call, N
                 lemma: Lemma::from_lits(alloc, literals)?,
             }
         }
-        DROP | DROP_ONCE => {
+        DROP => {
             let (numbers, _) = list(alloc, words)?;
             Call::Drop { numbers }
         }

@@ -1,9 +1,9 @@
 //! Entries that are written as words and literals.
 ghost use Rattle.std.specs.Prelude.{◌≡◌, ◌+◌, ◌*◌, ◌<◌, ◌≤◌, ◌++◌, length, vec_len, vec_capacity};
 ghost use Rattle.lj_clause.specs.LiteralSet.{literals};
-ghost use Rattle.lj_book.specs.inner.Records.{lemma_lits, head_words, add_words, drop_words, drop_once_words, adopt_words, import_words, leave_words, addition_numbers};
+ghost use Rattle.lj_book.specs.inner.Records.{lemma_lits, head_words, add_words, drop_words, adopt_words, import_words, leave_words, addition_numbers};
 
-use super::{ADDITION, ADOPT, DROP, DROP_ONCE, IMPORT, KINDS, LEAVE};
+use super::{ADDITION, ADOPT, DROP, IMPORT, KINDS, LEAVE};
 use crate::lent_addition::LentAddition;
 use crate::words::{put_groups, put_list, put_number, put_numbers};
 use lj_clause::{Clause, Lit};
@@ -89,15 +89,6 @@ pub(super) fn put_drop(words: &mut Vec<u32>, seat: u32, given: &Numbers, died: &
     put_head(words, seat, DROP);
     put_list(words, given);
     put_numbers(words, died);
-}
-
-/// Puts the words of a seat's drop of numbers that are those that died behind the others, which have room for them.
-pub(super) fn put_drop_once(words: &mut Vec<u32>, seat: u32, numbers: &Numbers)
-    requires { vec_len words.old + 3 * (2 + length numbers.now) ≤ vec_capacity words.old }
-    ensures { words.new.items ≡ words.old.items ++ drop_once_words seat numbers.now }
-{
-    put_head(words, seat, DROP_ONCE);
-    put_list(words, numbers);
 }
 
 /// Puts the words of a seat's adoption behind the others, which have room for them.

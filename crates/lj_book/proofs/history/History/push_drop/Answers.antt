@@ -5,7 +5,7 @@ use Rattle.lj_book.specs.declared.entry.Call.TheVariants as calls
 use Rattle.lj_book.specs.declared.entry.Entry.{Entry}
 use Rattle.lj_book.specs.inner.Records.{entry_of, drop_words, AreWritten, entries_in}
 use Rattle.lj_book.proofs.RecordLaws.{drop_back, more_words_written, more_words_entries}
-use Rattle.lj_book.proofs.history.History.push_drop_apart.Goals as goal
+use Rattle.lj_book.proofs.history.History.push_drop.Goals as goal
 
 pub invariant_of-self : goal.invariant_of-self
 invariant_of-self c =
