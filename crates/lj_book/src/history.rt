@@ -12,7 +12,6 @@ ghost use Rattle.lj_book.specs.inner.Records.{lemma_lits, addition_numbers, bind
 mod lines;
 mod matching;
 mod reading;
-mod starts;
 mod writing;
 
 use crate::entry::Entry;
@@ -21,7 +20,6 @@ use lines::write_entries;
 use lj_clause::{Clause, Lit, NoMemory};
 use lj_text::{Numbers, Sink, SinkFault, Step, WordWriter};
 use reading::{words_at, words_from};
-use starts::Starts;
 use std::alloc::Global;
 use std::marker::Model;
 use writing::{put_addition, put_adopt, put_drop, put_import, put_leave};
@@ -48,7 +46,7 @@ pub(crate) struct History {
     words: Vec<u32>,
     lits: Vec<Lit>,
     /// Where the words of each entry begin.
-    starts: Starts,
+    starts: Vec<u64>,
 }
 
 impl Model for History {
@@ -65,7 +63,7 @@ impl Model for History {
       lits = h.lits.items;
       word_room = vec_capacity h.words - vec_len h.words;
       lit_room = vec_capacity h.lits - vec_len h.lits;
-      entry_room = h.starts.room;
+      entry_room = vec_capacity h.starts - vec_len h.starts;
     } };
 
     ghost invariant = { λ h. AreWritten h.lits.items h.words.items h.starts.items };
@@ -80,7 +78,7 @@ impl History {
         History {
             words: Vec::new(alloc),
             lits,
-            starts: Starts::new(alloc),
+            starts: Vec::new(alloc),
         }
     }
 
@@ -120,7 +118,7 @@ impl History {
     {
         self.words.reserve(numbers.saturating_mul(3))?;
         self.lits.reserve(lits)?;
-        self.starts.reserve()?;
+        self.starts.reserve(1)?;
         Ok(())
     }
 
@@ -198,7 +196,7 @@ impl History {
         let _ = step.lemma.pivot();
         let start = self.words.len() as u64;
         put_addition(&mut self.words, &mut self.lits, seat, own, step);
-        self.starts.push(start);
+        self.starts.push_reserved(start);
     }
 
     /// Takes a seat's drop of these numbers behind the others, by which these joint numbers died. Takes time linear in
@@ -212,7 +210,7 @@ impl History {
     {
         let start = self.words.len() as u64;
         put_drop(&mut self.words, seat, given, died);
-        self.starts.push(start);
+        self.starts.push_reserved(start);
     }
 
     /// Takes a seat's adoption behind the others.
@@ -225,7 +223,7 @@ impl History {
     {
         let start = self.words.len() as u64;
         put_adopt(&mut self.words, seat, own, joint);
-        self.starts.push(start);
+        self.starts.push_reserved(start);
     }
 
     /// Takes a seat's import behind the others.
@@ -239,7 +237,7 @@ impl History {
     {
         let start = self.words.len() as u64;
         put_import(&mut self.words, &mut self.lits, seat, own, clause);
-        self.starts.push(start);
+        self.starts.push_reserved(start);
     }
 
     /// Takes a seat's import behind the others where there is a clause, and an adoption otherwise. Takes time linear in
@@ -276,7 +274,7 @@ impl History {
     {
         let start = self.words.len() as u64;
         put_leave(&mut self.words, seat, died);
-        self.starts.push(start);
+        self.starts.push_reserved(start);
     }
 
     /// A copy of the entry at a place, counted from 0. Takes time linear in its contents, but O(n log n) for the n literals
@@ -304,8 +302,8 @@ impl History {
     {
         let alloc = self.allocator();
         let mut steps = Vec::new(alloc);
-        for index in 0..self.starts.len() {
-            let words = words_from(&self.words, self.starts.at(index));
+        for start in &self.starts {
+            let words = words_from(&self.words, *start);
             if let Some(step) = reading::entry_step(alloc, &self.lits, words)? {
                 steps.push(step)?;
             }

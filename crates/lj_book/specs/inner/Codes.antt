@@ -17,7 +17,7 @@ use Rattle.std.specs.FinMap as fin
 use Rattle.lj_book.specs.Tables.{Tables}
 use Rattle.lj_clause.specs.ClauseMap.{ClauseMap, FormulaValue}
 use Rattle.lj_book.specs.State.{State}
-use Rattle.lj_book.specs.inner.Records.{Entries, Beginnings}
+use Rattle.lj_book.specs.inner.Records.{Entries}
 use Rattle.lj_book.specs.declared.place.Place.{Place}
 use Rattle.lj_book.specs.inner.Places.{Recorded}
 
@@ -98,10 +98,6 @@ entries_code = code_by (List Entry × (List ℤ × (ℕ × (ℕ × ℕ))))
     (λ h. (h.entries, (h.lits, (h.word_room, (h.lit_room, h.entry_room)))))
     (λ p. record { entries = p.0; lits = p.1.0; word_room = p.1.1.0; lit_room = p.1.1.1.0; entry_room = p.1.1.1.1 })
     (λ _. refl)
-
-abbrev pub beginnings_code : Coded Beginnings
-beginnings_code = code_by (List ℕ × ℕ) (coded× (coded_list coded_ℕ) coded_ℕ) (λ s. (s.items, s.room))
-    (λ p. record { items = p.0; room = p.1 }) (λ _. refl)
 
 abbrev pub recorded_code : Coded Recorded
 recorded_code = code_by (Entries × ClauseMap) (coded× entries_code clause_map_code)

@@ -172,8 +172,3 @@ pub record Entries : Type 0 where
   pub word_room : ℕ
   pub lit_room : ℕ
   pub entry_room : ℕ
-
--- Where entries begin, and how many more have room.
-pub record Beginnings : Type 0 where
-  pub items : List ℕ
-  pub room : ℕ

@@ -13,7 +13,6 @@ ghost use Rattle.lj_book.specs.inner.Records.{lemma_lits, addition_in, call_in, 
 ghost use Rattle.lj_book.specs.inner.StepLines.{kept_as_written, entry_text, entry_greatest, ends_proof};
 
 use super::reading::{named, words_from};
-use super::starts::Starts;
 use super::{ADDITION, ADOPT, DROP, IMPORT, KINDS};
 use crate::words::{behind_list, number};
 use lj_clause::Lit;
@@ -200,19 +199,19 @@ pub(super) fn write_entries<W: Sink>(
     clauses: u64,
     lits: &[Lit],
     words: &[u32],
-    starts: &Starts,
+    starts: &[u64],
 )
     requires may { MayBeGiven (word_state (W.taken sink.old) (W.failures sink.old) writer.old) }
-    requires written { AreWritten lits.now words.now starts.now.items }
+    requires written { AreWritten lits.now words.now starts.now }
 
     ensures given { WasGiven (word_state (W.taken sink.old) (W.failures sink.old) writer.old)
         (text_after clauses (up_to_empty
-        (filter_map (λ e. e.step) (entries_in lits.now words.now starts.now.items))))
+        (filter_map (λ e. e.step) (entries_in lits.now words.now starts.now))))
         (word_state (W.taken sink.new) (W.failures sink.new) writer.new) }
 {
     let mut greatest = clauses;
-    for index in 0..starts.len() {
-        let (head, rest) = number(words_from(words, starts.at(index)));
+    for start in starts {
+        let (head, rest) = number(words_from(words, *start));
         let kind = head % KINDS;
         greatest = write_step(writer, sink, greatest, lits, kind, rest);
         if ends_proof(lits, kind, rest) {

@@ -4,7 +4,6 @@ ghost use Rattle.lj_text.specs.Needed.{if_some};
 ghost use Rattle.lj_book.specs.inner.Words.{number_in, list_in};
 ghost use Rattle.lj_book.specs.inner.Records.{some_lits, lits_in, behind_lits, addition_in, seat_in, call_in, step_in, entry_in};
 
-use super::starts::Starts;
 use super::{ADDITION, ADOPT, DROP, IMPORT, KINDS};
 use crate::entry::{Call, Entry};
 use crate::words::{behind_list, groups, list, number};
@@ -13,11 +12,11 @@ use lj_text::{Addition, Step};
 use std::alloc::Global;
 
 /// The words of the entry at a place, and what stands behind them.
-pub(super) fn words_at<'a>(starts: &Starts, words: &'a [u32], place: u64) -> Option<&'a [u32]>
+pub(super) fn words_at<'a>(starts: &[u64], words: &'a [u32], place: u64) -> Option<&'a [u32]>
     ensures { option_copied result
-        ≡ option_map (λ start. drop start words.now) (slice_get starts.now.items place) }
+        ≡ option_map (λ start. drop start words.now) (slice_get starts.now place) }
 {
-    let start = starts.get(place)?;
+    let start = *starts.get(place as usize)?;
     Some(words_from(words, start))
 }
 

@@ -19,9 +19,9 @@ invariant_of-self c =
     let words : List ℕ = add_words c.args.seat c.args.own c.args.step.now (length ls) in
     let entry : Entry = entry_of c.args.seat (calls.Add c.args.own c.args.step.now.lemma) (Some (Add c.args.step.now)) in
     let at : c.len-start.result ≡ length ws = c.len-start.ensures ∙ c.self.inside.words.ok.0 in
-    let starts : c.push.new.self.items ≡ ss ++ length ws ∷ [] = c.push.ensures ∙ ap (λ (k : ℕ). ss ++ k ∷ []) at in
-    subst (λ (xs : List ℤ). AreWritten xs c.put_addition.new.words.items c.push.new.self.items) (sym c.put_addition.ensures.lits)
-    (subst (λ (us : List ℕ). AreWritten (ls ++ new) us c.push.new.self.items) (sym c.put_addition.ensures.words)
+    let starts : c.push_reserved.new.self.items ≡ ss ++ length ws ∷ [] = c.push_reserved.ensures.items ∙ ap (λ (k : ℕ). ss ++ k ∷ []) at in
+    subst (λ (xs : List ℤ). AreWritten xs c.put_addition.new.words.items c.push_reserved.new.self.items) (sym c.put_addition.ensures.lits)
+    (subst (λ (us : List ℕ). AreWritten (ls ++ new) us c.push_reserved.new.self.items) (sym c.put_addition.ensures.words)
     (subst (λ (us : List ℕ). AreWritten (ls ++ new) (ws ++ words) us) (sym starts)
     (more_written ls new ws words ss entry (omega (arith, c.ranges.seat)) refl (λ all more there. addition_back all c.args.seat c.args.own c.args.step.now (length ls) more lemma there) c.self.invariant)))
 
@@ -35,7 +35,7 @@ returns-clause-entries c =
     let words : List ℕ = add_words c.args.seat c.args.own c.args.step.now (length ls) in
     let entry : Entry = entry_of c.args.seat (calls.Add c.args.own c.args.step.now.lemma) (Some (Add c.args.step.now)) in
     let at : c.len-start.result ≡ length ws = c.len-start.ensures ∙ c.self.inside.words.ok.0 in
-    let starts : c.push.new.self.items ≡ ss ++ length ws ∷ [] = c.push.ensures ∙ ap (λ (k : ℕ). ss ++ k ∷ []) at in
+    let starts : c.push_reserved.new.self.items ≡ ss ++ length ws ∷ [] = c.push_reserved.ensures.items ∙ ap (λ (k : ℕ). ss ++ k ∷ []) at in
     (λ i. entries_in (c.put_addition.ensures.lits i) (c.put_addition.ensures.words i) (starts i))
     ∙ more_entries ls new ws words ss entry (λ all more there. addition_back all c.args.seat c.args.own c.args.step.now (length ls) more lemma there) c.self.invariant
     ∙ ap (λ (es : List Entry). es ++ entry ∷ []) (ap (λ h. h.entries) c.self.view_is)

@@ -14,8 +14,8 @@ invariant_of-self c =
     let words : List ℕ = adopt_words c.args.seat c.args.own c.args.joint in
     let entry : Entry = entry_of c.args.seat (calls.Adopt c.args.own c.args.joint) None in
     let at : c.len-start.result ≡ length ws = c.len-start.ensures ∙ c.self.inside.words.ok.0 in
-    let starts : c.push.new.self.items ≡ ss ++ length ws ∷ [] = c.push.ensures ∙ ap (λ (k : ℕ). ss ++ k ∷ []) at in
-    subst (λ (us : List ℕ). AreWritten ls us c.push.new.self.items) (sym c.put_adopt.ensures)
+    let starts : c.push_reserved.new.self.items ≡ ss ++ length ws ∷ [] = c.push_reserved.ensures.items ∙ ap (λ (k : ℕ). ss ++ k ∷ []) at in
+    subst (λ (us : List ℕ). AreWritten ls us c.push_reserved.new.self.items) (sym c.put_adopt.ensures)
     (subst (λ (us : List ℕ). AreWritten ls (ws ++ words) us) (sym starts)
     (more_words_written ls ws words ss entry (omega (arith, c.ranges.seat)) refl (λ all more. adopt_back all c.args.seat c.args.own c.args.joint more) c.self.invariant))
 
@@ -27,7 +27,7 @@ returns-clause-entries c =
     let words : List ℕ = adopt_words c.args.seat c.args.own c.args.joint in
     let entry : Entry = entry_of c.args.seat (calls.Adopt c.args.own c.args.joint) None in
     let at : c.len-start.result ≡ length ws = c.len-start.ensures ∙ c.self.inside.words.ok.0 in
-    let starts : c.push.new.self.items ≡ ss ++ length ws ∷ [] = c.push.ensures ∙ ap (λ (k : ℕ). ss ++ k ∷ []) at in
+    let starts : c.push_reserved.new.self.items ≡ ss ++ length ws ∷ [] = c.push_reserved.ensures.items ∙ ap (λ (k : ℕ). ss ++ k ∷ []) at in
     (λ i. entries_in ls (c.put_adopt.ensures i) (starts i))
     ∙ more_words_entries ls ws words ss entry (λ all more. adopt_back all c.args.seat c.args.own c.args.joint more) c.self.invariant
     ∙ ap (λ (es : List Entry). es ++ entry ∷ []) (ap (λ h. h.entries) c.self.view_is)

@@ -16,9 +16,9 @@ invariant_of-self c =
     let words : List ℕ = import_words c.args.seat c.args.own c.args.clause.now (length ls) in
     let entry : Entry = entry_of c.args.seat (calls.Import c.args.own c.args.clause.now) None in
     let at : c.len-start.result ≡ length ws = c.len-start.ensures ∙ c.self.inside.words.ok.0 in
-    let starts : c.push.new.self.items ≡ ss ++ length ws ∷ [] = c.push.ensures ∙ ap (λ (k : ℕ). ss ++ k ∷ []) at in
-    subst (λ (xs : List ℤ). AreWritten xs c.put_import.new.words.items c.push.new.self.items) (sym c.put_import.ensures.lits)
-    (subst (λ (us : List ℕ). AreWritten (ls ++ new) us c.push.new.self.items) (sym c.put_import.ensures.words)
+    let starts : c.push_reserved.new.self.items ≡ ss ++ length ws ∷ [] = c.push_reserved.ensures.items ∙ ap (λ (k : ℕ). ss ++ k ∷ []) at in
+    subst (λ (xs : List ℤ). AreWritten xs c.put_import.new.words.items c.push_reserved.new.self.items) (sym c.put_import.ensures.lits)
+    (subst (λ (us : List ℕ). AreWritten (ls ++ new) us c.push_reserved.new.self.items) (sym c.put_import.ensures.words)
     (subst (λ (us : List ℕ). AreWritten (ls ++ new) (ws ++ words) us) (sym starts)
     (more_written ls new ws words ss entry (omega (arith, c.ranges.seat)) refl (λ all more there. import_back all c.args.seat c.args.own c.args.clause.now (length ls) more there) c.self.invariant)))
 
@@ -31,7 +31,7 @@ returns-clause-entries c =
     let words : List ℕ = import_words c.args.seat c.args.own c.args.clause.now (length ls) in
     let entry : Entry = entry_of c.args.seat (calls.Import c.args.own c.args.clause.now) None in
     let at : c.len-start.result ≡ length ws = c.len-start.ensures ∙ c.self.inside.words.ok.0 in
-    let starts : c.push.new.self.items ≡ ss ++ length ws ∷ [] = c.push.ensures ∙ ap (λ (k : ℕ). ss ++ k ∷ []) at in
+    let starts : c.push_reserved.new.self.items ≡ ss ++ length ws ∷ [] = c.push_reserved.ensures.items ∙ ap (λ (k : ℕ). ss ++ k ∷ []) at in
     (λ i. entries_in (c.put_import.ensures.lits i) (c.put_import.ensures.words i) (starts i))
     ∙ more_entries ls new ws words ss entry (λ all more there. import_back all c.args.seat c.args.own c.args.clause.now (length ls) more there) c.self.invariant
     ∙ ap (λ (es : List Entry). es ++ entry ∷ []) (ap (λ h. h.entries) c.self.view_is)

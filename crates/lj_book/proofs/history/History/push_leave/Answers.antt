@@ -15,8 +15,8 @@ invariant_of-self c =
     let words : List ℕ = leave_words c.args.seat c.args.died.now in
     let entry : Entry = entry_of c.args.seat calls.Leave (if_some c.args.died.now) in
     let at : c.len-start.result ≡ length ws = c.len-start.ensures ∙ c.self.inside.words.ok.0 in
-    let starts : c.push.new.self.items ≡ ss ++ length ws ∷ [] = c.push.ensures ∙ ap (λ (k : ℕ). ss ++ k ∷ []) at in
-    subst (λ (us : List ℕ). AreWritten ls us c.push.new.self.items) (sym c.put_leave.ensures)
+    let starts : c.push_reserved.new.self.items ≡ ss ++ length ws ∷ [] = c.push_reserved.ensures.items ∙ ap (λ (k : ℕ). ss ++ k ∷ []) at in
+    subst (λ (us : List ℕ). AreWritten ls us c.push_reserved.new.self.items) (sym c.put_leave.ensures)
     (subst (λ (us : List ℕ). AreWritten ls (ws ++ words) us) (sym starts)
     (more_words_written ls ws words ss entry (omega (arith, c.ranges.seat)) refl (λ all more. leave_back all c.args.seat c.args.died.now more) c.self.invariant))
 
@@ -28,7 +28,7 @@ returns-clause-entries c =
     let words : List ℕ = leave_words c.args.seat c.args.died.now in
     let entry : Entry = entry_of c.args.seat calls.Leave (if_some c.args.died.now) in
     let at : c.len-start.result ≡ length ws = c.len-start.ensures ∙ c.self.inside.words.ok.0 in
-    let starts : c.push.new.self.items ≡ ss ++ length ws ∷ [] = c.push.ensures ∙ ap (λ (k : ℕ). ss ++ k ∷ []) at in
+    let starts : c.push_reserved.new.self.items ≡ ss ++ length ws ∷ [] = c.push_reserved.ensures.items ∙ ap (λ (k : ℕ). ss ++ k ∷ []) at in
     (λ i. entries_in ls (c.put_leave.ensures i) (starts i))
     ∙ more_words_entries ls ws words ss entry (λ all more. leave_back all c.args.seat c.args.died.now more) c.self.invariant
     ∙ ap (λ (es : List Entry). es ++ entry ∷ []) (ap (λ h. h.entries) c.self.view_is)

@@ -8,10 +8,10 @@ use Rattle.lj_book.proofs.RecordLaws.{step_at}
 use Rattle.lj_book.proofs.history.lines.write_entries.Given as goal
 
 -- the steps of the entries that are left are to be written
-abbrev pub invariant-loop-index : goal.invariant-loop-index
-invariant-loop-index g l = record {
+abbrev pub invariant-loop-start : goal.invariant-loop-start
+invariant-loop-start g l = record {
   remains : Remains (word_state (g.W.Sink.taken l.fn.sink) (g.W.Sink.failures l.fn.sink) l.fn.writer)
-      (text_after l.clauses (up_to_empty (filter_map (step_at l.lits l.words) l.starts.items)))
+      (text_after l.clauses (up_to_empty (filter_map (step_at l.lits l.words) l.starts)))
       (word_state (g.W.Sink.taken l.sink) (g.W.Sink.failures l.sink) l.writer)
-      (text_after l.greatest (up_to_empty (filter_map (step_at l.lits l.words) (drop l.index l.starts.items))));
+      (text_after l.greatest (up_to_empty (filter_map (step_at l.lits l.words) (drop l.start-index l.starts))));
 }
