@@ -1,23 +1,20 @@
 -- Maps whose numbers are below an end, and what is found in them number by number.
 use Rattle.std.proofs.Common.{◌≡◌, ap, refl, sym, ◌∙◌, ℕ, Bool, cond, arith, add-one, suc, zero, ◌+◌, ◌<◌, ◌≤◌, true, false}
-use Rattle.std.specs.Prelude.{List, [], ◌∷◌, drop, length, Option, Some, None, slice_index_or, slice_set, nat_lt}
+use Rattle.std.specs.Prelude.{List, [], ◌∷◌, drop, length, Option, Some, None, slice_index_or, is_some, nat_lt}
 use Rattle.std.proofs.lemmas.Bool.Decides.{nat_tests}
 use Rattle.std.specs.Ordering.{nat_cmp, eq_by_cmp}
 use Rattle.std.specs.Cmp.{nat_cmp_total}
 use Rattle.std.specs.FinMap as fin
-use Rattle.lj_book.specs.inner.Slots.{slot_map, slot_numbers, joined_map, AreBefore}
+use Rattle.lj_book.specs.inner.Slots.{slot_map, slot_numbers, AreBefore}
 use Rattle.lj_book.proofs.NumberMaps.{same_map}
 use Rattle.lj_book.proofs.Scans.{numbers_in}
-use Rattle.lj_book.proofs.Slots.{slot, get_slot, slot_within, slot_past, joined_far, numbers-empty, numbers-taken, numbers-passed, numbers-end, slot_numbers_are}
+use Rattle.lj_book.proofs.Slots.{slot, get_slot, slot_within, slot_past, numbers-empty, numbers-taken, numbers-passed, numbers-end, slot_numbers_are}
 
 abbrev Numbered : Type 0 → Type 0
 Numbered V = fin.FinMap nat_cmp V
 
 pub before-empty : {V : Type 0} (n : ℕ) → AreBefore n (fin.empty {X = V})
 before-empty n q h = fin.get-empty nat_cmp q
-
-pub before-more : {V : Type 0} (n k : ℕ) (m : Numbered V) → n ≤ k → AreBefore n m → AreBefore k m
-before-more n k m le before q h = before q (grind arith)
 
 pub before-insert : {V : Type 0} (n : ℕ) (m : Numbered V) (k : ℕ) (v : V) → k < n → AreBefore n m → AreBefore n (fin.insert m k v)
 before-insert n m k v lt before q h =
@@ -35,14 +32,13 @@ before-remove n m k before q h = fin.get-remove nat_cmp_total m k q ∙ by (eq_b
     by true = refl
     by false = before q h
 
--- slots with a map beside them
-pub before-joined : {V : Type 0} (xs : List (Option V)) (far : Numbered V) → AreBefore (length xs) far → AreBefore (length xs) (joined_map (slot_map xs) far)
-before-joined xs far before q h = joined_far (slot_map xs) far q (get_slot xs q ∙ slot_past xs q h) ∙ before q h
-
-pub length-slice_set : {V : Type 0} (xs : List V) (k : ℕ) (x : V) → length (slice_set xs k x) ≡ length xs
-length-slice_set [] k x = refl
-length-slice_set (y ∷ xs) zero x = refl
-length-slice_set (y ∷ xs) (suc k) x = ap suc (length-slice_set xs k x)
+-- where no number is behind the last one
+pub before-given : {V : Type 0} (last : ℕ) (m : Numbered V) → ((n : ℕ) → fin.contains_key m n ≡ true → n ≤ last) → AreBefore (last + 1) m
+before-given {V} last m given q h = by (fin.get m q) refl
+  where
+    by : (o : Option V) → fin.get m q ≡ o → o ≡ None
+    by None e = refl
+    by (Some v) e = absurd (let there = given q (ap is_some e) in let no : ⊥ = omega (arith, there, h) in no)
 
 -- ---- a map seen as slots
 

@@ -17,13 +17,11 @@ pub mod SoloSteps
 pub mod SoloRuns
 pub mod Scans
 pub mod BindingLaws
-pub mod FirstValues
 pub mod LeaveLaws
 mod HolderBounds
 mod PlaceLaws
 pub mod PlayLaws
 mod Slots
-mod HeldSlots
 mod Shifts
 mod OpenedLaws
 mod Bounds

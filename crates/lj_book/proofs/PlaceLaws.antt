@@ -19,7 +19,6 @@ use Rattle.lj_clause.specs.Lemma.{LemmaValue}
 use Rattle.lj_clause.specs.ClauseMap.{ClauseMap, FormulaValue, formula_map, IsFormula}
 use Rattle.lj_book.specs.declared.place.Place.{Place}
 use Rattle.lj_book.specs.inner.Records.{some_lits, lemma_lits, pivot_before}
-use Rattle.lj_book.specs.inner.Slots.{AreBefore}
 use Rattle.lj_book.specs.inner.Occurrences.{Lists, AreListed, AreIndexed}
 use Rattle.lj_book.specs.declared.first_uses.FirstUses.{FirstUses}
 use Rattle.lj_book.specs.inner.FirstUses.{AreFirstUses}
@@ -41,10 +40,6 @@ found_placed lits m q p e = sym (get_placed lits m q ∙ ap (option_map (clause_
 
 pub none_placed : (lits : List ℤ) (m : Places) (q : ℕ) → fin.get m q ≡ None → None ≡ fin.get (placed lits m) q
 none_placed lits m q e = sym (get_placed lits m q ∙ ap (option_map (clause_in lits)) e)
-
--- where the places end, the clauses do
-pub before-placed : (lits : List ℤ) (m : Places) (n : ℕ) → AreBefore n m → AreBefore n (placed lits m)
-before-placed lits m n before q h = sym (none_placed lits m q (before q h))
 
 pub key_placed : (lits : List ℤ) (m : Places) (q : ℕ) → fin.contains_key m q ≡ fin.contains_key (placed lits m) q
 key_placed lits m q = by (fin.get m q) ∙ ap is_some (sym (get_placed lits m q))

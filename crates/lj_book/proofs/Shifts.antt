@@ -1,6 +1,6 @@
 -- Maps whose numbers are all so much greater.
 use Rattle.std.proofs.Common.{inl, inr, ◌≡◌, ap, refl, sym, ◌∙◌, subst, ℕ, cond, true, false, arith, ◌+◌, ◌-◌, ◌<◌, ◌≤◌, ◌==◌}
-use Rattle.std.specs.Prelude.{◌⊎◌, ◌||◌, List, [], ◌∷◌, ◌++◌, map, Option, Some, None, is_some}
+use Rattle.std.specs.Prelude.{◌⊎◌, ◌||◌, List, [], ◌∷◌, ◌++◌, map, Some, None, is_some}
 use Rattle.std.proofs.lemmas.Bool.{cases_lt}
 use Rattle.std.specs.Ordering.{nat_cmp, eq_by_cmp}
 use Rattle.std.specs.Cmp.{nat_cmp_total, eq_by_cmp_equiv}
@@ -12,7 +12,7 @@ use Rattle.lj_book.specs.Tables.{is_among}
 use Rattle.lj_book.specs.inner.Slots.{joined_map, shifted, AreBefore}
 use Rattle.lj_book.proofs.NumberMaps.{same_map}
 use Rattle.lj_book.proofs.HistoryLaws.{among-keys}
-use Rattle.lj_book.proofs.Slots.{joined_near, joined_far, joined_alone, insert_far, remove_near, remove_far}
+use Rattle.lj_book.proofs.Slots.{joined_far, joined_alone, insert_far, remove_near, remove_far}
 
 abbrev Numbered : Type 0 → Type 0
 Numbered V = fin.FinMap nat_cmp V
@@ -116,44 +116,6 @@ late_remove end q early late before h =
 
 pub early_remove : {V : Type 0} (end q : ℕ) (early late : Numbered V) → q < end → joined_map (fin.remove early q) (shifted end late) ≡ fin.remove (joined_map early (shifted end late)) q
 early_remove end q early late h = remove_near early (shifted end late) q (get_before end q late h)
-
--- ---- maps in greater ones
-
--- what the one has, the other has
-abbrev pub Within : {V : Type 0} → Numbered V → Numbered V → Type 0
-Within {V} m n = (q : ℕ) (v : V) → fin.get m q ≡ Some v → fin.get n q ≡ Some v
-
-none_some : {V : Type 0} (v : V) → None ≡ Some v → ⊥
-none_some v e = cc
-
-not_within : {V : Type 0} (m n : Numbered V) (q : ℕ) → Within m n → fin.get n q ≡ None → fin.get m q ≡ None
-not_within {V} m n q within none = by (fin.get m q) refl
-  where
-    by : (o : Option V) → fin.get m q ≡ o → o ≡ None
-    by None e = refl
-    by (Some v) e = absurd (none_some v (sym none ∙ within q v e))
-
-pub before-within : {V : Type 0} (end : ℕ) (m n : Numbered V) → Within m n → AreBefore end n → AreBefore end m
-before-within end m n within before q h = not_within m n q within (before q h)
-
-pub within-joined : {V : Type 0} (near far : Numbered V) → Within near (joined_map near far)
-within-joined near far q v e = joined_near near far q v e
-
-pub within-shifted : {V : Type 0} (by : ℕ) (m n : Numbered V) → Within m n → Within (shifted by m) (shifted by n)
-within-shifted {V} by m n within q v e = either_side by q (λ q. fin.get (shifted by m) q ≡ Some v → fin.get (shifted by n) q ≡ Some v)
-    (λ h e. absurd (none_some v (sym (get_before by q m h) ∙ e)))
-    (λ k e. get_behind by k n ∙ within k v (sym (get_behind by k m) ∙ e))
-    e
-
--- where both maps are in greater ones, the first of which ends before the second begins
-pub within-both : {V : Type 0} (end : ℕ) (early later early' late' : Numbered V) → AreBefore end early' → Within early early' → Within later late' → Within (joined_map early (shifted end later)) (joined_map early' (shifted end late'))
-within-both {V} end early later early' late' before inner outer q v e = either_side end q (λ q. fin.get (joined_map early (shifted end later)) q ≡ Some v → fin.get (joined_map early' (shifted end late')) q ≡ Some v)
-    (λ h e. early_get end q early' late' h ∙ inner q v (sym (early_get end q early later h) ∙ e))
-    (λ k e. joined_far early' (shifted end late') (end + k) (before (end + k) (reach k)) ∙ get_behind end k late' ∙ outer k v (sym (get_behind end k later) ∙ sym (joined_far early (shifted end later) (end + k) (not_within early early' (end + k) inner (before (end + k) (reach k)))) ∙ e))
-    e
-  where
-    reach : (k : ℕ) → end ≤ end + k
-    reach k = omega arith
 
 -- ---- the numbers of a shifted map
 

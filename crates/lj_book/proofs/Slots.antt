@@ -182,14 +182,6 @@ joined_alone near far k h = get_joined near far k ∙ ap (option_or (fin.get nea
     alone (Some v) = refl
     alone None = refl
 
--- whether two maps in one have something at a number
-pub joined_some : {V : Type 0} (near far : Numbered V) (k : ℕ) (b : Bool) → is_some (fin.get near k) ≡ b → is_some (fin.get (joined_map near far) k) ≡ (b || is_some (fin.get far k))
-joined_some near far k b h = ap is_some (get_joined near far k) ∙ either (fin.get near k) (fin.get far k) ∙ ap (λ x. x || is_some (fin.get far k)) h
-  where
-    either : {V : Type 0} (o p : Option V) → is_some (option_or o p) ≡ (is_some o || is_some p)
-    either (Some v) p = refl
-    either None p = refl
-
 pub joined_empty : {V : Type 0} → joined_map (fin.empty {X = V}) fin.empty ≡ fin.empty
 joined_empty {V} = same_map (joined_map (fin.empty {X = V}) fin.empty) fin.empty (λ q. get_joined fin.empty fin.empty q ∙ or_none (fin.get fin.empty q) (fin.get fin.empty q) (fin.get-empty nat_cmp q))
 
@@ -244,18 +236,6 @@ remove_far near far k h = same_map _ _ (λ q.
     get_joined near (fin.remove far k) q
     ∙ ap (option_or (fin.get near q)) (fin.get-remove nat_cmp_total far k q)
     ∙ cut_last (eq_by_cmp nat_cmp q k) (fin.get near q) (fin.get far q) (absent_at near k q h)
-    ∙ ap (cond (eq_by_cmp nat_cmp q k) None) (sym (get_joined near far q))
-    ∙ sym (fin.get-remove nat_cmp_total (joined_map near far) k q))
-
-cut_both : {V : Type 0} (b : Bool) (o p : Option V) → option_or (cond b None o) (cond b None p) ≡ cond b None (option_or o p)
-cut_both true o p = refl
-cut_both false o p = refl
-
-pub remove_both : {V : Type 0} (near far : Numbered V) (k : ℕ) → joined_map (fin.remove near k) (fin.remove far k) ≡ fin.remove (joined_map near far) k
-remove_both near far k = same_map _ _ (λ q.
-    get_joined (fin.remove near k) (fin.remove far k) q
-    ∙ (λ i. option_or (fin.get-remove nat_cmp_total near k q i) (fin.get-remove nat_cmp_total far k q i))
-    ∙ cut_both (eq_by_cmp nat_cmp q k) (fin.get near q) (fin.get far q)
     ∙ ap (cond (eq_by_cmp nat_cmp q k) None) (sym (get_joined near far q))
     ∙ sym (fin.get-remove nat_cmp_total (joined_map near far) k q))
 
@@ -318,12 +298,6 @@ ok_then (Err e) P Q p f = tt
 pub err_then : {T E : Type 0} (r : Result T E) (P Q : Type 0) → OnErr r P → (P → Q) → OnErr r Q
 err_then (Ok x) P Q p f = tt
 err_then (Err e) P Q p f = f p
-
--- what a call bound, or left as it was
-pub by_bound : {E : Type 0} (r : Result Bool E) (P Q X : Type 0) → IfOk r (λ b. b ≡ true → P) → IfOk r (λ b. b ≡ false → Q) → OnErr r Q → (P → X) → (Q → X) → X
-by_bound (Ok true) P Q X p q e fine otherwise = fine (p refl)
-by_bound (Ok false) P Q X p q e fine otherwise = otherwise (q refl)
-by_bound (Err x) P Q X p q e fine otherwise = otherwise e
 
 -- ---- slots one after the other
 
@@ -452,54 +426,10 @@ pub if_ok_then : {A E : Type 0} (r : Result A E) (P Q : A → Type 0) → IfOk r
 if_ok_then (Ok x) P Q p f = f x p
 if_ok_then (Err e) P Q p f = tt
 
--- ---- a number that goes from one map to the other
-
-moved : {V : Type 0} (b : Bool) (v : V) (o p : Option V) → option_or (cond b None o) (cond b (Some v) p) ≡ cond b (Some v) (option_or o p)
-moved true v o p = refl
-moved false v o p = refl
-
-pub move_far : {V : Type 0} (near far : Numbered V) (k : ℕ) (v : V) → joined_map (fin.remove near k) (fin.insert far k v) ≡ fin.insert (joined_map near far) k v
-move_far near far k v = same_map _ _ (λ q.
-    get_joined (fin.remove near k) (fin.insert far k v) q
-    ∙ (λ i. option_or (fin.get-remove nat_cmp_total near k q i) (fin.get-insert nat_cmp_total far k v q i))
-    ∙ moved (eq_by_cmp nat_cmp q k) v (fin.get near q) (fin.get far q)
-    ∙ ap (cond (eq_by_cmp nat_cmp q k) (Some v)) (sym (get_joined near far q))
-    ∙ sym (fin.get-insert nat_cmp_total (joined_map near far) k v q))
-
-pub apart-move_far : {V : Type 0} (near far : Numbered V) (k : ℕ) (v : V) → AreApart near far → AreApart (fin.remove near k) (fin.insert far k v)
-apart-move_far near far k v apart =
-    apart-insert_far (fin.remove near k) far k v (apart-remove_near near far k apart)
-    (fin.get-remove nat_cmp_total near k k ∙ ap (λ b. cond b None (fin.get near k)) (alike k))
-
--- what is in the second map isn't in the first
-pub near_none : {V : Type 0} (near far : Numbered V) (k : ℕ) → AreApart near far → is_some (fin.get far k) ≡ true → fin.get near k ≡ None
-near_none {V} near far k apart there = by (fin.get near k) refl
-  where
-    by : (o : Option V) → fin.get near k ≡ o → o ≡ None
-    by None e = refl
-    by (Some v) e = absurd (not_some (fin.get far k) (apart k (ap is_some e)) there)
-
--- a number that isn't in two maps in one is in neither
+-- a number that isn't in two maps in one isn't in the first
 first_none : {V : Type 0} (x y : Option V) → option_or x y ≡ None → x ≡ None
 first_none None y e = refl
 first_none (Some v) y e = grind arith
 
-last_none : {V : Type 0} (x y : Option V) → option_or x y ≡ None → y ≡ None
-last_none None y e = e
-last_none (Some v) y e = grind arith
-
 pub neither_near : {V : Type 0} (near far m : Numbered V) (k : ℕ) → joined_map near far ≡ m → fin.get m k ≡ None → fin.get near k ≡ None
 neither_near near far m k is e = first_none (fin.get near k) (fin.get far k) (sym (get_joined near far k) ∙ ap (λ n. fin.get n k) is ∙ e)
-
-pub neither_far : {V : Type 0} (near far m : Numbered V) (k : ℕ) → joined_map near far ≡ m → fin.get m k ≡ None → fin.get far k ≡ None
-neither_far near far m k is e = last_none (fin.get near k) (fin.get far k) (sym (get_joined near far k) ∙ ap (λ n. fin.get n k) is ∙ e)
-
--- two maps in one are empty where each is
-pub empty_near : {V : Type 0} (near far : Numbered V) → joined_map near far ≡ fin.empty → near ≡ fin.empty
-empty_near near far is = same_map _ _ (λ q. neither_near near far fin.empty q is (fin.get-empty nat_cmp q) ∙ sym (fin.get-empty nat_cmp q))
-
-pub empty_far : {V : Type 0} (near far : Numbered V) → joined_map near far ≡ fin.empty → far ≡ fin.empty
-empty_far near far is = same_map _ _ (λ q. neither_far near far fin.empty q is (fin.get-empty nat_cmp q) ∙ sym (fin.get-empty nat_cmp q))
-
-pub both_empty : {V : Type 0} (near far : Numbered V) → near ≡ fin.empty → far ≡ fin.empty → joined_map near far ≡ fin.empty
-both_empty near far e f = ap (λ m. joined_map m far) e ∙ ap (joined_map fin.empty) f ∙ joined_empty

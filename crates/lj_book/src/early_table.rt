@@ -1,25 +1,23 @@
 //! The bindings of a seat's numbers up to a bound, most of which are bound to themselves.
-ghost use Rattle.std.specs.Prelude.{◌≡◌, ◌<◌, ◌+◌, ◌^◌, ℕ, OnOk, OnErr, IfOk, None, Some, true, false};
+ghost use Rattle.std.specs.Prelude.{◌≡◌, ◌<◌, ◌^◌, OnOk, OnErr, IfOk, None};
 ghost use Rattle.std.specs.FinMap as fin;
 ghost use Rattle.lj_book.specs.Tables.{up_to};
 
 use crate::dying::rising;
-use crate::far_numbers::FarNumbers;
 use crate::opened::Opened;
+use crate::tree_map::TreeMap;
 use lj_clause::NoMemory;
 use std::alloc::Global;
 use std::marker::Model;
 
 /// Own numbers of a seat with the joint numbers that they are bound to, seen as a finite map: those that it holds from the
-/// opening on or since they were bound to themselves right behind these, and in a tree those that were bound again after
-/// they had been given up.
+/// opening on, and in a tree those that were bound again after they had been given up.
 ///
-/// A call takes constant time for a number that is held so, and O(log n) time for others. To give up such a number takes
-/// time linear in a bit for each up to it that had none yet.
+/// A call takes constant time for a number that is held so, amortized, and O(log n) time for others.
 #[derive(Drop)]
 pub(crate) struct EarlyTable {
     opened: Opened,
-    anew: FarNumbers,
+    anew: TreeMap<u64>,
 }
 
 impl Model for EarlyTable {
@@ -50,33 +48,8 @@ impl EarlyTable {
         let opened = Opened::up_to(alloc, last)?;
         Ok(EarlyTable {
             opened,
-            anew: FarNumbers::new(alloc),
+            anew: TreeMap::new(alloc),
         })
-    }
-
-    /// The numbers that are held since they were bound to themselves.
-    #[inline(always)]
-    pub(crate) fn opened(&self) -> &Opened
-        ensures { (k v : ℕ) → fin.get result.now k ≡ Some v → fin.get self.now k ≡ Some v }
-    {
-        &self.opened
-    }
-
-    /// Binds the own number, which isn't bound, to itself, where it is the next one behind those that are held from the opening
-    /// on and those that were bound so. Answers whether it did. Takes constant time, amortized.
-    ///
-    /// # Errors
-    /// [`NoMemory`] where a growth was refused.
-    #[inline(always)]
-    pub(crate) fn extend(&mut self, own: u64) -> Result<bool, NoMemory>
-        requires { fin.get self.old own ≡ None }
-        ensures bound { IfOk result (λ bound. bound ≡ true
-            → self.new ≡ fin.insert self.old own own) }
-        ensures few { IfOk result (λ bound. bound ≡ true → own + 1 < 2 ^ 64) }
-        ensures same { IfOk result (λ bound. bound ≡ false → self.new ≡ self.old) }
-        ensures err { OnErr result (self.new ≡ self.old) }
-    {
-        self.opened.extend(own)
     }
 
     /// The joint number that the own number is bound to.
@@ -102,7 +75,7 @@ impl EarlyTable {
         self.anew.insert(own, joint)
     }
 
-    /// The own numbers, rising. Takes O(n log n) time, and time linear in how many were bound to themselves.
+    /// The own numbers, rising. Takes O(n log n) time, and time linear in the numbers of the opening.
     ///
     /// # Errors
     /// [`NoMemory`] where a growth was refused.

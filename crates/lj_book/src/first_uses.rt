@@ -70,15 +70,15 @@ impl FirstUses {
         }
     }
 
-    /// A number from which on alone clauses hold the literal, if that is known of its variable. All numbers are before `end`.
+    /// A number from which on alone clauses hold the literal, if that is known of its variable, and `last` where no clause does.
     /// Takes constant time.
-    pub(crate) fn since(&self, lit: Lit, end: u64) -> Option<u64>
+    pub(crate) fn since(&self, lit: Lit, last: u64) -> Option<u64>
         ensures { IfSome result (λ from. (p : ClauseMap) (last : ℕ) → AreFirstUses p last self.now
             → IsSince p lit from) }
     {
         let variable = lit.variable();
         if variable > self.top {
-            return Some(end);
+            return Some(last);
         }
         let len = self.list.len();
         for back in 0..LAST.min(len) {

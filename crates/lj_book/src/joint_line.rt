@@ -4,8 +4,6 @@ ghost use Rattle.std.specs.FinMap as fin;
 ghost use Rattle.lj_book.specs.Tables.{joint_of};
 ghost use Rattle.lj_book.specs.Calls.{IsReplyBy};
 ghost use Rattle.lj_book.specs.inner.JointLines.{joints_in, joint_groups_in, joint_parts, rising_from};
-ghost use Rattle.lj_book.specs.inner.Fronts.{with_front};
-ghost use Rattle.lj_book.specs.inner.Slots.{AreFirstValues};
 
 use crate::refusal::Refusal;
 use crate::seat_table::SeatTable;
@@ -127,10 +125,7 @@ fn put_joints(
         (joints_in (joint_of tables.now seat) numbers.now) }
 {
     match tables.table(seat) {
-        Some(table) => match numbers.as_short() {
-            Some(owns) => put_short(table, owns, joints),
-            None => put_each(table, numbers, joints),
-        },
+        Some(table) => put_each(table, numbers, joints),
         None => {
             joints.clear();
             match numbers.get(0) {
@@ -141,56 +136,7 @@ fn put_joints(
     }
 }
 
-/// Puts the joint numbers of these own numbers into a list, in place of what it has, by the table of their seat.
-///
-/// # Errors
-/// As [`put_joints`].
-#[inline(always)]
-fn put_short(table: &SeatTable, owns: &[u32], joints: &mut Numbers) -> Result<(), Refusal>
-    ensures { IsReplyBy (λ _. joints.new) result (joints_in (fin.get table.now) owns.now) }
-{
-    put_near(table, owns, joints);
-    let left = &owns[joints.len()..];
-    if left.is_empty() {
-        return Ok(());
-    }
-    put_behind(table, left, joints)
-}
-
-/// Puts the joint numbers of the first of these own numbers into a list, in place of what it has, up to one that isn't near:
-/// without a test of the list's room for each. Puts none where there is no such room.
-///
-/// It stands by itself, so that its loop keeps what it reads in registers.
-#[inline(never)]
-fn put_near(table: &SeatTable, owns: &[u32], joints: &mut Numbers)
-    ensures { AreFirstValues (fin.get table.now) owns.now joints.new }
-{
-    if let Some(mut room) = joints.take_room(owns.len()) {
-        table.look_up(owns, &mut room);
-        *joints = Numbers::from_short(room);
-    }
-}
-
-/// Puts the joint numbers of these own numbers behind what the list has.
-///
-/// # Errors
-/// As [`put_joints`].
-#[inline(never)]
-fn put_behind(table: &SeatTable, owns: &[u32], joints: &mut Numbers) -> Result<(), Refusal>
-    ensures { IsReplyBy (λ _. joints.new) result
-        (with_front joints.old (joints_in (fin.get table.now) owns.now)) }
-{
-    for own in owns {
-        let own = u64::from(*own);
-        let Some(joint) = table.get(own) else {
-            return Err(Refusal::UnknownNumber(own));
-        };
-        joints.push(joint)?;
-    }
-    Ok(())
-}
-
-/// The same of numbers that may take more than four bytes.
+/// The same by the table of their seat.
 ///
 /// # Errors
 /// As [`put_joints`].

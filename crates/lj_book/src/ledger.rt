@@ -19,8 +19,8 @@ use crate::history::History;
 use crate::lent_addition::LentAddition;
 use crate::lent_clauses::LentClauses;
 use crate::occurrence_lists::OccurrenceLists;
+use crate::own_map::OwnMap;
 use crate::place::{Place, clause_at};
-use crate::place_map::PlaceMap;
 use crate::placed_clauses::clauses_of;
 use lj_clause::{Clause, ClauseView, Formula, Lemma, Lit, NoMemory};
 use lj_text::Numbers;
@@ -36,7 +36,7 @@ const FEW: u64 = 64;
 pub(crate) struct Ledger {
     history: History,
     /// Where the literals of each live clause stand.
-    places: PlaceMap,
+    places: OwnMap<Place>,
     /// `None` where they aren't made yet, or a growth was refused: then all clauses are looked through.
     lists: Option<OccurrenceLists>,
     /// The literal whose candidates were looked up, where its list wasn't tended since.
@@ -61,7 +61,7 @@ impl Model for Ledger {
 
 impl Ledger {
     /// A history of no entries, and the clauses of the formula under their numbers. Takes time linear in the clauses with
-    /// their literals, and O(log n) time for each of the n clauses that begin behind 4,294,967,295 literals.
+    /// their literals.
     ///
     /// # Errors
     /// [`NoMemory`] where a growth was refused.
@@ -115,7 +115,7 @@ impl Ledger {
         ensures { result ≡ fin.get self.now.live number }
     {
         match self.places.get(number) {
-            Some(place) => Some(clause_at(self.history.lits(), place)),
+            Some(place) => Some(clause_at(self.history.lits(), *place)),
             None => None,
         }
     }
@@ -157,9 +157,8 @@ impl Ledger {
     fn recent(&self, lit: Lit) -> Option<u64>
         ensures { IfSome result (IsSince self.now.live lit) }
     {
-        let end = self.places.end();
-        let from = self.uses.since(lit, end)?;
-        if end.saturating_sub(from) > FEW {
+        let from = self.uses.since(lit, self.last)?;
+        if self.last.saturating_sub(from) > FEW {
             return None;
         }
         Some(from)
@@ -205,7 +204,7 @@ impl Ledger {
         ensures { IfOk result (λ numbers. numbers.items ≡ numbers_holding self.now.live lit) }
     {
         match self.recent(lit) {
-            Some(from) => self.lent().numbers_holding(alloc, lit, from),
+            Some(from) => self.lent().numbers_holding(alloc, lit, from, self.last),
             None => self.listed_holding(alloc, lit),
         }
     }
@@ -216,7 +215,7 @@ impl Ledger {
     {
         match &self.lists {
             Some(lists) => lists.living(alloc, lit.place() as u64, &self.lent()),
-            None => self.lent().numbers_holding(alloc, lit, 0),
+            None => self.lent().numbers_holding(alloc, lit, 0, self.last),
         }
     }
 
@@ -227,7 +226,7 @@ impl Ledger {
         ensures same { self.new ≡ self.old }
     {
         let Some(lists) = &self.lists else {
-            return self.lent().least_number(wanted);
+            return self.lent().least_number(wanted, self.last);
         };
         let place = lists.shortest_place(wanted);
         let least = lists.first_same(place, &self.lent(), wanted);
@@ -352,7 +351,7 @@ impl Ledger {
         }
     }
 
-    /// Takes the clause of a number out. Takes constant time, and O(log n) where clauses begin behind 4,294,967,295 literals.
+    /// Takes the clause of a number out. Takes constant time.
     fn remove(&mut self, number: u64)
         ensures history { self.new.history ≡ self.old.history }
         ensures removed { self.new.live ≡ fin.remove self.old.live number }

@@ -1,12 +1,12 @@
 //! Live clauses, lent with the list of their literals.
-ghost use Rattle.std.specs.Prelude.{◌≡◌, IfOk};
+ghost use Rattle.std.specs.Prelude.{◌≡◌, ◌≤◌, ℕ, IfOk, true};
 ghost use Rattle.std.specs.FinMap as fin;
 ghost use Rattle.lj_book.specs.Lookup.{numbers_holding, least_number};
 ghost use Rattle.lj_book.specs.inner.FirstUses.{IsSince};
 ghost use Rattle.lj_book.specs.inner.Places.{placed, ArePlaces};
 
-use crate::place::clause_at;
-use crate::place_map::PlaceMap;
+use crate::own_map::OwnMap;
+use crate::place::{Place, clause_at};
 use lj_clause::{Clause, ClauseView, Lit, NoMemory};
 use std::alloc::Global;
 use std::marker::Model;
@@ -15,7 +15,7 @@ use std::marker::Model;
 #[derive(Drop)]
 pub(crate) struct LentClauses<'a> {
     lits: &'a [Lit],
-    places: &'a PlaceMap,
+    places: &'a OwnMap<Place>,
 }
 
 impl<'a> Model for LentClauses<'a> {
@@ -35,7 +35,7 @@ impl<'a> Model for LentClauses<'a> {
 impl<'a> LentClauses<'a> {
     /// The clauses at these places.
     #[inline]
-    pub(crate) fn new(lits: &'a [Lit], places: &'a PlaceMap) -> LentClauses<'a>
+    pub(crate) fn new(lits: &'a [Lit], places: &'a OwnMap<Place>) -> LentClauses<'a>
         requires { ArePlaces lits.now places.now }
         ensures { result ≡ placed lits.now places.now }
     {
@@ -48,7 +48,7 @@ impl<'a> LentClauses<'a> {
         ensures { result ≡ fin.get self.now number }
     {
         match self.places.get(number) {
-            Some(place) => Some(clause_at(self.lits, place)),
+            Some(place) => Some(clause_at(self.lits, *place)),
             None => None,
         }
     }
@@ -61,8 +61,8 @@ impl<'a> LentClauses<'a> {
         self.places.contains_key(number)
     }
 
-    /// The numbers whose clause holds the literal, rising, where none does before a number. Takes time linear in the slots from
-    /// that on, and O(log n) time for each clause.
+    /// The numbers whose clause holds the literal, rising, where none does before a number, and no clause is behind the last
+    /// one. Takes time linear in the numbers between.
     ///
     /// # Errors
     /// [`NoMemory`] where a growth was refused.
@@ -71,13 +71,14 @@ impl<'a> LentClauses<'a> {
         alloc: Global,
         lit: Lit,
         from: u64,
+        last: u64,
     ) -> Result<Vec<u64>, NoMemory>
-        requires { IsSince self.now lit from }
+        requires since { IsSince self.now lit from }
+        requires given { (n : ℕ) → fin.contains_key self.now n ≡ true → n ≤ last }
         ensures { IfOk result (λ numbers. numbers.items ≡ numbers_holding self.now lit) }
     {
         let mut numbers = Vec::new(alloc);
-        let end = self.places.end();
-        for number in from..end {
+        for number in from..=last {
             if let Some(clause) = self.get(number) {
                 if clause.holds(lit) {
                     numbers.push(number)?;
@@ -87,12 +88,13 @@ impl<'a> LentClauses<'a> {
         Ok(numbers)
     }
 
-    /// The least number whose clause is exactly this one. Takes time linear in the slots.
-    pub(crate) fn least_number(&self, wanted: &Clause) -> Option<u64>
+    /// The least number whose clause is exactly this one, where no clause is behind the last one. Takes time linear in the
+    /// numbers.
+    pub(crate) fn least_number(&self, wanted: &Clause, last: u64) -> Option<u64>
+        requires { (n : ℕ) → fin.contains_key self.now n ≡ true → n ≤ last }
         ensures { result ≡ least_number self.now wanted.now }
     {
-        let end = self.places.end();
-        for number in 0..end {
+        for number in 0..=last {
             if let Some(clause) = self.get(number) {
                 if clause.same(wanted) {
                     return Some(number);

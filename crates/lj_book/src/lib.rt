@@ -3,15 +3,12 @@
 //! A call takes constant time where neither it nor its type tells a cost.
 #![tactic(auto)]
 
-mod bindings;
 mod book;
 mod committing;
-mod counts;
 mod dying;
 mod early_table;
 mod entry;
 mod event;
-mod far_numbers;
 mod first_uses;
 mod history;
 mod joint_line;
@@ -24,16 +21,12 @@ mod occurrence_lists;
 mod opened;
 mod own_map;
 mod place;
-mod place_map;
 mod placed_clauses;
 mod ready;
 mod refusal;
 mod same;
 mod seat_table;
 mod seat_tables;
-mod short_map;
-mod short_tree;
-mod slot;
 mod solo_laws;
 mod steps;
 mod taking;

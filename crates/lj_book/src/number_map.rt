@@ -1,7 +1,7 @@
 //! Maps from numbers.
-ghost use Rattle.std.specs.Prelude.{◌≡◌, ◌<◌, ◌≤◌, OnOk, OnErr, option_copied, length, None};
+ghost use Rattle.std.specs.Prelude.{◌≡◌, ◌<◌, ◌≤◌, OnOk, OnErr, IfOk, option_copied, length, None, true};
 ghost use Rattle.std.specs.FinMap as fin;
-ghost use Rattle.lj_book.specs.inner.Slots.{slot_map};
+ghost use Rattle.lj_book.specs.inner.Slots.{slot_map, slot_numbers};
 
 use lj_clause::NoMemory;
 use std::alloc::Global;
@@ -10,7 +10,7 @@ use std::marker::Model;
 /// A map from numbers that lie close together, as joint numbers do, seen as a finite map: one slot for each number up
 /// to the greatest that was ever set. Each call takes constant time, but that setting a greater number makes the slots
 /// up to it.
-#[derive(Drop)]
+#[derive(Debug, Drop)]
 pub(crate) struct NumberMap<V> {
     slots: Vec<Option<V>>,
 }
@@ -39,6 +39,7 @@ impl<V: Drop> NumberMap<V> {
     }
 
     /// The value at the key.
+    #[inline]
     pub(crate) fn get(&self, key: u64) -> Option<&V>
         ensures { option_copied result ≡ fin.get self.now key }
     {
@@ -70,6 +71,16 @@ impl<V: Drop> NumberMap<V> {
         Ok(())
     }
 
+    /// The keys, rising. Takes time linear in the slots.
+    ///
+    /// # Errors
+    /// [`NoMemory`] where a growth was refused.
+    pub(crate) fn keys(&self, alloc: Global) -> Result<Vec<u64>, NoMemory>
+        ensures { IfOk result (λ keys. keys.items ≡ fin.keys self.now) }
+    {
+        keys_of(alloc, &self.slots)
+    }
+
     /// Takes the key out, and gives back the value that was there.
     pub(crate) fn remove(&mut self, key: u64) -> Option<V>
         ensures before { result ≡ fin.get self.old key }
@@ -82,6 +93,19 @@ impl<V: Drop> NumberMap<V> {
             None
         }
     }
+}
+
+/// The numbers of the slots that hold something.
+fn keys_of<V>(alloc: Global, slots: &[Option<V>]) -> Result<Vec<u64>, NoMemory>
+    ensures { IfOk result (λ keys. keys.items ≡ slot_numbers (λ _. true) 0 slots.now) }
+{
+    let mut keys = Vec::new(alloc);
+    for at in 0..slots.len() {
+        if slots[at].is_some() {
+            keys.push(at as u64)?;
+        }
+    }
+    Ok(keys)
 }
 
 /// Adds empty slots, so that there is one at this place.

@@ -9,8 +9,8 @@ ghost use Rattle.lj_book.specs.Lookup.{is_clause};
 ghost use Rattle.lj_book.specs.inner.Occurrences.{AreOccurrences, list_at, places_of, put_if, put_each, with_number};
 ghost use Rattle.lj_book.specs.inner.Chains.{AreChains, AreLinked, chain, last_at, with_list};
 
-use crate::bindings::Bindings;
 use crate::lent_clauses::LentClauses;
+use crate::own_map::OwnMap;
 use lj_clause::{Clause, ClauseView, Lit, NoMemory};
 use std::alloc::Global;
 use std::marker::Model;
@@ -46,13 +46,13 @@ struct Link {
 /// For each literal the numbers that were given to clauses which hold it, under its place, and for the empty clauses
 /// theirs. A clause that dies stays listed: its number is taken out when the list is next swept.
 ///
-/// Each number takes eight bytes, and putting it there the time of [`Bindings::set`].
+/// Each number takes eight bytes, and putting it there the time of [`OwnMap::set`].
 #[derive(Drop)]
 pub(crate) struct OccurrenceLists {
     alloc: Global,
     links: Vec<Link>,
     /// The last link of each list.
-    lasts: Bindings,
+    lasts: OwnMap<u64>,
 }
 
 impl Model for OccurrenceLists {
@@ -81,12 +81,12 @@ impl OccurrenceLists {
         Ok(OccurrenceLists {
             alloc,
             links: Vec::with_capacity(alloc, FIRST_LINKS)?,
-            lasts: Bindings::new(alloc),
+            lasts: OwnMap::new(alloc),
         })
     }
 
     /// Puts the number of a clause at the end of its lists. Answers whether it could be put there: where a growth was
-    /// refused or there are too many numbers, the lists are of no use. Takes the time of [`Bindings::set`] for each literal,
+    /// refused or there are too many numbers, the lists are of no use. Takes the time of [`OwnMap::set`] for each literal,
     /// amortized.
     #[inline(always)]
     pub(crate) fn add_clause(&mut self, number: u32, clause: &ClauseView<'_>) -> bool
@@ -277,11 +277,11 @@ impl OccurrenceLists {
 
 /// The last link under a place, and 0 where there is none.
 #[inline]
-fn last_of(lasts: &Bindings, place: u64) -> u64
+fn last_of(lasts: &OwnMap<u64>, place: u64) -> u64
     ensures { result ≡ last_at lasts.now place }
 {
     match lasts.get(place) {
-        Some(last) => last,
+        Some(last) => *last,
         None => 0,
     }
 }

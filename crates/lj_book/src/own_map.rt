@@ -1,8 +1,9 @@
 //! Maps from a seat's own numbers.
-ghost use Rattle.std.specs.Prelude.{◌≡◌, OnOk, OnErr, option_copied, None, true, false};
+ghost use Rattle.std.specs.Prelude.{◌≡◌, OnOk, OnErr, IfOk, option_copied, None, true, false};
 ghost use Rattle.std.specs.FinMap as fin;
 ghost use Rattle.lj_book.specs.inner.Slots.{AreApart};
 
+use crate::dying::rising;
 use crate::number_map::NumberMap;
 use crate::tree_map::TreeMap;
 use lj_clause::NoMemory;
@@ -16,7 +17,7 @@ const FIRST_SLOTS: u64 = 32;
 /// others a tree; so memory is linear in how many were set, whatever numbers they are.
 ///
 /// A call takes constant time for a number that has a slot, amortized, and O(log n) time for others.
-#[derive(Drop)]
+#[derive(Debug, Drop)]
 pub struct OwnMap<V> {
     near: NumberMap<V>,
     far: TreeMap<V>,
@@ -52,6 +53,7 @@ impl<V: Drop> OwnMap<V> {
     }
 
     /// The value at the key. Takes constant time for a number that has a slot, and O(log n) time for others.
+    #[inline]
     pub fn get(&self, key: u64) -> Option<&V>
         ensures { option_copied result ≡ fin.get self.now key }
     {
@@ -96,6 +98,35 @@ impl<V: Drop> OwnMap<V> {
             return self.far.insert(key, value);
         }
         self.near.insert(key, value)
+    }
+
+    /// Sets the value at the key, as [`OwnMap::insert`] does, but moves it into a slot where it has one by now. Where a growth
+    /// was refused, the key is taken out.
+    ///
+    /// # Errors
+    /// [`NoMemory`] where a growth was refused.
+    pub(crate) fn set(&mut self, key: u64, value: V) -> Result<(), NoMemory>
+        ensures ok { OnOk result (self.new ≡ fin.insert self.old key value) }
+        ensures err { OnErr result (self.new ≡ fin.remove self.old key) }
+    {
+        if self.near.contains_key(key) {
+            return self.near.insert(key, value);
+        }
+        let _ = self.remove(key);
+        self.insert(key, value)
+    }
+
+    /// The keys, rising. Takes O(n log n) time for n of them, and time linear in the slots.
+    ///
+    /// # Errors
+    /// [`NoMemory`] where a growth was refused.
+    pub(crate) fn keys(&self, alloc: Global) -> Result<Vec<u64>, NoMemory>
+        ensures { IfOk result (λ keys. keys.items ≡ fin.keys self.now) }
+    {
+        let mut keys = self.near.keys(alloc)?;
+        let far = self.far.keys(alloc)?;
+        keys.extend_from_slice(&far)?;
+        Ok(rising(keys))
     }
 
     /// Takes the key out, and gives back the value that was there. Takes the time of [`OwnMap::get`].

@@ -4,8 +4,8 @@ ghost use Rattle.std.specs.FinMap as fin;
 ghost use Rattle.lj_clause.specs.ClauseMap.{formula_map};
 ghost use Rattle.lj_book.specs.inner.Places.{placed, ArePlaces};
 
+use crate::own_map::OwnMap;
 use crate::place::Place;
-use crate::place_map::PlaceMap;
 use lj_clause::{Clause, Formula, Lit, NoMemory};
 use std::alloc::Global;
 use std::marker::Model;
@@ -14,7 +14,7 @@ use std::marker::Model;
 #[derive(Drop)]
 struct PlacedClauses {
     lits: Vec<Lit>,
-    places: PlaceMap,
+    places: OwnMap<Place>,
 }
 
 impl Model for PlacedClauses {
@@ -38,7 +38,7 @@ impl PlacedClauses {
     {
         PlacedClauses {
             lits: Vec::new(alloc),
-            places: PlaceMap::new(alloc),
+            places: OwnMap::new(alloc),
         }
     }
 
@@ -56,7 +56,7 @@ impl PlacedClauses {
     }
 
     /// The literals, and where in them each clause stands.
-    fn into_parts(self) -> (Vec<Lit>, PlaceMap)
+    fn into_parts(self) -> (Vec<Lit>, OwnMap<Place>)
         ensures clauses { placed result.0.items result.1 ≡ self }
         ensures places { ArePlaces result.0.items result.1 }
     {
@@ -68,7 +68,10 @@ impl PlacedClauses {
 ///
 /// # Errors
 /// [`NoMemory`] where a growth was refused.
-pub(crate) fn clauses_of(alloc: Global, formula: &Formula) -> Result<(Vec<Lit>, PlaceMap), NoMemory>
+pub(crate) fn clauses_of(
+    alloc: Global,
+    formula: &Formula,
+) -> Result<(Vec<Lit>, OwnMap<Place>), NoMemory>
     ensures clauses { IfOk result
         (λ parts. placed parts.0.items parts.1 ≡ formula_map formula.now) }
     ensures places { IfOk result (λ parts. ArePlaces parts.0.items parts.1) }

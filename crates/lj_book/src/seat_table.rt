@@ -1,37 +1,32 @@
 //! The table of a seat.
-ghost use Rattle.std.specs.Prelude.{◌≡◌, ◌+◌, ◌-◌, ◌<◌, ◌≤◌, ◌^◌, ◌++◌, [], length, map, vec_capacity, OnOk, OnErr, IfOk, None, true, false};
+ghost use Rattle.std.specs.Prelude.{◌≡◌, ◌+◌, ◌-◌, ◌<◌, ◌^◌, ◌++◌, map, OnOk, OnErr, IfOk, None};
 ghost use Rattle.std.specs.List.{All};
 ghost use Rattle.std.specs.FinMap as fin;
 ghost use Rattle.lj_book.specs.Tables.{up_to};
-ghost use Rattle.lj_book.specs.inner.Slots.{AreFirstValues};
 
-use crate::bindings::Bindings;
 use crate::dying::rising;
 use crate::early_table::EarlyTable;
+use crate::own_map::OwnMap;
 use lj_clause::NoMemory;
 use std::alloc::Global;
 use std::marker::Model;
 
-/// The own numbers of a seat with the joint numbers that they are bound to, seen as a finite map. Those of the opening, and
-/// those behind them that were bound to themselves one after another before any other was bound, take a bit each, and none
-/// while all are held: so a prover that numbers its lemmas as the joint proof does takes nearly nothing. The bindings of
-/// other numbers stand apart, by how far behind these the number is: so a seat's first number of its own takes no room for
-/// the numbers before.
+/// The own numbers of a seat with the joint numbers that they are bound to, seen as a finite map. Those of the opening take
+/// nearly nothing while all are held. The others stand apart, by how far behind these the number is: so a seat's first number of
+/// its own takes no room for the numbers before.
 ///
-/// A call on a number takes O(log n) time, amortized, and constant time where the number is held since it was bound so or
-/// has a slot; all that give numbers up take together constant time for each 64 numbers that were bound so too.
+/// A call on a number takes O(log n) time, amortized, and constant time where the number is held since the opening or has a
+/// slot.
 #[derive(Drop)]
 pub(crate) struct SeatTable {
     early: EarlyTable,
-    late: Bindings,
-    /// The first number behind those of the opening, and behind those that were bound to themselves one after another.
+    late: OwnMap<u64>,
+    /// The first number behind those of the opening.
     end: u64,
-    /// Whether nothing was ever bound apart from these.
-    alone: bool,
 }
 
 impl Model for SeatTable {
-    ghost use Rattle.std.specs.Prelude.{◌≡◌, ℕ, ◌-◌, ◌^◌, true};
+    ghost use Rattle.std.specs.Prelude.{ℕ, ◌-◌, ◌^◌};
     ghost use Rattle.std.specs.Ordering.{nat_cmp};
     ghost use Rattle.std.specs.Coded.{coded_ℕ};
     ghost use Rattle.std.specs.FinMap as fin;
@@ -43,8 +38,7 @@ impl Model for SeatTable {
 
     ghost view = { λ t. joined_map t.early (shifted t.end t.late) };
 
-    ghost invariant = { λ t. AreBefore t.end t.early × AreBefore (2 ^ 64 - t.end) t.late
-        × (t.alone ≡ true → t.late ≡ fin.empty) };
+    ghost invariant = { λ t. AreBefore t.end t.early × AreBefore (2 ^ 64 - t.end) t.late };
 }
 
 impl SeatTable {
@@ -59,9 +53,8 @@ impl SeatTable {
         let early = EarlyTable::up_to(alloc, last)?;
         Ok(SeatTable {
             early,
-            late: Bindings::new(alloc),
+            late: OwnMap::new(alloc),
             end: last + 1,
-            alone: true,
         })
     }
 
@@ -71,21 +64,9 @@ impl SeatTable {
         ensures { result ≡ fin.get self.now own }
     {
         if own >= self.end {
-            return self.late.get(own - self.end);
+            return self.late.get(own - self.end).copied();
         }
         self.early.get(own)
-    }
-
-    /// Puts the joint numbers of these own numbers into a list that has none, up to the first that isn't near. Takes time
-    /// linear in the own numbers.
-    #[inline(always)]
-    pub(crate) fn look_up(&self, owns: &[u32], joints: &mut Vec<u32>)
-        requires none { joints.old.items ≡ [] }
-        requires room { length owns.now ≤ vec_capacity joints.old }
-        ensures { AreFirstValues (fin.get self.now) owns.now joints.new.items }
-    {
-        self.late
-            .look_up(self.early.opened(), self.end, owns, joints);
     }
 
     /// Binds an own number that isn't bound.
@@ -98,57 +79,14 @@ impl SeatTable {
         ensures ok { OnOk result (self.new ≡ fin.insert self.old own joint) }
         ensures err { OnErr result (self.new ≡ self.old) }
     {
-        if own == joint && self.extend(own)? {
-            return Ok(());
-        }
-        self.insert_apart(own, joint)
-    }
-
-    /// Binds an own number that isn't bound to itself, where it is the next one behind those that stand together, and nothing
-    /// was bound apart from them. Answers whether it did.
-    ///
-    /// # Errors
-    /// [`NoMemory`] where a growth was refused.
-    #[inline(always)]
-    fn extend(&mut self, own: u64) -> Result<bool, NoMemory>
-        requires { fin.get self.old own ≡ None }
-        ensures bound { IfOk result (λ bound. bound ≡ true
-            → self.new ≡ fin.insert self.old own own) }
-        ensures same { IfOk result (λ bound. bound ≡ false → self.new ≡ self.old) }
-        ensures err { OnErr result (self.new ≡ self.old) }
-    {
-        if !self.alone || own < self.end {
-            return Ok(false);
-        }
-        match self.early.extend(own) {
-            Ok(true) => {
-                self.end = own + 1;
-                Ok(true)
-            }
-            Ok(false) => Ok(false),
-            Err(e) => Err(e),
-        }
-    }
-
-    /// Binds an own number that isn't bound, by itself.
-    ///
-    /// # Errors
-    /// [`NoMemory`] where a growth was refused.
-    #[inline(always)]
-    fn insert_apart(&mut self, own: u64, joint: u64) -> Result<(), NoMemory>
-        requires { fin.get self.old own ≡ None }
-        ensures ok { OnOk result (self.new ≡ fin.insert self.old own joint) }
-        ensures err { OnErr result (self.new ≡ self.old) }
-    {
         if own >= self.end {
-            self.alone = false;
             return self.late.insert(own - self.end, joint);
         }
         self.early.insert(own, joint)
     }
 
-    /// The own numbers, rising. Takes O(n log n) time for n of them, and time linear in the slots and in how many were bound to
-    /// themselves one after another.
+    /// The own numbers, rising. Takes O(n log n) time for n of them, and time linear in the slots and in the numbers of the
+    /// opening.
     ///
     /// # Errors
     /// [`NoMemory`] where a growth was refused.

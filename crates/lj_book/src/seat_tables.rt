@@ -5,8 +5,8 @@ ghost use Rattle.lj_book.specs.Tables.{up_to, table_of, is_here, joint_of, is_bo
 ghost use Rattle.lj_book.specs.inner.Tables.{own_numbers};
 ghost use Rattle.lj_book.specs.inner.Holders.{count_in, count_at, holders_of, one_if_at, all_up_to};
 
-use crate::counts::Counts;
 use crate::dying::rising;
+use crate::own_map::OwnMap;
 use crate::seat_table::SeatTable;
 use lj_clause::NoMemory;
 use lj_text::Numbers;
@@ -19,13 +19,12 @@ const FEW_JOINTS: usize = 1_024;
 
 /// The table of each seat, from own numbers to joint numbers, and none for a seat that has left.
 ///
-/// A call on a number takes the time of [`SeatTable`]'s call, and O(log n) time once 255 own numbers were bound to one joint
-/// number at a time.
+/// A call on a number takes the time of [`SeatTable`]'s call.
 #[derive(Drop)]
 pub(crate) struct SeatTables {
     seats: Vec<Option<SeatTable>>,
     /// How many own numbers of all seats are bound to each joint number, so that none has to be looked for.
-    holders: Counts,
+    holders: OwnMap<u64>,
 }
 
 impl Model for SeatTables {
@@ -44,8 +43,8 @@ impl Model for SeatTables {
 
 impl SeatTables {
     /// The tables of this many seats, in each of which the numbers from 1 on, as many as there are clauses, are bound
-    /// to themselves. Takes constant time for each seat and each clause, but O(M log M) time for M clauses from 255 seats
-    /// on, and a bit of memory for each clause and seat beside what the counts take.
+    /// to themselves. Takes constant time for each seat and each clause, and room for a byte for each clause and seat
+    /// beside what the counts take.
     ///
     /// # Errors
     /// [`NoMemory`] where a growth was refused.
@@ -138,7 +137,7 @@ impl SeatTables {
     }
 
     /// Gives these own numbers up, and answers how many were bound. A number that stands twice counts once. Takes
-    /// O(log n) time for each number, and in all calls for a seat together constant time for each 64 numbers of the opening.
+    /// O(log n) time for each number, and in all calls for a seat together constant time for each number of the opening.
     pub(crate) fn unbind_all(&mut self, seat: u32, numbers: &Numbers) -> u64
         requires here { is_here self.old seat ≡ true }
         ensures removed { self.new ≡ with_table (without_keys numbers.now) self.old seat }
@@ -252,11 +251,11 @@ fn same_tables(alloc: Global, seats: u32, clauses: u64) -> Result<Vec<Option<Sea
 }
 
 /// The same count at each number from 1 to this one.
-fn counts_up_to(alloc: Global, last: u64, count: u64) -> Result<Counts, NoMemory>
+fn counts_up_to(alloc: Global, last: u64, count: u64) -> Result<OwnMap<u64>, NoMemory>
     requires { last < 2 ^ 63 }
     ensures { IfOk result (λ counts. counts ≡ all_up_to last count) }
 {
-    let mut counts = Counts::new(alloc);
+    let mut counts = OwnMap::new(alloc);
     for number in 0..last {
         counts.insert(number + 1, count)?;
     }
@@ -267,7 +266,7 @@ fn counts_up_to(alloc: Global, last: u64, count: u64) -> Result<Counts, NoMemory
 #[inline(always)]
 fn bind_in(
     table: &mut SeatTable,
-    holders: &mut Counts,
+    holders: &mut OwnMap<u64>,
     own: u64,
     joint: u64,
     held: u64,
@@ -287,7 +286,7 @@ fn bind_in(
 
 /// Takes the own number out of the table, and one from the count of its joint number. Answers whether it was there.
 #[inline(always)]
-fn unbind_in(table: &mut SeatTable, holders: &mut Counts, own: u64) -> bool
+fn unbind_in(table: &mut SeatTable, holders: &mut OwnMap<u64>, own: u64) -> bool
     requires { (joint : ℕ) → fin.get table.old own ≡ Some joint → 0 < count_at holders.old joint }
     ensures bound { result ≡ fin.contains_key table.old own }
     ensures table { table.new ≡ fin.remove table.old own }
@@ -304,7 +303,7 @@ fn unbind_in(table: &mut SeatTable, holders: &mut Counts, own: u64) -> bool
 
 /// Takes the own numbers out of the table, and for each that was there one from the count of its joint number. Answers how
 /// many were there.
-fn unbind_all_in(table: &mut SeatTable, holders: &mut Counts, owns: &[u32]) -> u64
+fn unbind_all_in(table: &mut SeatTable, holders: &mut OwnMap<u64>, owns: &[u32]) -> u64
     requires { (joint : ℕ) → count_in (Some table.old) joint ≤ count_at holders.old joint }
     ensures count { result ≡ keys_lost owns.now (Some table.old) }
     ensures table { table.new ≡ without_keys owns.now table.old }
@@ -398,8 +397,8 @@ fn table_in(seats: &[Option<SeatTable>], seat: u32) -> Option<&SeatTable>
 
 /// The count at a number, which is 0 where there is none.
 #[inline]
-fn count(counts: &Counts, number: u64) -> u64
+fn count(counts: &OwnMap<u64>, number: u64) -> u64
     ensures { result ≡ count_at counts.now number }
 {
-    counts.get(number).unwrap_or(0)
+    counts.get(number).copied().unwrap_or(0)
 }

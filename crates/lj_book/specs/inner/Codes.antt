@@ -18,7 +18,6 @@ use Rattle.lj_book.specs.Tables.{Tables}
 use Rattle.lj_clause.specs.ClauseMap.{ClauseMap, FormulaValue}
 use Rattle.lj_book.specs.State.{State}
 use Rattle.lj_book.specs.inner.Records.{Entries}
-use Rattle.lj_book.specs.declared.place.Place.{Place}
 use Rattle.lj_book.specs.inner.Places.{Recorded}
 
 abbrev pub addition_code : Coded Addition
@@ -102,7 +101,3 @@ entries_code = code_by (List Entry × (List ℤ × (ℕ × (ℕ × ℕ))))
 abbrev pub recorded_code : Coded Recorded
 recorded_code = code_by (Entries × ClauseMap) (coded× entries_code clause_map_code)
     (λ r. (r.history, r.live)) (λ p. record { history = p.0; live = p.1 }) (λ _. refl)
-
-abbrev pub place_code : Coded Place
-place_code = code_by (ℕ × ℕ) (coded× coded_ℕ coded_ℕ) (λ p. (p.start, p.count))
-    (λ p. record { start = p.0; count = p.1 }) (λ _. refl)

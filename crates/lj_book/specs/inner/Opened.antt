@@ -1,13 +1,9 @@
 -- The numbers that are bound to themselves from the opening on, until they are given up.
-use Rattle.std.specs.Prelude.{ℕ, zero, suc, ◌/◌, ◌%◌, ◌==◌, Bool, List, [], ◌∷◌, Option, Some, None, slice_index, if◌then◌else◌}
-use Rattle.std.specs.Int.{bit_at}
+use Rattle.std.specs.Prelude.{ℕ, zero, suc, Bool, List, [], ◌∷◌, Option, Some, None, if◌then◌else◌}
 
--- whether number k is kept: bit k mod 64 of word k div 64 isn't set, and behind the words no bit is
-abbrev pub still_bound : List ℕ → ℕ → Bool
-still_bound words k = bit_at (slice_index words (k / 64)) (k % 64) == 0
-
--- the slots of so many numbers from n on, each bound to itself while it is kept
-abbrev pub opened_slots : ℕ → List ℕ → ℕ → List (Option ℕ)
-opened_slots n words zero = []
-opened_slots n words (suc count) =
-    (if still_bound words n then Some n else None) ∷ opened_slots (suc n) words count
+-- the slots of so many numbers from n on, each bound to itself unless the list says that it was given up
+abbrev pub opened_slots : ℕ → List Bool → ℕ → List (Option ℕ)
+opened_slots n given_up zero = []
+opened_slots n [] (suc count) = Some n ∷ opened_slots (suc n) [] count
+opened_slots n (gone ∷ given_up) (suc count) =
+    (if gone then None else Some n) ∷ opened_slots (suc n) given_up count

@@ -1,5 +1,5 @@
 -- Clauses whose literals stand in one list.
-use Rattle.std.specs.Prelude.{◌≡◌, ℕ, zero, suc, ◌+◌, ◌≤◌, ℤ, List, map, length, Option, Some, None}
+use Rattle.std.specs.Prelude.{◌≡◌, ℕ, ◌+◌, ◌≤◌, ℤ, List, map, length, Option, Some, None}
 use Rattle.std.specs.List.Sorted.{IsStrictlySortedBy}
 use Rattle.std.specs.Ordering.{nat_cmp}
 use Rattle.std.specs.FinMap as fin
@@ -15,11 +15,6 @@ use Rattle.lj_book.specs.inner.Occurrences.{Lists, AreIndexed}
 -- places under numbers
 abbrev pub Places : Type 0
 Places = fin.FinMap nat_cmp Place
-
--- what a slot has: where its place starts, and one more than its count, if there is one
-abbrev pub slot_place : ℕ → ℕ → Option Place
-slot_place start zero = None
-slot_place start (suc count) = Some (record { start = start; count = count })
 
 -- the clause whose literals stand at a place
 abbrev pub clause_in : List ℤ → Place → LiteralSet

@@ -1,5 +1,5 @@
 -- How a map from numbers is kept: in slots by number, and in a tree beside them.
-use Rattle.std.specs.Prelude.{◌≡◌, ◌≤◌, ℕ, zero, suc, Bool, true, if◌then◌else◌, List, [], ◌∷◌, ◌++◌, ◌+◌, length, take, map, Option, Some, None, is_some}
+use Rattle.std.specs.Prelude.{◌≡◌, ◌≤◌, ℕ, suc, Bool, true, if◌then◌else◌, List, [], ◌∷◌, ◌++◌, ◌+◌, map, Option, Some, None, is_some}
 use Rattle.std.specs.Ordering.{nat_cmp}
 use Rattle.std.specs.FinMap as fin
 
@@ -8,11 +8,6 @@ abbrev pub slot_entries : {V : Type 0} → ℕ → List (Option V) → List (ℕ
 slot_entries n [] = []
 slot_entries n (None ∷ slots) = slot_entries (suc n) slots
 slot_entries n (Some v ∷ slots) = (n, v) ∷ slot_entries (suc n) slots
-
--- what a slot of four bytes has: one less than what stands there, if anything does
-abbrev pub slot_value : ℕ → Option ℕ
-slot_value zero = None
-slot_value (suc n) = Some n
 
 -- the map that slots from 0 on make
 abbrev pub slot_map : {V : Type 0} → List (Option V) → fin.FinMap nat_cmp V
@@ -34,10 +29,6 @@ AreApart near far = (q : ℕ) → is_some (fin.get near q) ≡ true → fin.get 
 -- every number of the map is below the end
 abbrev pub AreBefore : {V : Type 0} → ℕ → fin.FinMap nat_cmp V → Type 0
 AreBefore end m = (q : ℕ) → end ≤ q → fin.get m q ≡ None
-
--- These are the values of the first keys, each of which has one.
-abbrev pub AreFirstValues : {V : Type 0} → (ℕ → Option V) → List ℕ → List V → Type 0
-AreFirstValues get keys values = map get (take (length values) keys) ≡ map Some values
 
 -- the numbers of the slots whose value passes the test
 abbrev pub slot_numbers : {V : Type 0} → (V → Bool) → ℕ → List (Option V) → List ℕ

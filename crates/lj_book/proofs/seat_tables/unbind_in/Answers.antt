@@ -1,7 +1,8 @@
-use Rattle.std.proofs.Common.{◌≡◌, ap, sym, ◌∙◌, subst, ◌+◌, ◌-◌, ◌≤◌, ℕ}
-use Rattle.std.specs.Prelude.{OnOk, OnErr}
+use Rattle.std.proofs.Common.{◌≡◌, ap, sym, ◌∙◌, subst, arith, ◌+◌, ◌-◌, ◌≤◌, ℕ}
+use Rattle.std.specs.Prelude.{OnOk}
 use Rattle.std.specs.FinMap as fin
-use Rattle.lj_book.specs.inner.Holders.{one_if_at, count_at}
+use Rattle.lj_book.specs.inner.Holders.{one_if_at, count_at, count_or_none}
+use Rattle.lj_book.proofs.Slots.{err_then}
 use Rattle.lj_book.proofs.TableLaws.{one_less}
 use Rattle.lj_book.proofs.seat_tables.unbind_in.Goals as goal
 
@@ -13,5 +14,5 @@ returns-clause-holders c =
     λ q.
     one_less m c.insert.new.self j q c.insert.result (c.requires j here)
     (subst (λ (k : ℕ). OnOk c.insert.result (c.insert.new.self ≡ fin.insert m j (k - 1))) c.count-held.ensures c.insert.ensures.ok)
-    (subst (λ (k : ℕ). OnErr c.insert.result (count_at m j ≤ k - 1)) c.count-held.ensures c.insert.ensures.no_less)
+    (err_then c.insert.result _ _ c.insert.ensures.absent (λ none. subst (λ (n : ℕ). n ≤ n - 1) (sym (ap count_or_none none)) (omega arith)))
     ∙ ap (λ o. one_if_at o q + count_at c.insert.new.self q) (sym here)

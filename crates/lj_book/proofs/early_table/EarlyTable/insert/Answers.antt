@@ -1,7 +1,7 @@
 use Rattle.std.proofs.Common.{ap, sym, ◌∙◌, subst}
 use Rattle.std.specs.FinMap as fin
 use Rattle.lj_book.specs.inner.Slots.{joined_map, AreApart}
-use Rattle.lj_book.proofs.Slots.{insert_far, apart-insert_far, either_way, ok_then, neither_near, neither_far}
+use Rattle.lj_book.proofs.Slots.{insert_far, apart-insert_far, either_way, ok_then, neither_near}
 use Rattle.lj_book.proofs.early_table.EarlyTable.insert.Goals as goal
 
 pub invariant_of-self : goal.invariant_of-self
@@ -19,6 +19,3 @@ returns-clause-ok c =
     ok_then c.insert.result _ _ c.insert.ensures.ok (λ e. ap (joined_map c.self.inside.opened) e
     ∙ insert_far c.self.inside.opened c.self.inside.anew c.args.own c.args.joint absent
     ∙ ap (λ m. fin.insert m c.args.own c.args.joint) c.self.view_is)
-
-pub insert-requires : goal.insert-requires
-insert-requires c = neither_far c.self.inside.opened c.self.inside.anew c.args.self.now c.args.own c.self.view_is c.requires

@@ -1,4 +1,4 @@
-use Rattle.std.proofs.Common.{◌≡◌, ap, ◌∙◌, arith, ℕ, suc, ◌+◌}
+use Rattle.std.proofs.Common.{◌≡◌, ap, ◌∙◌, arith, ℕ, suc, ◌+◌, true}
 use Rattle.std.specs.Prelude.{[], ◌∷◌, ◌++◌}
 use Rattle.lj_book.specs.inner.Slots.{slot_map}
 use Rattle.lj_book.specs.inner.Opened.{opened_slots}
@@ -8,6 +8,6 @@ use Rattle.lj_book.proofs.opened.Opened.up_to.Goals as goal
 pub returns : goal.returns
 returns c =
     let more : c.args.last + 1 ≡ suc c.args.last = omega arith in
-    ap (λ words. slot_map (opened_slots 0 words (c.args.last + 1))) (c.push_reserved.ensures.items ∙ ap (λ words. words ++ 1 ∷ []) c.in_ok-given_up.ensures.items)
-    ∙ ap (λ (n : ℕ). slot_map (opened_slots 0 (1 ∷ []) n)) more
+    ap (λ gone. slot_map (opened_slots 0 gone (c.args.last + 1))) (c.push_reserved.ensures.items ∙ ap (λ gone. gone ++ true ∷ []) c.in_ok-given_up.ensures.items)
+    ∙ ap (λ (n : ℕ). slot_map (opened_slots 0 (true ∷ []) n)) more
     ∙ opened_up_to c.args.last

@@ -1,20 +1,14 @@
 use Rattle.std.proofs.Common.{ap, sym, ◌∙◌, subst, ◌-◌, ◌^◌}
-use Rattle.std.specs.Ordering.{nat_cmp}
 use Rattle.std.specs.FinMap as fin
 use Rattle.lj_book.specs.inner.Slots.{joined_map, shifted, AreBefore}
-use Rattle.lj_book.proofs.Slots.{remove_absent}
 use Rattle.lj_book.proofs.Bounds.{before-remove}
 use Rattle.lj_book.proofs.Shifts.{late_get, early_get, late_remove, early_remove}
 use Rattle.lj_book.proofs.seat_table.SeatTable.remove.Goals as goal
 
 pub invariant_of-self : goal.invariant_of-self
 invariant_of-self c =
-    let end = c.self.inside.end in (
-      c.self.invariant.0,
-      subst (AreBefore (2 ^ 64 - end)) (sym c.remove.ensures.removed) (before-remove (2 ^ 64 - end) c.self.inside.late (c.args.own - end) c.self.invariant.1),
-      λ alone. c.remove.ensures.removed ∙ ap (λ m. fin.remove m (c.args.own - end)) (c.self.invariant.2 alone)
-          ∙ remove_absent fin.empty (c.args.own - end) (fin.get-empty nat_cmp (c.args.own - end)),
-    )
+    let end = c.self.inside.end in
+    (c.self.invariant.0, subst (AreBefore (2 ^ 64 - end)) (sym c.remove.ensures.removed) (before-remove (2 ^ 64 - end) c.self.inside.late (c.args.own - end) c.self.invariant.1))
 
 pub returns-then-own-self-clause-before : goal.returns-then-own-self-clause-before
 returns-then-own-self-clause-before c =
@@ -33,7 +27,7 @@ returns-then-own-self-clause-removed c =
 pub invariant_of-self-2 : goal.invariant_of-self-2
 invariant_of-self-2 c =
     let end = c.self.inside.end in
-    (subst (AreBefore end) (sym c.remove-2.ensures.removed) (before-remove end c.self.inside.early c.args.own c.self.invariant.0), c.self.invariant.1, c.self.invariant.2)
+    (subst (AreBefore end) (sym c.remove-2.ensures.removed) (before-remove end c.self.inside.early c.args.own c.self.invariant.0), c.self.invariant.1)
 
 pub returns-clause-before : goal.returns-clause-before
 returns-clause-before c =

@@ -10,7 +10,7 @@ pub invariant_of-result : goal.invariant_of-result
 invariant_of-result c =
     let last = c.args.last in
     let early : AreBefore (last + 1) c.in_ok-early.early = subst (AreBefore (last + 1)) (sym c.in_ok-early.ensures) (λ q h. up_to-above last q (omega (arith, h))) in
-    (early, subst (AreBefore (2 ^ 64 - (last + 1))) (sym c.new.ensures) (before-empty (2 ^ 64 - (last + 1))), λ _. c.new.ensures)
+    (early, subst (AreBefore (2 ^ 64 - (last + 1))) (sym c.new.ensures) (before-empty (2 ^ 64 - (last + 1))))
 
 pub returns : goal.returns
 returns c =
