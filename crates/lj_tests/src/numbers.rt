@@ -51,9 +51,6 @@ fn assert_room_again(rt: &impl Abort, alloc: Global) -> Result<(), Fail> {
         numbers = Numbers::from_short(room);
         assert_are(rt, &numbers, &wanted);
     }
-    let mut few = Numbers::with_capacity(alloc, 2)?;
-    few.push(7)?;
-    assert!(rt; few.take_room(2).is_none() && few.is_empty());
     Ok(())
 }
 

@@ -8,7 +8,6 @@ mod GroupRows
 mod HeldLemmas
 mod JudgeLemmas
 mod LaneLemmas
-mod MixedLaws
 mod OnePassLemmas
 mod PassLemmas
 mod ReaderLemmas

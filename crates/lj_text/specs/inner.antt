@@ -9,8 +9,6 @@ pub mod Windows
 pub mod CnfReading
 pub mod CnfResuming
 pub mod CnfHeld
-pub mod MixedNumbers
-pub mod LentMixed
 pub mod Numbers
 pub mod Groups
 pub mod StepText

@@ -1,13 +1,9 @@
 //! Lists of clause numbers.
-ghost use Rattle.std.specs.Prelude.{◌≡◌, true, ◌==◌, ◌<◌, ◌≤◌, ◌∷◌, ◌++◌, ◌↔◌, ◌⊎◌, IsTrue, [], length, take, drop, slice_get, slice_index, vec_capacity, IfOk, IfSome, OnOk, OnErr};
-ghost use Rattle.lj_text.specs.inner.Numbers.{numbers_in, numbers_left};
+ghost use Rattle.std.specs.Prelude.{◌≡◌, true, ◌==◌, ◌<◌, ◌≤◌, ◌∷◌, ◌++◌, ◌↔◌, ◌⊎◌, IsTrue, [], length, take, drop, slice_get, vec_capacity, IfOk, IfSome, OnOk, OnErr};
 ghost use Rattle.lj_text.specs.inner.LineReading.{IsReadOn};
 ghost use Rattle.lj_text.specs.inner.ShortNumbers.{AreNumbersAhead};
 
 use crate::bytes::{WINDOW, number_of_digits, others_in, short_number};
-use crate::few_numbers::{FEW, FewNumbers};
-use crate::lent_mixed::LentMixed;
-use crate::mixed_numbers::{MixedNumbers, are_short};
 use std::alloc::{AllocError, Global};
 use std::marker::Model;
 use std::mem::replace;
@@ -20,52 +16,18 @@ pub(crate) const MANY: usize = 65_536;
 
 /// A list of clause numbers. Two are equal where their contents are.
 ///
-/// Each number takes four bytes where all of them are below 2^32, and otherwise eight more where it is 2^31 or greater;
-/// but in a list that was made of numbers of eight bytes, or that has no room for so many of them, it takes eight. Up to
-/// six of four bytes may stand in the list itself, and take no memory of their own.
+/// There are two widths: each number takes four bytes, and once one of 2^32 or more was pushed, each takes eight. In a list
+/// that was made of numbers of eight bytes they take eight.
 #[derive(Debug, Drop)]
 pub struct Numbers {
     form: Form,
 }
 
-/// Numbers by their widths.
+/// Numbers by their width.
 #[derive(Debug, Drop)]
 enum Form {
-    Few(FewNumbers),
     Short(Vec<u32>),
-    Mixed(Box<MixedNumbers>),
     Long(Vec<u64>),
-}
-
-impl Form {
-    /// How many numbers there are, where some may take more than four bytes.
-    #[cold]
-    #[inline(never)]
-    fn len(&self) -> usize
-        ensures { result ≡ length (numbers_in self.now) }
-    {
-        match self {
-            Form::Few(numbers) => numbers.as_slice().len(),
-            Form::Short(numbers) => numbers.len(),
-            Form::Mixed(numbers) => numbers.len() as usize,
-            Form::Long(numbers) => numbers.len(),
-        }
-    }
-
-    /// The number at a place, counted from 0, where some may take more than four bytes. Takes constant time.
-    #[cold]
-    #[inline(never)]
-    fn at(&self, index: usize) -> u64
-        requires { index < length (numbers_in self.now) }
-        ensures { result ≡ slice_index (numbers_in self.now) index }
-    {
-        match self {
-            Form::Few(numbers) => u64::from(numbers.as_slice()[index]),
-            Form::Short(numbers) => u64::from(numbers[index]),
-            Form::Mixed(numbers) => numbers.at(index),
-            Form::Long(numbers) => numbers[index],
-        }
-    }
 }
 
 impl Model for Numbers {
@@ -105,11 +67,6 @@ impl Numbers {
     pub fn with_capacity(alloc: Global, count: usize) -> Result<Numbers, AllocError>
         ensures { IfOk result (λ list. list ≡ []) }
     {
-        if count <= FEW {
-            return Ok(Numbers {
-                form: Form::Few(FewNumbers::new(alloc)),
-            });
-        }
         Ok(Numbers {
             form: Form::Short(Vec::with_capacity(alloc, count)?),
         })
@@ -130,44 +87,23 @@ impl Numbers {
                 numbers.push(number as u32)?;
                 Ok(())
             }
-            _ => self.push_other(number),
-        }
-    }
-
-    /// The same, where the numbers stand in the list itself, or some take more than four bytes.
-    #[inline(never)]
-    fn push_other(&mut self, number: u64) -> Result<(), AllocError>
-        ensures ok { OnOk result (self.new ≡ self.old ++ number ∷ []) }
-        ensures err { OnErr result (self.new ≡ self.old) }
-    {
-        match &mut self.form {
-            Form::Few(numbers) if number <= MAX_SHORT && numbers.has_room() => {
-                numbers.push(number as u32);
-                Ok(())
-            }
             _ => self.push_long(number),
         }
     }
 
-    /// The same, where some take more than four bytes, or the number has no room among the few.
+    /// The same, where the number, or each in the list, takes eight bytes.
     #[cold]
+    #[inline(never)]
     fn push_long(&mut self, number: u64) -> Result<(), AllocError>
         ensures ok { OnOk result (self.new ≡ self.old ++ number ∷ []) }
         ensures err { OnErr result (self.new ≡ self.old) }
     {
         match &mut self.form {
-            Form::Few(numbers) => {
-                self.form = with_few(numbers, number)?;
-                Ok(())
-            }
             Form::Short(numbers) => {
-                self.form = with_short(numbers, number)?;
-                Ok(())
-            }
-            Form::Mixed(numbers) => {
-                if !numbers.push(number)? {
-                    self.form = with_mixed(numbers, number)?;
-                }
+                let room = numbers.len().saturating_add(1);
+                let mut long = lengthened(*numbers.allocator(), numbers, room)?;
+                long.push(number)?;
+                self.form = Form::Long(long);
                 Ok(())
             }
             Form::Long(numbers) => {
@@ -184,39 +120,21 @@ impl Numbers {
     {
         match &mut self.form {
             Form::Short(numbers) => numbers.clear(),
-            Form::Few(numbers) => numbers.truncate(0),
-            _ => self.clear_wide(),
+            Form::Long(_) => self.let_go(),
         }
     }
 
-    /// The same, where some take more than four bytes.
+    /// Lets go of the numbers and of their room. Takes constant time.
     #[cold]
-    fn clear_wide(&mut self)
+    #[inline(never)]
+    fn let_go(&mut self)
         ensures { self.new ≡ [] }
     {
-        let room = match &mut self.form {
-            Form::Few(numbers) => Vec::new(numbers.allocator()),
-            Form::Short(numbers) => Vec::new(*numbers.allocator()),
-            Form::Mixed(numbers) => numbers.take_room(),
-            Form::Long(numbers) => Vec::new(*numbers.allocator()),
+        let alloc = match &self.form {
+            Form::Short(numbers) => *numbers.allocator(),
+            Form::Long(numbers) => *numbers.allocator(),
         };
-        self.form = Form::Short(room);
-    }
-
-    /// Lets go of the numbers, and of their room where they are many. Takes constant time.
-    #[cold]
-    pub(crate) fn let_go(&mut self)
-        ensures { self.new ≡ [] }
-    {
-        match &mut self.form {
-            Form::Short(numbers) if numbers.len() > MANY => {
-                self.form = Form::Short(Vec::new(*numbers.allocator()));
-            }
-            Form::Mixed(numbers) => {
-                self.form = Form::Short(Vec::new(numbers.allocator()));
-            }
-            _ => self.clear(),
-        }
+        self.form = Form::Short(Vec::new(alloc));
     }
 
     /// Lets go of the numbers and of their room, where they are many. Takes constant time.
@@ -247,7 +165,7 @@ impl Numbers {
                 let empty = Vec::new(*numbers.allocator());
                 Some(replace(numbers, empty))
             }
-            _ => None,
+            Form::Long(_) => None,
         }
     }
 
@@ -261,7 +179,7 @@ impl Numbers {
     {
         match &mut self.form {
             Form::Short(numbers) => short_numbers(numbers, bytes),
-            _ => bytes,
+            Form::Long(_) => bytes,
         }
     }
 
@@ -270,9 +188,7 @@ impl Numbers {
         ensures { self.new ≡ take count self.old }
     {
         match &mut self.form {
-            Form::Few(numbers) => numbers.truncate(count),
             Form::Short(numbers) => numbers.truncate(count),
-            Form::Mixed(numbers) => numbers.truncate(count),
             Form::Long(numbers) => numbers.truncate(count),
         }
     }
@@ -296,9 +212,8 @@ impl Numbers {
         ensures { result ≡ length self.now }
     {
         match &self.form {
-            Form::Few(numbers) => numbers.as_slice().len(),
             Form::Short(numbers) => numbers.len(),
-            form => form.len(),
+            Form::Long(numbers) => numbers.len(),
         }
     }
 
@@ -314,14 +229,8 @@ impl Numbers {
         ensures { result ≡ slice_get self.now index }
     {
         match &self.form {
-            Form::Few(numbers) => short_at(numbers.as_slice(), index),
             Form::Short(numbers) => short_at(numbers, index),
-            form => {
-                if index >= form.len() {
-                    return None;
-                }
-                Some(form.at(index))
-            }
+            Form::Long(numbers) => numbers.get(index).copied(),
         }
     }
 
@@ -331,14 +240,8 @@ impl Numbers {
         ensures { result ≡ self.now }
     {
         match &self.form {
-            Form::Few(numbers) => NumbersIter {
-                rest: Rest::Short(numbers.as_slice()),
-            },
             Form::Short(numbers) => NumbersIter {
                 rest: Rest::Short(numbers),
-            },
-            Form::Mixed(numbers) => NumbersIter {
-                rest: Rest::Mixed(LentMixed::new(numbers)),
             },
             Form::Long(numbers) => NumbersIter {
                 rest: Rest::Long(numbers),
@@ -353,9 +256,8 @@ impl Numbers {
         ensures { IfSome result (λ short. short.now ≡ self.now) }
     {
         match &self.form {
-            Form::Few(numbers) => Some(numbers.as_slice()),
             Form::Short(numbers) => Some(numbers),
-            Form::Mixed(_) | Form::Long(_) => None,
+            Form::Long(_) => None,
         }
     }
 
@@ -374,8 +276,7 @@ impl Numbers {
         true
     }
 
-    /// A list of its own with the same numbers. Takes time and memory linear in how many there are, with those of 2^31 or
-    /// greater that were cut off.
+    /// A list of its own with the same numbers. Takes time and memory linear in how many there are.
     ///
     /// # Errors
     /// [`AllocError`] where a growth was refused.
@@ -383,9 +284,7 @@ impl Numbers {
         ensures { IfOk result (λ list. list ≡ self.now) }
     {
         let form = match &self.form {
-            Form::Few(numbers) => Form::Few(numbers.copy()),
-            Form::Short(numbers) => form_of(*numbers.allocator(), numbers)?,
-            Form::Mixed(numbers) => Form::Mixed(numbers.copy()?),
+            Form::Short(numbers) => Form::Short(Vec::from_slice(*numbers.allocator(), numbers)?),
             Form::Long(numbers) => Form::Long(Vec::from_slice(*numbers.allocator(), numbers)?),
         };
         Ok(Numbers { form })
@@ -399,9 +298,7 @@ impl Numbers {
         ensures { IfOk result (λ numbers. numbers.items ≡ self.now) }
     {
         match &self.form {
-            Form::Few(numbers) => lengthened(numbers.allocator(), numbers.as_slice()),
-            Form::Short(numbers) => lengthened(*numbers.allocator(), numbers),
-            Form::Mixed(numbers) => numbers.to_vec(),
+            Form::Short(numbers) => lengthened(*numbers.allocator(), numbers, numbers.len()),
             Form::Long(numbers) => Vec::from_slice(*numbers.allocator(), numbers),
         }
     }
@@ -478,81 +375,6 @@ fn short_at(numbers: &[u32], index: usize) -> Option<u64>
     }
 }
 
-/// A list of a few numbers and one more, with room for others.
-///
-/// # Errors
-/// [`AllocError`] where a growth was refused.
-fn with_few(numbers: &FewNumbers, number: u64) -> Result<Form, AllocError>
-    ensures { IfOk result (λ form. numbers_in form ≡ numbers.now ++ number ∷ []) }
-{
-    let alloc = numbers.allocator();
-    if number <= MAX_SHORT {
-        let mut short = Vec::with_capacity(alloc, 2 * FEW)?;
-        short.extend_from_slice(numbers.as_slice())?;
-        short.push(number as u32)?;
-        return Ok(Form::Short(short));
-    }
-    with_great(alloc, numbers.as_slice(), number)
-}
-
-/// A list of numbers of four bytes each, whose room it takes over where it can, and of one more.
-///
-/// # Errors
-/// [`AllocError`] where a growth was refused, and then nothing has changed.
-fn with_short(numbers: &mut Vec<u32>, number: u64) -> Result<Form, AllocError>
-    ensures ok { IfOk result
-        (λ form. numbers_in form ≡ numbers.old.items ++ number ∷ []) }
-    ensures err { OnErr result (numbers.new.items ≡ numbers.old.items) }
-{
-    if are_short(numbers) {
-        return Ok(Form::Mixed(MixedNumbers::taking(numbers, number)?));
-    }
-    with_great(*numbers.allocator(), numbers, number)
-}
-
-/// The same in room of its own.
-///
-/// # Errors
-/// [`AllocError`] where a growth was refused.
-fn with_great(alloc: Global, numbers: &[u32], number: u64) -> Result<Form, AllocError>
-    ensures { IfOk result (λ form. numbers_in form ≡ numbers.now ++ number ∷ []) }
-{
-    if let Some(mut mixed) = MixedNumbers::from_short(alloc, numbers)? {
-        if mixed.push(number)? {
-            return Ok(Form::Mixed(Box::new(alloc, mixed)?));
-        }
-    }
-    let mut long = lengthened(alloc, numbers)?;
-    long.push(number)?;
-    Ok(Form::Long(long))
-}
-
-/// The same of numbers most of which take four bytes, where one more has no room behind them.
-///
-/// # Errors
-/// [`AllocError`] where a growth was refused.
-fn with_mixed(numbers: &MixedNumbers, number: u64) -> Result<Form, AllocError>
-    ensures { IfOk result (λ form. numbers_in form ≡ numbers.now ++ number ∷ []) }
-{
-    let mut long = numbers.to_vec()?;
-    long.push(number)?;
-    Ok(Form::Long(long))
-}
-
-/// The list of these numbers, in exactly the room that it needs.
-///
-/// # Errors
-/// [`AllocError`] where a growth was refused.
-#[inline]
-fn form_of(alloc: Global, numbers: &[u32]) -> Result<Form, AllocError>
-    ensures { IfOk result (λ form. numbers_in form ≡ numbers.now) }
-{
-    match FewNumbers::from_slice(alloc, numbers) {
-        Some(few) => Ok(Form::Few(few)),
-        None => Ok(Form::Short(Vec::from_slice(alloc, numbers)?)),
-    }
-}
-
 /// The same numbers in four bytes each: none where one of them doesn't fit.
 fn shortened(alloc: Global, numbers: &[u64]) -> Result<Option<Vec<u32>>, AllocError>
     ensures { IfOk result (λ short. IfSome short (λ short. short.items ≡ numbers.now)) }
@@ -567,11 +389,11 @@ fn shortened(alloc: Global, numbers: &[u64]) -> Result<Option<Vec<u32>>, AllocEr
     Ok(Some(short))
 }
 
-/// The same numbers in eight bytes each.
-fn lengthened(alloc: Global, numbers: &[u32]) -> Result<Vec<u64>, AllocError>
+/// The same numbers in eight bytes each, with room for so many.
+fn lengthened(alloc: Global, numbers: &[u32], room: usize) -> Result<Vec<u64>, AllocError>
     ensures { IfOk result (λ long. long.items ≡ numbers.now) }
 {
-    let mut long = Vec::with_capacity(alloc, numbers.len())?;
+    let mut long = Vec::with_capacity(alloc, room)?;
     for number in numbers {
         long.push(u64::from(*number))?;
     }
@@ -584,11 +406,10 @@ pub struct NumbersIter<'a> {
     rest: Rest<'a>,
 }
 
-/// Numbers by their widths that are still to come.
+/// Numbers by their width that are still to come.
 #[derive(Clone, Copy, Debug)]
 enum Rest<'a> {
     Short(&'a [u32]),
-    Mixed(LentMixed<'a>),
     Long(&'a [u64]),
 }
 
@@ -620,7 +441,6 @@ impl<'a> NumbersIter<'a> {
     {
         match self.rest {
             Rest::Short(rest) => rest.len(),
-            Rest::Mixed(rest) => rest.len(),
             Rest::Long(rest) => rest.len(),
         }
     }
@@ -632,7 +452,6 @@ impl<'a> NumbersIter<'a> {
     {
         match self.rest {
             Rest::Short(rest) => short_at(rest, index),
-            Rest::Mixed(rest) => rest.get(index),
             Rest::Long(rest) => rest.get(index).copied(),
         }
     }
@@ -644,7 +463,6 @@ impl<'a> NumbersIter<'a> {
     {
         let rest = match self.rest {
             Rest::Short(rest) => Rest::Short(&rest[..rest.len().min(count)]),
-            Rest::Mixed(rest) => Rest::Mixed(rest.first(rest.len().min(count))),
             Rest::Long(rest) => Rest::Long(&rest[..rest.len().min(count)]),
         };
         NumbersIter { rest }
@@ -657,7 +475,6 @@ impl<'a> NumbersIter<'a> {
     {
         let rest = match self.rest {
             Rest::Short(rest) => Rest::Short(rest.split_at(rest.len().min(count)).1),
-            Rest::Mixed(rest) => Rest::Mixed(rest.behind(rest.len().min(count))),
             Rest::Long(rest) => Rest::Long(rest.split_at(rest.len().min(count)).1),
         };
         NumbersIter { rest }
@@ -675,10 +492,6 @@ impl<'a> NumbersIter<'a> {
                 let (front, behind) = rest.split_at(count);
                 (Rest::Short(front), Rest::Short(behind))
             }
-            Rest::Mixed(rest) => (
-                Rest::Mixed(rest.first(count)),
-                Rest::Mixed(rest.behind(count)),
-            ),
             Rest::Long(rest) => {
                 let (front, behind) = rest.split_at(count);
                 (Rest::Long(front), Rest::Long(behind))
@@ -705,11 +518,6 @@ impl<'a> Iterator for NumbersIter<'a> {
                 let (first, others) = rest.split_first()?;
                 self.rest = Rest::Short(others);
                 Some(u64::from(*first))
-            }
-            Rest::Mixed(rest) => {
-                let first = rest.get(0)?;
-                self.rest = Rest::Mixed(rest.behind(1));
-                Some(first)
             }
             Rest::Long(rest) => {
                 let (first, others) = rest.split_first()?;

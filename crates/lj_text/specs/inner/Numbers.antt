@@ -4,15 +4,11 @@ use Rattle.lj_text.specs.declared.numbers.Form.{Form}
 use Rattle.lj_text.specs.declared.numbers.Form.TheVariants as forms
 use Rattle.lj_text.specs.declared.numbers.Rest.{Rest}
 use Rattle.lj_text.specs.declared.numbers.Rest.TheVariants as rests
-use Rattle.lj_text.specs.inner.LentMixed.{lent_in}
 
 abbrev pub numbers_in : Form → List ℕ
-numbers_in (forms.Few numbers) = numbers
 numbers_in (forms.Short numbers) = numbers.items
-numbers_in (forms.Mixed place) = place.value
 numbers_in (forms.Long numbers) = numbers.items
 
 abbrev pub numbers_left : Rest → List ℕ
 numbers_left (rests.Short numbers) = numbers.now
-numbers_left (rests.Mixed numbers) = lent_in numbers
 numbers_left (rests.Long numbers) = numbers.now

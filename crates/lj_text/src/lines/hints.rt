@@ -59,7 +59,7 @@ fn read_groups(
         groups.push(candidate, room.iter())?;
         match next {
             None => {
-                room.let_go();
+                room.let_go_of_many();
                 return Ok(());
             }
             Some((number, after)) => {
