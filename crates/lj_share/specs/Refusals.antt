@@ -1,5 +1,5 @@
 -- Why a call of a seat is refused.
-use Rattle.std.specs.Prelude.{◌≡◌, ℕ, ◌⊎◌, List, [], length, Result}
+use Rattle.std.specs.Prelude.{◌≡◌, ℕ, ◌⊎◌, false, List, [], length, Result}
 use Rattle.lj_clause.specs.ClauseMap.{FormulaValue}
 use Rattle.lj_clause.specs.LiteralSet.{negations}
 use Rattle.lj_clause.specs.Walk.{Stuck, walk_over}
@@ -15,7 +15,7 @@ use Rattle.lj_book.specs.History.{IsReached}
 use Rattle.lj_book.specs.Calls.{IsRefusal, drop_reply, import_reply}
 use Rattle.lj_book.specs.Inside.{inside_reply}
 use Rattle.lj_share.specs.Entries.{calls_of}
-use Rattle.lj_share.specs.Seats.{SeatValue, IsOpenedAs}
+use Rattle.lj_share.specs.Seats.{SeatValue, IsOpenedAs, has_left}
 
 -- There is a state in which this holds. It is that of a book of this formula, with so many seats and this limit of additions. Its history
 -- is legal, and has of the seat just the calls whose entries were made through it.
@@ -39,19 +39,21 @@ IsRefusedLine seat (lines.Add a) e s = IsRefusal e (inside_reply s seat a)
 IsRefusedLine seat (lines.Delete numbers) e s = IsRefusal e (drop_reply s seat numbers)
 IsRefusedLine seat (lines.Import own clause) e s = IsRefusal e (import_reply s seat own clause)
 
--- The walk of the addition's lemma over some clauses, as many as it has hints, is stuck at this place. It has no groups.
-pub record IsStuckAlone (a : Addition) (place : ℕ) : Type 0 where
+-- The seat has not left, and the walk of the addition's lemma over some clauses, as many as it has hints, is stuck at this
+-- place. It has no groups.
+pub record IsStuckAlone (seat : SeatValue) (a : Addition) (place : ℕ) : Type 0 where
+  pub here : has_left seat.calls ≡ false
   pub hints : List Pair
   pub as_many : length hints ≡ length a.hints
   pub no_groups : a.groups ≡ []
   pub stuck : walk_over (negations a.lemma.clause) (named_hints hints) ≡ Stuck place
 
 -- the seat refuses its line so by what it knows by itself
-abbrev pub IsRefusedAlone : Line → Refusal → Type 0
-IsRefusedAlone (lines.Add a) (HintNotUnit place) = IsStuckAlone a place
-IsRefusedAlone line e = ⊥
+abbrev pub IsRefusedAlone : SeatValue → Line → Refusal → Type 0
+IsRefusedAlone seat (lines.Add a) (HintNotUnit place) = IsStuckAlone seat a place
+IsRefusedAlone seat line e = ⊥
 
 -- in such a state the reply to the seat's line is this refusal, or the seat refuses it so without the book
 abbrev pub IsLineRefused : FormulaValue → ℕ → ℕ → SeatValue → Line → Refusal → Type 0
 IsLineRefused formula seats max_steps seat line e = HoldsInAState formula seats max_steps seat
-    (IsRefusedLine seat.number line e) ⊎ IsRefusedAlone line e
+    (IsRefusedLine seat.number line e) ⊎ IsRefusedAlone seat line e

@@ -145,7 +145,7 @@ impl<L: Opening> Desk<L> {
         } = self;
         match book.commit_telling(receipt) {
             Ok((added, entry)) => {
-                seat.count_one(entries, lists, book);
+                seat.count_one(entries, lists, book, false);
                 Ok((added.joint, Told { entry }))
             }
             Err(refused) => {
@@ -175,7 +175,7 @@ impl<L: Opening> Desk<L> {
         } = self;
         match book.commit_ready(ready) {
             Ok((added, receipt)) => {
-                seat.count_one(entries, lists, book);
+                seat.count_one(entries, lists, book, false);
                 Ok((added.joint, receipt))
             }
             Err(refused) => Err(refused),
@@ -207,7 +207,7 @@ impl<L: Opening> Desk<L> {
         let number = seat.number();
         match telling::add_inside(book, number, addition, marks, telling) {
             Ok((added, entry)) => {
-                seat.count_one(entries, lists, book);
+                seat.count_one(entries, lists, book, false);
                 let joint = added.joint;
                 let told = token(entry);
                 Ok(Entered { joint, told })
@@ -254,7 +254,7 @@ impl<L: Opening> Desk<L> {
         } = self;
         match telling::drop_numbers(book, seat.number(), numbers, telling) {
             Ok(entry) => {
-                seat.count_one(entries, lists, book);
+                seat.count_one(entries, lists, book, false);
                 Ok(token(entry))
             }
             Err(refusal) => {
@@ -289,7 +289,7 @@ impl<L: Opening> Desk<L> {
         match telling::import(book, seat.number(), own, clause, telling) {
             Ok((imported, entry)) => {
                 seat.bind(own, imported.joint, &clause.view());
-                seat.count_one(entries, lists, book);
+                seat.count_one(entries, lists, book, false);
                 Ok(token(entry))
             }
             Err(refusal) => {
@@ -323,7 +323,7 @@ impl<L: Opening> Desk<L> {
         match book.adopt_telling(seat.number(), own, joint) {
             Ok((_, entry)) => {
                 bind_live(book, seat, own, joint);
-                seat.count_one(entries, lists, book);
+                seat.count_one(entries, lists, book, false);
                 Ok(Told { entry })
             }
             Err(refusal) => {
@@ -350,7 +350,7 @@ impl<L: Opening> Desk<L> {
         } = self;
         match book.leave_telling(seat.number()) {
             Ok((_, entry)) => {
-                seat.count_one(entries, lists, book);
+                seat.count_one(entries, lists, book, true);
                 Ok(Told { entry })
             }
             Err(refusal) => {

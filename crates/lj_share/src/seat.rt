@@ -1,8 +1,8 @@
 //! Seats.
-ghost use Rattle.std.specs.Prelude.{◌≡◌, ◌+◌, ◌<◌, [], length, Some, IfSome, OnSome, slice_get, slice_set};
+ghost use Rattle.std.specs.Prelude.{◌≡◌, ◌+◌, ◌<◌, [], length, false, Some, IfSome, OnSome, slice_get, slice_set};
 ghost use Rattle.lj_book.specs.declared.entry.Call.{Call};
 ghost use Rattle.lj_share.specs.Entries.{calls_of};
-ghost use Rattle.lj_share.specs.Seats.{new_seat, making};
+ghost use Rattle.lj_share.specs.Seats.{new_seat, making, is_leave, has_left};
 ghost use Rattle.lj_book.specs.History.{IsReached};
 ghost use Rattle.lj_share.specs.inner.Seats.{AreListsOf, HasOneMore};
 
@@ -24,6 +24,8 @@ use std::sync::ledger::{Book as Tally, Share};
 pub struct Seat<L: Opening> {
     number: u32,
     count: u64,
+    /// Whether it has not left.
+    here: bool,
     pub(crate) marks: Marks,
     /// The clauses that it holds, none where it doesn't know them by itself.
     own: Option<OwnClauses>,
@@ -34,8 +36,8 @@ pub struct Seat<L: Opening> {
 }
 
 impl<L: Opening> Model for Seat<L> {
-    ghost use Rattle.std.specs.Prelude.{◌≡◌, Some, length, slice_get};
-    ghost use Rattle.lj_share.specs.Seats.{SeatValue};
+    ghost use Rattle.std.specs.Prelude.{◌≡◌, true, false, Some, length, slice_get};
+    ghost use Rattle.lj_share.specs.Seats.{SeatValue, has_left};
     ghost use Rattle.lj_share.specs.inner.Codes.{seat_code};
 
     ghost Value = { SeatValue };
@@ -45,7 +47,8 @@ impl<L: Opening> Model for Seat<L> {
     ghost view = { λ s. record { number = s.number; calls = s.copy.calls } };
 
     ghost invariant = { λ s. (s.share.parts ≡ 1) × (s.share.amount ≡ s.count)
-        × (s.count ≡ length s.copy.calls) × (slice_get L.lists s.number ≡ Some s.copy.name) };
+        × (s.count ≡ length s.copy.calls) × (slice_get L.lists s.number ≡ Some s.copy.name)
+        × (s.here ≡ true → has_left s.copy.calls ≡ false) };
 }
 
 impl<L: Opening> Seat<L> {
@@ -60,6 +63,7 @@ impl<L: Opening> Seat<L> {
         Seat {
             number,
             count: 0,
+            here: true,
             marks: Marks::new(alloc),
             own: Some(OwnClauses::new(alloc)),
             share,
@@ -82,10 +86,17 @@ impl<L: Opening> Seat<L> {
     }
 
     /// Counts an entry more, which was just made through it: here, in the ledger, and in both copies of the list of its
-    /// calls.
-    pub(crate) fn count_one(&mut self, entries: &mut Tally<L>, lists: &mut Lists<L>, book: &Book)
+    /// calls. The seat is told whether it leaves by it.
+    pub(crate) fn count_one(
+        &mut self,
+        entries: &mut Tally<L>,
+        lists: &mut Lists<L>,
+        book: &Book,
+        leaves: bool,
+    )
         requires made { entries.old.total + 1 ≡ length book.now.history }
-        requires one { (call : Call) × HasOneMore self.old.number lists.old book.now.history call }
+        requires one { (call : Call) × HasOneMore self.old.number lists.old book.now.history call
+            × (leaves ≡ false → is_leave call ≡ false) }
         ensures seat { (call : Call) → HasOneMore self.old.number lists.old book.now.history call
             → self.new ≡ making call self.old }
         ensures entries { entries.new.total ≡ length book.now.history }
@@ -98,6 +109,7 @@ impl<L: Opening> Seat<L> {
         let made = book.history_len();
         prove!(self.count < made);
         self.count += 1;
+        self.here &= !leaves;
     }
 
     /// The book's history is legal, and has of the seat just the calls that were made through it: both copies of the list of
@@ -115,15 +127,19 @@ impl<L: Opening> Seat<L> {
     }
 
     /// The case of an addition over the clauses that the seat holds as it knows by itself: none where it has groups, where
-    /// its number may be bound, where one that it names isn't known, or where a growth was refused.
+    /// its number may be bound, where one that it names isn't known, where the seat has left, or where a growth was refused.
     pub(crate) fn case(&mut self, formula: &Formula, addition: &Addition) -> Option<Case>
         ensures seat { IfSome result (λ case. case.seat ≡ self.old.number) }
         ensures own { IfSome result (λ case. case.own ≡ addition.now.number) }
         ensures lemma { IfSome result (λ case. case.lemma ≡ addition.now.lemma) }
         ensures hints { IfSome result (λ case. length case.hints ≡ length addition.now.hints) }
         ensures groups { OnSome result (length addition.now.groups ≡ 0) }
+        ensures here { OnSome result (has_left self.old.calls ≡ false) }
         ensures kept { self.new ≡ self.old }
     {
+        if !self.here {
+            return None;
+        }
         let seat = self.number;
         let own = match &mut self.own {
             Some(own) => own,

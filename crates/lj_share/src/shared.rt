@@ -275,7 +275,7 @@ impl<L: Opening> Shared<L> {
             (λ receipt. IfSome receipt (λ r. r.own ≡ addition.now.number)) }
         ensures lemma { IfOk result
             (λ receipt. IfSome receipt (λ r. r.lemma ≡ addition.now.lemma)) }
-        ensures refusal { IfErr result (IsRefusedAlone (lines.Add addition.now)) }
+        ensures refusal { IfErr result (IsRefusedAlone seat.old (lines.Add addition.now)) }
         ensures kept { seat.new ≡ seat.old }
     {
         let Some(case) = seat.case(&self.formula, addition) else {

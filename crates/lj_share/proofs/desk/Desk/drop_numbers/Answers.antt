@@ -1,10 +1,10 @@
-use Rattle.std.proofs.Common.{inl}
+use Rattle.std.proofs.Common.{refl, inl}
 use Rattle.lj_share.proofs.Opened.{desk_on, desk_agreed, one_more}
 use Rattle.lj_share.proofs.desk.Desk.drop_numbers.Goals.{in-Ok, in-Err}
 use Rattle.lj_share.proofs.desk.Desk.drop_numbers.Goals as goal
 
 pub count_one-requires-clause-one : goal.count_one-requires-clause-one
-count_one-requires-clause-one g c = (_, one_more _ _ _ _ _ c.number.ensures c.in-Ok.ensures.ok c.self.invariant.listed)
+count_one-requires-clause-one g c = (_, one_more _ _ _ _ _ c.number.ensures c.in-Ok.ensures.ok c.self.invariant.listed, λ stays. refl)
 
 pub returns-clause-made : goal.returns-clause-made
 returns-clause-made g c =

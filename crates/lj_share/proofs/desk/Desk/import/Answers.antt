@@ -1,4 +1,4 @@
-use Rattle.std.proofs.Common.{sym, ap, ◌∙◌}
+use Rattle.std.proofs.Common.{refl, sym, ap, ◌∙◌}
 use Rattle.lj_share.specs.Seats.{SeatValue}
 use Rattle.lj_share.specs.Seats.{making}
 use Rattle.lj_share.proofs.Opened.{desk_on, desk_agreed, one_more}
@@ -6,7 +6,7 @@ use Rattle.lj_share.proofs.desk.Desk.import.Goals.{in-Ok, in-Err}
 use Rattle.lj_share.proofs.desk.Desk.import.Goals as goal
 
 pub count_one-requires-clause-one : goal.count_one-requires-clause-one
-count_one-requires-clause-one g c = (_, one_more c.self.inside.book _ _ _ _ (c.number.ensures ∙ ap (λ (s : SeatValue). s.number) (sym c.bind.ensures)) c.in-Ok.ensures.ok c.self.invariant.listed)
+count_one-requires-clause-one g c = (_, one_more c.self.inside.book _ _ _ _ (c.number.ensures ∙ ap (λ (s : SeatValue). s.number) (sym c.bind.ensures)) c.in-Ok.ensures.ok c.self.invariant.listed, λ stays. refl)
 
 pub returns-clause-made : goal.returns-clause-made
 returns-clause-made g c =

@@ -1,9 +1,11 @@
+use Rattle.std.proofs.Common.{sym}
+use Rattle.std.proofs.lemmas.Bool.{false≢true}
 use Rattle.lj_share.proofs.Opened.{desk_on, desk_agreed, one_more}
 use Rattle.lj_share.proofs.desk.Desk.leave.Goals.{in-Ok, in-Err}
 use Rattle.lj_share.proofs.desk.Desk.leave.Goals as goal
 
 pub count_one-requires-clause-one : goal.count_one-requires-clause-one
-count_one-requires-clause-one g c = (_, one_more _ _ _ _ _ c.number.ensures c.in-Ok.ensures.ok c.self.invariant.listed)
+count_one-requires-clause-one g c = (_, one_more _ _ _ _ _ c.number.ensures c.in-Ok.ensures.ok c.self.invariant.listed, λ leaves. absurd (false≢true (sym leaves)))
 
 pub returns-clause-made : goal.returns-clause-made
 returns-clause-made g c =
