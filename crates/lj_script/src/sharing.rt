@@ -6,12 +6,12 @@ use crate::out::Out;
 use crate::pending::Pending;
 use crate::script::Script;
 use crate::stop::Stop;
-use crate::words::{addition_of, line_of, only_number, split_number, split_seat, split_word};
+use crate::words::{addition_of, line_of, only_number, only_seat, split_number, split_word};
 use lj_book::{Book, Refusal, Reply};
 use lj_clause::{Formula, NoMemory};
 use lj_hint::{Marks, Receipt};
 use lj_share::{Blank, Closed, NoGate, Opening, Seat, Shared, Told};
-use lj_text::{Addition, Line};
+use lj_text::Line;
 use std::alloc::Global;
 use std::sync::Wait;
 
@@ -61,12 +61,9 @@ impl Callers {
     }
 
     fn test(&mut self, seat: usize) -> Reply {
-        let Some(caller) = self.all.get_mut(seat) else {
-            return Reply::Nothing;
-        };
-        match caller.pending.test(&mut self.marks) {
-            Reply::Refused(Refusal::NoMemory(_)) => caller.pending.test(&mut self.marks),
-            reply => reply,
+        match self.all.get_mut(seat) {
+            Some(caller) => caller.pending.test(&mut self.marks),
+            None => Reply::Nothing,
         }
     }
 
@@ -92,6 +89,30 @@ impl Callers {
         if let Some(caller) = self.all.get_mut(seat) {
             caller.told.pop();
             caller.greatest.pop();
+        }
+    }
+}
+
+/// What came of a call: a token, behind a word; that a line was entered, which is an addition or isn't; or a reply.
+#[derive(Drop)]
+enum Answer {
+    Told(&'static str, Told),
+    Entered(bool),
+    Reply(Reply),
+}
+
+impl Answer {
+    fn of(word: &'static str, answer: Result<Told, Refusal>) -> Answer {
+        match answer {
+            Ok(told) => Answer::Told(word, told),
+            Err(refusal) => Answer::Reply(Reply::Refused(refusal)),
+        }
+    }
+
+    fn is_no_memory(&self) -> bool {
+        match self {
+            Answer::Reply(Reply::Refused(Refusal::NoMemory(_))) => true,
+            _ => false,
         }
     }
 }
@@ -157,60 +178,86 @@ fn make_call<L: Opening, R: Wait>(
     out: &mut Out,
 ) -> Result<(), Stop> {
     let (word, rest) = split_word(line);
-    let (number, rest) = match split_word(rest).0.parse::<u32>() {
-        Ok(number) => (number, split_word(rest).1),
-        Err(_) => return Err(Stop::NotACommand),
-    };
+    let (number, rest) = split_word(rest);
+    let number = only_seat(number)?;
     let Some(seat) = seats.get_mut(number as usize) else {
         return Err(Stop::NotACommand);
     };
     match word {
-        "submit" => submit(rt, shared, seat, callers, rest, out),
-        "enter" => enter(rt, shared, seat, callers, rest, out),
-        "take" => take(rt, shared, seat, callers, rest, out),
-        "commit" => commit(rt, shared, seat, callers, out),
-        "adopt" => adopt(rt, shared, seat, callers, rest, out),
-        "leave" => leave(rt, shared, seat, callers, out),
-        "count" => count(seat, out),
-        "told" => show_told(shared, callers, number as usize, out),
-        _ => of_tokens(callers, word, number as usize, out),
-    }
-}
-
-/// The commands that no call is made for.
-fn of_tokens(callers: &mut Callers, word: &str, seat: usize, out: &mut Out) -> Result<(), Stop> {
-    match word {
-        "test" => Ok(out.reply(&callers.test(seat))?),
+        "count" => Ok(show_count(seat.count(), out)?),
+        "told" => Ok(show_told(shared, callers, number as usize, out)?),
         "swap" => {
-            callers.swap(seat);
+            callers.swap(number as usize);
             Ok(())
         }
         "forget" => {
-            callers.forget(seat);
+            callers.forget(number as usize);
             Ok(())
         }
+        _ => {
+            let answer = call(rt, shared, seat, callers, word, rest)?;
+            Ok(show(shared, callers, number as usize, answer, out)?)
+        }
+    }
+}
+
+/// Makes a call, once more where it was refused memory.
+fn call<L: Opening, R: Wait>(
+    rt: &R,
+    shared: &Shared<L>,
+    seat: &mut Seat<L>,
+    callers: &mut Callers,
+    word: &str,
+    rest: &str,
+) -> Result<Answer, Stop> {
+    let answer = call_once(rt, shared, seat, callers, word, rest)?;
+    if answer.is_no_memory() {
+        return call_once(rt, shared, seat, callers, word, rest);
+    }
+    Ok(answer)
+}
+
+fn call_once<L: Opening, R: Wait>(
+    rt: &R,
+    shared: &Shared<L>,
+    seat: &mut Seat<L>,
+    callers: &mut Callers,
+    word: &str,
+    rest: &str,
+) -> Result<Answer, Stop> {
+    match word {
+        "submit" => submit(rt, shared, seat, &line_of(callers.alloc, rest)?),
+        "enter" => enter(rt, shared, seat, &line_of(callers.alloc, rest)?),
+        "take" => take(rt, shared, seat, callers, rest),
+        "test" => Ok(Answer::Reply(callers.test(seat.number() as usize))),
+        "commit" => Ok(commit(rt, shared, seat, callers)),
+        "adopt" => adopt(rt, shared, seat, rest),
+        "leave" => Ok(Answer::of("Left", shared.leave(rt, seat))),
         _ => Err(Stop::NotACommand),
     }
 }
 
-/// Prints an accepted call with the entry that its token shows, and keeps the token, or prints why it was refused.
-fn answered<L: Opening>(
+/// Prints what came of a call: a token by its entry, and keeps it.
+fn show<L: Opening>(
     shared: &Shared<L>,
     callers: &mut Callers,
     seat: usize,
-    word: &str,
-    answer: Result<Told, Refusal>,
+    answer: Answer,
     out: &mut Out,
-) -> Result<(), Stop> {
+) -> Result<(), NoMemory> {
     match answer {
-        Ok(told) => {
+        Answer::Told(word, told) => {
             let greatest = callers.greatest;
             out.put(word)?;
             out.put(" ")?;
             callers.greatest = show_entry(shared, &told, greatest, out)?;
-            Ok(callers.keep(seat, told, greatest)?)
+            callers.keep(seat, told, greatest)
         }
-        Err(refusal) => Ok(out.reply(&Reply::Refused(refusal))?),
+        Answer::Entered(is_addition) => {
+            callers.greatest = callers.greatest.saturating_add(u64::from(is_addition));
+            out.put("Entered\n")
+        }
+        Answer::Reply(reply) => out.reply(&reply),
     }
 }
 
@@ -230,59 +277,32 @@ fn submit<L: Opening, R: Wait>(
     rt: &R,
     shared: &Shared<L>,
     seat: &mut Seat<L>,
-    callers: &mut Callers,
-    rest: &str,
-    out: &mut Out,
-) -> Result<(), Stop> {
-    let line = line_of(callers.alloc, rest)?;
-    let word = match &line {
+    line: &Line,
+) -> Result<Answer, Stop> {
+    let word = match line {
         Line::Add(_) => "Added",
         Line::Delete(_) => "Dropped",
         Line::Import { .. } => "Imported",
     };
-    let answer = submit_again(rt, shared, seat, &line);
-    answered(shared, callers, seat.number() as usize, word, answer, out)
-}
-
-fn submit_again<L: Opening, R: Wait>(
-    rt: &R,
-    shared: &Shared<L>,
-    seat: &mut Seat<L>,
-    line: &Line,
-) -> Result<Told, Refusal> {
-    match shared.submit(rt, seat, line) {
-        Err(Refusal::NoMemory(_)) => shared.submit(rt, seat, line),
-        answer => answer,
-    }
+    Ok(Answer::of(word, shared.submit(rt, seat, line)))
 }
 
 fn enter<L: Opening, R: Wait>(
     rt: &R,
     shared: &Shared<L>,
     seat: &mut Seat<L>,
-    callers: &mut Callers,
-    rest: &str,
-    out: &mut Out,
-) -> Result<(), Stop> {
-    let line = line_of(callers.alloc, rest)?;
-    if let Err(refusal) = enter_again(rt, shared, seat, &line) {
-        return Ok(out.reply(&Reply::Refused(refusal))?);
-    }
-    if let Line::Add(_) = line {
-        callers.greatest = callers.greatest.saturating_add(1);
-    }
-    Ok(out.put("Entered\n")?)
+    line: &Line,
+) -> Result<Answer, Stop> {
+    Ok(match shared.enter_at(rt, seat, line, 1, &NoGate) {
+        Ok(()) => Answer::Entered(is_addition(line)),
+        Err(refusal) => Answer::Reply(Reply::Refused(refusal)),
+    })
 }
 
-fn enter_again<L: Opening, R: Wait>(
-    rt: &R,
-    shared: &Shared<L>,
-    seat: &mut Seat<L>,
-    line: &Line,
-) -> Result<(), Refusal> {
-    match shared.enter_at(rt, seat, line, 1, &NoGate) {
-        Err(Refusal::NoMemory(_)) => shared.enter_at(rt, seat, line, 1, &NoGate),
-        answer => answer,
+fn is_addition(line: &Line) -> bool {
+    match line {
+        Line::Add(_) => true,
+        _ => false,
     }
 }
 
@@ -292,31 +312,14 @@ fn take<L: Opening, R: Wait>(
     seat: &mut Seat<L>,
     callers: &mut Callers,
     rest: &str,
-    out: &mut Out,
-) -> Result<(), Stop> {
+) -> Result<Answer, Stop> {
     let addition = addition_of(callers.alloc, rest)?;
-    let (reply, pending) = match take_again(rt, shared, seat, &addition) {
-        Ok(pending) => (Reply::Taken, pending),
+    let (reply, pending) = match shared.take(rt, seat, &addition) {
+        Ok(case) => (Reply::Taken, Pending::Case(case)),
         Err(refusal) => (Reply::Refused(refusal), Pending::Nothing),
     };
     callers.set_pending(seat.number() as usize, pending);
-    Ok(out.reply(&reply)?)
-}
-
-fn take_again<L: Opening, R: Wait>(
-    rt: &R,
-    shared: &Shared<L>,
-    seat: &mut Seat<L>,
-    addition: &Addition,
-) -> Result<Pending, Refusal> {
-    let case = match shared.take(rt, seat, addition) {
-        Err(Refusal::NoMemory(_)) => shared.take(rt, seat, addition),
-        answer => answer,
-    };
-    match case {
-        Ok(case) => Ok(Pending::Case(case)),
-        Err(refusal) => Err(refusal),
-    }
+    Ok(Answer::Reply(reply))
 }
 
 fn commit<L: Opening, R: Wait>(
@@ -324,35 +327,19 @@ fn commit<L: Opening, R: Wait>(
     shared: &Shared<L>,
     seat: &mut Seat<L>,
     callers: &mut Callers,
-    out: &mut Out,
-) -> Result<(), Stop> {
+) -> Answer {
     let number = seat.number() as usize;
     match callers.take_receipt(number) {
         Some(receipt) if receipt.seat() == seat.number() => {
-            let answer = match commit_again(rt, shared, seat, receipt) {
-                Ok(told) => Ok(told),
+            match shared.commit(rt, seat, receipt) {
+                Ok(told) => Answer::Told("Added", told),
                 Err((refusal, receipt)) => {
                     callers.set_pending(number, Pending::Receipt(receipt));
-                    Err(refusal)
+                    Answer::Reply(Reply::Refused(refusal))
                 }
-            };
-            answered(shared, callers, number, "Added", answer, out)
+            }
         }
-        _ => Ok(out.reply(&Reply::Nothing)?),
-    }
-}
-
-fn commit_again<L: Opening, R: Wait>(
-    rt: &R,
-    shared: &Shared<L>,
-    seat: &mut Seat<L>,
-    receipt: Receipt,
-) -> Result<Told, (Refusal, Receipt)>
-    requires { receipt.seat ≡ seat.old.number }
-{
-    match shared.commit(rt, seat, receipt) {
-        Err((Refusal::NoMemory(_), receipt)) => shared.commit(rt, seat, receipt),
-        answer => answer,
+        _ => Answer::Reply(Reply::Nothing),
     }
 }
 
@@ -360,39 +347,18 @@ fn adopt<L: Opening, R: Wait>(
     rt: &R,
     shared: &Shared<L>,
     seat: &mut Seat<L>,
-    callers: &mut Callers,
     rest: &str,
-    out: &mut Out,
-) -> Result<(), Stop> {
+) -> Result<Answer, Stop> {
     let (own, rest) = split_number(rest)?;
     let joint = only_number(rest)?;
-    let answer = match shared.adopt(rt, seat, own, joint) {
-        Err(Refusal::NoMemory(_)) => shared.adopt(rt, seat, own, joint),
-        answer => answer,
-    };
-    let number = seat.number() as usize;
-    answered(shared, callers, number, "Adopted", answer, out)
-}
-
-fn leave<L: Opening, R: Wait>(
-    rt: &R,
-    shared: &Shared<L>,
-    seat: &mut Seat<L>,
-    callers: &mut Callers,
-    out: &mut Out,
-) -> Result<(), Stop> {
-    let answer = match shared.leave(rt, seat) {
-        Err(Refusal::NoMemory(_)) => shared.leave(rt, seat),
-        answer => answer,
-    };
-    answered(shared, callers, seat.number() as usize, "Left", answer, out)
+    Ok(Answer::of("Adopted", shared.adopt(rt, seat, own, joint)))
 }
 
 /// How many calls a seat has.
-fn count<L: Opening>(seat: &Seat<L>, out: &mut Out) -> Result<(), Stop> {
+fn show_count(count: u64, out: &mut Out) -> Result<(), NoMemory> {
     out.put("count")?;
-    out.number(seat.count())?;
-    Ok(out.put("\n")?)
+    out.number(count)?;
+    out.put("\n")
 }
 
 /// The entries that a seat's tokens show.
@@ -401,7 +367,7 @@ fn show_told<L: Opening>(
     callers: &Callers,
     seat: usize,
     out: &mut Out,
-) -> Result<(), Stop> {
+) -> Result<(), NoMemory> {
     if let Some(caller) = callers.all.get(seat) {
         for (told, greatest) in caller.told.iter().zip(&caller.greatest) {
             show_entry(shared, told, *greatest, out)?;

@@ -13,7 +13,7 @@ pub enum Stop {
     /// The formula has this fault, at this line of the script.
     Formula(CnfFaultKind, u64),
     /// A growth was refused.
-    NoMemory,
+    NoMemory(NoMemory),
 }
 
 impl Stop {
@@ -23,7 +23,7 @@ impl Stop {
             Stop::NotACommand => "not a command",
             Stop::Line(name) => name,
             Stop::Formula(kind, _) => kind.name(),
-            Stop::NoMemory => "NoMemory",
+            Stop::NoMemory(_) => "NoMemory",
         }
     }
 
@@ -37,20 +37,20 @@ impl Stop {
 }
 
 impl From<NoMemory> for Stop {
-    fn from(_: NoMemory) -> Stop {
-        Stop::NoMemory
+    fn from(refused: NoMemory) -> Stop {
+        Stop::NoMemory(refused)
     }
 }
 
 impl From<AllocError> for Stop {
-    fn from(_: AllocError) -> Stop {
-        Stop::NoMemory
+    fn from(refused: AllocError) -> Stop {
+        Stop::NoMemory(refused.into())
     }
 }
 
 impl<T: Drop> From<AllocFailed<T>> for Stop {
-    fn from(_: AllocFailed<T>) -> Stop {
-        Stop::NoMemory
+    fn from(refused: AllocFailed<T>) -> Stop {
+        Stop::NoMemory(refused.into())
     }
 }
 
