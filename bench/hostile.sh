@@ -6,7 +6,7 @@
 # Each stream is made of lines of one kind, and none adds the empty clause: first one stream in turn, and then the same stream
 # twice on threads. Then come the same stream many times on threads, formulas of one kind of clause, with an empty stream, and
 # last 64 streams of a line or none over one formula. In these the bytes are for each byte of the formula's text.
-# A stream's row is wrong above 8 bytes for a byte; a formula's row has no such limit. Each row is wrong above 2.6 times as
+# A stream's row is wrong above 32 bytes for a byte; a formula's row has no such limit. Each row is wrong above 2.6 times as
 # long as its half: a time is that of a whole process, the least of three, each in turn, and of nine where it is wrong after
 # three; none is told where the whole takes less than 0.2 s. The rows that are wrong are named in the last line, and the status
 # is 1 then.
@@ -101,11 +101,11 @@ stream() {
     empty() { run 0 "$other" nothing --in-turn; }
     half() { run "$done_half" half.cnf half --in-turn; }
     whole() { run "$done_whole" whole.cnf whole --in-turn; }
-    row "$name" 8 "$((bytes + $(wc -c < whole)))"
+    row "$name" 32 "$((bytes + $(wc -c < whole)))"
     empty() { run 0 "$other" nothing nothing; }
     half() { run "$done_half" half.cnf half half; }
     whole() { run "$done_whole" whole.cnf whole whole; }
-    row "$name, twice on threads" 8 "$((bytes + 2 * $(wc -c < whole)))"
+    row "$name, twice on threads" 32 "$((bytes + 2 * $(wc -c < whole)))"
 }
 
 stream 'one line of hints' few.cnf 4000000 'BEGIN { printf "2 3 0"; for (i = 0; i < n; i++) printf " 1"; print " 0" }'
@@ -241,7 +241,7 @@ crowd() {
     empty() { run 0 "$other" $(yes nothing | head -n "$seats"); }
     half() { run "$lines_half" half.cnf $(yes half | head -n "$seats"); }
     whole() { run "$lines_whole" whole.cnf $(yes whole | head -n "$seats"); }
-    row "$name" 8 "$((bytes + seats * $(wc -c < whole)))"
+    row "$name" 32 "$((bytes + seats * $(wc -c < whole)))"
 }
 
 crowd 64 '64 streams of a line of 65,536 hints' few.cnf 65536 \
@@ -282,7 +282,7 @@ seats() {
     empty() { run 0 whole.cnf nothing --in-turn; }
     half() { run "$lines" half.cnf half{0..63} --in-turn; }
     whole() { run "$lines" whole.cnf whole{0..63} --in-turn; }
-    row "$name" 8 "$(wc -c < whole.cnf)"
+    row "$name" 32 "$(wc -c < whole.cnf)"
 }
 
 pairs='BEGIN { print "p cnf 1000", n; for (i = 0; i < n; i++) print i % 999 + 1, 1000, 0 }'
