@@ -6,10 +6,10 @@
 # Each stream is made of lines of one kind, and none adds the empty clause: first one stream in turn, and then the same stream
 # twice on threads. Then come the same stream many times on threads, formulas of one kind of clause, with an empty stream, and
 # last 64 streams of a line or none over one formula. In these the bytes are for each byte of the formula's text.
-# A stream's row is wrong above 32 bytes for a byte; a formula's row has no such limit. Each row is wrong above 2.6 times as
-# long as its half: a time is that of a whole process, the least of three, each in turn, and of nine where it is wrong after
-# three; none is told where the whole takes less than 0.2 s. The rows that are wrong are named in the last line, and the status
-# is 1 then.
+# A stream's row is wrong above 32 bytes for a byte, or 128 where its lines have a hundred candidates and name none; a
+# formula's row has no such limit. Each row is wrong above 2.6 times as long as its half: a time is that of a whole process,
+# the least of three, each in turn, and of nine where it is wrong after three; none is told where the whole takes less than
+# 0.2 s. The rows that are wrong are named in the last line, and the status is 1 then.
 set -euo pipefail
 
 program=$(realpath "${1:?usage: hostile.sh PATH-OF-LRATJOIN}")
@@ -22,6 +22,7 @@ printf 'p cnf 1000000 1\n1 0\n' > many.cnf
 printf 'p cnf 134217727 1\n1 0\n' > all.cnf
 : > nothing
 : > wrong
+limit=32
 
 # Runs the program on these words, each of whose streams has to do as many lines as are asked for. Prints the kilobytes that
 # it takes at most and the microseconds.
@@ -101,11 +102,11 @@ stream() {
     empty() { run 0 "$other" nothing --in-turn; }
     half() { run "$done_half" half.cnf half --in-turn; }
     whole() { run "$done_whole" whole.cnf whole --in-turn; }
-    row "$name" 32 "$((bytes + $(wc -c < whole)))"
+    row "$name" "$limit" "$((bytes + $(wc -c < whole)))"
     empty() { run 0 "$other" nothing nothing; }
     half() { run "$done_half" half.cnf half half; }
     whole() { run "$done_whole" whole.cnf whole whole; }
-    row "$name, twice on threads" 32 "$((bytes + 2 * $(wc -c < whole)))"
+    row "$name, twice on threads" "$limit" "$((bytes + 2 * $(wc -c < whole)))"
 }
 
 stream 'one line of hints' few.cnf 4000000 'BEGIN { printf "2 3 0"; for (i = 0; i < n; i++) printf " 1"; print " 0" }'
@@ -181,6 +182,8 @@ stream 'a list of candidates most of whose clauses are dead' 'BEGIN { print "p c
     for (i = 4; i < n / 2; i++) print i " -1 2 0 1 0"
     printf "3 d"; for (i = 4; i < n / 2; i++) printf " %d", i; print " 0"
     for (; i < n; i++) print i " 1 -2 0 0" }'
+# An entry has a group for each candidate, as the joint proof prints it, whether the line names it or not.
+limit=128
 stream 'RAT lines of 100 candidates that close before any hint' \
     'BEGIN { print "p cnf 2 100"; for (i = 1; i <= 100; i++) print "-1 2 0" }' 100000 \
     'BEGIN { for (i = 1; i <= n; i++) print i + 100 " 1 -2 0 0" }'
@@ -190,6 +193,7 @@ stream 'RAT lines of 100 candidates, of which one comes and one goes before each
         print 99 + 2 * i " -1 2 3 0 1 0"
         print 100 + 2 * i " 1 -2 0 0"
         print 100 + 2 * i " d " (i < 100 ? i + 1 : 2 * i - 99) " 0" } }'
+limit=32
 for few in 2 3 4; do
     stream "RAT lines of $few candidates that close before any hint" \
         "BEGIN { print \"p cnf 2 $few\"; for (i = 1; i <= $few; i++) print \"-1 2 -2 0\" }" 300000 \
@@ -241,7 +245,7 @@ crowd() {
     empty() { run 0 "$other" $(yes nothing | head -n "$seats"); }
     half() { run "$lines_half" half.cnf $(yes half | head -n "$seats"); }
     whole() { run "$lines_whole" whole.cnf $(yes whole | head -n "$seats"); }
-    row "$name" 32 "$((bytes + seats * $(wc -c < whole)))"
+    row "$name" "$limit" "$((bytes + seats * $(wc -c < whole)))"
 }
 
 crowd 64 '64 streams of a line of 65,536 hints' few.cnf 65536 \
@@ -282,7 +286,7 @@ seats() {
     empty() { run 0 whole.cnf nothing --in-turn; }
     half() { run "$lines" half.cnf half{0..63} --in-turn; }
     whole() { run "$lines" whole.cnf whole{0..63} --in-turn; }
-    row "$name" 32 "$(wc -c < whole.cnf)"
+    row "$name" "$limit" "$(wc -c < whole.cnf)"
 }
 
 pairs='BEGIN { print "p cnf 1000", n; for (i = 0; i < n; i++) print i % 999 + 1, 1000, 0 }'
