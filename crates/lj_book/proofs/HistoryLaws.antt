@@ -405,7 +405,7 @@ in_formula f q h =
     within : (q n : ℕ) → (nat_lt 0 q && nat_le q n) ≡ true → q ≤ n
     within q n h = grind (arith, nat_tests)
 
-formula_has : (f : FormulaValue) (q : ℕ) → (nat_lt 0 q && nat_le q (length f.clauses)) ≡ true → fin.contains_key (formula_map f) q ≡ true
+pub formula_has : (f : FormulaValue) (q : ℕ) → (nat_lt 0 q && nat_le q (length f.clauses)) ≡ true → fin.contains_key (formula_map f) q ≡ true
 formula_has f zero h = absurd (false≢true h)
 formula_has f (suc q) h = ap is_some (clause_at f (suc q) q (omega arith)) ∙ is_there f.clauses q (within q (length f.clauses) h)
   where

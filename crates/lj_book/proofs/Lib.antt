@@ -15,6 +15,7 @@ pub mod SoloTakes
 pub mod SoloWorlds
 pub mod SoloSteps
 pub mod SoloRuns
+pub mod ViewLaws
 pub mod Scans
 pub mod BindingLaws
 pub mod LeaveLaws

@@ -46,16 +46,16 @@ use Rattle.lj_book.proofs.SoloWorlds.{called_by, tried_by, tested_by, pending-se
 
 -- ---- the view after an event of the seat
 
-view_is : (s : State) (seat : ℕ) (o : Option Table) → table_of s.tables seat ≡ o → view_of s seat ≡ option_map (holdings_of (given_out s)) o
+pub view_is : (s : State) (seat : ℕ) (o : Option Table) → table_of s.tables seat ≡ o → view_of s seat ≡ option_map (holdings_of (given_out s)) o
 view_is s seat o at = ap (option_map (holdings_of (given_out s))) at
 
-view_bound : (s s' : State) (seat : ℕ) (t : Table) (own joint : ℕ) (c : LiteralSet) → IsGiven s → Extends (given_out s) (given_out s') → table_of s.tables seat ≡ Some t → s'.tables ≡ with_binding s.tables seat own joint → fin.get (given_out s') joint ≡ Some c → view_of s' seat ≡ Some (fin.insert (holdings_of (given_out s) t) own (record { joint = joint; clause = c }))
+pub view_bound : (s s' : State) (seat : ℕ) (t : Table) (own joint : ℕ) (c : LiteralSet) → IsGiven s → Extends (given_out s) (given_out s') → table_of s.tables seat ≡ Some t → s'.tables ≡ with_binding s.tables seat own joint → fin.get (given_out s') joint ≡ Some c → view_of s' seat ≡ Some (fin.insert (holdings_of (given_out s) t) own (record { joint = joint; clause = c }))
 view_bound s s' seat t own joint c given more at is e =
     view_is s' seat (Some (fin.insert t own joint))
     (ap (λ (ts : Tables). table_of ts seat) is ∙ table_of-with_table (λ u. fin.insert u own joint) s.tables seat ∙ ap (option_map (λ (u : Table). fin.insert u own joint)) at)
     ∙ ap Some (holdings-insert (given_out s) (given_out s') t own joint c (agree_at s (given_out s') seat t given more at) e)
 
-view_dropped : (s : State) (seat : ℕ) (numbers : List ℕ) (t : Table) → table_of s.tables seat ≡ Some t → view_of (after_entry s (drop_entry s seat numbers)) seat ≡ Some (without_holdings numbers (holdings_of (given_out s) t))
+pub view_dropped : (s : State) (seat : ℕ) (numbers : List ℕ) (t : Table) → table_of s.tables seat ≡ Some t → view_of (after_entry s (drop_entry s seat numbers)) seat ≡ Some (without_holdings numbers (holdings_of (given_out s) t))
 view_dropped s seat numbers t at =
     view_is (after_entry s (drop_entry s seat numbers)) seat (Some (without_keys numbers t))
     (table_of-with_table (without_keys numbers) s.tables seat ∙ ap (option_map (without_keys numbers)) at)
@@ -286,7 +286,7 @@ held_lives : (s : State) (seat : ℕ) (t : Table) (p : Pair) → IsGiven s → t
 held_lives s seat t p given at holding = ap (is_clause p.clause) (lives_as s seat t p given at holding) ∙ same_itself p.clause
 
 -- the hints that are held, as the book and as the case itself name them
-held_named : (s : State) (seat : ℕ) (t : Table) (pairs : List Pair) → IsGiven s → table_of s.tables seat ≡ Some t → AllHeld (holdings_of (given_out s) t) pairs → hints_in (live s) (numbers pairs) ≡ named_hints pairs
+pub held_named : (s : State) (seat : ℕ) (t : Table) (pairs : List Pair) → IsGiven s → table_of s.tables seat ≡ Some t → AllHeld (holdings_of (given_out s) t) pairs → hints_in (live s) (numbers pairs) ≡ named_hints pairs
 held_named s seat t [] given at held = refl
 held_named s seat t (p ∷ pairs) given at held = λ i. record { number = p.joint; clause = lives_as s seat t p given at held.0 i } ∷ held_named s seat t pairs given at held.1 i
 

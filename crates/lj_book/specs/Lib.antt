@@ -7,6 +7,7 @@ pub mod Inside
 pub mod Events
 pub mod Worlds
 pub mod Solo
+pub mod Views
 pub mod RefusalText
 pub mod Telling
 pub mod inner
