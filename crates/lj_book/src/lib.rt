@@ -44,4 +44,6 @@ pub use refusal::Refusal;
 pub use solo_laws::{fresh_receipts_are_not_stale, tidy_seats_are_alone};
 pub use steps::Steps;
 pub use verified::Verified;
-pub use view_laws::{decided_alone, free_alone, seats_hold_the_formula, takes_are_alone, views_follow_entries};
+pub use view_laws::{
+    decided_alone, free_alone, seats_hold_the_formula, takes_are_alone, views_follow_entries,
+};
