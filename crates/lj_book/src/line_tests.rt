@@ -11,7 +11,7 @@ use crate::joint_line::clear;
 use crate::ledger::Ledger;
 use crate::refusal::Refusal;
 use lj_clause::{ClauseView, Lemma, Lit, NoMemory};
-use lj_hint::{LineRefusal, Live, Marks, Passed, RatRefusal, test_line};
+use lj_hint::{Clauses, LineRefusal, Live, Marks, Passed, RatRefusal, test_line};
 use lj_text::{Groups, Numbers};
 use std::alloc::Global;
 
@@ -22,14 +22,16 @@ pub(crate) struct LiveClauses<'a> {
     ledger: &'a Ledger,
 }
 
-impl Live for LiveClauses<'_> {
-    ghost live = { λ l. l.ledger.now.live };
+impl Clauses for LiveClauses<'_> {
+    ghost clauses = { λ l. l.ledger.now.live };
 
     #[inline]
-    fn clause(&self, joint: u64) -> Option<ClauseView<'_>> {
-        self.ledger.clause(joint)
+    fn clause(&self, number: u64) -> Option<ClauseView<'_>> {
+        self.ledger.clause(number)
     }
+}
 
+impl Live for LiveClauses<'_> {
     fn candidates(&self, lit: Lit) -> Result<Vec<u64>, NoMemory> {
         self.ledger.numbers_holding(self.alloc, lit)
     }

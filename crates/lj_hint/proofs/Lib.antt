@@ -4,6 +4,7 @@ pub mod Rests
 pub mod Walks
 pub mod Used
 pub mod Receipts
+pub mod Renamings
 pub mod StampLaws
 pub mod NearLaws
 pub mod TrailLaws

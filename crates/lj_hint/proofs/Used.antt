@@ -10,7 +10,7 @@ use Rattle.lj_hint.specs.declared.pair.Pair.{Pair}
 use Rattle.lj_hint.specs.declared.walk.Ending.TheVariants.{ClosedAfter}
 use Rattle.lj_hint.specs.Hints.{named_hints, numbers}
 use Rattle.lj_hint.specs.inner.Hints.{hint_numbers}
-use Rattle.lj_hint.specs.inner.Ending.{ending_of}
+use Rattle.lj_hint.specs.Ending.{ending_of}
 
 closed_walk : (w : Walk) (read : ℕ) → ClosedAfter read ≡ ending_of w → (used : List ℕ) × (w ≡ Closed used) × (length used ≡ read)
 closed_walk (Closed used) read e = let same : length used ≡ read = cc in (used, refl, same)

@@ -14,7 +14,7 @@ use Rattle.lj_hint.specs.declared.walk.Ending.TheVariants.{ClosedAfter, StuckAt}
 use Rattle.lj_hint.specs.inner.Hints.{no_hint, hint_number, clause_at, hint_numbers}
 use Rattle.lj_hint.specs.inner.Trail.{Extends}
 use Rattle.lj_hint.specs.inner.Rest.{rest_seen}
-use Rattle.lj_hint.specs.inner.Ending.{ending_of}
+use Rattle.lj_hint.specs.Ending.{ending_of}
 
 -- the end of a walk that read the hints of these numbers first
 abbrev pub after_hints : List ℕ → Walk → Walk

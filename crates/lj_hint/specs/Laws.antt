@@ -1,11 +1,12 @@
--- What a receipt means, whenever it is used.
-use Rattle.std.specs.Prelude.{◌≡◌, true, Some, All}
+-- What a receipt means, whenever it is used, and that the numbers of hints are but names.
+use Rattle.std.specs.Prelude.{◌≡◌, List, map, true, Some, All}
 use Rattle.std.specs.FinMap.{get}
-use Rattle.lj_clause.specs.LiteralSet.{negations}
+use Rattle.lj_clause.specs.LiteralSet.{LiteralSet, negations}
 use Rattle.lj_clause.specs.ClauseMap.{ClauseMap}
 use Rattle.lj_clause.specs.Truth.{Assignment, satisfies, SatisfiesAll}
-use Rattle.lj_clause.specs.Walk.{Closed, walk}
+use Rattle.lj_clause.specs.Walk.{Closed, Open, Hint, walk, walk_over}
 use Rattle.lj_hint.specs.Hints.{numbers}
+use Rattle.lj_hint.specs.Ending.{ending_of}
 use Rattle.lj_hint.specs.Receipt.{ReceiptValue, IsReceipt}
 
 -- the clause map has each listed clause under its number
@@ -21,3 +22,17 @@ ReceiptIsRup = (r : ReceiptValue) (p : ClauseMap) → IsReceipt r → HasListed 
 abbrev pub ReceiptImplies : Type 0
 ReceiptImplies = (r : ReceiptValue) (p : ClauseMap) (a : Assignment) → IsReceipt r → HasListed p r
     → SatisfiesAll a p → satisfies a r.lemma.clause ≡ true
+
+-- the hints name the same clauses, place by place
+abbrev pub HaveSameClauses : List Hint → List Hint → Type 0
+HaveSameClauses hs gs = map (λ h. h.clause) hs ≡ map (λ h. h.clause) gs
+
+-- walks over such hints end alike
+abbrev pub WalksGoByClauses : Type 0
+WalksGoByClauses = (a : LiteralSet) (hs gs : List Hint) → HaveSameClauses hs gs
+    → ending_of (walk_over a hs) ≡ ending_of (walk_over a gs)
+
+-- and where they end open, they hold the same literals true
+abbrev pub OpenWalksGoByClauses : Type 0
+OpenWalksGoByClauses = (a b : LiteralSet) (hs gs : List Hint) → HaveSameClauses hs gs
+    → walk_over a hs ≡ Open b → walk_over a gs ≡ Open b

@@ -1,4 +1,5 @@
 pub mod Hints
+pub mod Ending
 pub mod Case
 pub mod Receipt
 pub mod Tested

@@ -3,7 +3,6 @@ pub mod Hints
 pub mod Rest
 pub mod Stamps
 pub mod Trail
-pub mod Ending
 pub mod Groups
 pub mod Codes
 pub mod Coverings

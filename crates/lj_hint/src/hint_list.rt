@@ -22,7 +22,7 @@ pub(crate) trait HintList {
     fn number(&self, index: usize) -> u64
         ensures { result ≡ hint_number (hints self.now) index };
 
-    /// The clause that the hint at an index names. Takes the time of [`Live::clause`], where a hint is but a number.
+    /// The clause that the hint at an index names. Takes the time of [`Clauses::clause`], where a hint is but a number.
     fn clause(&self, index: usize) -> Option<ClauseView<'_>>
         requires { index < length (hints self.now) }
         ensures { result ≡ clause_at (hints self.now) index };

@@ -1,9 +1,17 @@
-//! What a receipt means, whenever and wherever it was made.
-ghost use Rattle.lj_hint.specs.Laws.{ReceiptIsRup, ReceiptImplies};
+//! Laws of walks: what a receipt means, whenever and wherever it was made, and that numbers are but names. The functions do
+//! nothing.
+ghost use Rattle.lj_hint.specs.Laws.{ReceiptIsRup, ReceiptImplies, WalksGoByClauses, OpenWalksGoByClauses};
 
 /// In a clause map in which each number that a receipt lists has exactly the listed clause, these numbers close the
 /// walk of the lemma's negation, and every assignment that satisfies the map satisfies the lemma. Takes constant time.
 pub fn receipt_implies()
     ensures rup { ReceiptIsRup }
     ensures implied { ReceiptImplies }
+{}
+
+/// Walks over two lists of hints that name the same clauses, place by place, end alike, under whatever numbers: closed after
+/// as many hints, stuck at the same place, or open with the same literals. Takes constant time.
+pub fn walks_go_by_clauses()
+    ensures ending { WalksGoByClauses }
+    ensures open { OpenWalksGoByClauses }
 {}

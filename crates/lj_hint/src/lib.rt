@@ -6,6 +6,7 @@
 mod case;
 mod covering;
 mod few_stamps;
+mod first_walk;
 mod group_list;
 mod hint_list;
 mod laws;
@@ -26,8 +27,9 @@ mod true_lits;
 mod walk;
 
 pub use case::Case;
-pub use laws::receipt_implies;
-pub use live::Live;
+pub use first_walk::walk_first;
+pub use laws::{receipt_implies, walks_go_by_clauses};
+pub use live::{Clauses, Live};
 pub use live_line::{LineRefusal, Passed, test_line};
 pub use marks::Marks;
 pub use open_case::rat_test;
@@ -35,3 +37,4 @@ pub use pair::Pair;
 pub use rat_refusal::RatRefusal;
 pub use receipt::Receipt;
 pub use tested::Tested;
+pub use walk::Ending;

@@ -1,4 +1,4 @@
-//! Live clauses, wherever they are kept.
+//! Clauses under numbers, wherever they are kept.
 ghost use Rattle.std.specs.Prelude.{◌≡◌, IfOk, map, filter, List, length};
 ghost use Rattle.std.specs.FinMap as fin;
 ghost use Rattle.lj_clause.specs.LiteralSet.{holds};
@@ -12,14 +12,17 @@ use lj_clause::{ClauseView, Lit, NoMemory};
 use lj_text::{Groups, IndexedGroups, NumbersIter};
 use std::alloc::Global;
 
+/// Clauses under numbers.
+pub trait Clauses {
+    ghost clauses: { Self → ClauseMap };
+
+    /// The clause of a number. A test asks for one for each hint, and takes that time too: in a book O(log n).
+    fn clause(&self, number: u64) -> Option<ClauseView<'_>>
+        ensures { result ≡ fin.get (clauses self.now) number };
+}
+
 /// The clauses that live, under their joint numbers.
-pub trait Live {
-    ghost live: { Self → ClauseMap };
-
-    /// The live clause of a joint number. A test asks for one for each hint, and takes that time too: in a book O(log n).
-    fn clause(&self, joint: u64) -> Option<ClauseView<'_>>
-        ensures { result ≡ fin.get (live self.now) joint };
-
+pub trait Live: Clauses {
     /// The joint numbers of the live clauses that hold the literal, rising. A test asks for them once, where the first hints
     /// leave it open, and takes that time too: in a book that of its own call of this name.
     ///
@@ -27,18 +30,18 @@ pub trait Live {
     /// [`NoMemory`] where a growth was refused.
     fn candidates(&self, lit: Lit) -> Result<Vec<u64>, NoMemory>
         ensures { IfOk result (λ numbers. numbers.items
-            ≡ map (λ e. e.0) (filter (λ e. holds e.1 lit) (fin.entries (live self.now)))) };
+            ≡ map (λ e. e.0) (filter (λ e. holds e.1 lit) (fin.entries (Self.clauses self.now)))) };
 }
 
-/// Hints that name live clauses by their numbers, which take four bytes each.
+/// Hints that name clauses by their numbers, which take four bytes each.
 #[derive(Drop)]
-pub(crate) struct ShortHints<'a, L> {
-    pub live: &'a L,
+pub(crate) struct ShortHints<'a, C> {
+    pub clauses: &'a C,
     pub numbers: &'a [u32],
 }
 
-impl<L: Live> HintList for ShortHints<'_, L> {
-    ghost hints = { λ h. hints_in (L.live h.live.now) h.numbers.now };
+impl<C: Clauses> HintList for ShortHints<'_, C> {
+    ghost hints = { λ h. hints_in (C.clauses h.clauses.now) h.numbers.now };
 
     #[inline]
     fn count(&self) -> usize {
@@ -55,19 +58,19 @@ impl<L: Live> HintList for ShortHints<'_, L> {
 
     #[inline]
     fn clause(&self, index: usize) -> Option<ClauseView<'_>> {
-        self.live.clause(u64::from(self.numbers[index]))
+        self.clauses.clause(u64::from(self.numbers[index]))
     }
 }
 
-/// Hints that name live clauses by their numbers.
+/// Hints that name clauses by their numbers.
 #[derive(Drop)]
-pub(crate) struct LiveHints<'a, L> {
-    pub live: &'a L,
+pub(crate) struct NumberHints<'a, C> {
+    pub clauses: &'a C,
     pub numbers: NumbersIter<'a>,
 }
 
-impl<L: Live> HintList for LiveHints<'_, L> {
-    ghost hints = { λ h. hints_in (L.live h.live.now) h.numbers };
+impl<C: Clauses> HintList for NumberHints<'_, C> {
+    ghost hints = { λ h. hints_in (C.clauses h.clauses.now) h.numbers };
 
     #[inline]
     fn count(&self) -> usize {
@@ -82,13 +85,13 @@ impl<L: Live> HintList for LiveHints<'_, L> {
     #[inline]
     fn clause(&self, index: usize) -> Option<ClauseView<'_>> {
         match self.numbers.get(index) {
-            Some(number) => self.live.clause(number),
+            Some(number) => self.clauses.clause(number),
             None => None,
         }
     }
 }
 
-impl<L: Live> GroupHints for LiveHints<'_, L> {
+impl<C: Clauses> GroupHints for NumberHints<'_, C> {
     fn put_first(
         &self,
         _: Global,
@@ -109,9 +112,9 @@ pub(crate) struct LiveGroups<'a, L> {
 }
 
 impl<'a, L: Live> GroupList for LiveGroups<'a, L> {
-    type Hints = LiveHints<'a, L>;
+    type Hints = NumberHints<'a, L>;
 
-    ghost groups = { λ g. groups_in (L.live g.live.now) g.groups };
+    ghost groups = { λ g. groups_in (L.clauses g.live.now) g.groups };
 
     #[inline]
     fn count(&self) -> usize {
@@ -127,13 +130,13 @@ impl<'a, L: Live> GroupList for LiveGroups<'a, L> {
     }
 
     #[inline]
-    fn hints(&self, index: usize) -> LiveHints<'a, L> {
+    fn hints(&self, index: usize) -> NumberHints<'a, L> {
         let numbers = match self.groups.get(index) {
             Some(group) => group.hints,
             None => NumbersIter::empty(),
         };
-        LiveHints {
-            live: self.live,
+        NumberHints {
+            clauses: self.live,
             numbers,
         }
     }

@@ -1,20 +1,20 @@
 //! The test of a line in joint numbers, over the live clauses.
-ghost use Rattle.std.specs.Prelude.{◌≡◌, IfOk, Ok, false};
+ghost use Rattle.std.specs.Prelude.{◌≡◌, false};
 ghost use Rattle.lj_clause.specs.LiteralSet.{from_literals, negations};
-ghost use Rattle.lj_clause.specs.Walk.{hints_in, walk, is_contradictory, Open};
-ghost use Rattle.lj_hint.specs.inner.Ending.{ending_of};
+ghost use Rattle.lj_clause.specs.Walk.{walk, is_contradictory};
 ghost use Rattle.lj_clause.specs.Rat.{groups_in};
 ghost use Rattle.lj_hint.specs.RatTest.{rat_reply};
 ghost use Rattle.lj_hint.specs.inner.Coverings.{IsCovering};
 ghost use Rattle.lj_hint.specs.LineTest.{line_reply, IsLineReply};
 
-use crate::live::{Live, LiveGroups, LiveHints, ShortHints};
+use crate::first_walk::walk_numbers;
+use crate::live::{Live, LiveGroups};
 use crate::marks::Marks;
 use crate::rat::cover;
 use crate::rat_refusal::RatRefusal;
 use crate::true_lits::TrueLits;
-use crate::walk::{Ending, walk_negation};
-use lj_clause::{Clause, Lemma, Lit, NoMemory};
+use crate::walk::Ending;
+use lj_clause::{Lemma, Lit, NoMemory};
 use lj_text::{Groups, IndexedGroups, Numbers};
 use std::alloc::Global;
 
@@ -59,8 +59,9 @@ pub fn test_line<L: Live>(
     groups: &Groups,
     marks: &mut Marks,
 ) -> Result<Passed, LineRefusal>
-    ensures { IsLineReply groups.now result (line_reply (L.live live.now) lemma.now.pivot groups.now
-        (walk (L.live live.now) (negations lemma.now.clause) hints.now)) }
+    ensures { IsLineReply groups.now result
+        (line_reply (L.clauses live.now) lemma.now.pivot groups.now
+        (walk (L.clauses live.now) (negations lemma.now.clause) hints.now)) }
 {
     let passed = test_lists(alloc, live, lemma, hints, groups, &mut marks.lits);
     marks.let_go_of_many();
@@ -77,10 +78,11 @@ fn test_lists<L: Live>(
     groups: &Groups,
     held: &mut TrueLits,
 ) -> Result<Passed, LineRefusal>
-    ensures { IsLineReply groups.now result (line_reply (L.live live.now) lemma.now.pivot groups.now
-        (walk (L.live live.now) (negations lemma.now.clause) hints.now)) }
+    ensures { IsLineReply groups.now result
+        (line_reply (L.clauses live.now) lemma.now.pivot groups.now
+        (walk (L.clauses live.now) (negations lemma.now.clause) hints.now)) }
 {
-    match walk_live(held, live, lemma.clause(), hints) {
+    match walk_numbers(held, live, lemma.clause(), hints) {
         Ok(Ending::ClosedAfter(read)) => Ok(Passed::Closed(read)),
         Ok(Ending::StuckAt(place)) => Err(LineRefusal::Stuck(place)),
         Ok(Ending::StaysOpen) => {
@@ -91,34 +93,6 @@ fn test_lists<L: Live>(
             }
         }
         Err(refused) => Err(LineRefusal::Rat(RatRefusal::NoMemory(refused))),
-    }
-}
-
-/// The walk of a clause's negation over hints that name live clauses.
-///
-/// # Errors
-/// [`NoMemory`] where a growth was refused.
-#[inline]
-fn walk_live<L: Live>(
-    held: &mut TrueLits,
-    live: &L,
-    clause: &Clause,
-    numbers: &Numbers,
-) -> Result<Ending, NoMemory>
-    ensures ending { IfOk result (λ ending. ending
-        ≡ ending_of (walk (L.live live.now) (negations clause.now) numbers.now)) }
-    ensures held { result ≡ Ok Ending.StaysOpen
-        → walk (L.live live.now) (negations clause.now) numbers.now
-        ≡ Open (from_literals held.new) }
-    ensures consistent { result ≡ Ok Ending.StaysOpen
-        → is_contradictory (from_literals held.new) ≡ false }
-{
-    match numbers.as_short() {
-        Some(numbers) => walk_negation(held, clause, &ShortHints { live, numbers }),
-        None => {
-            let numbers = numbers.iter();
-            walk_negation(held, clause, &LiveHints { live, numbers })
-        }
     }
 }
 
@@ -136,8 +110,8 @@ fn test_open<L: Live>(
 ) -> Result<Option<Groups>, RatRefusal>
     requires { is_contradictory (from_literals held.old) ≡ false }
     ensures { IsCovering groups.now result
-        (rat_reply (L.live live.now) (from_literals held.old) pivot
-        (groups_in (L.live live.now) groups.now)) }
+        (rat_reply (L.clauses live.now) (from_literals held.old) pivot
+        (groups_in (L.clauses live.now) groups.now)) }
 {
     let Some(pivot) = pivot else {
         return Err(RatRefusal::EmptyOpen);

@@ -34,7 +34,7 @@ use lj_text::Groups;
 pub fn rat_test<L: Live>(live: &L, case: &Case, marks: &mut Marks) -> Result<Groups, RatRefusal>
     requires { (a : LiteralSet) × (walk_of case.now ≡ Open a) }
     ensures reply { (a : LiteralSet) → walk_of case.now ≡ Open a → IsRatReply result
-        (rat_reply (L.live live.now) a case.now.lemma.pivot (named_groups case.now.groups)) }
+        (rat_reply (L.clauses live.now) a case.now.lemma.pivot (named_groups case.now.groups)) }
     ensures no_pivot { case.now.lemma.pivot ≡ None → result ≡ Err EmptyOpen }
 {
     let Some(pivot) = case.lemma().pivot() else {

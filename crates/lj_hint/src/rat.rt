@@ -6,7 +6,7 @@ ghost use Rattle.lj_clause.specs.LiteralSet.{from_literals};
 ghost use Rattle.lj_clause.specs.Walk.{is_contradictory};
 ghost use Rattle.lj_clause.specs.Rat.{candidates, candidate_walk, rat_over, group_of};
 ghost use Rattle.lj_hint.specs.inner.Trail.{Extends};
-ghost use Rattle.lj_hint.specs.inner.Ending.{ending_of};
+ghost use Rattle.lj_hint.specs.Ending.{ending_of};
 ghost use Rattle.lj_hint.specs.RatTest.{rat_told};
 ghost use Rattle.lj_hint.specs.inner.Coverings.{plain_groups, IsCovering};
 ghost use Rattle.lj_hint.specs.inner.Groups.{group_at, before, AreGroupPlaces, lent_hints, read_group, candidate_told, IsCandidateReply};
@@ -27,7 +27,7 @@ const FEW: usize = 8;
 
 /// The test of all candidates of a pivot among the live clauses, for a walk that ended open with what is held: the
 /// groups with the hints that were read, by rising candidate. None stands for the groups as they are given. Takes the
-/// time of [`Live::candidates`] and, for each candidate, of [`Live::clause`], [`TrueLits::insert_negations_but`] and
+/// time of [`Live::candidates`] and, for each candidate, of [`Clauses::clause`], [`TrueLits::insert_negations_but`] and
 /// [`walk`]; O(log c) time for each group, with c candidates; and memory for each candidate.
 ///
 /// # Errors
@@ -42,7 +42,7 @@ pub(crate) fn cover<L: Live, G: GroupList>(
     requires { is_contradictory (from_literals held.old) ≡ false }
     ensures { IsCovering (plain_groups (G.groups groups.now)) result
         (rat_told (rat_over (from_literals held.old) pivot (G.groups groups.now)
-        (candidates (L.live live.now) pivot))) }
+        (candidates (L.clauses live.now) pivot))) }
 {
     let numbers = live.candidates(pivot.negated())?;
     let places = places_among(alloc, groups, &numbers)?;

@@ -4,7 +4,7 @@ ghost use Rattle.lj_clause.specs.LiteralSet.{from_literals, holds, negations, wi
 ghost use Rattle.lj_clause.specs.Walk.{rest, walk_over, is_contradictory, Open};
 ghost use Rattle.lj_hint.specs.inner.Trail.{Extends};
 ghost use Rattle.lj_hint.specs.inner.Rest.{rest_seen};
-ghost use Rattle.lj_hint.specs.inner.Ending.{ending_of};
+ghost use Rattle.lj_hint.specs.Ending.{ending_of};
 
 use crate::hint_list::HintList;
 use crate::trail::LentTrail;
@@ -25,9 +25,9 @@ pub(crate) enum Rest {
     More,
 }
 
-/// How a walk ended.
-#[derive(Clone, Copy)]
-pub(crate) enum Ending {
+/// How a walk over hints ended.
+#[derive(Clone, Copy, Debug, PartialEq, Eq)]
+pub enum Ending {
     /// Closed, after it read so many hints.
     ClosedAfter(usize),
     /// Open after the last hint.

@@ -2,7 +2,7 @@
 use crate::tables::{BINARY, Line, addition, formula};
 use lj_book::{Book, Refusal};
 use lj_clause::{ClauseView, Lit, NoMemory};
-use lj_hint::{Case, Live, Marks, Receipt, Tested, rat_test};
+use lj_hint::{Case, Clauses, Live, Marks, Receipt, Tested, rat_test};
 use std::alloc::Global;
 use std::process::Abort;
 use std::test::Fail;
@@ -55,15 +55,17 @@ struct NothingLives {
     alloc: Global,
 }
 
-impl Live for NothingLives {
+impl Clauses for NothingLives {
     ghost use Rattle.std.specs.FinMap as fin;
 
-    ghost live = { λ _. fin.empty };
+    ghost clauses = { λ _. fin.empty };
 
-    fn clause(&self, _joint: u64) -> Option<ClauseView<'_>> {
+    fn clause(&self, _number: u64) -> Option<ClauseView<'_>> {
         None
     }
+}
 
+impl Live for NothingLives {
     fn candidates(&self, _lit: Lit) -> Result<Vec<u64>, NoMemory> {
         Ok(Vec::new(self.alloc))
     }

@@ -17,14 +17,14 @@ use Rattle.lj_hint.proofs.rat.cover.Goals as goal
 
 pub places_among-requires : goal.places_among-requires
 places_among-requires g c =
-    let live = g.L.Live.live c.args.live.now in
+    let live = g.L.Clauses.clauses c.args.live.now in
     let ns : List ℕ = c.in_ok-numbers.numbers.items in
     let are = candidate_numbers live c.args.pivot _ ns c.negated.ensures c.in_ok-numbers.ensures in
     subst (IsStrictlySortedBy nat_cmp) (sym are ∙ sym c.deref.ensures.value) (candidates-sorted live c.args.pivot)
 
 pub loop-index-preserved-in_default : goal.loop-index-preserved-in_default
 loop-index-preserved-in_default g c =
-    let live = g.L.Live.live c.args.live.now in
+    let live = g.L.Clauses.clauses c.args.live.now in
     let es = candidates live c.args.pivot in
     let i = c.loop-index.index in
     let n : ℕ = c.index-number.result.now in
@@ -41,7 +41,7 @@ loop-index-preserved-in_default g c =
 pub returns-in-Err : goal.returns-in-Err
 returns-in-Err g c =
     let hints = g.G.Hints.HintList.hints in
-    let live = g.L.Live.live c.args.live.now in
+    let live = g.L.Clauses.clauses c.args.live.now in
     let q = c.args.pivot in
     let es = candidates live q in
     let named = g.G.GroupList.groups c.args.groups.now in
@@ -73,7 +73,7 @@ returns-in-Err g c =
 pub loop-index-preserved : goal.loop-index-preserved
 loop-index-preserved g c =
     let hints = g.G.Hints.HintList.hints in
-    let live = g.L.Live.live c.args.live.now in
+    let live = g.L.Clauses.clauses c.args.live.now in
     let q = c.args.pivot in
     let es = candidates live q in
     let named = g.G.GroupList.groups c.args.groups.now in
@@ -112,7 +112,7 @@ loop-index-preserved g c =
 
 pub returns : goal.returns
 returns g c =
-    let live = g.L.Live.live c.args.live.now in
+    let live = g.L.Clauses.clauses c.args.live.now in
     let q = c.args.pivot in
     let es = candidates live q in
     let named = g.G.GroupList.groups c.args.groups.now in

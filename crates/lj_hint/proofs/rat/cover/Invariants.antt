@@ -12,7 +12,7 @@ abbrev pub invariant-loop-index : goal.invariant-loop-index
 invariant-loop-index g l = record {
   within : l.index ≤ length l.numbers.items;
   same : l.held ≡ l.initial.held;
-  told : behind_groups (covered_before (g.G.GroupList.groups l.groups) l.index l.apart) (rat_told (rat_over (from_literals l.held) l.pivot (g.G.GroupList.groups l.groups) (drop l.index (candidates (g.L.Live.live l.live) l.pivot))))
-      ≡ rat_told (rat_over (from_literals l.held) l.pivot (g.G.GroupList.groups l.groups) (candidates (g.L.Live.live l.live) l.pivot));
+  told : behind_groups (covered_before (g.G.GroupList.groups l.groups) l.index l.apart) (rat_told (rat_over (from_literals l.held) l.pivot (g.G.GroupList.groups l.groups) (drop l.index (candidates (g.L.Clauses.clauses l.live) l.pivot))))
+      ≡ rat_told (rat_over (from_literals l.held) l.pivot (g.G.GroupList.groups l.groups) (candidates (g.L.Clauses.clauses l.live) l.pivot));
   placed : IfSome l.places (λ places. AreGroupPlaces (g.G.GroupList.groups l.groups) l.numbers.items places.items);
 }

@@ -3,7 +3,7 @@ use Rattle.std.specs.Prelude.{[], option_map}
 use Rattle.lj_clause.specs.LiteralSet.{LiteralSet, from_literals}
 use Rattle.lj_clause.specs.Walk.{walk_over}
 use Rattle.lj_clause.specs.Rat.{candidate_walk}
-use Rattle.lj_hint.specs.inner.Ending.{ending_of}
+use Rattle.lj_hint.specs.Ending.{ending_of}
 use Rattle.lj_hint.proofs.Walks.{closed_at_once, open_at_end, with_others}
 use Rattle.lj_hint.proofs.rat.walk_candidate.Goals as goal
 

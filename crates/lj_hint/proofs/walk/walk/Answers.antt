@@ -2,7 +2,7 @@ use Rattle.std.proofs.Common.{◌+◌, ap, sym, subst, ◌∙◌, arith}
 use Rattle.std.specs.Prelude.{Some, None}
 use Rattle.lj_clause.specs.LiteralSet.{LiteralSet, from_literals}
 use Rattle.lj_hint.specs.inner.Trail.{Extends}
-use Rattle.lj_hint.specs.inner.Ending.{ending_of}
+use Rattle.lj_hint.specs.Ending.{ending_of}
 use Rattle.lj_hint.proofs.Walks.{Reads, walk_from, ends_contradictory, ends_open, ends_closed, ends_stuck, ends_nowhere, goes_on, left_unopposed}
 use Rattle.lj_hint.proofs.TrailLaws.{from_literals-with_mark, Extends-trans, Extends-with_mark}
 use Rattle.lj_hint.proofs.walk.walk.Goals as goal

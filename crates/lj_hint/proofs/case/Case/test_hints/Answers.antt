@@ -2,7 +2,7 @@ use Rattle.std.proofs.Common.{ap, sym, ◌∙◌}
 use Rattle.lj_clause.specs.LiteralSet.{negations}
 use Rattle.lj_clause.specs.Walk.{walk_over}
 use Rattle.lj_hint.specs.Hints.{named_hints}
-use Rattle.lj_hint.specs.inner.Ending.{ending_of}
+use Rattle.lj_hint.specs.Ending.{ending_of}
 use Rattle.lj_hint.specs.Case.{walk_of}
 use Rattle.lj_hint.proofs.Used.{closed_by_read}
 use Rattle.lj_hint.proofs.case.Case.test_hints.Goals as goal
