@@ -46,14 +46,14 @@ use Rattle.lj_book.proofs.SoloTables.{bound_is_held}
 abbrev Lives : Tables → ClauseMap → ℕ → Type 0
 Lives tables p seat = (own joint : ℕ) → joint_of tables seat own ≡ Some joint → (c : LiteralSet) × (fin.get p joint ≡ Some c)
 
-abbrev numbers_of : Result (List Pair) Refusal → Result (List ℕ) Refusal
+abbrev pub numbers_of : Result (List Pair) Refusal → Result (List ℕ) Refusal
 numbers_of (Ok pairs) = Ok (numbers pairs)
 numbers_of (Err e) = Err e
 
-abbrev groups_joint : List (Pair × List Pair) → List HintGroup
+abbrev pub groups_joint : List (Pair × List Pair) → List HintGroup
 groups_joint groups = map (λ g. record { candidate = g.0.joint; hints = numbers g.1 }) groups
 
-abbrev joint_groups : Result (List (Pair × List Pair)) Refusal → Result (List HintGroup) Refusal
+abbrev pub joint_groups : Result (List (Pair × List Pair)) Refusal → Result (List HintGroup) Refusal
 joint_groups (Ok groups) = Ok (groups_joint groups)
 joint_groups (Err e) = Err e
 
@@ -119,15 +119,15 @@ step_case s seat a rep (Ok hs) (Err e) = refl
 step_case s seat a None (Ok hs) (Ok gs) = refl
 step_case s seat a (Some own) (Ok hs) (Ok gs) = refl
 
-abbrev case_here : State → ℕ → Addition → Result CaseValue Refusal
+abbrev pub case_here : State → ℕ → Addition → Result CaseValue Refusal
 case_here s seat a = case_with seat a (repeated_after (joint_of s.tables seat) [] a.groups) (pairs_of (pair_in s.tables (live s) seat) a.hints) (group_pairs_of (pair_in s.tables (live s) seat) a.groups)
 
-taken_free : (s : State) (seat : ℕ) (a : Addition) → CanBind s seat a.number → take_reply s seat a ≡ case_here s seat a
+pub taken_free : (s : State) (seat : ℕ) (a : Addition) → CanBind s seat a.number → take_reply s seat a ≡ case_here s seat a
 taken_free s seat a can =
     ap (λ b. if b then (if is_bound s.tables seat a.number then Err refusals.NumberTaken else case_here s seat a) else Err refusals.SeatGone) can.here
     ∙ ap (λ b. if b then Err refusals.NumberTaken else case_here s seat a) can.unbound
 
-taken_refused : (s : State) (seat : ℕ) (a : Addition) (e : Refusal) → free_refusal s seat a.number ≡ Some e → take_reply s seat a ≡ Err e
+pub taken_refused : (s : State) (seat : ℕ) (a : Addition) (e : Refusal) → free_refusal s seat a.number ≡ Some e → take_reply s seat a ≡ Err e
 taken_refused s seat a e h = go (is_here s.tables seat) (is_bound s.tables seat a.number) h
   where
     go : (here bound : Bool) → (if here then (if bound then Some refusals.NumberTaken else None) else Some refusals.SeatGone) ≡ Some e → (if here then (if bound then Err refusals.NumberTaken else case_here s seat a) else Err refusals.SeatGone) ≡ Err e
@@ -135,7 +135,7 @@ taken_refused s seat a e h = go (is_here s.tables seat) (is_bound s.tables seat 
     go true false h = absurd (false≢true (ap is_some h))
     go false bound h = let same : refusals.SeatGone ≡ e = cc in ap Err same
 
-parts_here : (s : State) (seat : ℕ) (a : Addition) → IsSound s → parts_with (repeated_after (joint_of s.tables seat) [] a.groups) (numbers_of (pairs_of (pair_in s.tables (live s) seat) a.hints)) (joint_groups (group_pairs_of (pair_in s.tables (live s) seat) a.groups)) ≡ joint_parts (joint_of s.tables seat) a
+pub parts_here : (s : State) (seat : ℕ) (a : Addition) → IsSound s → parts_with (repeated_after (joint_of s.tables seat) [] a.groups) (numbers_of (pairs_of (pair_in s.tables (live s) seat) a.hints)) (joint_groups (group_pairs_of (pair_in s.tables (live s) seat) a.groups)) ≡ joint_parts (joint_of s.tables seat) a
 parts_here s seat a sound =
     let lives = lives_sound s seat sound in
     λ i. parts_with (repeated_after (joint_of s.tables seat) [] a.groups) (numbers_taken s.tables (live s) seat lives a.hints i) (groups_taken s.tables (live s) seat lives a.groups i)
@@ -313,7 +313,7 @@ not_refused (Some e) x y h = cc
 
 -- ---- the entry is legal
 
-parts_of : (rep : Option ℕ) (hs : Result (List ℕ) Refusal) (gs : Result (List HintGroup) Refusal) (parts : LineParts) → parts_with rep hs gs ≡ Ok parts → (rep ≡ None) × (hs ≡ Ok parts.0) × (gs ≡ Ok parts.1)
+pub parts_of : (rep : Option ℕ) (hs : Result (List ℕ) Refusal) (gs : Result (List HintGroup) Refusal) (parts : LineParts) → parts_with rep hs gs ≡ Ok parts → (rep ≡ None) × (hs ≡ Ok parts.0) × (gs ≡ Ok parts.1)
 parts_of rep (Err e) gs parts h = absurd (let no : ⊥ = cc in no)
 parts_of rep (Ok hs) (Err e) parts h = absurd (let no : ⊥ = cc in no)
 parts_of None (Ok hs) (Ok gs) parts h = let same : ◌≡◌ {A = LineParts} (hs, gs) parts = cc in (refl, ap (λ (p : LineParts). Ok p.0) same, ap (λ (p : LineParts). Ok p.1) same)

@@ -32,6 +32,7 @@ mod Chains
 mod FirstUseLaws
 pub mod InsideLaws
 pub mod LineLaws
+pub mod ClosedLemmas
 pub mod WordLaws
 pub mod RecordLaws
 pub mod StepLineLemmas

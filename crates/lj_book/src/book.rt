@@ -12,6 +12,7 @@ ghost use Rattle.lj_book.specs.inner.Ready.{IsStepOf};
 ghost use Rattle.lj_book.specs.Calls.{IsReply, IsReplyBy, drop_reply, drop_entry, commit_refusal, commit_told, commit_reply, commit_entry, answer_alone, take_reply, free_refusal};
 
 mod adopting;
+mod closed;
 mod inside;
 pub mod laws;
 mod leaving;

@@ -254,7 +254,7 @@ fn entry_of_receipt(alloc: Global, receipt: &Receipt, joint: u64) -> Result<Entr
 ///
 /// # Errors
 /// [`NoMemory`] where a growth was refused.
-fn entry_of_line(seat: u32, own: u64, step: &LentAddition<'_>) -> Result<Entry, NoMemory>
+pub(crate) fn entry_of_line(seat: u32, own: u64, step: &LentAddition<'_>) -> Result<Entry, NoMemory>
     ensures { IfOk result (λ entry. entry ≡ line_entry seat own step.now) }
 {
     let call = Call::Add {
