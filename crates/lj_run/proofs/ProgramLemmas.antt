@@ -19,7 +19,7 @@ use Rattle.lj_text.specs.Cnf.{HasFault}
 use Rattle.lj_run.specs.declared.checking.Checked.{Checked}
 use Rattle.lj_text.specs.declared.step.Step.{Step}
 use Rattle.lj_run.specs.InTurn.{streams_by_seat}
-use Rattle.lj_run.specs.CommandLine.{Asked, AskedRun, a_run, paths_by_seat, the_help, the_version, the_usage}
+use Rattle.lj_run.specs.CommandLine.{Asked, AskedRun, a_run, misread, paths_by_seat, the_help, the_version, the_usage}
 use Rattle.lj_run.specs.declared.checking.CheckFault.{CheckFault}
 use Rattle.lj_run.specs.declared.checking.CheckFault.TheVariants as check_faults
 use Rattle.lj_run.specs.declared.checking.Verdict.{Verdict}
@@ -151,7 +151,8 @@ open_fault seen sink run before content old mid new paths (faults.ProofLost path
 open_fault seen sink run before content old mid new paths (faults.NoMemory e) among same tried h = tt
 open_fault seen sink run before content old mid new paths faults.OutOfMemory among same tried h = tt
 open_fault seen sink run before content old mid new paths faults.Unconfirmed among same tried h = absurd h
-open_fault seen sink run before content old mid new paths (faults.Usage text) among same tried h = absurd h
+open_fault seen sink run before content old mid new paths (faults.Usage misuse) among same tried h = absurd h
+open_fault seen sink run before content old mid new paths (faults.Misread text) among same tried h = absurd h
 
 -- FORMULA's file can't be opened
 pub formula_unopened : {I W : Type 0} (seen : I → SourceState) (sink : W → SinkState) (run : AskedRun) (before : List ℕ → Option (List ℕ)) (old new : Tried) (fault : Fault)
@@ -164,7 +165,8 @@ formula_unopened seen sink run before old new (faults.ProofLost path f) h = absu
 formula_unopened seen sink run before old new (faults.NoMemory e) h = tt
 formula_unopened seen sink run before old new faults.OutOfMemory h = tt
 formula_unopened seen sink run before old new faults.Unconfirmed h = absurd h
-formula_unopened seen sink run before old new (faults.Usage text) h = absurd h
+formula_unopened seen sink run before old new (faults.Usage misuse) h = absurd h
+formula_unopened seen sink run before old new (faults.Misread text) h = absurd h
 
 -- OUT can't be created
 pub create_fault : {I W : Type 0} (seen : I → SourceState) (sink : W → SinkState) (run : AskedRun) (before : List ℕ → Option (List ℕ)) (old mid new : Tried) (fault : Fault) → mid ≡ old
@@ -177,7 +179,8 @@ create_fault seen sink run before old mid new (faults.ProofLost path f) tried h 
 create_fault seen sink run before old mid new (faults.NoMemory e) tried h = tt
 create_fault seen sink run before old mid new faults.OutOfMemory tried h = tt
 create_fault seen sink run before old mid new faults.Unconfirmed tried h = absurd h
-create_fault seen sink run before old mid new (faults.Usage text) tried h = absurd h
+create_fault seen sink run before old mid new (faults.Usage misuse) tried h = absurd h
+create_fault seen sink run before old mid new (faults.Misread text) tried h = absurd h
 
 -- no more files were created, where these were tried before
 pub none_more : (path : Option (List ℕ)) (old mid : Tried) (created : List (List ℕ)) → mid ≡ old → created ≡ mid.created → (created ≡ old.created) ⊎ (created ≡ (with_created path old).created)
@@ -232,7 +235,7 @@ check_fault seen sink run content path inputs before after old new (check_faults
 check_fault seen sink run content path inputs before after old new (check_faults.Run run_faults.FormulaRead) is h = inr (is, record { inputs = inputs; fault_is = h.0 })
 check_fault seen sink run content path inputs before after old new (check_faults.Run (run_faults.NoMemory e)) is h = tt
 check_fault seen sink run content path inputs before after old new (check_faults.Run run_faults.Unconfirmed) is h = record { inputs = inputs; fault_is = h.0 }
-check_fault seen sink run content path inputs before after old new check_faults.CannotWrite is h = λ e. cc
+check_fault seen sink run content path inputs before after old new check_faults.CannotWrite is h = tt
 
 -- the check whose output failed
 pub check_cut : {I : Type 0} (way : Way) (seen : I → SourceState) (formula : Bor (List ℕ)) (before after : SourceState) (max : ℕ) (streams : List I) (old new : List ℕ) (fault : CheckFault)
@@ -267,7 +270,8 @@ pub run_refutes : {I W : Type 0} (seen : I → SourceState) (sink : W → SinkSt
 run_refutes seen sink content (a_run run) old new status h zero_is = answer_refutes seen sink content run old new (status_code status) h zero_is
 run_refutes seen sink content the_help old new status h zero_is = tt
 run_refutes seen sink content the_version old new status h zero_is = tt
-run_refutes seen sink content the_usage old new status h zero_is = tt
+run_refutes seen sink content (the_usage misuse) old new status h zero_is = tt
+run_refutes seen sink content misread old new status h zero_is = tt
 
 -- ---- proofs
 
@@ -307,7 +311,8 @@ lost_fault seen sink run content before after checked text (faults.ProofLost pat
 lost_fault seen sink run content before after checked text (faults.NoMemory e) printed h = absurd h
 lost_fault seen sink run content before after checked text faults.OutOfMemory printed h = absurd h
 lost_fault seen sink run content before after checked text faults.Unconfirmed printed h = absurd h
-lost_fault seen sink run content before after checked text (faults.Usage text') printed h = absurd h
+lost_fault seen sink run content before after checked text (faults.Usage misuse) printed h = absurd h
+lost_fault seen sink run content before after checked text (faults.Misread text') printed h = absurd h
 
 pub lost_late : (path : Option (List ℕ)) (end : ProofEnd) (fault : Fault) → IsLostAt path end fault → (is_told_late fault ≡ true) × (fault ≡ faults.CannotWrite → ⊥) × (failed_outputs fault ≡ 0)
 lost_late path end (faults.Formula p f) h = absurd h
@@ -318,4 +323,5 @@ lost_late path end (faults.ProofLost p f) h = (refl, λ e. cc, refl)
 lost_late path end (faults.NoMemory e) h = absurd h
 lost_late path end faults.OutOfMemory h = absurd h
 lost_late path end faults.Unconfirmed h = absurd h
-lost_late path end (faults.Usage text) h = absurd h
+lost_late path end (faults.Usage misuse) h = absurd h
+lost_late path end (faults.Misread text) h = absurd h

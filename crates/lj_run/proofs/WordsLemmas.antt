@@ -26,6 +26,7 @@ use Rattle.clap.specs.Walk.{Rule, all_of, first_of, rows_of}
 use Rattle.clap.proofs.WalkLemmas.{first_value-rows, raw_values-rows}
 use Rattle.lj_text.specs.Bytes.{decimal_value}
 use Rattle.lj_run.specs.CommandLine.{Asked, a_run, asked_by_rows, is_given, is_run_of, limit_of, program_app, run_asked, run_by_rows, steps_of_value, the_usage, way_of, with_proof}
+use Rattle.lj_run.specs.declared.misuse.Misuse.TheVariants.{NoFormula, NoLimit, TooManyProofs}
 use Rattle.lj_run.specs.declared.outcome.Way.{Way}
 use Rattle.lj_run.specs.inner.CommandLine.{HasRule}
 
@@ -78,21 +79,19 @@ is_third a b x e f = rw (e, f) refl
 -- ---- what is asked for
 
 -- what values ask for without a FORMULA, for too many streams, and for a limit that is none
-pub without_formula : (formula : Option (List ℕ)) (proofs : List (List ℕ)) (closing steps : Option (List ℕ)) (way : Way) → formula ≡ None → the_usage ≡ run_asked formula proofs closing steps way
+pub without_formula : (formula : Option (List ℕ)) (proofs : List (List ℕ)) (closing steps : Option (List ℕ)) (way : Way) → formula ≡ None → the_usage NoFormula ≡ run_asked formula proofs closing steps way
 without_formula None proofs closing steps way e = refl
 without_formula (Some formula) proofs closing steps way e = cc
 
-pub too_many : (formula : Option (List ℕ)) (proofs : List (List ℕ)) (closing steps : Option (List ℕ)) (way : Way) → is_run_of proofs ≡ false → the_usage ≡ run_asked formula proofs closing steps way
-too_many None proofs closing steps way e = refl
-too_many (Some formula) proofs closing steps way e = rw e refl
+pub too_many : (formula : Option (List ℕ)) (path : List ℕ) (proofs : List (List ℕ)) (closing steps : Option (List ℕ)) (way : Way) → formula ≡ Some path → is_run_of proofs ≡ false
+    → the_usage TooManyProofs ≡ run_asked formula proofs closing steps way
+too_many None path proofs closing steps way is e = cc
+too_many (Some formula) path proofs closing steps way is e = rw e refl
 
-pub without_limit : (formula : Option (List ℕ)) (proofs : List (List ℕ)) (closing steps : Option (List ℕ)) (way : Way) → steps_of_value steps ≡ None → the_usage ≡ run_asked formula proofs closing steps way
-without_limit None proofs closing steps way e = refl
-without_limit (Some formula) proofs closing steps way e = go (is_run_of proofs) refl
-  where
-    go : (b : Bool) → is_run_of proofs ≡ b → the_usage ≡ run_asked (Some formula) proofs closing steps way
-    go false t = rw t refl
-    go true t = rw (t, e) refl
+pub without_limit : (formula : Option (List ℕ)) (path : List ℕ) (proofs : List (List ℕ)) (closing steps : Option (List ℕ)) (way : Way) → formula ≡ Some path → is_run_of proofs ≡ true
+    → steps_of_value steps ≡ None → the_usage NoLimit ≡ run_asked formula proofs closing steps way
+without_limit None path proofs closing steps way is t e = cc
+without_limit (Some formula) path proofs closing steps way is t e = rw (t, e) refl
 
 asks_run : (formula : List ℕ) (proofs : List (List ℕ)) (closing steps : Option (List ℕ)) (limit : ℕ) (way : Way) → is_run_of proofs ≡ true → steps_of_value steps ≡ Some limit
     → a_run (record { formula = formula; proofs = proofs; closing = closing; max_steps = limit; way = way; proof = None; trims = false }) ≡ run_asked (Some formula) proofs closing steps way

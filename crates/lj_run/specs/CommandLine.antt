@@ -11,6 +11,8 @@ use Rattle.clap.specs.declared.builder.action.ArgAction.TheVariants.{Append, Set
 use Rattle.clap.specs.declared.error.kind.ErrorKind.{ErrorKind}
 use Rattle.clap.specs.declared.error.kind.ErrorKind.TheVariants.{DisplayHelp, DisplayVersion}
 use Rattle.lj_text.specs.Bytes.{digits_value}
+use Rattle.lj_run.specs.declared.misuse.Misuse.{Misuse}
+use Rattle.lj_run.specs.declared.misuse.Misuse.TheVariants.{NoFormula, TooManyProofs, NoLimit, Overwrites}
 use Rattle.lj_run.specs.declared.outcome.Way.{Way}
 use Rattle.lj_run.specs.declared.outcome.Way.TheVariants.{OnThreads, InTurn}
 use Rattle.lj_run.specs.InTurn.{streams_by_seat}
@@ -65,12 +67,14 @@ pub record AskedRun : Type 0 where
   pub proof : Option (List ℕ)
   pub trims : Bool
 
--- What words ask for: a run, or to be told the help, the version, or how the program is used.
+-- What words ask for: a run, or to be told the help, the version, or what is wrong with them, by the program's own rules or by those
+-- of `clap`.
 pub data Asked : Type 0 where
   a_run : AskedRun → Asked
   the_help : Asked
   the_version : Asked
-  the_usage : Asked
+  the_usage : Misuse → Asked
+  misread : Asked
 
 -- the paths of the streams of a run by their seats: the closing one has the last
 abbrev pub paths_by_seat : AskedRun → List (List ℕ)
@@ -113,15 +117,15 @@ run_within formula proofs closing (Some max_steps) way =
       proof = None;
       trims = false;
     })
-run_within formula proofs closing None way = the_usage
+run_within formula proofs closing None way = the_usage NoLimit
 
--- the values of FORMULA and PROOF, of --close and --max-steps, and the way; right words have a FORMULA
+-- the values of FORMULA and PROOF, of --close and --max-steps, and the way; words that `clap` reads have a FORMULA and a PROOF
 abbrev pub run_asked : Option (List ℕ) → List (List ℕ) → Option (List ℕ) → Option (List ℕ) → Way
     → Asked
 run_asked (Some formula) proofs closing max_steps way =
     if is_run_of proofs then run_within formula proofs closing (steps_of_value max_steps) way
-    else the_usage
-run_asked None proofs closing max_steps way = the_usage
+    else the_usage TooManyProofs
+run_asked None proofs closing max_steps way = the_usage NoFormula
 
 -- whether a run reads the file at this path: paths are taken as written
 abbrev pub is_input : AskedRun → List ℕ → Bool
@@ -131,7 +135,7 @@ is_input run path = bytes_eq run.formula path
 
 -- the run with its proof at this path, which isn't to overwrite what the run reads
 abbrev pub run_with_proof : AskedRun → List ℕ → Bool → Asked
-run_with_proof run path trims = if is_input run path then the_usage
+run_with_proof run path trims = if is_input run path then the_usage Overwrites
     else a_run (record run { proof = Some path; trims = trims })
 
 -- what is asked for with the value of --proof, and with --trim or without it: without --proof it does nothing
@@ -140,7 +144,8 @@ with_proof (a_run run) (Some path) trims = run_with_proof run path trims
 with_proof (a_run run) None trims = a_run run
 with_proof the_help proof trims = the_help
 with_proof the_version proof trims = the_version
-with_proof the_usage proof trims = the_usage
+with_proof (the_usage misuse) proof trims = the_usage misuse
+with_proof misread proof trims = misread
 
 -- whether the flag of this name is given, by its value
 abbrev pub is_given : List ℕ → List Row → Bool
@@ -159,11 +164,11 @@ abbrev pub asked_by_rows : List Row → Asked
 asked_by_rows rows = with_proof (run_by_rows rows) (first_of (codes "proof") rows)
     (is_given (codes "trim") rows)
 
--- what words ask for that are wrong by this kind
+-- what words ask for that `clap` doesn't read, by this kind
 abbrev pub kind_asked : ErrorKind → Asked
 kind_asked DisplayHelp = the_help
 kind_asked DisplayVersion = the_version
-kind_asked kind = the_usage
+kind_asked kind = misread
 
 -- what words ask for, by the fault that is found in them first, and by what they give
 abbrev pub asked_by_fault : Kinds → List Row → Asked

@@ -16,11 +16,13 @@ use Rattle.lj_run.specs.declared.outcome.ProofEnd.{ProofEnd}
 use Rattle.lj_run.specs.declared.outcome.ProofEnd.TheVariants.{NotAsked, Written, Failed}
 use Rattle.lj_run.specs.declared.outcome.ProofFault.{ProofFault}
 use Rattle.lj_run.specs.declared.outcome.ProofFault.TheVariants.{Device, NoMemory}
-use Rattle.lj_run.specs.CommandLine.{Asked, AskedRun, a_run, paths_by_seat, the_help, the_version, the_usage}
+use Rattle.lj_run.specs.CommandLine.{Asked, AskedRun, a_run, misread, paths_by_seat, the_help, the_version, the_usage}
 use Rattle.lj_run.specs.declared.checking.Verdict.{Verdict}
 use Rattle.lj_run.specs.declared.checking.Verdict.TheVariants.{Verified, NotVerified}
 use Rattle.lj_run.specs.declared.fault.Fault.{Fault}
 use Rattle.lj_run.specs.declared.fault.Fault.TheVariants as faults
+use Rattle.lj_run.specs.declared.misuse.Misuse.{Misuse}
+use Rattle.lj_run.specs.declared.misuse.Misuse.TheVariants.{NoFormula, TooManyProofs, NoLimit, Overwrites}
 use Rattle.lj_run.specs.declared.outcome.RunFault.{RunFault}
 use Rattle.lj_run.specs.declared.outcome.RunFault.TheVariants as run_faults
 use Rattle.lj_run.specs.declared.status.Status.{Status}
@@ -53,7 +55,8 @@ checked_status checked = proof_status checked.proof (verdict_status checked.verd
 
 -- the status after a fault
 abbrev pub status_of_fault : Fault → Status
-status_of_fault (faults.Usage text) = statuses.Usage
+status_of_fault (faults.Usage misuse) = statuses.Usage
+status_of_fault (faults.Misread text) = statuses.Usage
 status_of_fault fault = statuses.Fault
 
 -- ---- what is told on standard error
@@ -69,7 +72,19 @@ abbrev pub lost_text : List ℕ → ProofFault → List ℕ
 lost_text path Device = codes "lratjoin: " ++ (path ++ codes ": cannot write\n")
 lost_text path (NoMemory e) = codes "lratjoin: NoMemory\n"
 
--- the line of a fault; usage is told by its text
+-- the reason why words that `clap` reads are wrong
+abbrev pub misuse_text : Misuse → List ℕ
+misuse_text NoFormula = codes "FORMULA wasn't provided"
+misuse_text TooManyProofs = codes "there are more than 64 PROOF files"
+misuse_text NoLimit = codes "N of '--max-steps <N>' is no number from 0 to 4294967295"
+misuse_text Overwrites = codes "OUT of '--proof <OUT>' is a file that the run reads"
+
+-- what is told of words that `clap` reads and that are wrong
+abbrev pub usage_text : Misuse → List ℕ
+usage_text misuse = codes "error: "
+    ++ (misuse_text misuse ++ codes "\n\nFor more information, try '--help'.\n")
+
+-- the line of a fault; words that `clap` doesn't read are told by its own text
 abbrev pub fault_text : Fault → List ℕ
 fault_text (faults.Formula path fault) = formula_fault_text path.now fault
 fault_text (faults.CannotRead path) = codes "lratjoin: " ++ (path.now ++ codes ": cannot read\n")
@@ -79,7 +94,8 @@ fault_text (faults.ProofLost path fault) = lost_text path.now fault
 fault_text (faults.NoMemory e) = codes "lratjoin: NoMemory\n"
 fault_text faults.OutOfMemory = codes "lratjoin: NoMemory\n"
 fault_text faults.Unconfirmed = codes "lratjoin: Unconfirmed\n"
-fault_text (faults.Usage text) = string_bytes text
+fault_text (faults.Usage misuse) = usage_text misuse
+fault_text (faults.Misread text) = string_bytes text
 
 -- ---- the files of a run
 
@@ -175,21 +191,32 @@ abbrev pub IfRun : Asked → (AskedRun → Type 0) → Type 0
 IfRun (a_run run) P = P run
 IfRun the_help P = Unit {0}
 IfRun the_version P = Unit {0}
-IfRun the_usage P = Unit {0}
+IfRun (the_usage misuse) P = Unit {0}
+IfRun misread P = Unit {0}
 
 -- words ask for a run, of which this holds
 abbrev pub IsRunAnd : Asked → (AskedRun → Type 0) → Type 0
 IsRunAnd (a_run run) P = P run
 IsRunAnd the_help P = ⊥
 IsRunAnd the_version P = ⊥
-IsRunAnd the_usage P = ⊥
+IsRunAnd (the_usage misuse) P = ⊥
+IsRunAnd misread P = ⊥
 
 -- the program may end with this status where words ask for this
 abbrev pub MayEnd : Asked → ℕ → Type 0
 MayEnd (a_run run) status = status ≤ 2
 MayEnd the_help status = (status ≡ 0) ⊎ (status ≡ 2)
 MayEnd the_version status = (status ≡ 0) ⊎ (status ≡ 2)
-MayEnd the_usage status = (status ≡ 2) ⊎ (status ≡ 3)
+MayEnd (the_usage misuse) status = (status ≡ 2) ⊎ (status ≡ 3)
+MayEnd misread status = (status ≡ 2) ⊎ (status ≡ 3)
+
+-- something is to be printed where words ask for this
+abbrev pub AsksForOutput : Asked → Type 0
+AsksForOutput (a_run run) = Unit {0}
+AsksForOutput the_help = Unit {0}
+AsksForOutput the_version = Unit {0}
+AsksForOutput (the_usage misuse) = ⊥
+AsksForOutput misread = ⊥
 
 -- the proof that words ask for couldn't be written, and what is printed of the run was taken
 abbrev pub IsProofLost : {I W : Type 0} → (I → SourceState) → (W → SinkState)
@@ -206,7 +233,8 @@ abbrev pub CreatesAtMost : Asked → Tried → Tried → Type 0
 CreatesAtMost (a_run run) before after = MayCreate run.proof before after
 CreatesAtMost the_help before after = NoneCreated before after
 CreatesAtMost the_version before after = NoneCreated before after
-CreatesAtMost the_usage before after = NoneCreated before after
+CreatesAtMost (the_usage misuse) before after = NoneCreated before after
+CreatesAtMost misread before after = NoneCreated before after
 
 -- The file at this path is to be read, and isn't told; one that is told can be opened. Its opening was tried and refused, and nothing
 -- else by then: no file was created.
@@ -221,8 +249,8 @@ IsUncreated before after run path = (run.proof ≡ Some path) × (after ≡ with
 
 -- The fault is right of what words ask for, where this is told of files, and this was tried of them before and after: the fault of the
 -- text that FORMULA's file gave; a path that can't be opened, or FORMULA, of which a read failed; an output that failed, where there is
--- something to print; OUT that can't be created, or that failed; a run that isn't confirmed; usage. Want of memory may stand in place of
--- each that memory is taken for.
+-- something to print; OUT that can't be created, or that failed; a run that isn't confirmed; what is wrong with the words. Want of memory
+-- may stand in place of each that memory is taken for.
 abbrev pub IsFaultOf : {I W : Type 0} → (I → SourceState) → (W → SinkState) → Asked
     → (List ℕ → Option (List ℕ)) → Tried → Tried → Fault → Type 0
 IsFaultOf seen sink asked content before after (faults.Formula path fault) = IsRunAnd asked
@@ -232,7 +260,7 @@ IsFaultOf seen sink asked content before after (faults.Formula path fault) = IsR
 IsFaultOf seen sink asked content before after (faults.CannotRead path) =
     IsRunAnd asked (λ run. IsUnopened content before after run path.now
     ⊎ ((path.now ≡ run.formula) × HasNoOutcome seen content run run_faults.FormulaRead))
-IsFaultOf seen sink asked content before after faults.CannotWrite = asked ≢ the_usage
+IsFaultOf seen sink asked content before after faults.CannotWrite = AsksForOutput asked
 IsFaultOf seen sink asked content before after (faults.CannotCreate path) = IsRunAnd asked
     (λ run. IsUncreated before after run path.now)
 IsFaultOf seen sink asked content before after (faults.ProofLost path fault) =
@@ -241,7 +269,8 @@ IsFaultOf seen sink asked content before after (faults.NoMemory e) = Unit {0}
 IsFaultOf seen sink asked content before after faults.OutOfMemory = Unit {0}
 IsFaultOf seen sink asked content before after faults.Unconfirmed = IsRunAnd asked
     (λ run. HasNoOutcome seen content run run_faults.Unconfirmed)
-IsFaultOf seen sink asked content before after (faults.Usage text) = asked ≡ the_usage
+IsFaultOf seen sink asked content before after (faults.Usage misuse) = asked ≡ the_usage misuse
+IsFaultOf seen sink asked content before after (faults.Misread text) = asked ≡ misread
 
 -- how often the output has failed where this fault is told: an output that failed is told, and nothing else then
 abbrev pub failed_outputs : Fault → ℕ

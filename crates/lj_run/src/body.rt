@@ -113,7 +113,8 @@ fn answer<'a, R: Threads + Wait + Sync, S: AsStr, F: Files, O: Sink>(
     match read_words(alloc, words)? {
         Request::Run(line) => run(rt, alloc, &line, files, out),
         Request::Help(text) | Request::Version(text) => print(text.as_str(), out),
-        Request::Usage(text) => Err(Fault::Usage(text)),
+        Request::Usage(misuse) => Err(Fault::Usage(misuse)),
+        Request::Misread(text) => Err(Fault::Misread(text)),
     }
 }
 

@@ -1,6 +1,7 @@
 //! What the words ask for.
 ghost use Rattle.std.specs.Prelude.{◌<◌, ◌≤◌, vec_len};
 
+use crate::misuse::Misuse;
 use crate::outcome::Way;
 
 /// The most PROOF files of a run.
@@ -15,8 +16,10 @@ pub(crate) enum Request<'a> {
     Help(String),
     /// The name and the version, which are this text.
     Version(String),
-    /// Nothing that the program knows. The text says why, and how the program is used.
-    Usage(String),
+    /// No run, for a reason of the program's own.
+    Usage(Misuse),
+    /// Words that `clap` doesn't read. The text says why, and how the program is used.
+    Misread(String),
 }
 
 /// What a run is asked for.

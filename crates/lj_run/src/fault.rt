@@ -1,10 +1,11 @@
 //! What is told on standard error.
 ghost use Rattle.std.specs.Prelude.{◌≡◌, ◌++◌, OnOk, OnErr, codes};
 ghost use Rattle.lj_run.specs.inner.Program.{fault_at, IsNoMemory};
-ghost use Rattle.lj_run.specs.Program.{fault_text, formula_fault_text, lost_text, status_of_fault};
+ghost use Rattle.lj_run.specs.Program.{fault_text, formula_fault_text, lost_text, status_of_fault, usage_text};
 ghost use Rattle.lj_run.specs.declared.fault.Fault.TheVariants as faults;
 
 use crate::checking::CheckFault;
+use crate::misuse::Misuse;
 use crate::outcome::{ProofFault, RunFault};
 use crate::status::Status;
 use crate::words::WordsFault;
@@ -32,8 +33,10 @@ pub(crate) enum Fault<'a> {
     OutOfMemory,
     /// The closed book didn't confirm what its seats were told.
     Unconfirmed,
-    /// The words ask for nothing that the program knows. The text says why, and how the program is used.
-    Usage(String),
+    /// The words ask for no run, for a reason of the program's own.
+    Usage(Misuse),
+    /// `clap` doesn't read the words. The text says why, and how the program is used.
+    Misread(String),
 }
 
 impl Fault<'_> {
@@ -42,7 +45,7 @@ impl Fault<'_> {
         ensures { result ≡ status_of_fault self.now }
     {
         match self {
-            Fault::Usage(_) => Status::Usage,
+            Fault::Usage(_) | Fault::Misread(_) => Status::Usage,
             _ => Status::Fault,
         }
     }
@@ -63,7 +66,8 @@ impl Fault<'_> {
             Fault::NoMemory(_) => write_all(err, b"lratjoin: NoMemory\n"),
             Fault::OutOfMemory => write_all(err, b"lratjoin: NoMemory\n"),
             Fault::Unconfirmed => write_all(err, b"lratjoin: Unconfirmed\n"),
-            Fault::Usage(text) => write_all(err, text.as_bytes()),
+            Fault::Usage(misuse) => tell_usage(*misuse, err),
+            Fault::Misread(text) => write_all(err, text.as_bytes()),
         }
     }
 }
@@ -108,6 +112,18 @@ fn tell_formula<E: Sink>(path: &str, fault: &CnfFault, err: &mut E) -> Result<()
     write_all(err, b": ")?;
     write_all(err, fault.kind.name().as_bytes())?;
     write_all(err, b"\n")
+}
+
+/// Tells what is wrong with the words.
+fn tell_usage<E: Sink>(misuse: Misuse, err: &mut E) -> Result<(), SinkFault>
+    requires { E.failures err.old ≡ 0 }
+    ensures text { OnOk result (E.taken err.new ≡ E.taken err.old ++ usage_text misuse) }
+    ensures ok { OnOk result (E.failures err.new ≡ 0) }
+    ensures err { OnErr result (E.failures err.new ≡ 1) }
+{
+    write_all(err, b"error: ")?;
+    write_all(err, misuse.text().as_bytes())?;
+    write_all(err, b"\n\nFor more information, try '--help'.\n")
 }
 
 impl From<AllocError> for Fault<'_> {

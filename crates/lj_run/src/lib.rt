@@ -10,6 +10,7 @@ mod fault;
 pub mod files;
 mod in_turn;
 mod joint;
+mod misuse;
 mod opening;
 pub mod outcome;
 mod paths_so_far;

@@ -8,10 +8,11 @@ ghost use Rattle.clap.specs.Walk.{rows_of};
 ghost use Rattle.clap.specs.Matches.{found_of};
 ghost use Rattle.clap.specs.declared.error.kind.ErrorKind.TheVariants.{OutOfMemory};
 ghost use Rattle.lj_run.specs.inner.CommandLine.{HasRule, line_asked, request_asked};
-ghost use Rattle.lj_run.specs.CommandLine.{asked_by, asked_by_rows, bare_app, flag_rule, is_given, is_input, is_run_of, kind_asked, limit_of, option_rule, path_rule, paths_rule, program_app, run_asked, run_with_proof, steps_of_value, the_usage, way_of, with_proof};
+ghost use Rattle.lj_run.specs.CommandLine.{asked_by, asked_by_rows, bare_app, flag_rule, is_given, is_input, is_run_of, kind_asked, limit_of, option_rule, path_rule, paths_rule, program_app, run_asked, run_with_proof, steps_of_value, way_of, with_proof};
 ghost use Rattle.lj_run.specs.declared.words.WordsFault.TheVariants as words_faults;
 
 use crate::command_line::{CommandLine, MAX_PROOFS, Request};
+use crate::misuse::Misuse;
 use crate::outcome::Way;
 use clap::error::ErrorKind;
 use clap::{Arg, ArgAction, ArgMatches, Command, Error};
@@ -162,7 +163,7 @@ fn run_of<'a>(alloc: Global, matches: &ArgMatches<'a>) -> Result<Request<'a>, Al
         way_of(in_turn, proofs.len()),
     )?;
     let trim = is_given(matches, "trim");
-    with_proof(alloc, request, matches.get_str("proof"), trim)
+    Ok(with_proof(request, matches.get_str("proof"), trim))
 }
 
 /// Whether the flag of this name is given.
@@ -198,16 +199,13 @@ fn request_of<'a>(
         (option_map (λ text. text.now) max_steps.entry) way) }
 {
     let Some(formula) = formula else {
-        return usage(alloc, "FORMULA wasn't provided");
+        return Ok(Request::Usage(Misuse::NoFormula));
     };
     if !is_run_of(proofs) {
-        return usage(alloc, "there are more than 64 PROOF files");
+        return Ok(Request::Usage(Misuse::TooManyProofs));
     }
     let Some(max_steps) = steps_of(max_steps) else {
-        return usage(
-            alloc,
-            "N of '--max-steps <N>' is no number from 0 to 4294967295",
-        );
+        return Ok(Request::Usage(Misuse::NoLimit));
     };
     Ok(Request::Run(CommandLine {
         formula,
@@ -221,37 +219,27 @@ fn request_of<'a>(
 }
 
 /// The request with the proof that is to be written at a path, where there is one.
-fn with_proof<'a>(
-    alloc: Global,
-    request: Request<'a>,
-    proof: Option<&'a str>,
-    trim: bool,
-) -> Result<Request<'a>, AllocError>
-    ensures { IfOk result (λ asked. request_asked asked ≡ with_proof (request_asked request.entry)
-        (option_map (λ path. path.now) proof.entry) trim) }
+fn with_proof<'a>(request: Request<'a>, proof: Option<&'a str>, trim: bool) -> Request<'a>
+    ensures { request_asked result ≡ with_proof (request_asked request.entry)
+        (option_map (λ path. path.now) proof.entry) trim }
 {
     match (request, proof) {
-        (Request::Run(line), Some(path)) => run_with_proof(alloc, line, path, trim),
-        (request, _) => Ok(request),
+        (Request::Run(line), Some(path)) => run_with_proof(line, path, trim),
+        (request, _) => request,
     }
 }
 
 /// The run with the proof at this path, or usage where it would overwrite what the run reads.
-fn run_with_proof<'a>(
-    alloc: Global,
-    mut line: CommandLine<'a>,
-    path: &'a str,
-    trim: bool,
-) -> Result<Request<'a>, AllocError>
-    ensures { IfOk result (λ request. request_asked request
-        ≡ run_with_proof (line_asked line.entry) path.entry.now trim) }
+fn run_with_proof<'a>(mut line: CommandLine<'a>, path: &'a str, trim: bool) -> Request<'a>
+    ensures { request_asked result
+        ≡ run_with_proof (line_asked line.entry) path.entry.now trim }
 {
     if is_input(&line, path) {
-        return usage(alloc, "OUT of '--proof <OUT>' is a file that the run reads");
+        return Request::Usage(Misuse::Overwrites);
     }
     line.proof = Some(path);
     line.trim = trim;
-    Ok(Request::Run(line))
+    Request::Run(line)
 }
 
 /// Whether the run reads the file at this path.
@@ -269,14 +257,6 @@ fn is_run_of(proofs: &[&str]) -> bool
     ensures { result ≡ is_run_of (map (λ path. path.now) proofs.now) }
 {
     !proofs.is_empty() && proofs.len() <= MAX_PROOFS
-}
-
-/// Wrong words, of which this is told.
-fn usage<'a>(alloc: Global, what: &str) -> Result<Request<'a>, AllocError>
-    ensures { IfOk result (λ request. request_asked request ≡ the_usage) }
-{
-    let text = format!(in alloc; "error: {what}\n\nFor more information, try '--help'.\n")?;
-    Ok(Request::Usage(text))
 }
 
 /// The limit that the value of `--max-steps` writes, and the greatest where it isn't given.
@@ -309,6 +289,6 @@ fn told<'a>(alloc: Global, error: &Error) -> Result<Request<'a>, WordsFault>
         ErrorKind::OutOfMemory => Err(WordsFault::OutOfMemory),
         ErrorKind::DisplayHelp => Ok(Request::Help(error.to_string(alloc)?)),
         ErrorKind::DisplayVersion => Ok(Request::Version(error.to_string(alloc)?)),
-        _ => Ok(Request::Usage(error.to_string(alloc)?)),
+        _ => Ok(Request::Misread(error.to_string(alloc)?)),
     }
 }

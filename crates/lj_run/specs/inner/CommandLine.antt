@@ -4,8 +4,8 @@ use Rattle.clap.specs.Walk.{Rule, rule_of}
 use Rattle.clap.specs.declared.builder.arg.Arg.{Arg}
 use Rattle.lj_run.specs.declared.command_line.CommandLine.{CommandLine}
 use Rattle.lj_run.specs.declared.command_line.Request.{Request}
-use Rattle.lj_run.specs.declared.command_line.Request.TheVariants.{Run, Help, Version, Usage}
-use Rattle.lj_run.specs.CommandLine.{AskedRun, Asked, a_run, the_help, the_version, the_usage}
+use Rattle.lj_run.specs.declared.command_line.Request.TheVariants.{Run, Help, Version, Usage, Misread}
+use Rattle.lj_run.specs.CommandLine.{AskedRun, Asked, a_run, misread, the_help, the_version, the_usage}
 
 -- ---- what words ask for
 
@@ -26,7 +26,8 @@ abbrev pub request_asked : Request → Asked
 request_asked (Run line) = a_run (line_asked line)
 request_asked (Help text) = the_help
 request_asked (Version text) = the_version
-request_asked (Usage text) = the_usage
+request_asked (Usage misuse) = the_usage misuse
+request_asked (Misread text) = misread
 
 -- ---- how it is built
 

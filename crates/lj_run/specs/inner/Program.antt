@@ -6,7 +6,7 @@ use Rattle.lj_run.specs.Proof.{SinkState}
 use Rattle.lj_run.specs.Tried.{Tried, with_uncreated, with_unopened}
 use Rattle.lj_run.specs.declared.outcome.ProofEnd.{ProofEnd}
 use Rattle.lj_run.specs.declared.outcome.ProofEnd.TheVariants.{NotAsked, Written, Failed}
-use Rattle.lj_run.specs.CommandLine.{Asked, a_run, the_help, the_version, the_usage}
+use Rattle.lj_run.specs.CommandLine.{Asked, a_run, misread, the_help, the_version, the_usage}
 use Rattle.lj_run.specs.declared.checking.CheckFault.{CheckFault}
 use Rattle.lj_run.specs.declared.checking.CheckFault.TheVariants as check_faults
 use Rattle.lj_run.specs.declared.fault.Fault.{Fault}
@@ -61,7 +61,8 @@ IsAnswerTo seen sink content (a_run run) old new status = IsRunAnswered seen sin
     new (status_code status)
 IsAnswerTo seen sink content the_help old new status = status ≡ statuses.Done
 IsAnswerTo seen sink content the_version old new status = status ≡ statuses.Done
-IsAnswerTo seen sink content the_usage old new status = ⊥
+IsAnswerTo seen sink content (the_usage misuse) old new status = ⊥
+IsAnswerTo seen sink content misread old new status = ⊥
 
 -- whether something stands on standard output where this fault is told
 abbrev pub is_told_late : Fault → Bool
