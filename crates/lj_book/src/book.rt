@@ -7,9 +7,8 @@ ghost use Rattle.lj_book.specs.Lookup.{numbers_holding};
 ghost use Rattle.lj_book.specs.State.{State, opening, live, steps_of, verdict};
 ghost use Rattle.lj_book.specs.Tables.{joint_of};
 ghost use Rattle.lj_book.specs.History.{after_entry};
-ghost use Rattle.lj_book.specs.Telling.{without_receipt};
 ghost use Rattle.lj_book.specs.inner.Ready.{IsStepOf};
-ghost use Rattle.lj_book.specs.Calls.{IsReply, IsReplyBy, drop_reply, drop_entry, commit_refusal, commit_told, commit_reply, commit_entry, answer_alone, take_reply, free_refusal};
+ghost use Rattle.lj_book.specs.Calls.{IsReply, drop_reply, drop_entry, commit_refusal, commit_told, commit_reply, commit_entry, answer_alone, take_reply, free_refusal};
 
 mod adopting;
 mod closed;
@@ -24,7 +23,6 @@ use crate::dying::{no_longer_held, rising};
 use crate::entry::{Added, Dropped, Entry};
 use crate::ledger::Ledger;
 use crate::lent_addition::LentAddition;
-use crate::ready::Ready;
 use crate::refusal::Refusal;
 use crate::seat_tables::SeatTables;
 use crate::steps::Steps;
@@ -255,30 +253,6 @@ impl Book {
         };
         match self.enter(&receipt, step) {
             Ok(added) => Ok(added),
-            Err(e) => Err((Refusal::NoMemory(e), receipt)),
-        }
-    }
-
-    /// As [`Book::commit`], of a receipt with what its entry takes, which comes back on an answer too. Takes the time of
-    /// [`Book::commit`].
-    ///
-    /// # Errors
-    /// As [`Book::commit`].
-    pub fn commit_ready(&mut self, ready: Ready) -> Result<(Added, Receipt), (Refusal, Receipt)>
-        ensures reply { IsReplyBy (λ made. made.0) (without_receipt result)
-            (commit_reply self.old ready) }
-        ensures refused { IfErr (commit_reply self.old ready) (λ e. result ≡ Err (e, ready)) }
-        ensures ok { OnOk result (self.new ≡ after_entry self.old (commit_entry self.old ready)) }
-        ensures err { OnErr result (self.new ≡ self.old) }
-        ensures back { IfErr result (λ e. e.1 ≡ ready) }
-        ensures given { IfOk result (λ made. made.1 ≡ ready) }
-    {
-        if let Some(refusal) = self.commit_refusal(ready.receipt()) {
-            return Err((refusal, ready.into_receipt()));
-        }
-        let (receipt, step) = ready.into_parts();
-        match self.enter(&receipt, step) {
-            Ok(added) => Ok((added, receipt)),
             Err(e) => Err((Refusal::NoMemory(e), receipt)),
         }
     }

@@ -1,5 +1,5 @@
 -- The run of one stream on a shared book.
-use Rattle.std.proofs.Common.{◌≡◌, ℕ, suc, ◌+◌, Bool, true, false, List, [], ◌∷◌, ◌++◌, length, map, filter, take, drop, Option, None, Some, Result, Ok, Err, refl, sym, ap, ◌∙◌, subst, inl, arith, add-one, add-zero, cond, length-append}
+use Rattle.std.proofs.Common.{◌≡◌, ℕ, suc, ◌+◌, Bool, true, false, List, [], ◌∷◌, ◌++◌, length, map, filter, take, drop, Option, None, Some, Result, Ok, Err, refl, sym, ap, ◌∙◌, subst, inl, arith, add-zero, cond, length-append}
 use Rattle.std.specs.Prelude.{OnSome, is_some}
 use Rattle.std.proofs.lemmas.List.{map-append}
 use Rattle.std.proofs.lemmas.List.Elements.{filter-append}
@@ -12,8 +12,7 @@ use Rattle.lj_text.specs.Streams.{SourceState, HasGiven}
 use Rattle.lj_book.specs.declared.entry.Call.{Call}
 use Rattle.lj_share.specs.Entries.{call_of}
 use Rattle.lj_share.specs.Seats.{SeatValue}
-use Rattle.lj_run.specs.declared.outcome.End.TheVariants.{Ended, Stopped, Line as AtLine}
-use Rattle.lj_run.specs.declared.outcome.LineEnd.TheVariants.{Refused}
+use Rattle.lj_run.specs.declared.outcome.End.TheVariants.{Ended, Stopped}
 use Rattle.lj_run.specs.declared.stream.Count.{Count}
 use Rattle.lj_run.specs.declared.stream.Tally.{Tally}
 use Rattle.lj_run.specs.declared.reading.Miss.{Miss}
@@ -27,7 +26,7 @@ use Rattle.lj_run.specs.inner.Run.{IsCounted}
 use Rattle.lj_run.specs.Run.{IfReadFailed}
 use Rattle.lj_run.specs.inner.Tally.{with_count, with_end, missed_at}
 use Rattle.lj_run.proofs.GivenLemmas.{given_none, given_on}
-use Rattle.lj_run.proofs.RunLemmas.{take_next, first_left, none_left, meets_fault, no_end_missed, reads_missed, judged_missed, room_missed}
+use Rattle.lj_run.proofs.RunLemmas.{none_left, meets_fault, no_end_missed, reads_missed, judged_missed, room_missed}
 use Rattle.lj_clause.specs.declared.lit.TheConstants.{MAX_VARIABLE}
 
 -- ---- one call more
@@ -112,32 +111,15 @@ entered_begin before made reader none stands =
     record { text = []; gave = given_none before; handed = 0; stands = stands; enters = ap (map (λ (call : Call). Some call)) (sym none); whole = inl (omega arith) }
 
 -- the calls are those of the first lines of what the source gave since, too
-calls_since : (made : List Call) (text piece : List ℕ) (handed : ℕ) → take handed (all_said MAX_VARIABLE (text ++ piece)) ≡ take handed (all_said MAX_VARIABLE text)
+pub calls_since : (made : List Call) (text piece : List ℕ) (handed : ℕ) → take handed (all_said MAX_VARIABLE (text ++ piece)) ≡ take handed (all_said MAX_VARIABLE text)
     → AreCallsOf (take handed (all_said MAX_VARIABLE text)) made → AreCallsOf (take handed (all_said MAX_VARIABLE (text ++ piece))) made
 calls_since made text piece handed same enters = ap (map (λ (said : Said). said_call said.says)) same ∙ enters
 
-one_more : (lines : List Said) (made : List Call) (n : ℕ) (line : Line) → AreCallsOf lines made → AreCallsOf (lines ++ record { line = n; says = Ok line } ∷ []) (made ++ call_of line ∷ [])
+pub one_more : (lines : List Said) (made : List Call) (n : ℕ) (line : Line) → AreCallsOf lines made → AreCallsOf (lines ++ record { line = n; says = Ok line } ∷ []) (made ++ call_of line ∷ [])
 one_more lines made n line are =
     map-append (λ (said : Said). said_call said.says) lines (record { line = n; says = Ok line } ∷ [])
     ∙ ap (λ cs. cs ++ Some (call_of line) ∷ []) are
     ∙ sym (map-append (λ (call : Call). Some call) made (call_of line ∷ []))
-
--- a line was read and entered
-pub entered_on : (made : List Call) (line : Line) (reader new : LinesRead) (first before after : SourceState)
-    → (r : EnteredTo first before made reader) → LineRead MAX_VARIABLE r.text r.handed new before after (Some line) → EnteredTo first after (made ++ call_of line ∷ []) new
-entered_on made line reader new first before after r read =
-    let said : Said = record { line = new.at; says = Ok line } in
-    let lines = all_said MAX_VARIABLE (r.text ++ read.piece) in
-    let more = one_more (take r.handed lines) made new.at line (calls_since made r.text read.piece r.handed read.same r.enters) in
-    let taken : take (r.handed + 1) lines ≡ take r.handed lines ++ said ∷ [] = rw add-one (take_next lines r.handed said read.next) in
-    record {
-      text = r.text ++ read.piece;
-      gave = given_on first before after r.text read.piece r.gave read.gave;
-      handed = r.handed + 1;
-      stands = read.stands;
-      enters = subst (λ ls. AreCallsOf ls (made ++ call_of line ∷ [])) (sym taken) more;
-      whole = read.whole;
-    }
 
 -- ---- how it ends
 
@@ -201,21 +183,4 @@ module _ {S : Type 0} (seen : S → SourceState) (refuses : SeatValue → Line �
     ended = λ e. absurd (no_end_missed at miss e);
     failures = failures ∙ sym (reads_missed at miss);
     whole = subst (λ n. AreWhole MAX_VARIABLE (r.text ++ m.piece) (seen next) n) (judged_missed r.handed at miss) m.whole;
-  }
-
-  pub beside_refused : (stream source next : S) (seat : SeatValue) (tally : Tally) (reader new : LinesRead) (r : EnteredTo (seen stream) (seen source) seat.calls reader) (line : Line) (refusal : Refusal) → LineRead MAX_VARIABLE r.text r.handed new (seen source) (seen next) (Some line)
-      → AreCountsOf seat.calls tally.added tally.deleted tally.imported → (seen next).failures ≡ 0 → refuses seat line refusal
-      → IsStreamBeside seen refuses refuted seat stream (report_of (with_end tally (AtLine new.at (Refused refusal))) next)
-  beside_refused stream source next seat tally reader new r line refusal read counts unfailed refused = record {
-    text = r.text ++ read.piece;
-    gave = given_on (seen stream) (seen source) (seen next) r.text read.piece r.gave read.gave;
-    count = r.handed;
-    enters = calls_since seat.calls r.text read.piece r.handed read.same r.enters;
-    counts = counts;
-    ends = record { line = line; first = first_left (all_said MAX_VARIABLE (r.text ++ read.piece)) r.handed ∙ read.next; refused = refused };
-    failed_read = tt;
-    no_room = tt;
-    ended = λ e. cc;
-    failures = unfailed;
-    whole = read.whole;
   }

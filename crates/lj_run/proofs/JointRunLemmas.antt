@@ -19,16 +19,15 @@ use Rattle.lj_book.specs.declared.entry.Entry.{Entry}
 use Rattle.lj_book.specs.State.{State, live, steps_of}
 use Rattle.lj_book.specs.History.{IsReached}
 use Rattle.lj_book.specs.declared.refusal.Refusal.{Refusal}
-use Rattle.lj_share.specs.Entries.{calls_of}
 use Rattle.lj_share.specs.Refusals.{IsLineRefused}
-use Rattle.lj_share.specs.Seats.{SeatValue, IsOpenedAs, HasCallsOf, new_seat, new_seats, entries_made}
+use Rattle.lj_share.specs.Seats.{SeatValue, IsOpenedAs, AreSeatsIn, new_seat, new_seats, seat_of_book, entries_made}
 use Rattle.lj_run.specs.declared.outcome.End.{End}
 use Rattle.lj_run.specs.declared.outcome.End.TheVariants.{Ended, Stopped, Line as AtLine}
 use Rattle.lj_run.specs.declared.outcome.LineEnd.TheVariants.{Fault, Refused, ReadFailed}
 use Rattle.lj_run.specs.declared.outcome.Outcome.{Outcome}
 use Rattle.lj_run.specs.declared.outcome.Report.{Report}
 use Rattle.lj_run.specs.InTurn.{streams_by_seat}
-use Rattle.lj_run.specs.Joint.{EndsBeside, IsStreamBeside, seat_of_history, RunBeside, IsUnconfirmed, IsBookOfRun, IsJointOutcome, accepted_count}
+use Rattle.lj_run.specs.Joint.{EndsBeside, IsStreamBeside, RunBeside, IsUnconfirmed, IsBookOfRun, IsJointOutcome, accepted_count}
 use Rattle.lj_run.specs.inner.Joint.{HasRun, is_confirmed}
 use Rattle.lj_run.specs.Run.{has_verdict}
 use Rattle.lj_run.proofs.JointLemmas.{as_many_counted}
@@ -38,13 +37,13 @@ use Rattle.lj_clause.specs.declared.lit.TheConstants.{MAX_VARIABLE}
 -- ---- seats
 
 -- no entry was made through new seats
-pub fresh_seats : (n : ℕ) → All (λ (s : SeatValue). s.calls ≡ []) (new_seats n)
-fresh_seats zero = All-nil (λ (s : SeatValue). s.calls ≡ [])
-fresh_seats (suc n) = All-push (λ (s : SeatValue). s.calls ≡ []) (new_seats n) (new_seat n) (fresh_seats n) refl
+pub fresh_seats : (f : FormulaValue) (n : ℕ) → All (λ (s : SeatValue). s.calls ≡ []) (new_seats f n)
+fresh_seats f zero = All-nil (λ (s : SeatValue). s.calls ≡ [])
+fresh_seats f (suc n) = All-push (λ (s : SeatValue). s.calls ≡ []) (new_seats f n) (new_seat f n) (fresh_seats f n) refl
 
-pub length-new_seats : (n : ℕ) → length (new_seats n) ≡ n
-length-new_seats zero = refl
-length-new_seats (suc n) = length-append (new_seats n) (new_seat n ∷ []) ∙ (let e = length-new_seats n in omega arith)
+pub length-new_seats : (f : FormulaValue) (n : ℕ) → length (new_seats f n) ≡ n
+length-new_seats f zero = refl
+length-new_seats f (suc n) = length-append (new_seats f n) (new_seat f n ∷ []) ∙ (let e = length-new_seats f n in omega arith)
 
 -- The seats have the numbers from this one on.
 abbrev pub AreNumbered : ℕ → List SeatValue → Type 0
@@ -58,9 +57,9 @@ numbered_more : (k : ℕ) (ss : List SeatValue) (s : SeatValue) → AreNumbered 
 numbered_more k [] s are here = (here ∙ add-zero k, tt)
 numbered_more k (x ∷ xs) s are here = (are.0, numbered_more (k + 1) xs s are.1 (here ∙ further k (length xs)))
 
-new_numbered : (n : ℕ) → AreNumbered 0 (new_seats n)
-new_numbered zero = tt
-new_numbered (suc n) = numbered_more 0 (new_seats n) (new_seat n) (new_numbered n) (sym (length-new_seats n) ∙ sym (zero-add (length (new_seats n))))
+new_numbered : (f : FormulaValue) (n : ℕ) → AreNumbered 0 (new_seats f n)
+new_numbered f zero = tt
+new_numbered f (suc n) = numbered_more 0 (new_seats f n) (new_seat f n) (new_numbered f n) (sym (length-new_seats f n) ∙ sym (zero-add (length (new_seats f n))))
 
 -- ---- workers
 
@@ -83,27 +82,26 @@ module _ {S R : Type 0} (seen : S → SourceState) (f : FormulaValue) (many max 
       ∙ sym (length-map (zip seats streams) (λ job. job.1)) ∙ ap length (seconds-zip seats streams (sym same))
 
   -- the run of streams under these seats, on a book that has their calls
-  beside_from : (history : List Entry) (k : ℕ) (seats : List SeatValue) (streams : List S) (rs : List R) → length seats ≡ length streams → AreNumbered k seats
-      → AllZip (λ job r. HasRun seen f many max job (seat r) (report r)) (zip seats streams) rs → HasCallsOf history (map seat rs) → RunBeside seen (IsLineRefused f many max) (IsUnsatisfiable f) history k streams (map report rs)
-  beside_from history k [] [] [] same are ran calls = tt
-  beside_from history k [] [] (r ∷ rs) same are ran calls = absurd ran
-  beside_from history k [] (x ∷ xs) rs same are ran calls = cc
-  beside_from history k (s ∷ ss) [] rs same are ran calls = cc
-  beside_from history k (s ∷ ss) (x ∷ xs) [] same are ran calls = absurd ran
-  beside_from history k (s ∷ ss) (x ∷ xs) (r ∷ rs) same are ran calls =
+  beside_from : (final : State) (k : ℕ) (seats : List SeatValue) (streams : List S) (rs : List R) → length seats ≡ length streams → AreNumbered k seats
+      → AllZip (λ job r. HasRun seen f many max job (seat r) (report r)) (zip seats streams) rs → AreSeatsIn final (map seat rs) → RunBeside seen (IsLineRefused f many max) (IsUnsatisfiable f) final k streams (map report rs)
+  beside_from final k [] [] [] same are ran calls = tt
+  beside_from final k [] [] (r ∷ rs) same are ran calls = absurd ran
+  beside_from final k [] (x ∷ xs) rs same are ran calls = cc
+  beside_from final k (s ∷ ss) [] rs same are ran calls = cc
+  beside_from final k (s ∷ ss) (x ∷ xs) [] same are ran calls = absurd ran
+  beside_from final k (s ∷ ss) (x ∷ xs) (r ∷ rs) same are ran calls =
       let number : (seat r).number ≡ k = ran.0.1 ∙ are.0 in
-      let first : calls_of (seat r).number history ≡ (seat r).calls = All-head (λ (t : SeatValue). calls_of t.number history ≡ t.calls) (seat r) (map seat rs) calls in
-      let calls_are : (seat r).calls ≡ calls_of k history = sym first ∙ ap (λ n. calls_of n history) number in
-      let here : seat r ≡ seat_of_history history k = λ i. record { number = number i; calls = calls_are i } in
-      let later = All-tail (λ (t : SeatValue). calls_of t.number history ≡ t.calls) (seat r) (map seat rs) calls in
-      (subst (λ s. IsStreamBeside seen (IsLineRefused f many max) (IsUnsatisfiable f) s x (report r)) here ran.0.0, beside_from history (k + 1) ss xs rs (omega (arith, same)) are.1 ran.1 later)
+      let first : seat_of_book final (seat r).number ≡ seat r = All-head (λ (t : SeatValue). seat_of_book final t.number ≡ t) (seat r) (map seat rs) calls in
+      let here : seat r ≡ seat_of_book final k = sym first ∙ ap (seat_of_book final) number in
+      let later = All-tail (λ (t : SeatValue). seat_of_book final t.number ≡ t) (seat r) (map seat rs) calls in
+      (subst (λ s. IsStreamBeside seen (IsLineRefused f many max) (IsUnsatisfiable f) s x (report r)) here ran.0.0, beside_from final (k + 1) ss xs rs (omega (arith, same)) are.1 ran.1 later)
 
   -- the run of streams under new seats, by what they left
-  pub beside_of : (history : List Entry) (n : ℕ) (seats : List SeatValue) (streams : List S) (rs : List R) (left : List SeatValue) (reports : List (Report S)) → seats ≡ new_seats n → n ≡ length streams
-      → AllZip (λ job r. HasRun seen f many max job (seat r) (report r)) (zip seats streams) rs → left ≡ map seat rs → reports ≡ map report rs → HasCallsOf history left → RunBeside seen (IsLineRefused f many max) (IsUnsatisfiable f) history 0 streams reports
-  beside_of history n seats streams rs left reports new long ran seats_are reports_are calls =
-      subst (RunBeside seen (IsLineRefused f many max) (IsUnsatisfiable f) history 0 streams) (sym reports_are)
-      (beside_from history 0 (new_seats n) streams rs (length-new_seats n ∙ long) (new_numbered n) (subst (λ ss. AllZip (λ job r. HasRun seen f many max job (seat r) (report r)) (zip ss streams) rs) new ran) (subst (HasCallsOf history) seats_are calls))
+  pub beside_of : (final : State) (n : ℕ) (seats : List SeatValue) (streams : List S) (rs : List R) (left : List SeatValue) (reports : List (Report S)) → seats ≡ new_seats f n → n ≡ length streams
+      → AllZip (λ job r. HasRun seen f many max job (seat r) (report r)) (zip seats streams) rs → left ≡ map seat rs → reports ≡ map report rs → AreSeatsIn final left → RunBeside seen (IsLineRefused f many max) (IsUnsatisfiable f) final 0 streams reports
+  beside_of final n seats streams rs left reports new long ran seats_are reports_are calls =
+      subst (RunBeside seen (IsLineRefused f many max) (IsUnsatisfiable f) final 0 streams) (sym reports_are)
+      (beside_from final 0 (new_seats f n) streams rs (length-new_seats f n ∙ long) (new_numbered f n) (subst (λ ss. AllZip (λ job r. HasRun seen f many max job (seat r) (report r)) (zip ss streams) rs) new ran) (subst (AreSeatsIn final) seats_are calls))
 
 -- ---- confirmed streams
 
@@ -140,53 +138,53 @@ module _ {S : Type 0} (seen : S → SourceState) (refuses : SeatValue → Line �
     whole = r.whole;
   }
 
-  run_confirmed : (verdict : Bool) (history : List Entry) (k : ℕ) (streams : List S) (reports : List (Report S)) → RunBeside seen refuses refuted history k streams reports → list_all (λ (r : Report S). is_confirmed verdict r.end) reports ≡ true
-      → RunBeside seen refuses (verdict ≡ true) history k streams reports
-  run_confirmed verdict history k [] [] ran all = tt
-  run_confirmed verdict history k [] (r ∷ rs) ran all = absurd ran
-  run_confirmed verdict history k (x ∷ xs) [] ran all = absurd ran
-  run_confirmed verdict history k (x ∷ xs) (r ∷ rs) ran all =
+  run_confirmed : (verdict : Bool) (final : State) (k : ℕ) (streams : List S) (reports : List (Report S)) → RunBeside seen refuses refuted final k streams reports → list_all (λ (r : Report S). is_confirmed verdict r.end) reports ≡ true
+      → RunBeside seen refuses (verdict ≡ true) final k streams reports
+  run_confirmed verdict final k [] [] ran all = tt
+  run_confirmed verdict final k [] (r ∷ rs) ran all = absurd ran
+  run_confirmed verdict final k (x ∷ xs) [] ran all = absurd ran
+  run_confirmed verdict final k (x ∷ xs) (r ∷ rs) ran all =
       let both = both_true (is_confirmed verdict r.end) (list_all (λ (q : Report S). is_confirmed verdict q.end) rs) all in
-      (stream_confirmed verdict (seat_of_history history k) x r ran.0 both.0, run_confirmed verdict history (k + 1) xs rs ran.1 both.1)
+      (stream_confirmed verdict (seat_of_book final k) x r ran.0 both.0, run_confirmed verdict final (k + 1) xs rs ran.1 both.1)
 
   -- a stream that isn't confirmed, of those from this seat on
-  denied_stream : (verdict : Bool) (history : List Entry) (k : ℕ) (streams : List S) (reports : List (Report S)) → RunBeside seen refuses refuted history k streams reports → list_all (λ (r : Report S). is_confirmed verdict r.end) reports ≡ false
-      → (i : ℕ) × (stream : S) × (report : Report S) × (slice_get streams i ≡ Some stream) × IsStreamBeside seen refuses refuted (seat_of_history history (k + i)) stream report × (report.end ≡ Stopped) × (verdict ≡ false)
-  denied_stream verdict history k [] [] ran all = absurd cc
-  denied_stream verdict history k [] (r ∷ rs) ran all = absurd ran
-  denied_stream verdict history k (x ∷ xs) [] ran all = absurd ran
-  denied_stream verdict history k (x ∷ xs) (r ∷ rs) ran all =
+  denied_stream : (verdict : Bool) (final : State) (k : ℕ) (streams : List S) (reports : List (Report S)) → RunBeside seen refuses refuted final k streams reports → list_all (λ (r : Report S). is_confirmed verdict r.end) reports ≡ false
+      → (i : ℕ) × (stream : S) × (report : Report S) × (slice_get streams i ≡ Some stream) × IsStreamBeside seen refuses refuted (seat_of_book final (k + i)) stream report × (report.end ≡ Stopped) × (verdict ≡ false)
+  denied_stream verdict final k [] [] ran all = absurd cc
+  denied_stream verdict final k [] (r ∷ rs) ran all = absurd ran
+  denied_stream verdict final k (x ∷ xs) [] ran all = absurd ran
+  denied_stream verdict final k (x ∷ xs) (r ∷ rs) ran all =
       elim (is_confirmed verdict r.end) as (λ b. is_confirmed verdict r.end ≡ b → (b && list_all (λ (q : Report S). is_confirmed verdict q.end) rs) ≡ false
-      → (i : ℕ) × (stream : S) × (report : Report S) × (slice_get (x ∷ xs) i ≡ Some stream) × IsStreamBeside seen refuses refuted (seat_of_history history (k + i)) stream report × (report.end ≡ Stopped) × (verdict ≡ false)) [
+      → (i : ℕ) × (stream : S) × (report : Report S) × (slice_get (x ∷ xs) i ≡ Some stream) × IsStreamBeside seen refuses refuted (seat_of_book final (k + i)) stream report × (report.end ≡ Stopped) × (verdict ≡ false)) [
         | true ↦ λ is others.
-            let d = denied_stream verdict history (k + 1) xs rs ran.1 others in
-            (suc d.0, d.1, d.2, d.3, subst (λ n. IsStreamBeside seen refuses refuted (seat_of_history history n) d.1 d.2) (sym (further k d.0)) d.4, d.5, d.6)
+            let d = denied_stream verdict final (k + 1) xs rs ran.1 others in
+            (suc d.0, d.1, d.2, d.3, subst (λ n. IsStreamBeside seen refuses refuted (seat_of_book final n) d.1 d.2) (sym (further k d.0)) d.4, d.5, d.6)
         | false ↦ λ is others.
             let e = end_denied verdict r.end is in
-            (0, x, r, refl, subst (λ n. IsStreamBeside seen refuses refuted (seat_of_history history n) x r) (sym (add-zero k)) ran.0, e.0, e.1)
+            (0, x, r, refl, subst (λ n. IsStreamBeside seen refuses refuted (seat_of_book final n) x r) (sym (add-zero k)) ran.0, e.0, e.1)
       ] refl all
 
 -- an opening, by other names of its parts
-pub run_by : {S : Type 0} (seen : S → SourceState) (f f' : FormulaValue) (n n' m m' : ℕ) (history : List Entry) (streams : List S) (reports : List (Report S)) → f' ≡ f → n ≡ n' → m' ≡ m
-    → RunBeside seen (IsLineRefused f n m) (IsUnsatisfiable f) history 0 streams reports → RunBeside seen (IsLineRefused f' n' m') (IsUnsatisfiable f') history 0 streams reports
-run_by seen f f' n n' m m' history streams reports formula seats limit ran =
-    subst (λ k. RunBeside seen (IsLineRefused f' n' k) (IsUnsatisfiable f') history 0 streams reports) (sym limit)
-    (subst (λ k. RunBeside seen (IsLineRefused f' k m) (IsUnsatisfiable f') history 0 streams reports) seats
-    (subst (λ g. RunBeside seen (IsLineRefused g n m) (IsUnsatisfiable g) history 0 streams reports) (sym formula) ran))
+pub run_by : {S : Type 0} (seen : S → SourceState) (f f' : FormulaValue) (n n' m m' : ℕ) (final : State) (streams : List S) (reports : List (Report S)) → f' ≡ f → n ≡ n' → m' ≡ m
+    → RunBeside seen (IsLineRefused f n m) (IsUnsatisfiable f) final 0 streams reports → RunBeside seen (IsLineRefused f' n' m') (IsUnsatisfiable f') final 0 streams reports
+run_by seen f f' n n' m m' final streams reports formula seats limit ran =
+    subst (λ k. RunBeside seen (IsLineRefused f' n' k) (IsUnsatisfiable f') final 0 streams reports) (sym limit)
+    (subst (λ k. RunBeside seen (IsLineRefused f' k m) (IsUnsatisfiable f') final 0 streams reports) seats
+    (subst (λ g. RunBeside seen (IsLineRefused g n m) (IsUnsatisfiable g) final 0 streams reports) (sym formula) ran))
 
 pub book_of_run : {S : Type 0} (seen : S → SourceState) (f : FormulaValue) (max : ℕ) (streams : List S) (reports : List (Report S)) (s : State) → IsOpenedAs f (length streams) max s → IsReached s → length s.history ≡ sum_by accepted_count reports
-    → RunBeside seen (IsLineRefused f (length streams) max) (IsUnsatisfiable f) s.history 0 streams reports → list_all (λ (r : Report S). is_confirmed (has_verdict s) r.end) reports ≡ true → IsBookOfRun seen f max streams (has_verdict s) reports s
+    → RunBeside seen (IsLineRefused f (length streams) max) (IsUnsatisfiable f) s 0 streams reports → list_all (λ (r : Report S). is_confirmed (has_verdict s) r.end) reports ≡ true → IsBookOfRun seen f max streams (has_verdict s) reports s
 book_of_run seen f max streams reports s opened legal counted ran all = record {
   opened = opened;
   legal = legal;
   counted = counted;
-  runs = run_confirmed seen (IsLineRefused f (length streams) max) (IsUnsatisfiable f) (has_verdict s) s.history 0 streams reports ran all;
+  runs = run_confirmed seen (IsLineRefused f (length streams) max) (IsUnsatisfiable f) (has_verdict s) s 0 streams reports ran all;
 }
 
 pub unconfirmed : {S : Type 0} (seen : S → SourceState) (f : FormulaValue) (max : ℕ) (streams : List S) (reports : List (Report S)) (s : State) → IsOpenedAs f (length streams) max s → IsReached s
-    → RunBeside seen (IsLineRefused f (length streams) max) (IsUnsatisfiable f) s.history 0 streams reports → list_all (λ (r : Report S). is_confirmed (has_verdict s) r.end) reports ≡ false → IsUnconfirmed seen f max streams
+    → RunBeside seen (IsLineRefused f (length streams) max) (IsUnsatisfiable f) s 0 streams reports → list_all (λ (r : Report S). is_confirmed (has_verdict s) r.end) reports ≡ false → IsUnconfirmed seen f max streams
 unconfirmed seen f max streams reports s opened legal ran all =
-    let d = denied_stream seen (IsLineRefused f (length streams) max) (IsUnsatisfiable f) (has_verdict s) s.history 0 streams reports ran all in
+    let d = denied_stream seen (IsLineRefused f (length streams) max) (IsUnsatisfiable f) (has_verdict s) s 0 streams reports ran all in
     record {
       final = s;
       opened = opened;
@@ -195,10 +193,10 @@ unconfirmed seen f max streams reports s opened legal ran all =
       stream = d.1;
       stream_is = d.3;
       report = d.2;
-      runs = subst (λ n. IsStreamBeside seen (IsLineRefused f (length streams) max) (IsUnsatisfiable f) (seat_of_history s.history n) d.1 d.2) (zero-add d.0) d.4;
+      runs = subst (λ n. IsStreamBeside seen (IsLineRefused f (length streams) max) (IsUnsatisfiable f) (seat_of_book s n) d.1 d.2) (zero-add d.0) d.4;
       stopped = d.5;
       denied = d.6;
-      unsatisfiable = subst (EndsBeside (IsLineRefused f (length streams) max (seat_of_history s.history (0 + d.0))) (IsUnsatisfiable f) (drop d.4.count (all_said MAX_VARIABLE d.4.text))) d.5 d.4.ends;
+      unsatisfiable = subst (EndsBeside (IsLineRefused f (length streams) max (seat_of_book s (0 + d.0))) (IsUnsatisfiable f) (drop d.4.count (all_said MAX_VARIABLE d.4.text))) d.5 d.4.ends;
     }
 
 -- ---- the outcome

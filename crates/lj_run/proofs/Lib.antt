@@ -1,4 +1,5 @@
 mod AskedLemmas
+mod BlockLemmas
 mod CheckLemmas
 mod FaultKinds
 mod FormulaLemmas

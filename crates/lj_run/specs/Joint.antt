@@ -14,9 +14,9 @@ use Rattle.lj_book.specs.declared.entry.Entry.{Entry}
 use Rattle.lj_book.specs.declared.refusal.Refusal.{Refusal}
 use Rattle.lj_book.specs.State.{State, live, steps_of}
 use Rattle.lj_book.specs.History.{IsReached}
-use Rattle.lj_share.specs.Entries.{call_of, calls_of}
+use Rattle.lj_share.specs.Entries.{call_of}
 use Rattle.lj_share.specs.Refusals.{IsLineRefused}
-use Rattle.lj_share.specs.Seats.{SeatValue, IsOpenedAs}
+use Rattle.lj_share.specs.Seats.{SeatValue, IsOpenedAs, seat_of_book}
 use Rattle.lj_run.specs.declared.outcome.End.{End}
 use Rattle.lj_run.specs.declared.outcome.End.TheVariants.{Ended, Stopped, Line as AtLine}
 use Rattle.lj_run.specs.declared.outcome.LineEnd.TheVariants.{Fault, Refused, ReadFailed}
@@ -103,19 +103,15 @@ pub record IsStreamBeside {S : Type 0} (seen : S → SourceState)
   pub failures : (seen report.source).failures ≡ failed_reads report.end
   pub whole : AreWhole MAX_VARIABLE text (seen report.source) (judged_count count report.end)
 
--- the seat of this number, with the calls that the history has of it
-abbrev pub seat_of_history : List Entry → ℕ → SeatValue
-seat_of_history history seat = record { number = seat; calls = calls_of seat history }
-
--- Each report is right of its stream, by the calls of its seat's entries: this seat for the first, the next for the next.
+-- Each report is right of its stream, by what its seat is of the final book: this seat for the first, the next for the next.
 abbrev pub RunBeside : {S : Type 0} → (S → SourceState) → (SeatValue → Line → Refusal → Type 0)
-    → Type 0 → List Entry → ℕ → List S → List (Report S) → Type 0
-RunBeside seen refuses refuted history seat [] [] = Unit {0}
-RunBeside seen refuses refuted history seat [] (report ∷ reports) = ⊥
-RunBeside seen refuses refuted history seat (stream ∷ streams) [] = ⊥
-RunBeside seen refuses refuted history seat (stream ∷ streams) (report ∷ reports) =
-    IsStreamBeside seen refuses refuted (seat_of_history history seat) stream report
-    × RunBeside seen refuses refuted history (seat + 1) streams reports
+    → Type 0 → State → ℕ → List S → List (Report S) → Type 0
+RunBeside seen refuses refuted final seat [] [] = Unit {0}
+RunBeside seen refuses refuted final seat [] (report ∷ reports) = ⊥
+RunBeside seen refuses refuted final seat (stream ∷ streams) [] = ⊥
+RunBeside seen refuses refuted final seat (stream ∷ streams) (report ∷ reports) =
+    IsStreamBeside seen refuses refuted (seat_of_book final seat) stream report
+    × RunBeside seen refuses refuted final (seat + 1) streams reports
 
 -- how many lines of a stream were accepted
 abbrev pub accepted_count : {S : Type 0} → Report S → ℕ
@@ -133,7 +129,7 @@ pub record IsBookOfRun {S : Type 0} (seen : S → SourceState) (formula : Formul
   pub legal : IsReached final
   pub counted : length final.history ≡ sum_by accepted_count reports
   pub runs : RunBeside seen (IsLineRefused formula (length streams) max_steps) (refuted ≡ true)
-      final.history 0 streams reports
+      final 0 streams reports
 
 -- The outcome of a run of these streams beside one another on a formula. The steps are those of the history that the run leaves, and the
 -- live clauses are their replay. It is verified, with this formula, exactly where the steps refute it.
@@ -162,7 +158,7 @@ pub record IsUnconfirmed {S : Type 0} (seen : S → SourceState) (formula : Form
   pub stream_is : slice_get streams seat ≡ Some stream
   pub report : Report S
   pub runs : IsStreamBeside seen (IsLineRefused formula (length streams) max_steps)
-      (IsUnsatisfiable formula) (seat_of_history final.history seat) stream report
+      (IsUnsatisfiable formula) (seat_of_book final seat) stream report
   pub stopped : report.end ≡ Stopped
   pub denied : has_verdict final ≡ false
   pub unsatisfiable : IsUnsatisfiable formula

@@ -1,4 +1,5 @@
 -- What invariants, private functions and proofs say. No public contract names any of it.
+pub mod Block
 pub mod FormulaReading
 pub mod Joint
 pub mod Program

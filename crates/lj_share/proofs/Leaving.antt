@@ -1,9 +1,8 @@
 -- A seat is there until it leaves.
-use Rattle.std.proofs.Common.{◌≡◌, ◌<◌, ℕ, zero, suc, Bool, true, false, cond, List, [], ◌∷◌, length, map, Option, None, Some, refl, sym, ap, ◌∙◌, slice_get, arith}
-use Rattle.std.specs.Prelude.{◌==◌, ◌||◌, ◌&&◌, not, replicate}
+use Rattle.std.proofs.Common.{◌≡◌, ◌<◌, ℕ, zero, suc, Bool, true, false, cond, List, [], ◌∷◌, length, map, Option, None, Some, refl, sym, ap, ◌∙◌, arith}
+use Rattle.std.specs.Prelude.{◌==◌, ◌||◌, replicate}
 use Rattle.std.proofs.lemmas.Bool.{eq-eqb, false≢true}
 use Rattle.std.proofs.lemmas.List.{length-replicate}
-use Rattle.std.proofs.lemmas.List.Folds.{list_any-append}
 use Rattle.lj_book.specs.declared.entry.Call.{Call}
 use Rattle.lj_book.specs.declared.entry.Call.TheVariants as calls
 use Rattle.lj_book.specs.declared.entry.Entry.{Entry}
@@ -13,7 +12,6 @@ use Rattle.lj_book.specs.History.{after_entry, after_entries, tables_after, with
 use Rattle.lj_book.specs.Tables.{Table, Tables, is_here, with_table, without_seat}
 use Rattle.lj_share.specs.Entries.{entries_of, calls_of}
 use Rattle.lj_share.specs.Seats.{is_leave, has_left, HereUntilLeft}
-use Rattle.lj_share.specs.inner.Seats.{HasOneMore}
 use Rattle.lj_share.proofs.Opened.{seats_kept}
 
 here_with : (change : Table → Table) (ts : Tables) (k seat : ℕ) → is_here (with_table change ts k) seat ≡ is_here ts seat
@@ -71,14 +69,3 @@ here_while_none s seat r within none =
     let first = opening s.formula r.seats s.max_steps in
     let many : length s.tables ≡ r.seats = ap (λ (u : State). length u.tables) (sym r.leads) ∙ many_kept first s.history ∙ length-replicate r.seats _ in
     ap (λ (u : State). is_here u.tables seat) (sym r.leads) ∙ here_on first s.history seat none ∙ here_at_first r.seats _ seat (omega (arith, within, many))
-
--- a seat that is there after a call has not left by it, and not before it
-pub still_here : (seat n : ℕ) (lists : List (List Call)) (history : List Entry) (before after : List Call) (here leaves : Bool) → n ≡ seat → (call : Call) × HasOneMore seat lists history call × (leaves ≡ false → is_leave call ≡ false)
-    → slice_get lists n ≡ Some before → after ≡ calls_of n history → (here ≡ true → has_left before ≡ false) → (here && not leaves) ≡ true → has_left after ≡ false
-still_here seat n lists history before after true false same one at is none still =
-    ap has_left (is ∙ ap (λ (k : ℕ). calls_of k history) same ∙ one.1 before (ap (slice_get lists) (sym same) ∙ at))
-    ∙ list_any-append is_leave before (one.0 ∷ [])
-    ∙ ap (λ (b : Bool). b || (is_leave one.0 || false)) (none refl)
-    ∙ ap (λ (b : Bool). b || false) (one.2 refl)
-still_here seat n lists history before after true true same one at is none still = absurd (false≢true still)
-still_here seat n lists history before after false leaves same one at is none still = absurd (false≢true still)

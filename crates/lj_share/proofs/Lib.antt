@@ -1,5 +1,10 @@
+mod AheadLaws
+mod AloneLaws
 mod Confirming
 mod Opened
 mod ListLaws
 mod Facts
 mod Leaving
+mod Adopting
+mod OwnLaws
+mod NewSeats

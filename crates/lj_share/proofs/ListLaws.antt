@@ -1,20 +1,15 @@
--- The desk's copies of the lists of its seats' calls.
-use Rattle.std.proofs.Common.{◌≡◌, ℕ, zero, suc, inl, inr, drop, ◌<◌, ◌+◌, List, [], ◌∷◌, length, length-append, map, Some, slice_get, slice_set, refl, sym, ap, ◌∙◌, subst, arith}
+-- The desk's copies of its seats.
+use Rattle.std.proofs.Common.{◌≡◌, ℕ, zero, suc, drop, ◌<◌, ◌+◌, List, [], ◌∷◌, length, map, Some, slice_get, slice_set, refl, sym, ap, ◌∙◌, arith}
 use Rattle.std.proofs.lemmas.List.{map-set, length-map, drop-drop}
-use Rattle.std.proofs.lemmas.List.Elements.{All-cons, All-head, All-tail}
+use Rattle.std.proofs.lemmas.List.Elements.{All-cons}
 use Rattle.std.proofs.lemmas.Option.{slice_get-map, slice_get_read, slice_get_within}
 use Rattle.std.proofs.Math.Seq.{map-set_same}
-use Rattle.std.specs.Prelude.{slice_index_or, option_map, All}
-use Rattle.lj_clause.specs.ClauseMap.{FormulaValue}
-use Rattle.lj_book.specs.State.{State, opening}
-use Rattle.lj_book.specs.declared.entry.Call.{Call}
-use Rattle.lj_book.specs.declared.entry.Entry.{Entry}
-use Rattle.lj_share.specs.Entries.{calls_of}
-use Rattle.lj_share.specs.Seats.{SeatValue, HasCallsOf}
-use Rattle.lj_share.specs.inner.Seats.{HasOneMore, AreListsOf}
+use Rattle.std.specs.Prelude.{slice_index_or, option_map}
+use Rattle.lj_book.specs.State.{State}
+use Rattle.lj_share.specs.Seats.{AreSeatsIn, SeatValue, seat_of_book}
+use Rattle.lj_share.specs.inner.Seats.{AreShown}
 use Rattle.lj_share.specs.declared.copies.DeskCopy.{DeskCopy}
 use Rattle.lj_share.proofs.Confirming.{some_same}
-use Rattle.lj_share.proofs.Opened.{after_set, none_listed}
 
 same_head : {A : Type 0} (x y : A) (xs ys : List A) → x ∷ xs ≡ y ∷ ys → x ≡ y
 same_head x y xs ys is = cc
@@ -22,8 +17,8 @@ same_head x y xs ys is = cc
 abbrev names_of : List DeskCopy → List ℕ
 names_of cs = map (λ (c : DeskCopy). c.name) cs
 
-abbrev pub lists_of : List DeskCopy → List (List Call)
-lists_of cs = map (λ (c : DeskCopy). c.calls) cs
+abbrev pub seats_shown : List DeskCopy → List SeatValue
+seats_shown cs = map (λ (c : DeskCopy). c.seat) cs
 
 -- a place that has a name has a copy
 pub place_within : (cs : List DeskCopy) (names : List ℕ) (k n : ℕ) → names_of cs ≡ names → slice_get names k ≡ Some n → k < length cs
@@ -36,9 +31,9 @@ name_at cs names k n c are at here =
     some_same n c.name (sym at ∙ ap (λ (ns : List ℕ). slice_get ns k) (sym are) ∙ slice_get-map (λ (c : DeskCopy). c.name) cs k ∙ ap (option_map (λ (c : DeskCopy). c.name)) found)
 
 -- the list at a place is that of its copy
-pub list_at : (cs : List DeskCopy) (names : List ℕ) (k n : ℕ) (c : DeskCopy) → names_of cs ≡ names → slice_get names k ≡ Some n → c ≡ slice_index_or cs k c → slice_get (lists_of cs) k ≡ Some c.calls
+pub list_at : (cs : List DeskCopy) (names : List ℕ) (k n : ℕ) (c : DeskCopy) → names_of cs ≡ names → slice_get names k ≡ Some n → c ≡ slice_index_or cs k c → slice_get (seats_shown cs) k ≡ Some c.seat
 list_at cs names k n c are at here =
-    slice_get-map (λ (c : DeskCopy). c.calls) cs k ∙ ap (option_map (λ (c : DeskCopy). c.calls)) (slice_get_read cs (length cs) k c refl (place_within cs names k n are at) here)
+    slice_get-map (λ (c : DeskCopy). c.seat) cs k ∙ ap (option_map (λ (c : DeskCopy). c.seat)) (slice_get_read cs (length cs) k c refl (place_within cs names k n are at) here)
 
 -- a copy under the same name in its place leaves all names
 pub names_kept : (cs : List DeskCopy) (names : List ℕ) (k : ℕ) (c d : DeskCopy) → names_of cs ≡ names → c ≡ slice_index_or cs k c → d.name ≡ c.name → names_of (slice_set cs k d) ≡ names
@@ -46,15 +41,8 @@ names_kept cs names k c d are here same =
     map-set_same (λ (c : DeskCopy). c.name) cs k d c (same ∙ ap (λ (c : DeskCopy). c.name) here) ∙ are
 
 -- the lists with another one in a copy's place
-pub list_set : (cs : List DeskCopy) (k : ℕ) (d : DeskCopy) → lists_of (slice_set cs k d) ≡ slice_set (lists_of cs) k d.calls
-list_set cs k d = map-set (λ (c : DeskCopy). c.calls) cs k d
-
--- where the history has one call more than the lists, so has the list that follows it
-pub one_longer : (seat n : ℕ) (lists : List (List Call)) (history : List Entry) (before after : List Call) → n ≡ seat → (call : Call) × HasOneMore seat lists history call → slice_get lists n ≡ Some before → after ≡ calls_of n history → length after ≡ length before + 1
-one_longer seat n lists history before after same one at is =
-    let front = one.1 before (ap (slice_get lists) (sym same) ∙ at) in
-    let long = ap length (is ∙ ap (λ (k : ℕ). calls_of k history) same ∙ front) ∙ length-append before (one.0 ∷ []) in
-    omega (arith, long)
+pub list_set : (cs : List DeskCopy) (k : ℕ) (d : DeskCopy) → seats_shown (slice_set cs k d) ≡ slice_set (seats_shown cs) k d.seat
+list_set cs k d = map-set (λ (c : DeskCopy). c.seat) cs k d
 
 -- ---- where both copies agree
 
@@ -63,13 +51,9 @@ set_same [] i x at = absurd cc
 set_same (y ∷ xs) zero x at = ap (λ z. z ∷ xs) (sym (some_same y x at))
 set_same (y ∷ xs) (suc i) x at = ap (λ ys. y ∷ ys) (set_same xs i x at)
 
--- the seat's list is that of its calls
-pub agreed_calls : (seat : ℕ) (calls : List Call) (history : List Entry) (lists : List (List Call)) → AreListsOf history lists → slice_get lists seat ≡ Some calls → calls_of seat history ≡ calls
-agreed_calls seat calls history lists listed at = sym (listed seat calls at)
-
--- and the lists stay where it is set to that
-pub agreed_lists : (seat : ℕ) (calls : List Call) (history : List Entry) (lists after : List (List Call)) → AreListsOf history lists → slice_get lists seat ≡ Some calls → after ≡ slice_set lists seat (calls_of seat history) → after ≡ lists
-agreed_lists seat calls history lists after listed at set = set ∙ ap (slice_set lists seat) (agreed_calls seat calls history lists listed at) ∙ set_same lists seat calls at
+-- the copies stay where one is set to what it shows
+pub shown_again : (s : State) (seat : ℕ) (value : SeatValue) (shown after : List SeatValue) → AreShown s shown → slice_get shown seat ≡ Some value → after ≡ slice_set shown seat (seat_of_book s seat) → after ≡ shown
+shown_again s seat value shown after are at set = set ∙ ap (slice_set shown seat) (sym (are seat value at)) ∙ set_same shown seat value at
 
 -- ---- at the opening and at the close
 
@@ -84,27 +68,9 @@ front_at (y ∷ xs) (suc k) x left is = front_at xs k x left is
 pub front_passed : {A : Type 0} (xs : List A) (k : ℕ) (x : A) (left : List A) → x ∷ left ≡ drop k xs → left ≡ drop (k + 1) xs
 front_passed xs k x left is = ap (drop 1) is ∙ drop-drop 1 k xs
 
--- new copies have no calls
-pub none_mapped : (cs : List DeskCopy) → All (λ (c : DeskCopy). c.calls ≡ []) cs → All (λ (calls : List Call). calls ≡ []) (lists_of cs)
-none_mapped [] all = λ k d below. absurd (omega arith)
-none_mapped (c ∷ cs) all = All-cons (λ (calls : List Call). calls ≡ []) c.calls (lists_of cs) (All-head (λ (c : DeskCopy). c.calls ≡ []) c cs all) (none_mapped cs (All-tail (λ (c : DeskCopy). c.calls ≡ []) c cs all))
+-- the seats of a book, one after another
+pub seats_on : (s : State) (shown : List SeatValue) (v : SeatValue) (left : List SeatValue) → AreShown s shown → slice_get shown v.number ≡ Some v → AreSeatsIn s left → AreSeatsIn s (v ∷ left)
+seats_on s shown v left are at rest = All-cons (λ (x : SeatValue). seat_of_book s x.number ≡ x) v left (sym (are v.number v at)) rest
 
--- a list that is set to what it was to be
-pub lists_same : (history : List Entry) (lists after : List (List Call)) (seat : ℕ) → after ≡ slice_set lists seat (calls_of seat history) → AreListsOf history lists → AreListsOf history after
-lists_same history lists after seat set listed k calls at =
-    elim (after_set lists seat k (calls_of seat history) calls (ap (λ (ls : List (List Call)). slice_get ls k) (sym set) ∙ at)) [
-      | inl p ↦ p.1 ∙ ap (λ (n : ℕ). calls_of n history) p.0
-      | inr p ↦ listed k calls p.1
-    ]
-
--- one seat more whose calls the history has
-pub calls_on : (history : List Entry) (lists : List (List Call)) (s : SeatValue) (left : List SeatValue) → AreListsOf history lists → slice_get lists s.number ≡ Some s.calls → HasCallsOf history left → HasCallsOf history (s ∷ left)
-calls_on history lists s left listed at rest = All-cons (λ (s : SeatValue). calls_of s.number history ≡ s.calls) s left (sym (listed s.number s.calls at)) rest
-
-pub no_seats : (history : List Entry) → HasCallsOf history []
-no_seats history k d below = absurd (omega arith)
-
--- the lists at the opening are those of its history, which has no entry
-pub opened_lists : (f : FormulaValue) (seats max : ℕ) (s : State) (lists : List (List Call)) (cs : List DeskCopy) → s ≡ opening f seats max → lists ≡ lists_of cs → All (λ (c : DeskCopy). c.calls ≡ []) cs → AreListsOf s.history lists
-opened_lists f seats max s lists cs is are none =
-    subst (λ (u : State). AreListsOf u.history lists) (sym is) (subst (AreListsOf []) (sym are) (none_listed (lists_of cs) (none_mapped cs none)))
+pub no_seats : (s : State) → AreSeatsIn s []
+no_seats s k d below = absurd (omega arith)

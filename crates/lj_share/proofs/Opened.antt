@@ -1,20 +1,23 @@
 -- What an entry leaves of an opening.
-use Rattle.std.proofs.Common.{◌≡◌, ℕ, zero, suc, Bool, cond, List, [], ◌∷◌, ◌++◌, length, Option, None, Some, refl, sym, ap, ◌∙◌, subst, inl, inr, map, slice_get, slice_set, arith}
-use Rattle.std.specs.Prelude.{◌==◌, ◌⊎◌, All}
+use Rattle.std.proofs.Common.{◌≡◌, ℕ, zero, suc, Bool, cond, List, [], ◌∷◌, ◌++◌, ◌+◌, length, length-append, Option, None, Some, refl, sym, ap, ◌∙◌, subst, inl, inr, map, slice_get, slice_set, arith}
+use Rattle.std.specs.Prelude.{◌==◌, ◌⊎◌, if◌then◌else◌, option_and_then}
 use Rattle.std.proofs.lemmas.Bool.{eq-eqb}
 use Rattle.std.proofs.lemmas.List.{append-nil, length-replicate, map-append}
-use Rattle.std.proofs.lemmas.List.Elements.{filter-append, All-head, All-tail}
+use Rattle.std.proofs.lemmas.List.Elements.{filter-append}
 use Rattle.lj_clause.specs.ClauseMap.{FormulaValue}
 use Rattle.lj_book.specs.declared.entry.Call.{Call}
 use Rattle.lj_book.specs.declared.entry.Call.TheVariants as calls
 use Rattle.lj_book.specs.declared.entry.Entry.{Entry}
 use Rattle.lj_book.specs.Lookup.{least_number}
-use Rattle.lj_book.specs.State.{State, live, opening}
-use Rattle.lj_book.specs.History.{after_entry, tables_after, with_found}
+use Rattle.lj_book.specs.State.{State, live, next, opening}
+use Rattle.lj_book.specs.History.{IsReached, after_entry, tables_after, with_found}
+use Rattle.lj_book.specs.Solo.{View, view_of, with_clause}
+use Rattle.lj_book.specs.Views.{ViewsFollowEntries, view_after_call, with_found_holding}
 use Rattle.lj_book.specs.Tables.{Table, Tables, with_table, without_seat}
 use Rattle.lj_share.specs.Entries.{entries_of, calls_of}
-use Rattle.lj_share.specs.Seats.{IsOpenedAs}
-use Rattle.lj_share.specs.inner.Seats.{IsDesk, AreListsOf, HasOneMore}
+use Rattle.lj_share.specs.Seats.{IsMaking, IsOpenedAs, IsViewAfter, SeatValue, seat_of_book}
+use Rattle.lj_share.specs.inner.Seats.{AreShown, IsDesk}
+use Rattle.lj_share.specs.inner.Telling.{Finds}
 use Rattle.lj_share.proofs.Confirming.{is_other, some_same}
 
 length-with_table : (change : Table → Table) (ts : Tables) (seat : ℕ) → length (with_table change ts seat) ≡ length ts
@@ -82,41 +85,87 @@ after_set (z ∷ xs) (suc i) (suc k) y x h =
       | inr p ↦ inr ((λ e. p.0 (let less : i ≡ k = omega (arith, e) in less)), p.1)
     ]
 
--- the history has one call more than the lists
-pub one_more : (s t : State) (e : Entry) (seat : ℕ) (lists : List (List Call)) → e.seat ≡ seat → t ≡ after_entry s e → AreListsOf s.history lists → HasOneMore seat lists t.history e.call
-one_more s t e seat lists same is listed =
-    subst (λ (n : ℕ). HasOneMore n lists t.history e.call) same (λ before at.
-    ap (λ (u : State). calls_of e.seat u.history) is ∙ calls-more s.history e ∙ ap (λ (calls : List Call). calls ++ e.call ∷ []) (sym (listed e.seat before at)))
+-- ---- what the copies show
 
--- the lists after the entry
-lists_on : (s t : State) (e : Entry) (lists after : List (List Call)) → t ≡ after_entry s e → after ≡ slice_set lists e.seat (calls_of e.seat t.history) → AreListsOf s.history lists → AreListsOf t.history after
-lists_on s t e lists after is set listed seat calls at =
-    elim (after_set lists e.seat seat (calls_of e.seat t.history) calls (ap (λ (ls : List (List Call)). slice_get ls seat) (sym set) ∙ at)) [
-      | inl p ↦ p.1 ∙ ap (λ (n : ℕ). calls_of n t.history) p.0
-      | inr p ↦ listed seat calls p.1 ∙ sym (ap (λ (u : State). calls_of seat u.history) is ∙ calls-same s.history e seat p.0)
+-- what a seat is stays with an entry of another one
+seat_same : ViewsFollowEntries → (s : State) (e : Entry) (seat : ℕ) → IsReached s → IsReached (after_entry s e) → (e.seat ≡ seat → ⊥) → seat_of_book (after_entry s e) seat ≡ seat_of_book s seat
+seat_same views s e seat before after other =
+    let calls = calls-same s.history e seat other in
+    let view : view_of (after_entry s e) seat ≡ view_of s seat =
+    views s e seat before after ∙ ap (λ (b : Bool). if b then option_and_then (view_after_call s e.call) (view_of s seat) else view_of s seat) (is_other e.seat seat other) in
+    λ i. record { number = seat; calls = calls i; view = view i }
+
+-- what the copies show after the entry
+shown_on : ViewsFollowEntries → (s t : State) (e : Entry) (shown after : List SeatValue) → IsReached s → IsReached t → t ≡ after_entry s e → after ≡ slice_set shown e.seat (seat_of_book t e.seat) → AreShown s shown → AreShown t after
+shown_on views s t e shown after before reached is set are seat value at =
+    elim (after_set shown e.seat seat (seat_of_book t e.seat) value (ap (λ (vs : List SeatValue). slice_get vs seat) (sym set) ∙ at)) [
+      | inl p ↦ p.1 ∙ ap (seat_of_book t) p.0
+      | inr p ↦ are seat value p.1 ∙ sym (ap (λ (u : State). seat_of_book u seat) is ∙ seat_same views s e seat before (subst IsReached is reached) p.0)
     ]
 
--- what lies under the lock after an entry that its ledger and its lists count
-pub desk_on : (f : FormulaValue) (seats max : ℕ) (s t : State) (e : Entry) (seat : ℕ) (lists after : List (List Call)) (before total parts amount : ℕ) → e.seat ≡ seat → t ≡ after_entry s e → total ≡ length t.history → after ≡ slice_set lists seat (calls_of seat t.history)
-    → IsDesk f seats max s lists before parts amount → IsDesk f seats max t after total parts amount
-desk_on f seats max s t e seat lists after before total parts amount same is counted set d = record {
+-- what lies under the lock after an entry that its ledger and its copies count
+pub desk_on : ViewsFollowEntries → (f : FormulaValue) (seats max : ℕ) (s t : State) (e : Entry) (seat : ℕ) (shown after : List SeatValue) (before total parts amount : ℕ) → IsReached s → IsReached t → e.seat ≡ seat → t ≡ after_entry s e → total ≡ length t.history → after ≡ slice_set shown seat (seat_of_book t seat)
+    → IsDesk f seats max s shown before parts amount → IsDesk f seats max t after total parts amount
+desk_on views f seats max s t e seat shown after before total parts amount reached next same is counted set d = record {
   opened = opened_on f seats max s t e is d.opened;
   counted = sym counted;
   no_part = d.no_part;
   no_amount = d.no_amount;
-  listed = lists_on s t e lists after is (set ∙ ap (λ (n : ℕ). slice_set lists n (calls_of n t.history)) (sym same)) d.listed;
+  are_shown = shown_on views s t e shown after reached next is (set ∙ ap (λ (n : ℕ). slice_set shown n (seat_of_book t n)) (sym same)) d.are_shown;
 }
 
--- what lies under the lock where the book stayed
-pub desk_kept : (f : FormulaValue) (seats max : ℕ) (s t : State) (lists : List (List Call)) (total parts amount : ℕ) → t ≡ s → IsDesk f seats max s lists total parts amount → IsDesk f seats max t lists total parts amount
-desk_kept f seats max s t lists total parts amount is d = subst (λ b. IsDesk f seats max b lists total parts amount) (sym is) d
+-- what lies under the lock where the book and the copies stayed
+pub desk_agreed : (f : FormulaValue) (seats max : ℕ) (s t : State) (shown after : List SeatValue) (total parts amount : ℕ) → t ≡ s → after ≡ shown → IsDesk f seats max s shown total parts amount → IsDesk f seats max t after total parts amount
+desk_agreed f seats max s t shown after total parts amount is same d =
+    subst (λ vs. IsDesk f seats max t vs total parts amount) (sym same) (subst (λ b. IsDesk f seats max b shown total parts amount) (sym is) d)
 
--- and where the lists stayed, too
-pub desk_agreed : (f : FormulaValue) (seats max : ℕ) (s t : State) (lists after : List (List Call)) (total parts amount : ℕ) → t ≡ s → after ≡ lists → IsDesk f seats max s lists total parts amount → IsDesk f seats max t after total parts amount
-desk_agreed f seats max s t lists after total parts amount is same d = subst (λ ls. IsDesk f seats max t ls total parts amount) (sym same) (desk_kept f seats max s t lists total parts amount is d)
+-- ---- what a seat is after its own entry
 
--- the lists of a history that has no entry
-pub none_listed : (lists : List (List Call)) → All (λ calls. calls ≡ []) lists → AreListsOf [] lists
-none_listed [] all seat calls at = absurd cc
-none_listed (c ∷ lists) all zero calls at = sym (some_same c calls at) ∙ All-head (λ calls. calls ≡ []) c lists all
-none_listed (c ∷ lists) all (suc seat) calls at = none_listed lists (All-tail (λ calls. calls ≡ []) c lists all) seat calls at
+-- an import found a clause
+abbrev pub HasFound : State → Call → Type 0
+HasFound s (calls.Add own lemma) = Unit {0}
+HasFound s (calls.Drop numbers) = Unit {0}
+HasFound s (calls.Adopt own joint) = Unit {0}
+HasFound s (calls.Import own clause) = Finds s clause
+HasFound s calls.Leave = Unit {0}
+
+view_made : (s : State) (call : Call) (view : View) → HasFound s call → IsViewAfter call view (option_and_then (view_after_call s call) view)
+view_made s (calls.Add own lemma) None found = (next s, refl)
+view_made s (calls.Add own lemma) (Some h) found = (next s, refl)
+view_made s (calls.Drop numbers) None found = refl
+view_made s (calls.Drop numbers) (Some h) found = refl
+view_made s (calls.Adopt own joint) None found = ((with_clause (live s) joint).clause, refl)
+view_made s (calls.Adopt own joint) (Some h) found = ((with_clause (live s) joint).clause, refl)
+view_made s (calls.Import own clause) None found = (found.0, refl)
+view_made s (calls.Import own clause) (Some h) found = (found.0, ap (λ (o : Option ℕ). Some (with_found_holding h own o clause)) found.1)
+view_made s calls.Leave None found = refl
+view_made s calls.Leave (Some h) found = refl
+
+pub making_of : ViewsFollowEntries → (s t : State) (e : Entry) (v w : SeatValue) → IsReached s → IsReached t → e.seat ≡ v.number → t ≡ after_entry s e → seat_of_book s v.number ≡ v → w ≡ seat_of_book t v.number → HasFound s e.call → IsMaking e.call v w
+making_of views s t e v w reached next same is before after found =
+    let there : w ≡ seat_of_book (after_entry s e) e.seat = after ∙ ap (seat_of_book t) (sym same) ∙ ap (λ (u : State). seat_of_book u e.seat) is in
+    let here : seat_of_book s e.seat ≡ v = ap (seat_of_book s) same ∙ before in
+    let view = views s e e.seat reached (subst IsReached is next) ∙ ap (λ (b : Bool). if b then option_and_then (view_after_call s e.call) (view_of s e.seat) else view_of s e.seat) (eq-eqb e.seat e.seat refl) in
+    record {
+      number_is = ap (λ (x : SeatValue). x.number) after;
+      calls_are = ap (λ (x : SeatValue). x.calls) there ∙ calls-more s.history e ∙ ap (λ (x : SeatValue). x.calls ++ e.call ∷ []) here;
+      view_is = subst (λ (u : View × View). IsViewAfter e.call u.0 u.1) (λ i. (ap (λ (x : SeatValue). x.view) here i, sym (ap (λ (x : SeatValue). x.view) there ∙ view) i)) (view_made s e.call (view_of s e.seat) found);
+    }
+
+-- the calls of the seat of an entry are one more
+pub calls_longer : (s t : State) (e : Entry) (v : SeatValue) → e.seat ≡ v.number → t ≡ after_entry s e → seat_of_book s v.number ≡ v → length (calls_of v.number t.history) ≡ length v.calls + 1
+calls_longer s t e v same is before =
+    let more = ap (λ (n : ℕ). length (calls_of n t.history)) (sym same) ∙ ap (λ (u : State). length (calls_of e.seat u.history)) is ∙ ap length (calls-more s.history e) ∙ length-append (calls_of e.seat s.history) (e.call ∷ []) in
+    let here = ap (λ (n : ℕ). length (calls_of n s.history)) same ∙ ap (λ (x : SeatValue). length x.calls) before in
+    omega (arith, more, here)
+
+-- ---- the same, where the copies agreed before
+
+pub made_in : ViewsFollowEntries → (s t : State) (e : Entry) (v u w : SeatValue) → IsReached s → IsReached t → e.seat ≡ u.number → t ≡ after_entry s e → seat_of_book s v.number ≡ v → u ≡ v → w ≡ seat_of_book t u.number → HasFound s e.call → IsMaking e.call v w
+made_in views s t e v u w reached next same is before kept after found =
+    making_of views s t e v w reached next (same ∙ ap (λ (x : SeatValue). x.number) kept) is before (after ∙ ap (λ (x : SeatValue). seat_of_book t x.number) kept) found
+
+pub desk_in : ViewsFollowEntries → (f : FormulaValue) (seats max : ℕ) (s t : State) (e : Entry) (seat : ℕ) (shown again after : List SeatValue) (before total parts amount : ℕ) → IsReached s → IsReached t → e.seat ≡ seat → t ≡ after_entry s e → total ≡ length t.history → again ≡ shown → after ≡ slice_set again seat (seat_of_book t seat)
+    → IsDesk f seats max s shown before parts amount → IsDesk f seats max t after total parts amount
+desk_in views f seats max s t e seat shown again after before total parts amount reached next same is counted kept set d =
+    desk_on views f seats max s t e seat shown after before total parts amount reached next same is counted (set ∙ ap (λ (vs : List SeatValue). slice_set vs seat (seat_of_book t seat)) kept) d

@@ -1,30 +1,27 @@
 -- Why a call of a seat is refused.
-use Rattle.std.specs.Prelude.{◌≡◌, ℕ, ◌⊎◌, false, List, [], length, Result}
+use Rattle.std.specs.Prelude.{◌≡◌, ℕ, ◌⊎◌, Option, Some, None, Result}
 use Rattle.lj_clause.specs.ClauseMap.{FormulaValue}
-use Rattle.lj_clause.specs.LiteralSet.{negations}
-use Rattle.lj_clause.specs.Walk.{Stuck, walk_over}
-use Rattle.lj_text.specs.declared.line.Addition.{Addition}
 use Rattle.lj_text.specs.declared.line.Line.{Line}
 use Rattle.lj_text.specs.declared.line.Line.TheVariants as lines
-use Rattle.lj_hint.specs.declared.pair.Pair.{Pair}
-use Rattle.lj_hint.specs.Hints.{named_hints}
 use Rattle.lj_book.specs.declared.refusal.Refusal.{Refusal}
-use Rattle.lj_book.specs.declared.refusal.Refusal.TheVariants.{HintNotUnit}
+use Rattle.lj_book.specs.declared.refusal.Refusal.TheVariants.{SeatGone, NoMemory}
 use Rattle.lj_book.specs.State.{State}
 use Rattle.lj_book.specs.History.{IsReached}
 use Rattle.lj_book.specs.Calls.{IsRefusal, drop_reply, import_reply}
 use Rattle.lj_book.specs.Inside.{inside_reply}
-use Rattle.lj_share.specs.Entries.{calls_of}
-use Rattle.lj_share.specs.Seats.{SeatValue, IsOpenedAs, has_left}
+use Rattle.lj_book.specs.Solo.{View, solo_refusal}
+use Rattle.lj_book.specs.Views.{decided_refusal}
+use Rattle.lj_share.specs.Seats.{SeatValue, seat_of_book, IsOpenedAs}
 
 -- There is a state in which this holds. It is that of a book of this formula, with so many seats and this limit of additions. Its history
--- is legal, and has of the seat just the calls whose entries were made through it.
+-- is legal, and the seat is that of its number there: it has just the calls whose entries were made through it, and sees what the book
+-- has of it.
 pub record HoldsInAState (formula : FormulaValue) (seats max_steps : ℕ) (seat : SeatValue)
     (holds : State → Type 0) : Type 0 where
   pub state : State
   pub opened : IsOpenedAs formula seats max_steps state
   pub legal : IsReached state
-  pub calls : calls_of seat.number state.history ≡ seat.calls
+  pub seat_is : seat_of_book state seat.number ≡ seat
   pub holds_there : holds state
 
 -- in such a state the call's reply is this refusal; of the want of memory only that there is one
@@ -39,21 +36,29 @@ IsRefusedLine seat (lines.Add a) e s = IsRefusal e (inside_reply s seat a)
 IsRefusedLine seat (lines.Delete numbers) e s = IsRefusal e (drop_reply s seat numbers)
 IsRefusedLine seat (lines.Import own clause) e s = IsRefusal e (import_reply s seat own clause)
 
--- The seat has not left, and the walk of the addition's lemma over some clauses, as many as it has hints, is stuck at this
--- place. It has no groups.
-pub record IsStuckAlone (seat : SeatValue) (a : Addition) (place : ℕ) : Type 0 where
-  pub here : has_left seat.calls ≡ false
-  pub hints : List Pair
-  pub as_many : length hints ≡ length a.hints
-  pub no_groups : a.groups ≡ []
-  pub stuck : walk_over (negations a.lemma.clause) (named_hints hints) ≡ Stuck place
+-- whether a seat with this view is there
+abbrev pub gone_refusal : View → Option Refusal
+gone_refusal None = Some SeatGone
+gone_refusal (Some h) = None
 
--- the seat refuses its line so by what it knows by itself
-abbrev pub IsRefusedAlone : SeatValue → Line → Refusal → Type 0
-IsRefusedAlone seat (lines.Add a) (HintNotUnit place) = IsStuckAlone seat a place
-IsRefusedAlone seat line e = ⊥
+-- the refusal of a line that what the seat sees decides, whatever other clauses live
+abbrev pub line_refusal : SeatValue → Line → Option Refusal
+line_refusal seat (lines.Add a) = decided_refusal seat.view seat.number a
+line_refusal seat (lines.Delete numbers) = gone_refusal seat.view
+line_refusal seat (lines.Import own clause) = solo_refusal seat.view own
 
--- in such a state the reply to the seat's line is this refusal, or the seat refuses it so without the book
+-- The refusal is this one; memory may be short in its place.
+abbrev pub IsDecided : Option Refusal → Refusal → Type 0
+IsDecided decided (NoMemory e) = Unit {0}
+IsDecided decided e = decided ≡ Some e
+
+-- in such a state the reply to the seat's line is this refusal, or what the seat sees decides it so
 abbrev pub IsLineRefused : FormulaValue → ℕ → ℕ → SeatValue → Line → Refusal → Type 0
 IsLineRefused formula seats max_steps seat line e = HoldsInAState formula seats max_steps seat
-    (IsRefusedLine seat.number line e) ⊎ IsRefusedAlone seat line e
+    (IsRefusedLine seat.number line e) ⊎ IsDecided (line_refusal seat line) e
+
+-- in such a state the reply to a call that binds this own number is this refusal, or what the seat sees decides it so
+abbrev pub IsBindingRefused : {A : Type 0} → FormulaValue → ℕ → ℕ → SeatValue → ℕ
+    → (State → Result A Refusal) → Refusal → Type 0
+IsBindingRefused formula seats max_steps seat own reply e =
+    IsRefusedAt formula seats max_steps seat reply e ⊎ IsDecided (solo_refusal seat.view own) e

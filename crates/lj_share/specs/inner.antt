@@ -1,5 +1,7 @@
 -- What invariants, private functions and proofs say. No public contract names any of it.
 pub mod Seats
 pub mod Codes
+pub mod OwnCode
 pub mod Copies
 pub mod Telling
+pub mod Ahead

@@ -7,7 +7,7 @@ use std::alloc::Global;
 use std::marker::Model;
 use std::sync::ledger;
 
-/// What a new opening is made of: a ledger with a part for each seat, and two copies of the list of each seat's calls.
+/// What a new opening is made of: a ledger with a part for each seat, and two copies of each seat.
 #[derive(Drop)]
 pub struct Blank {
     pub(crate) ledger: ledger::Blank,
@@ -16,7 +16,7 @@ pub struct Blank {
 }
 
 impl Model for Blank {
-    ghost use Rattle.std.specs.Prelude.{◌≡◌, [], length, map, All};
+    ghost use Rattle.std.specs.Prelude.{◌≡◌, length, map};
     ghost use Rattle.lj_share.specs.Seats.{BlankValue};
     ghost use Rattle.lj_share.specs.inner.Codes.{blank_code};
 
@@ -31,9 +31,7 @@ impl Model for Blank {
     } };
 
     ghost invariant = { λ b. (map (λ c. c.name) b.desk.items ≡ map (λ c. c.name) b.seats.items)
-        × (length b.seats.items ≡ b.ledger.parts)
-        × All (λ c. c.calls ≡ []) b.desk.items
-        × All (λ c. c.calls ≡ []) b.seats.items };
+        × (length b.seats.items ≡ b.ledger.parts) };
 }
 
 impl Blank {

@@ -1,30 +1,38 @@
 //! What lies under the lock.
-ghost use Rattle.std.specs.Prelude.{◌≡◌, ◌+◌, length, slice_set, OnOk, OnErr, IfOk, IfErr};
-ghost use Rattle.lj_book.specs.declared.entry.Call.{Call};
-ghost use Rattle.lj_book.specs.declared.entry.Call.TheVariants as calls;
-ghost use Rattle.lj_share.specs.inner.Seats.{IsDesk, HasOneMore};
-ghost use Rattle.lj_share.specs.inner.Telling.{IsTokenOf};
-ghost use Rattle.lj_share.specs.Seats.{making};
-ghost use Rattle.lj_share.specs.Entries.{IsEntryOf};
-ghost use Rattle.lj_share.specs.Refusals.{HoldsInAState, IsLineRefused, IsRefusedAt};
+ghost use Rattle.std.specs.Prelude.{◌≡◌, ◌≤◌, ◌++◌, length, map, take, slice_get, None, Some, IfOk, IfErr, IfSome, IsSome, OnOk, OnErr};
 ghost use Rattle.lj_book.specs.Calls.{IsReply, take_reply, commit_reply, adopt_reply, leave_reply};
+ghost use Rattle.lj_book.specs.declared.entry.Call.TheVariants as calls;
 ghost use Rattle.lj_text.specs.declared.line.Line.TheVariants as lines;
+ghost use Rattle.lj_book.specs.Views.{IsClosedAlone};
+ghost use Rattle.lj_share.specs.Entries.{IsEntryOf, call_of};
+ghost use Rattle.lj_share.specs.Refusals.{HoldsInAState, IsRefusedAt, IsRefusedLine};
+ghost use Rattle.lj_share.specs.Seats.{IsMaking};
+ghost use Rattle.lj_share.specs.inner.Seats.{IfClosed, IsBoundIf, IsDesk, IsOwnOf, IsTestedAs, clauses_seen};
+ghost use Rattle.lj_share.specs.inner.Ahead.{AreSeen, AreTested, clauses_behind};
+ghost use Rattle.lj_share.specs.declared.numbered.Numbered.{Numbered};
+ghost use Rattle.lj_share.specs.declared.seat.Alone.TheVariants.{Closed};
+ghost use Rattle.std.specs.FinMap as fin;
+ghost use Rattle.lj_book.specs.State.{live};
+ghost use Rattle.lj_share.specs.inner.Telling.{IsTokenOf};
 
 use crate::lists::Lists;
+use crate::numbered::Numbered;
 use crate::opening::Opening;
-use crate::seat::Seat;
+use crate::own_clauses::{OwnClauses, bind};
+use crate::place::Place;
+use crate::seat::Alone;
 use crate::telling;
 use crate::told::Told;
 use crate::verdict::Verdict;
-use lj_book::{Book, Entry, Ready, Refusal};
-use lj_clause::{Clause, Formula};
+use lj_book::{Book, Entry, Refusal};
+use lj_clause::{Clause, NoMemory};
 use lj_hint::{Case, Marks, Receipt};
-use lj_text::{Addition, Numbers};
+use lj_text::{Addition, Line, Numbers};
 use std::alloc::Global;
 use std::marker::Model;
 use std::sync::ledger::{Book as Tally, Share};
 
-/// The book; the ledger of its opening, whose total is the number of entries; the lists of its seats' calls; and working room.
+/// The book; the ledger of its opening, whose total is the number of entries; the copies of its seats; and working room.
 #[derive(Drop)]
 pub(crate) struct Desk<L: Opening> {
     book: Book,
@@ -37,7 +45,6 @@ pub(crate) struct Desk<L: Opening> {
 }
 
 impl<L: Opening> Model for Desk<L> {
-    ghost use Rattle.std.specs.Prelude.{◌≡◌, length};
     ghost use Rattle.lj_share.specs.inner.Seats.{IsDesk};
 
     ghost Value = { Unit {0} };
@@ -48,15 +55,8 @@ impl<L: Opening> Model for Desk<L> {
         d.rest.parts d.rest.amount };
 }
 
-/// What an addition that was entered leaves: its joint number, and its token where one is asked for.
-#[derive(Drop)]
-pub(crate) struct Entered {
-    pub joint: u64,
-    pub told: Option<Told>,
-}
-
 impl<L: Opening> Desk<L> {
-    /// A new book under a ledger all of whose parts the seats have, with the lists of their calls.
+    /// A new book under a ledger all of whose parts the seats have, with the copies of these.
     pub(crate) fn new(
         alloc: Global,
         book: Book,
@@ -77,23 +77,21 @@ impl<L: Opening> Desk<L> {
     }
 
     /// An addition of the seat as a case in joint numbers.
-    pub(crate) fn take(&mut self, seat: &mut Seat<L>, addition: &Addition) -> Result<Case, Refusal>
-        ensures answer { HoldsInAState L.formula L.seats L.max_steps seat.old
-            (λ s. IsReply result (take_reply s seat.old.number addition.now)) }
-        ensures seat { IfOk result (λ case. case.seat ≡ seat.old.number) }
+    pub(crate) fn take(
+        &mut self,
+        place: &mut Place<L>,
+        addition: &Addition,
+    ) -> Result<Case, Refusal>
+        ensures answer { HoldsInAState L.formula L.seats L.max_steps place.old
+            (λ s. IsReply result (take_reply s place.old.number addition.now)) }
+        ensures seat { IfOk result (λ case. case.seat ≡ place.old.number) }
         ensures own { IfOk result (λ case. case.own ≡ addition.now.number) }
         ensures lemma { IfOk result (λ case. case.lemma ≡ addition.now.lemma) }
-        ensures kept { seat.new ≡ seat.old }
+        ensures kept { place.new ≡ place.old }
     {
-        let Desk {
-            book,
-            entries: _,
-            lists,
-            rest: _,
-            marks: _,
-        } = self;
-        seat.agree(lists, book);
-        book.take(seat.number(), addition)
+        let Desk { book, lists, .. } = self;
+        place.agree(lists, book);
+        book.take(place.number(), addition)
     }
 
     /// The verdict, if the history adds the empty clause; none where a growth was refused to it.
@@ -105,7 +103,7 @@ impl<L: Opening> Desk<L> {
         }
     }
 
-    /// The book, the ledger, the lists, and what no seat has of the ledger.
+    /// The book, the ledger, the copies, and what no seat has of the ledger.
     pub(crate) fn into_parts(self) -> (Book, Tally<L>, Lists<L>, Share<L>)
         ensures { IsDesk L.formula L.seats L.max_steps result.0 result.2 result.1.total
             result.3.parts result.3.amount }
@@ -120,82 +118,176 @@ impl<L: Opening> Desk<L> {
         (book, entries, lists, rest)
     }
 
-    /// Commits a receipt of the seat, and tells its joint number and its token.
+    /// Commits a receipt of the seat, and tells its token.
     pub(crate) fn commit(
         &mut self,
-        seat: &mut Seat<L>,
+        place: &mut Place<L>,
         receipt: Receipt,
-    ) -> Result<(u64, Told), (Refusal, Receipt)>
-        requires { receipt.seat ≡ seat.old.number }
+    ) -> Result<Told, (Refusal, Receipt)>
+        requires { receipt.seat ≡ place.old.number }
         ensures told { IfOk result
-            (λ made. IsEntryOf seat.old.number (calls.Add receipt.own receipt.lemma) made.1) }
+            (IsEntryOf place.old.number (calls.Add receipt.own receipt.lemma)) }
         ensures made { OnOk result
-            (seat.new ≡ making (calls.Add receipt.own receipt.lemma) seat.old) }
-        ensures kept { OnErr result (seat.new ≡ seat.old) }
+            (IsMaking (calls.Add receipt.own receipt.lemma) place.old place.new) }
+        ensures kept { OnErr result (place.new ≡ place.old) }
         ensures back { IfErr result (λ e. e.1 ≡ receipt) }
-        ensures refusal { IfErr result (λ e. IsRefusedAt L.formula L.seats L.max_steps seat.old
+        ensures refusal { IfErr result (λ e. IsRefusedAt L.formula L.seats L.max_steps place.old
             (λ s. commit_reply s receipt) e.0) }
     {
         let Desk {
             book,
             entries,
             lists,
-            rest: _,
-            marks: _,
+            ..
         } = self;
+        place.agree(lists, book);
         match book.commit_telling(receipt) {
-            Ok((added, entry)) => {
-                seat.count_one(entries, lists, book, false);
-                Ok((added.joint, Told { entry }))
-            }
-            Err(refused) => {
-                seat.agree(lists, book);
-                Err(refused)
-            }
-        }
-    }
-
-    /// Commits a receipt of the seat that has what its entry takes, tells its joint number, and gives the receipt back.
-    pub(crate) fn commit_ready(
-        &mut self,
-        seat: &mut Seat<L>,
-        ready: Ready,
-    ) -> Result<(u64, Receipt), (Refusal, Receipt)>
-        requires { ready.seat ≡ seat.old.number }
-        ensures made { OnOk result
-            (seat.new ≡ making (calls.Add ready.own ready.lemma) seat.old) }
-        ensures kept { OnErr result (seat.new ≡ seat.old) }
-    {
-        let Desk {
-            book,
-            entries,
-            lists,
-            rest: _,
-            marks: _,
-        } = self;
-        match book.commit_ready(ready) {
-            Ok((added, receipt)) => {
-                seat.count_one(entries, lists, book, false);
-                Ok((added.joint, receipt))
+            Ok((_, entry)) => {
+                place.count_one(entries, lists, book);
+                Ok(Told { entry })
             }
             Err(refused) => Err(refused),
         }
     }
 
-    /// Tests a seat's addition, and enters it.
-    pub(crate) fn add_inside(
+    /// Enters a line of the seat. An addition is tested here, unless what the seat sees decided it.
+    pub(crate) fn enter(
         &mut self,
-        seat: &mut Seat<L>,
+        place: &mut Place<L>,
+        line: &Line,
+        alone: Alone,
+        telling: bool,
+    ) -> Result<Option<Told>, Refusal>
+        requires { IsTestedAs place.old.view place.old.number line.now alone }
+        ensures told { IfOk result (IsTokenOf telling place.old.number (call_of line.now)) }
+        ensures made { OnOk result (IsMaking (call_of line.now) place.old place.new) }
+        ensures kept { OnErr result (place.new ≡ place.old) }
+        ensures refusal { IfErr result (λ e. HoldsInAState L.formula L.seats L.max_steps place.old
+            (IsRefusedLine place.old.number line.now e)) }
+    {
+        match line {
+            Line::Add(addition) => self.add(place, addition, alone, telling),
+            Line::Delete(numbers) => self.drop_numbers(place, numbers, telling),
+            Line::Import { number, clause } => self.import(place, *number, clause, telling),
+        }
+    }
+
+    /// Enters lines of the seat that were tested ahead, in order, up to the first that is refused.
+    pub(crate) fn enter_tested(
+        &mut self,
+        place: &mut Place<L>,
+        lines: &[Numbered],
+        reads: &[usize],
+        count: usize,
+    ) -> (usize, Option<Refusal>)
+        requires tested { AreTested (clauses_seen place.old.view) lines.now reads.now count }
+        requires here { IsSome place.old.view }
+        requires lines { count ≤ length lines.now }
+        requires reads { count ≤ length reads.now }
+        ensures number { place.new.number ≡ place.old.number }
+        ensures calls { place.new.calls
+            ≡ place.old.calls ++ map (λ l. call_of l.line) (take result.0 lines.now) }
+        ensures seen { AreSeen
+            (clauses_behind (clauses_seen place.old.view) (take result.0 lines.now))
+            place.new.view }
+        ensures within { result.0 ≤ count }
+        ensures all { result.1 ≡ None → result.0 ≡ count }
+        ensures refused { IfSome result.1 (λ e. (l : Numbered)
+            × (slice_get lines.now result.0 ≡ Some l)
+            × HoldsInAState L.formula L.seats L.max_steps place.new
+            (IsRefusedLine place.new.number l.line e)) }
+    {
+        for k in 0..count {
+            if let Err(refusal) = self.enter_read(place, &lines[k].line, reads[k]) {
+                return (k, Some(refusal));
+            }
+        }
+        (count, None)
+    }
+
+    /// Enters a line of the seat that was tested, after so many of its hints.
+    fn enter_read(&mut self, place: &mut Place<L>, line: &Line, read: usize) -> Result<(), Refusal>
+        requires { IsTestedAs place.old.view place.old.number line.now (Closed read) }
+        ensures made { OnOk result (IsMaking (call_of line.now) place.old place.new) }
+        ensures kept { OnErr result (place.new ≡ place.old) }
+        ensures refusal { IfErr result (λ e. HoldsInAState L.formula L.seats L.max_steps place.old
+            (IsRefusedLine place.old.number line.now e)) }
+    {
+        self.enter(place, line, Alone::Closed(read), false)?;
+        Ok(())
+    }
+
+    /// Enters an addition of the seat, which is tested here unless what the seat sees decided it.
+    fn add(
+        &mut self,
+        place: &mut Place<L>,
+        addition: &Addition,
+        alone: Alone,
+        telling: bool,
+    ) -> Result<Option<Told>, Refusal>
+        requires { IfClosed alone
+            (IsClosedAlone place.old.view place.old.number addition.now) }
+        ensures told { IfOk result (IsTokenOf telling place.old.number
+            (calls.Add addition.now.number addition.now.lemma)) }
+        ensures made { OnOk result
+            (IsMaking (calls.Add addition.now.number addition.now.lemma) place.old place.new) }
+        ensures kept { OnErr result (place.new ≡ place.old) }
+        ensures refusal { IfErr result (λ e. HoldsInAState L.formula L.seats L.max_steps place.old
+            (IsRefusedLine place.old.number (lines.Add addition.now) e)) }
+    {
+        match alone {
+            Alone::Closed(read) => self.add_closed(place, addition, read, telling),
+            Alone::Open => self.add_inside(place, addition, telling),
+        }
+    }
+
+    /// Enters an addition that closes by what the seat sees, after so many of its hints.
+    fn add_closed(
+        &mut self,
+        place: &mut Place<L>,
+        addition: &Addition,
+        read: usize,
+        telling: bool,
+    ) -> Result<Option<Told>, Refusal>
+        requires { IsClosedAlone place.old.view place.old.number addition.now read }
+        ensures told { IfOk result (IsTokenOf telling place.old.number
+            (calls.Add addition.now.number addition.now.lemma)) }
+        ensures made { OnOk result
+            (IsMaking (calls.Add addition.now.number addition.now.lemma) place.old place.new) }
+        ensures kept { OnErr result (place.new ≡ place.old) }
+        ensures refusal { IfErr result (λ e. HoldsInAState L.formula L.seats L.max_steps place.old
+            (IsRefusedLine place.old.number (lines.Add addition.now) e)) }
+    {
+        let Desk {
+            book,
+            entries,
+            lists,
+            ..
+        } = self;
+        place.agree(lists, book);
+        match telling::add_closed(book, place.number(), addition, read, telling) {
+            Ok(entry) => {
+                place.count_one(entries, lists, book);
+                Ok(token(entry))
+            }
+            Err(refusal) => Err(refusal),
+        }
+    }
+
+    /// Tests a seat's addition, and enters it.
+    fn add_inside(
+        &mut self,
+        place: &mut Place<L>,
         addition: &Addition,
         telling: bool,
-    ) -> Result<Entered, Refusal>
-        ensures told { IfOk result (λ entered. IsTokenOf telling seat.old.number
-            (calls.Add addition.now.number addition.now.lemma) entered.told) }
+    ) -> Result<Option<Told>, Refusal>
+        ensures told { IfOk result (IsTokenOf telling place.old.number
+            (calls.Add addition.now.number addition.now.lemma)) }
         ensures made { OnOk result
-            (seat.new ≡ making (calls.Add addition.now.number addition.now.lemma) seat.old) }
-        ensures kept { OnErr result (seat.new ≡ seat.old) }
-        ensures refusal { IfErr result (IsLineRefused L.formula L.seats L.max_steps seat.old
-            (lines.Add addition.now)) }
+            (IsMaking (calls.Add addition.now.number addition.now.lemma) place.old place.new) }
+        ensures kept { OnErr result (place.new ≡ place.old) }
+        ensures refusal { IfErr result (λ e. HoldsInAState L.formula L.seats L.max_steps place.old
+            (IsRefusedLine place.old.number (lines.Add addition.now) e)) }
     {
         let Desk {
             book,
@@ -204,178 +296,159 @@ impl<L: Opening> Desk<L> {
             rest: _,
             marks,
         } = self;
-        let number = seat.number();
-        match telling::add_inside(book, number, addition, marks, telling) {
-            Ok((added, entry)) => {
-                seat.count_one(entries, lists, book, false);
-                let joint = added.joint;
-                let told = token(entry);
-                Ok(Entered { joint, told })
+        place.agree(lists, book);
+        match telling::add_inside(book, place.number(), addition, marks, telling) {
+            Ok(entry) => {
+                place.count_one(entries, lists, book);
+                Ok(token(entry))
             }
-            Err(refusal) => {
-                seat.agree(lists, book);
-                Err(refusal)
-            }
-        }
-    }
-
-    /// Takes up, as far as the seat has room, what it doesn't know of the hints of an addition of its own that was entered
-    /// here, so that the next line that names them needn't be tested under the lock.
-    pub(crate) fn show_hints(&self, seat: &mut Seat<L>, formula: &Formula, addition: &Addition)
-        ensures { seat.new ≡ seat.old }
-    {
-        for own in addition.hints.iter() {
-            if seat.lacks(formula, own) {
-                show(&self.book, seat, own);
-            }
+            Err(refusal) => Err(refusal),
         }
     }
 
     /// Gives own numbers of the seat up.
-    pub(crate) fn drop_numbers(
+    fn drop_numbers(
         &mut self,
-        seat: &mut Seat<L>,
+        place: &mut Place<L>,
         numbers: &Numbers,
         telling: bool,
     ) -> Result<Option<Told>, Refusal>
-        ensures told { IfOk result
-            (IsTokenOf telling seat.old.number (calls.Drop numbers.now)) }
-        ensures made { OnOk result (seat.new ≡ making (calls.Drop numbers.now) seat.old) }
-        ensures kept { OnErr result (seat.new ≡ seat.old) }
-        ensures refusal { IfErr result (IsLineRefused L.formula L.seats L.max_steps seat.old
-            (lines.Delete numbers.now)) }
+        ensures told { IfOk result (IsTokenOf telling place.old.number (calls.Drop numbers.now)) }
+        ensures made { OnOk result (IsMaking (calls.Drop numbers.now) place.old place.new) }
+        ensures kept { OnErr result (place.new ≡ place.old) }
+        ensures refusal { IfErr result (λ e. HoldsInAState L.formula L.seats L.max_steps place.old
+            (IsRefusedLine place.old.number (lines.Delete numbers.now) e)) }
     {
         let Desk {
             book,
             entries,
             lists,
-            rest: _,
-            marks: _,
+            ..
         } = self;
-        match telling::drop_numbers(book, seat.number(), numbers, telling) {
+        place.agree(lists, book);
+        match telling::drop_numbers(book, place.number(), numbers, telling) {
             Ok(entry) => {
-                seat.count_one(entries, lists, book, false);
+                place.count_one(entries, lists, book);
                 Ok(token(entry))
             }
-            Err(refusal) => {
-                seat.agree(lists, book);
-                Err(refusal)
-            }
+            Err(refusal) => Err(refusal),
         }
     }
 
     /// Binds the seat's own number to a live clause with exactly these literals.
-    pub(crate) fn import(
+    fn import(
         &mut self,
-        seat: &mut Seat<L>,
+        place: &mut Place<L>,
         own: u64,
         clause: &Clause,
         telling: bool,
     ) -> Result<Option<Told>, Refusal>
         ensures told { IfOk result
-            (IsTokenOf telling seat.old.number (calls.Import own clause.now)) }
-        ensures made { OnOk result (seat.new ≡ making (calls.Import own clause.now) seat.old) }
-        ensures kept { OnErr result (seat.new ≡ seat.old) }
-        ensures refusal { IfErr result (IsLineRefused L.formula L.seats L.max_steps seat.old
-            (lines.Import own clause.now)) }
+            (IsTokenOf telling place.old.number (calls.Import own clause.now)) }
+        ensures made { OnOk result (IsMaking (calls.Import own clause.now) place.old place.new) }
+        ensures kept { OnErr result (place.new ≡ place.old) }
+        ensures refusal { IfErr result (λ e. HoldsInAState L.formula L.seats L.max_steps place.old
+            (IsRefusedLine place.old.number (lines.Import own clause.now) e)) }
     {
         let Desk {
             book,
             entries,
             lists,
-            rest: _,
-            marks: _,
+            ..
         } = self;
-        match telling::import(book, seat.number(), own, clause, telling) {
-            Ok((imported, entry)) => {
-                seat.bind(own, imported.joint, &clause.view());
-                seat.count_one(entries, lists, book, false);
+        place.agree(lists, book);
+        match telling::import(book, place.number(), own, clause, telling) {
+            Ok(entry) => {
+                place.count_one(entries, lists, book);
                 Ok(token(entry))
             }
-            Err(refusal) => {
-                seat.agree(lists, book);
-                Err(refusal)
-            }
+            Err(refusal) => Err(refusal),
         }
     }
 
-    /// Binds the seat's own number to a joint number that lives.
+    /// Binds the seat's own number to a joint number that lives. What the seat keeps of its clauses follows.
     pub(crate) fn adopt(
         &mut self,
-        seat: &mut Seat<L>,
+        alloc: Global,
+        place: &mut Place<L>,
+        kept: &mut Option<OwnClauses>,
         own: u64,
         joint: u64,
     ) -> Result<Told, Refusal>
-        ensures told { IfOk result
-            (λ told. IsEntryOf seat.old.number (calls.Adopt own joint) told) }
-        ensures made { OnOk result (seat.new ≡ making (calls.Adopt own joint) seat.old) }
-        ensures kept { OnErr result (seat.new ≡ seat.old) }
-        ensures refusal { IfErr result (IsRefusedAt L.formula L.seats L.max_steps seat.old
-            (λ s. adopt_reply s seat.old.number own joint)) }
+        requires { IsOwnOf L.formula kept.old place.old.view }
+        ensures told { IfOk result (IsEntryOf place.old.number (calls.Adopt own joint)) }
+        ensures made { OnOk result (IsMaking (calls.Adopt own joint) place.old place.new) }
+        ensures kept { OnErr result (place.new ≡ place.old) }
+        ensures own { IsOwnOf L.formula kept.new place.new.view }
+        ensures refusal { IfErr result (IsRefusedAt L.formula L.seats L.max_steps place.old
+            (λ s. adopt_reply s place.old.number own joint)) }
     {
         let Desk {
             book,
             entries,
             lists,
-            rest: _,
-            marks: _,
+            ..
         } = self;
-        match book.adopt_telling(seat.number(), own, joint) {
+        place.agree(lists, book);
+        let clause = clause_of(alloc, book, joint)?;
+        match book.adopt_telling(place.number(), own, joint) {
             Ok((_, entry)) => {
-                bind_live(book, seat, own, joint);
-                seat.count_one(entries, lists, book, false);
+                place.count_one(entries, lists, book);
+                bind_if(kept, own, clause);
                 Ok(Told { entry })
             }
             Err(refusal) => {
-                seat.agree(lists, book);
+                drop(clause);
                 Err(refusal)
             }
         }
     }
 
     /// Ends the seat's bindings in the book.
-    pub(crate) fn leave(&mut self, seat: &mut Seat<L>) -> Result<Told, Refusal>
-        ensures told { IfOk result (λ told. IsEntryOf seat.old.number calls.Leave told) }
-        ensures made { OnOk result (seat.new ≡ making calls.Leave seat.old) }
-        ensures kept { OnErr result (seat.new ≡ seat.old) }
-        ensures refusal { IfErr result (IsRefusedAt L.formula L.seats L.max_steps seat.old
-            (λ s. leave_reply s seat.old.number)) }
+    pub(crate) fn leave(&mut self, place: &mut Place<L>) -> Result<Told, Refusal>
+        ensures told { IfOk result (IsEntryOf place.old.number calls.Leave) }
+        ensures made { OnOk result (IsMaking calls.Leave place.old place.new) }
+        ensures kept { OnErr result (place.new ≡ place.old) }
+        ensures refusal { IfErr result (IsRefusedAt L.formula L.seats L.max_steps place.old
+            (λ s. leave_reply s place.old.number)) }
     {
         let Desk {
             book,
             entries,
             lists,
-            rest: _,
-            marks: _,
+            ..
         } = self;
-        match book.leave_telling(seat.number()) {
+        place.agree(lists, book);
+        match book.leave_telling(place.number()) {
             Ok((_, entry)) => {
-                seat.count_one(entries, lists, book, true);
+                place.count_one(entries, lists, book);
                 Ok(Told { entry })
             }
-            Err(refusal) => {
-                seat.agree(lists, book);
-                Err(refusal)
-            }
+            Err(refusal) => Err(refusal),
         }
     }
 }
 
-/// Takes up the live clause of a joint number that the seat's own number was bound to.
-fn bind_live<L: Opening>(book: &Book, seat: &mut Seat<L>, own: u64, joint: u64)
-    ensures { seat.new ≡ seat.old }
+/// The clause of a joint number, if it lives.
+///
+/// # Errors
+/// [`NoMemory`] where a growth was refused.
+fn clause_of(alloc: Global, book: &Book, joint: u64) -> Result<Option<Clause>, NoMemory>
+    ensures { IfOk result (λ clause. clause ≡ fin.get (live book.now) joint) }
 {
-    if let Some(clause) = book.clause(joint) {
-        seat.bind(own, joint, &clause);
+    match book.clause(joint) {
+        Some(clause) => Ok(Some(clause.to_clause(alloc)?)),
+        None => Ok(None),
     }
 }
 
-/// Takes up what the seat's own number is bound to in the book.
-fn show<L: Opening>(book: &Book, seat: &mut Seat<L>, own: u64)
-    ensures { seat.new ≡ seat.old }
+/// Binds an own number to this clause, if there is one; else nothing is kept any more.
+fn bind_if(kept: &mut Option<OwnClauses>, own: u64, clause: Option<Clause>)
+    ensures { IsBoundIf kept.old own clause kept.new }
 {
-    if let Some(joint) = book.joint(seat.number(), own) {
-        bind_live(book, seat, own, joint);
+    match clause {
+        Some(clause) => bind(kept, own, &clause),
+        None => *kept = None,
     }
 }
 

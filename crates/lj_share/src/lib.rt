@@ -3,6 +3,7 @@
 //! A call takes constant time where neither it nor its type tells a cost.
 #![tactic(auto)]
 
+mod ahead;
 mod blank;
 mod closed;
 mod copies;
@@ -10,8 +11,10 @@ mod desk;
 mod gate;
 pub mod laws;
 mod lists;
+mod numbered;
 mod opening;
 mod own_clauses;
+mod place;
 mod seat;
 mod shared;
 mod telling;
@@ -21,6 +24,7 @@ mod verdict;
 pub use blank::Blank;
 pub use closed::Closed;
 pub use gate::{Gate, NoGate};
+pub use numbered::Numbered;
 pub use opening::Opening;
 pub use seat::Seat;
 pub use shared::{SeatsOut, Shared};

@@ -1,73 +1,67 @@
 //! Seats.
-ghost use Rattle.std.specs.Prelude.{◌≡◌, ◌+◌, ◌<◌, [], length, false, Some, IfSome, OnSome, slice_get, slice_set};
-ghost use Rattle.lj_book.specs.declared.entry.Call.{Call};
-ghost use Rattle.lj_share.specs.Entries.{calls_of};
-ghost use Rattle.lj_share.specs.Seats.{new_seat, making, is_leave, has_left};
-ghost use Rattle.lj_book.specs.History.{IsReached};
-ghost use Rattle.lj_share.specs.inner.Seats.{AreListsOf, HasOneMore};
+ghost use Rattle.std.specs.Prelude.{◌≡◌, length, Ok, Some, IfOk, IfErr, IfSome, slice_get};
+ghost use Rattle.lj_book.specs.Views.{IsClosedAlone, decided_refusal};
+ghost use Rattle.lj_share.specs.Refusals.{IsDecided, line_refusal};
+ghost use Rattle.lj_share.specs.inner.Ahead.{IsClosedBy, IsRefusedBy, IsTestedLine, first_unseen};
+ghost use Rattle.lj_share.specs.inner.Seats.{IfClosed, IsOwnOf, IsTestedAs};
+ghost use Rattle.lj_share.specs.declared.seat.Alone.TheVariants.{Closed};
 
 use crate::copies::SeatCopy;
-use crate::lists::Lists;
+use crate::numbered::Numbered;
 use crate::opening::Opening;
 use crate::own_clauses::OwnClauses;
-use lj_book::Book;
-use lj_book::laws::history_is_legal;
-use lj_clause::{ClauseView, Formula, Lemma};
-use lj_hint::{Case, Marks};
-use lj_text::{Addition, Numbers};
+use crate::place::Place;
+use lj_book::Refusal;
+use lj_clause::{ClauseView, Formula};
+use lj_hint::{Clauses, Ending, Marks, walk_first, walks_go_by_clauses};
+use lj_text::{Addition, Line, Numbers};
 use std::alloc::Global;
 use std::marker::Model;
-use std::sync::ledger::{Book as Tally, Share};
+use std::sync::ledger::Share;
 
-/// A place at a shared book, for one prover. It can't be copied. Contracts see the calls whose entries were made through it.
+/// A place at a shared book, for one prover. It can't be copied. Contracts see the calls whose entries were made through it, and
+/// what it sees of the book.
 #[derive(Drop)]
 pub struct Seat<L: Opening> {
-    number: u32,
-    count: u64,
-    /// Whether it has not left.
-    here: bool,
+    pub(crate) place: Place<L>,
+    /// The clauses that its own numbers are bound to; none once it has left, or memory for them was refused.
+    pub(crate) own: Option<OwnClauses>,
     pub(crate) marks: Marks,
-    /// The clauses that it holds, none where it doesn't know them by itself.
-    own: Option<OwnClauses>,
-    /// One part of the opening's ledger, and as great an amount as there are entries.
-    share: Share<L>,
-    /// The calls whose entries were made through it.
-    copy: SeatCopy,
 }
 
 impl<L: Opening> Model for Seat<L> {
-    ghost use Rattle.std.specs.Prelude.{◌≡◌, true, false, Some, length, slice_get};
-    ghost use Rattle.lj_share.specs.Seats.{SeatValue, has_left};
+    ghost use Rattle.lj_share.specs.Seats.{SeatValue};
     ghost use Rattle.lj_share.specs.inner.Codes.{seat_code};
+    ghost use Rattle.lj_share.specs.inner.Seats.{IsOwnOf};
 
     ghost Value = { SeatValue };
 
     ghost coded = { seat_code };
 
-    ghost view = { λ s. record { number = s.number; calls = s.copy.calls } };
+    ghost view = { λ s. s.place };
 
-    ghost invariant = { λ s. (s.share.parts ≡ 1) × (s.share.amount ≡ s.count)
-        × (s.count ≡ length s.copy.calls) × (slice_get L.lists s.number ≡ Some s.copy.name)
-        × (s.here ≡ true → has_left s.copy.calls ≡ false) };
+    ghost invariant = { λ s. IsOwnOf L.formula s.own s.place.view };
+}
+
+/// How far an addition is decided by what its seat sees.
+#[derive(Clone, Copy, Debug)]
+pub(crate) enum Alone {
+    /// Its first list closes the walk, after so many hints.
+    Closed(usize),
+    /// Other clauses may have a say.
+    Open,
 }
 
 impl<L: Opening> Seat<L> {
-    /// The seat of this number, through which no entry was made.
-    pub(crate) fn new(alloc: Global, number: u32, share: Share<L>, copy: SeatCopy) -> Seat<L>
-        requires part { share.parts ≡ 1 }
-        requires empty { share.amount ≡ 0 }
-        requires none { copy.calls ≡ [] }
-        requires named { slice_get L.lists number ≡ Some copy.name }
-        ensures { result ≡ new_seat number }
+    /// The seat of this place, with the clauses that it sees.
+    pub(crate) fn new(alloc: Global, place: Place<L>, own: OwnClauses) -> Seat<L>
+        requires { IsOwnOf L.formula (Some own) place.view }
+        ensures { result ≡ place }
     {
         Seat {
-            number,
-            count: 0,
-            here: true,
+            place,
+            own: Some(own),
             marks: Marks::new(alloc),
-            own: Some(OwnClauses::new(alloc)),
-            share,
-            copy,
         }
     }
 
@@ -75,144 +69,167 @@ impl<L: Opening> Seat<L> {
     pub fn number(&self) -> u32
         ensures { result ≡ self.now.number }
     {
-        self.number
+        self.place.number()
     }
 
     /// How many entries were made through it. Takes constant time.
     pub fn count(&self) -> u64
         ensures { result ≡ length self.now.calls }
     {
-        self.count
+        self.place.count()
     }
 
-    /// Counts an entry more, which was just made through it: here, in the ledger, and in both copies of the list of its
-    /// calls. The seat is told whether it leaves by it.
-    pub(crate) fn count_one(
-        &mut self,
-        entries: &mut Tally<L>,
-        lists: &mut Lists<L>,
-        book: &Book,
-        leaves: bool,
-    )
-        requires made { entries.old.total + 1 ≡ length book.now.history }
-        requires one { (call : Call) × HasOneMore self.old.number lists.old book.now.history call
-            × (leaves ≡ false → is_leave call ≡ false) }
-        ensures seat { (call : Call) → HasOneMore self.old.number lists.old book.now.history call
-            → self.new ≡ making call self.old }
-        ensures entries { entries.new.total ≡ length book.now.history }
-        ensures lists { lists.new ≡ slice_set lists.old self.old.number
-            (calls_of self.old.number book.now.history) }
-    {
-        entries.add(&mut self.share, 1);
-        entries.audit(&mut self.share);
-        lists.follow(&mut self.copy, book, self.number);
-        let made = book.history_len();
-        prove!(self.count < made);
-        self.count += 1;
-        self.here &= !leaves;
-    }
-
-    /// The book's history is legal, and has of the seat just the calls that were made through it: both copies of the list of
-    /// its calls agree, and stay.
-    pub(crate) fn agree(&mut self, lists: &mut Lists<L>, book: &Book)
-        requires { AreListsOf book.now.history lists.old }
-        ensures kept { self.new ≡ self.old }
-        ensures lists { lists.new ≡ lists.old }
-        ensures calls { calls_of self.old.number book.now.history ≡ self.old.calls }
-        ensures legal { IsReached book.now }
-    {
-        history_is_legal(book);
-        let number = self.number;
-        lists.follow(&mut self.copy, book, number);
-    }
-
-    /// The case of an addition over the clauses that the seat holds as it knows by itself: none where it has groups, where
-    /// its number may be bound, where one that it names isn't known, where the seat has left, or where a growth was refused.
-    pub(crate) fn case(&mut self, formula: &Formula, addition: &Addition) -> Option<Case>
-        ensures seat { IfSome result (λ case. case.seat ≡ self.old.number) }
-        ensures own { IfSome result (λ case. case.own ≡ addition.now.number) }
-        ensures lemma { IfSome result (λ case. case.lemma ≡ addition.now.lemma) }
-        ensures hints { IfSome result (λ case. length case.hints ≡ length addition.now.hints) }
-        ensures groups { OnSome result (length addition.now.groups ≡ 0) }
-        ensures here { OnSome result (has_left self.old.calls ≡ false) }
+    /// The test of a line by what the seat sees. Only an addition is tested.
+    ///
+    /// # Errors
+    /// [`Refusal::NumberTaken`], [`Refusal::UnknownNumber`], [`Refusal::HintNotUnit`], and [`Refusal::NoMemory`] where a growth
+    /// was refused.
+    pub(crate) fn test(&mut self, formula: &Formula, line: &Line) -> Result<Alone, Refusal>
+        requires { formula.now ≡ L.formula }
+        ensures tested { IfOk result (λ alone.
+            IsTestedAs self.old.view self.old.number line.now alone) }
+        ensures refusal { IfErr result (IsDecided (line_refusal self.old line.now)) }
         ensures kept { self.new ≡ self.old }
     {
-        if !self.here {
-            return None;
-        }
-        let seat = self.number;
-        let own = match &mut self.own {
-            Some(own) => own,
-            None => return None,
-        };
-        match own.case(formula, seat, addition) {
-            Ok(case) => case,
-            Err(_refused) => None,
+        match line {
+            Line::Add(addition) => self.test_addition(formula, addition),
+            Line::Delete(_) | Line::Import { .. } => Ok(Alone::Open),
         }
     }
 
-    /// Takes up the joint number with the clause of a lemma that the seat's own number was bound to.
-    pub(crate) fn take_up(&mut self, own: u64, joint: u64, lemma: &Lemma)
-        ensures { self.new ≡ self.old }
+    /// The test of an addition by what the seat sees.
+    ///
+    /// # Errors
+    /// As [`Seat::test`].
+    fn test_addition(&mut self, formula: &Formula, addition: &Addition) -> Result<Alone, Refusal>
+        requires { formula.now ≡ L.formula }
+        ensures closed { IfOk result (λ alone. IfClosed alone
+            (IsClosedAlone self.old.view self.old.number addition.now)) }
+        ensures refusal { IfErr result
+            (IsDecided (decided_refusal self.old.view self.old.number addition.now)) }
+        ensures kept { self.new ≡ self.old }
     {
-        let held = match &mut self.own {
-            Some(clauses) => clauses.share(own, joint, lemma).is_ok(),
-            None => return,
+        let Some(own) = &self.own else {
+            return Ok(Alone::Open);
         };
-        if !held {
-            self.own = None;
-        }
-    }
-
-    /// Gives up what the seat's own numbers were bound to.
-    pub(crate) fn give_up(&mut self, formula: &Formula, numbers: &Numbers)
-        ensures { self.new ≡ self.old }
-    {
-        let held = match &mut self.own {
-            Some(clauses) => clauses.give_up(formula, numbers).is_ok(),
-            None => return,
+        let seen = SeenClauses {
+            place: &self.place,
+            ahead: &[],
+            own,
+            formula,
         };
-        if !held {
-            self.own = None;
-        }
+        seen.test(addition, &mut self.marks)
     }
 
-    /// Gives all up.
-    pub(crate) fn forget(&mut self)
-        ensures { self.new ≡ self.old }
-    {
-        self.own = None;
-    }
-
-    /// Whether it doesn't know by itself what its own number is bound to, and would keep it.
-    pub(crate) fn lacks(&self, formula: &Formula, own: u64) -> bool {
-        match &self.own {
-            Some(clauses) => clauses.lacks(formula, own),
-            None => false,
-        }
-    }
-
-    /// Takes up the joint number with its clause that the seat's own number was bound to.
-    pub(crate) fn bind(&mut self, own: u64, joint: u64, clause: &ClauseView<'_>)
-        ensures { self.new ≡ self.old }
-    {
-        let held = match &mut self.own {
-            Some(clauses) => clauses.bind_lent(own, joint, clause).is_ok(),
-            None => return,
-        };
-        if !held {
-            self.own = None;
-        }
-    }
-
-    /// The seat's number, its share of the ledger, and its copy of the list of its calls.
+    /// The seat's number, its share of the ledger, and its copy of itself.
     pub(crate) fn into_parts(self) -> (u32, Share<L>, SeatCopy)
         ensures number { result.0 ≡ self.number }
         ensures parts { result.1.parts ≡ 1 }
         ensures amount { result.1.amount ≡ length self.calls }
-        ensures calls { result.2.calls ≡ self.calls }
+        ensures seat { result.2.seat ≡ self }
         ensures named { slice_get L.lists self.number ≡ Some result.2.name }
     {
-        (self.number, self.share, self.copy)
+        self.place.into_parts()
+    }
+}
+
+/// The clauses that a seat sees behind lines that aren't entered yet, lent.
+#[derive(Drop)]
+pub(crate) struct SeenClauses<'a, L: Opening> {
+    pub(crate) place: &'a Place<L>,
+    pub(crate) ahead: &'a [Numbered],
+    pub(crate) own: &'a OwnClauses,
+    pub(crate) formula: &'a Formula,
+}
+
+impl<'a, L: Opening> Model for SeenClauses<'a, L> {
+    ghost use Rattle.std.specs.Prelude.{◌≡◌, Some};
+    ghost use Rattle.lj_clause.specs.ClauseMap.{ClauseMap};
+    ghost use Rattle.lj_clause.specs.inner.Codes.{clause_map_code};
+    ghost use Rattle.lj_share.specs.inner.Seats.{clauses_seen};
+    ghost use Rattle.lj_share.specs.inner.Ahead.{AreKept, clauses_behind};
+
+    ghost Value = { ClauseMap };
+
+    ghost coded = { clause_map_code };
+
+    ghost view = { λ s. clauses_behind (clauses_seen s.place.now.view) s.ahead.now };
+
+    ghost invariant = { λ s. (s.formula.now ≡ L.formula)
+        × AreKept L.formula (Some s.own.now) s.place.now.view
+        (clauses_behind (clauses_seen s.place.now.view) s.ahead.now) };
+}
+
+impl<L: Opening> Clauses for SeenClauses<'_, L> {
+    ghost clauses = { λ s. s };
+
+    #[inline]
+    fn clause(&self, own: u64) -> Option<ClauseView<'_>> {
+        self.own.get(self.formula, own)
+    }
+}
+
+impl<L: Opening> SeenClauses<'_, L> {
+    /// How many hints a line reads that these clauses decide, so that it can be entered: an addition whose walk closes, or a
+    /// deletion, which reads none. None for other lines.
+    pub(crate) fn decide(&self, line: &Line, marks: &mut Marks) -> Option<usize>
+        ensures { IfSome result (IsTestedLine self.now line.now) }
+    {
+        match line {
+            Line::Add(addition) => closed(self.test(addition, marks)),
+            Line::Delete(_) => Some(0),
+            Line::Import { .. } => None,
+        }
+    }
+
+    /// The test of an addition.
+    ///
+    /// # Errors
+    /// As [`Seat::test`].
+    fn test(&self, addition: &Addition, marks: &mut Marks) -> Result<Alone, Refusal>
+        ensures closed { IfOk result (λ alone. IfClosed alone
+            (IsClosedBy self.now addition.now)) }
+        ensures refusal { IfErr result (IsRefusedBy self.now addition.now) }
+    {
+        walks_go_by_clauses();
+        let _ = &self.place;
+        let _ = &self.ahead;
+        if self.clause(addition.number).is_some() {
+            return Err(Refusal::NumberTaken);
+        }
+        if !addition.groups.is_empty() {
+            return Ok(Alone::Open);
+        }
+        if let Some(own) = self.first_unseen(&addition.hints) {
+            return Err(Refusal::UnknownNumber(own));
+        }
+        match walk_first(self, &addition.lemma, &addition.hints, marks) {
+            Ok(Ending::ClosedAfter(read)) => Ok(Alone::Closed(read)),
+            Ok(Ending::StaysOpen) => Ok(Alone::Open),
+            Ok(Ending::StuckAt(place)) => Err(Refusal::HintNotUnit(place)),
+            Err(refused) => Err(Refusal::NoMemory(refused)),
+        }
+    }
+
+    /// The first of these own numbers that is bound to no clause.
+    fn first_unseen(&self, numbers: &Numbers) -> Option<u64>
+        ensures { result ≡ first_unseen self.now numbers.now }
+    {
+        for own in numbers.iter() {
+            if self.clause(own).is_none() {
+                return Some(own);
+            }
+        }
+        None
+    }
+}
+
+/// After how many hints the walk closed, if it did.
+fn closed(test: Result<Alone, Refusal>) -> Option<usize>
+    ensures { IfSome result (λ read. test ≡ Ok (Closed read)) }
+{
+    match test {
+        Ok(Alone::Closed(read)) => Some(read),
+        Ok(Alone::Open) | Err(_) => None,
     }
 }

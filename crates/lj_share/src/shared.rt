@@ -1,31 +1,36 @@
 //! The shared book.
-ghost use Rattle.std.specs.Prelude.{◌≡◌, ◌==◌, ◌+◌, ◌<◌, [], length, map, drop, All, is_ok, OnOk, OnErr, OnSome, IfOk, IfErr, IfSome, None, Ok, Err, true, false};
+ghost use Rattle.std.specs.Prelude.{◌≡◌, ◌==◌, ◌+◌, ◌<◌, ◌≤◌, ◌++◌, [], length, map, take, slice_get, is_ok, OnOk, OnErr, OnSome, IfOk, IfErr, IfSome, None, Some};
 ghost use Rattle.lj_clause.specs.Truth.{IsUnsatisfiable};
 ghost use Rattle.lj_book.specs.declared.entry.Call.TheVariants as calls;
 ghost use Rattle.lj_book.specs.History.{IsReached};
-ghost use Rattle.lj_share.specs.Seats.{new_seats, making, entries_made, HasCallsOf, IsSeen};
-ghost use Rattle.lj_share.specs.Entries.{call_of, IsEntryOf};
-ghost use Rattle.lj_share.specs.inner.Seats.{AreListsOf};
-ghost use Rattle.lj_share.specs.inner.Telling.{IsTokenOf};
-ghost use Rattle.lj_share.specs.Refusals.{HoldsInAState, IsLineRefused, IsRefusedAlone, IsRefusedAt};
+ghost use Rattle.lj_book.specs.State.{opening};
 ghost use Rattle.lj_book.specs.Calls.{IsReply, take_reply, commit_reply, adopt_reply, leave_reply};
-ghost use Rattle.lj_text.specs.declared.line.Line.TheVariants as lines;
+ghost use Rattle.lj_share.specs.Entries.{call_of, IsEntryOf};
+ghost use Rattle.lj_share.specs.Refusals.{HoldsInAState, IsLineRefused, IsBindingRefused, IsRefusedAt};
+ghost use Rattle.lj_share.specs.Seats.{AreSeatsIn, IsMaking, IsSeen, entries_made, new_seats};
+ghost use Rattle.lj_share.specs.inner.Seats.{AreShown};
+ghost use Rattle.lj_share.specs.declared.numbered.Numbered.{Numbered};
+ghost use Rattle.lj_share.specs.inner.Telling.{IsTokenOf};
 
+use crate::ahead::test_ahead;
 use crate::blank::Blank;
 use crate::closed::Closed;
 use crate::copies::SeatCopy;
-use crate::desk::{Desk, Entered};
+use crate::desk::Desk;
 use crate::gate::{Gate, NoGate};
 use crate::lists::Lists;
+use crate::numbered::Numbered;
 use crate::opening::Opening;
+use crate::own_clauses::{OwnClauses, bind, follow};
+use crate::place::Place;
 use crate::seat::Seat;
 use crate::told::Told;
 use crate::verdict::{Note, Verdict};
 use lj_book::laws::history_is_legal;
-use lj_book::{Book, Call, Entry, Ready, Refusal, Verified};
+use lj_book::{Book, Entry, Refusal, Verified, seats_hold_the_formula};
 use lj_clause::{Clause, Formula, NoMemory};
-use lj_hint::{Case, Receipt, Tested};
-use lj_text::{Addition, Line, Numbers};
+use lj_hint::{Case, Receipt};
+use lj_text::{Addition, Line};
 use once_cell::race::OnceBox;
 use std::alloc::Global;
 use std::marker::Model;
@@ -38,8 +43,8 @@ const TRIES: u32 = 64;
 /// How many looks at the verdict lie between two tries.
 const LOOKS: u32 = 64;
 
-/// A book that its seats share, on as many threads as they are on. Additions over clauses that their seat knows
-/// are tested outside its lock.
+/// A book that its seats share, on as many threads as they are on. A line is tested outside its lock as far as what its seat
+/// sees decides it.
 #[derive(Drop)]
 pub struct Shared<L: Opening> {
     desk: Mutex<Desk<L>>,
@@ -59,7 +64,7 @@ impl<L: Opening> Model for Shared<L> {
 
     ghost view = { λ s. cell_name s.verdict };
 
-    ghost invariant = { λ s. s.seats ≡ L.seats };
+    ghost invariant = { λ s. (s.seats ≡ L.seats) × (s.formula ≡ L.formula) };
 }
 
 /// Not all seats were handed in: the shared book, and those that were.
@@ -72,7 +77,7 @@ pub struct SeatsOut<L: Opening> {
 impl<L: Opening> Shared<L> {
     /// A new book for so many seats, and the seats, by rising number. Each holds the clauses of the formula under their
     /// numbers. The history takes at most `max_steps` additions. The blank is the opening's, for so many seats. Takes the time
-    /// of [`Book::open`].
+    /// of [`Book::open`], and for each seat a byte for each clause of the formula.
     ///
     /// # Errors
     /// [`NoMemory`] where a growth was refused.
@@ -89,7 +94,7 @@ impl<L: Opening> Shared<L> {
         requires formula { formula ≡ L.formula }
         requires seats { (0 < seats) × (seats ≡ L.seats) }
         requires limit { max_steps ≡ L.max_steps }
-        ensures seats { IfOk result (λ opened. opened.1.items ≡ new_seats seats) }
+        ensures seats { IfOk result (λ opened. opened.1.items ≡ new_seats formula seats) }
     {
         let shown = formula.copy()?;
         let book = Book::open(alloc, formula, seats, max_steps)?;
@@ -99,9 +104,10 @@ impl<L: Opening> Shared<L> {
             seats: copies,
         } = blank;
         let (entries, mut rest) = ledger.open::<L>();
-        let out = seats_of(alloc, &mut rest, copies)?;
+        let mut lists = Lists::new(desk);
+        let out = seats_of(alloc, &mut rest, &mut lists, copies, &book, &shown)?;
         let shared = Shared {
-            desk: Mutex::new(Desk::new(alloc, book, entries, Lists::new(desk), rest)),
+            desk: Mutex::new(Desk::new(alloc, book, entries, lists, rest)),
             verdict: OnceBox::new(alloc),
             seats,
             formula: shown,
@@ -110,17 +116,17 @@ impl<L: Opening> Shared<L> {
         Ok((shared, out))
     }
 
-    /// Hands a line of the seat's prover to the book, and gives the token of its entry. An addition without groups whose hints
-    /// name clauses that the seat knows by itself is tested outside the lock and then committed; others, and those whose walk
-    /// stays open, are tested and entered under the lock. Takes O(log n) time for each number of the line and each literal
-    /// of its hints, amortized; under the lock, the time of [`Book::add_inside`], [`Book::import`] or
+    /// Hands a line of the seat's prover to the book, and gives the token of its entry. An addition without groups is tested outside
+    /// the lock, by what the seat sees, and then entered; another, and one whose walk stays open, is tested and entered under the
+    /// lock. Takes constant time for each number of the line and each literal of its hints, amortized, or O(log n) for numbers
+    /// beyond the slots; under the lock, the time of [`Book::add_closed`], [`Book::add_inside`], [`Book::import`] or
     /// [`Book::drop_numbers`].
     ///
     /// # Errors
     /// The refusals of [`Book`]'s calls.
     pub fn submit<R: Wait>(&self, rt: &R, seat: &mut Seat<L>, line: &Line) -> Result<Told, Refusal>
         ensures told { IfOk result (λ told. IsEntryOf seat.old.number (call_of line.now) told) }
-        ensures made { OnOk result (seat.new ≡ making (call_of line.now) seat.old) }
+        ensures made { OnOk result (IsMaking (call_of line.now) seat.old seat.new) }
         ensures kept { OnErr result (seat.new ≡ seat.old) }
         ensures refusal { IfErr result (IsLineRefused L.formula L.seats L.max_steps seat.old
             line.now) }
@@ -142,7 +148,7 @@ impl<L: Opening> Shared<L> {
         gate: &G,
     ) -> Result<Told, Refusal>
         ensures told { IfOk result (λ told. IsEntryOf seat.old.number (call_of line.now) told) }
-        ensures made { OnOk result (seat.new ≡ making (call_of line.now) seat.old) }
+        ensures made { OnOk result (IsMaking (call_of line.now) seat.old seat.new) }
         ensures kept { OnErr result (seat.new ≡ seat.old) }
         ensures refusal { IfErr result (IsLineRefused L.formula L.seats L.max_steps seat.old
             line.now) }
@@ -166,13 +172,118 @@ impl<L: Opening> Shared<L> {
         at: u64,
         gate: &G,
     ) -> Result<(), Refusal>
-        ensures made { OnOk result (seat.new ≡ making (call_of line.now) seat.old) }
+        ensures made { OnOk result (IsMaking (call_of line.now) seat.old seat.new) }
         ensures kept { OnErr result (seat.new ≡ seat.old) }
         ensures refusal { IfErr result (IsLineRefused L.formula L.seats L.max_steps seat.old
             line.now) }
     {
         self.hand_in(rt, seat, line, at, gate, false)?;
         Ok(())
+    }
+
+    /// Hands in lines of the seat's prover, in order, each as [`Shared::enter_at`] does, up to the first that is refused; gives how
+    /// many were entered, and the refusal of the next one. Lines that what the seat sees decides are tested outside the lock, and
+    /// then entered in one hold of it. Takes the time of [`Shared::enter_at`] for each of them, and a number more.
+    pub fn enter_lines<R: Wait, G: Gate>(
+        &self,
+        rt: &R,
+        seat: &mut Seat<L>,
+        lines: &[Numbered],
+        gate: &G,
+    ) -> (usize, Option<Refusal>)
+        ensures number { seat.new.number ≡ seat.old.number }
+        ensures calls { seat.new.calls
+            ≡ seat.old.calls ++ map (λ l. call_of l.line) (take result.0 lines.now) }
+        ensures all { result.1 ≡ None → result.0 ≡ length lines.now }
+        ensures refused { IfSome result.1 (λ e. (line : Numbered)
+            × (slice_get lines.now result.0 ≡ Some line)
+            × IsLineRefused L.formula L.seats L.max_steps seat.new line.line e) }
+    {
+        let mut reads = self.reads(lines.len());
+        let mut done = 0;
+        for _ in 0..lines.len() {
+            let (entered, refusal) = self.enter_some(rt, seat, &lines[done..], &mut reads, gate);
+            done += entered;
+            if refusal.is_some() {
+                return (done, refusal);
+            }
+            if done == lines.len() {
+                return (done, None);
+            }
+        }
+        (done, None)
+    }
+
+    /// Room for how many hints each of so many lines reads; none where memory for it was refused.
+    fn reads(&self, lines: usize) -> Vec<usize> {
+        match Vec::from_elem(self.alloc, 0, lines) {
+            Ok(reads) => reads,
+            Err(_) => Vec::new(self.alloc),
+        }
+    }
+
+    /// Enters the first of these lines: those that what the seat sees decides, and one line more.
+    fn enter_some<R: Wait, G: Gate>(
+        &self,
+        rt: &R,
+        seat: &mut Seat<L>,
+        lines: &[Numbered],
+        reads: &mut [usize],
+        gate: &G,
+    ) -> (usize, Option<Refusal>)
+        ensures number { seat.new.number ≡ seat.old.number }
+        ensures calls { seat.new.calls
+            ≡ seat.old.calls ++ map (λ l. call_of l.line) (take result.0 lines.now) }
+        ensures within { result.0 ≤ length lines.now }
+        ensures some { result.1 ≡ None → 0 < length lines.now → 0 < result.0 }
+        ensures refused { IfSome result.1 (λ e. (line : Numbered)
+            × (slice_get lines.now result.0 ≡ Some line)
+            × IsLineRefused L.formula L.seats L.max_steps seat.new line.line e) }
+    {
+        let (entered, refusal) = self.enter_tested(rt, seat, lines, reads, gate);
+        if refusal.is_some() {
+            return (entered, refusal);
+        }
+        let Some(next) = lines.get(entered) else {
+            return (entered, None);
+        };
+        match self.enter_at(rt, seat, &next.line, next.at, gate) {
+            Ok(()) => (entered + 1, None),
+            Err(refusal) => (entered, Some(refusal)),
+        }
+    }
+
+    /// Enters the first of these lines, as far as what the seat sees decides them, in one hold of the lock. Where one is
+    /// refused, the seat keeps its clauses no longer.
+    fn enter_tested<R: Wait, G: Gate>(
+        &self,
+        rt: &R,
+        seat: &mut Seat<L>,
+        lines: &[Numbered],
+        reads: &mut [usize],
+        gate: &G,
+    ) -> (usize, Option<Refusal>)
+        ensures number { seat.new.number ≡ seat.old.number }
+        ensures calls { seat.new.calls
+            ≡ seat.old.calls ++ map (λ l. call_of l.line) (take result.0 lines.now) }
+        ensures within { result.0 ≤ length lines.now }
+        ensures refused { IfSome result.1 (λ e. (line : Numbered)
+            × (slice_get lines.now result.0 ≡ Some line)
+            × IsLineRefused L.formula L.seats L.max_steps seat.new line.line e) }
+    {
+        let number = seat.number();
+        let Seat { place, own, marks } = seat;
+        let count = test_ahead(place, own, &self.formula, marks, lines, reads);
+        if count == 0 {
+            return (0, None);
+        }
+        pass_all(gate, number, &lines[..count]);
+        let mut desk = self.desk(rt);
+        let (entered, refusal) = desk.enter_tested(place, lines, reads, count);
+        self.release(desk);
+        answered_all(gate, number, &lines[..count]);
+        keep_unless(own, &refusal);
+        (entered, refusal)
     }
 
     /// Hands a line in, and gives its token where one is asked for.
@@ -186,213 +297,26 @@ impl<L: Opening> Shared<L> {
         telling: bool,
     ) -> Result<Option<Told>, Refusal>
         ensures told { IfOk result (IsTokenOf telling seat.old.number (call_of line.now)) }
-        ensures made { OnOk result (seat.new ≡ making (call_of line.now) seat.old) }
+        ensures made { OnOk result (IsMaking (call_of line.now) seat.old seat.new) }
         ensures kept { OnErr result (seat.new ≡ seat.old) }
         ensures refusal { IfErr result (IsLineRefused L.formula L.seats L.max_steps seat.old
             line.now) }
     {
         let number = seat.number();
-        let answer = match line {
-            Line::Add(addition) => {
-                let entered = self.submit_addition(rt, seat, addition, at, gate, telling)?;
-                seat.take_up(addition.number, entered.joint, &addition.lemma);
-                return Ok(entered.told);
-            }
-            Line::Delete(numbers) => {
-                gate.pass(number, at);
-                self.drop_numbers(rt, seat, numbers, telling)
-            }
-            Line::Import {
-                number: own,
-                clause,
-            } => {
-                gate.pass(number, at);
-                self.import(rt, seat, *own, clause, telling)
-            }
-        };
-        gate.answered(number, at);
-        answer
-    }
-
-    /// Gives own numbers of the seat up.
-    fn drop_numbers<R: Wait>(
-        &self,
-        rt: &R,
-        seat: &mut Seat<L>,
-        numbers: &Numbers,
-        telling: bool,
-    ) -> Result<Option<Told>, Refusal>
-        ensures told { IfOk result
-            (IsTokenOf telling seat.old.number (calls.Drop numbers.now)) }
-        ensures made { OnOk result (seat.new ≡ making (calls.Drop numbers.now) seat.old) }
-        ensures kept { OnErr result (seat.new ≡ seat.old) }
-        ensures refusal { IfErr result (IsLineRefused L.formula L.seats L.max_steps seat.old
-            (lines.Delete numbers.now)) }
-    {
-        let mut desk = self.desk(rt);
-        let told = desk.drop_numbers(seat, numbers, telling);
-        self.release(desk);
-        if told.is_ok() {
-            seat.give_up(&self.formula, numbers);
-        }
-        told
-    }
-
-    /// Binds the seat's own number to a live clause with exactly these literals.
-    fn import<R: Wait>(
-        &self,
-        rt: &R,
-        seat: &mut Seat<L>,
-        own: u64,
-        clause: &Clause,
-        telling: bool,
-    ) -> Result<Option<Told>, Refusal>
-        ensures told { IfOk result
-            (IsTokenOf telling seat.old.number (calls.Import own clause.now)) }
-        ensures made { OnOk result (seat.new ≡ making (calls.Import own clause.now) seat.old) }
-        ensures kept { OnErr result (seat.new ≡ seat.old) }
-        ensures refusal { IfErr result (IsLineRefused L.formula L.seats L.max_steps seat.old
-            (lines.Import own clause.now)) }
-    {
-        let mut desk = self.desk.lock(rt);
-        let told = desk.import(seat, own, clause, telling);
-        self.release(desk);
-        told
-    }
-
-    /// The receipt of an addition over the clauses that the seat holds as it knows by itself: none where they don't tell.
-    ///
-    /// # Errors
-    /// [`Refusal::HintNotUnit`].
-    fn receipt_alone(
-        &self,
-        seat: &mut Seat<L>,
-        addition: &Addition,
-    ) -> Result<Option<Receipt>, Refusal>
-        ensures seat { IfOk result
-            (λ receipt. IfSome receipt (λ r. r.seat ≡ seat.old.number)) }
-        ensures own { IfOk result
-            (λ receipt. IfSome receipt (λ r. r.own ≡ addition.now.number)) }
-        ensures lemma { IfOk result
-            (λ receipt. IfSome receipt (λ r. r.lemma ≡ addition.now.lemma)) }
-        ensures refusal { IfErr result (IsRefusedAlone seat.old (lines.Add addition.now)) }
-        ensures kept { seat.new ≡ seat.old }
-    {
-        let Some(case) = seat.case(&self.formula, addition) else {
-            return Ok(None);
-        };
-        match case.test(&mut seat.marks) {
-            Tested::Closed(receipt) => Ok(Some(receipt)),
-            Tested::Stuck(place) => Err(Refusal::HintNotUnit(place)),
-            Tested::Open(_) | Tested::NoMemory(_, _) => Ok(None),
-        }
-    }
-
-    /// Enters the lemma of a receipt of this seat, if its commit isn't refused.
-    fn commit_alone<R: Wait>(
-        &self,
-        rt: &R,
-        seat: &mut Seat<L>,
-        receipt: Receipt,
-        telling: bool,
-    ) -> Option<Entered>
-        requires { receipt.seat ≡ seat.old.number }
-        ensures told { IfSome result (λ entered. IsTokenOf telling seat.old.number
-            (calls.Add receipt.own receipt.lemma) entered.told) }
-        ensures made { OnSome result
-            (seat.new ≡ making (calls.Add receipt.own receipt.lemma) seat.old) }
-        ensures kept { result ≡ None → seat.new ≡ seat.old }
-    {
-        let made = if telling {
-            self.commit_telling(rt, seat, receipt)
-        } else {
-            self.commit_ready(rt, seat, receipt)
-        };
-        match made {
-            Ok(entered) => Some(entered),
-            Err(_refusal) => None,
-        }
-    }
-
-    /// Tests an addition over the clauses that the seat holds as it knows by itself, and enters it. Where its walk stays open, or
-    /// the commit is refused, it is tested under the lock: so each refusal but that of a stuck walk is the book's own.
-    fn submit_addition<R: Wait, G: Gate>(
-        &self,
-        rt: &R,
-        seat: &mut Seat<L>,
-        addition: &Addition,
-        at: u64,
-        gate: &G,
-        telling: bool,
-    ) -> Result<Entered, Refusal>
-        ensures told { IfOk result (λ entered. IsTokenOf telling seat.old.number
-            (calls.Add addition.now.number addition.now.lemma) entered.told) }
-        ensures made { OnOk result
-            (seat.new ≡ making (calls.Add addition.now.number addition.now.lemma) seat.old) }
-        ensures kept { OnErr result (seat.new ≡ seat.old) }
-        ensures refusal { IfErr result (IsLineRefused L.formula L.seats L.max_steps seat.old
-            (lines.Add addition.now)) }
-    {
-        let number = seat.number();
-        let receipt = self.receipt_alone(seat, addition)?;
+        let alone = seat.test(&self.formula, line)?;
         gate.pass(number, at);
-        let answer = self.enter_addition(rt, seat, addition, receipt, telling);
-        gate.answered(number, at);
-        answer
-    }
-
-    /// Enters an addition by its receipt, or else tests it under the lock, and enters it.
-    fn enter_addition<R: Wait>(
-        &self,
-        rt: &R,
-        seat: &mut Seat<L>,
-        addition: &Addition,
-        receipt: Option<Receipt>,
-        telling: bool,
-    ) -> Result<Entered, Refusal>
-        requires seat { IfSome receipt (λ receipt. receipt.seat ≡ seat.old.number) }
-        requires own { IfSome receipt (λ receipt. receipt.own ≡ addition.now.number) }
-        requires lemma { IfSome receipt (λ receipt. receipt.lemma ≡ addition.now.lemma) }
-        ensures told { IfOk result (λ entered. IsTokenOf telling seat.old.number
-            (calls.Add addition.now.number addition.now.lemma) entered.told) }
-        ensures made { OnOk result
-            (seat.new ≡ making (calls.Add addition.now.number addition.now.lemma) seat.old) }
-        ensures kept { OnErr result (seat.new ≡ seat.old) }
-        ensures refusal { IfErr result (IsLineRefused L.formula L.seats L.max_steps seat.old
-            (lines.Add addition.now)) }
-    {
-        let Some(receipt) = receipt else {
-            return self.add_inside(rt, seat, addition, telling);
-        };
-        match self.commit_alone(rt, seat, receipt, telling) {
-            Some(entered) => Ok(entered),
-            None => self.add_inside(rt, seat, addition, telling),
-        }
-    }
-
-    /// Tests an addition under the lock, and enters it.
-    fn add_inside<R: Wait>(
-        &self,
-        rt: &R,
-        seat: &mut Seat<L>,
-        addition: &Addition,
-        telling: bool,
-    ) -> Result<Entered, Refusal>
-        ensures told { IfOk result (λ entered. IsTokenOf telling seat.old.number
-            (calls.Add addition.now.number addition.now.lemma) entered.told) }
-        ensures made { OnOk result
-            (seat.new ≡ making (calls.Add addition.now.number addition.now.lemma) seat.old) }
-        ensures kept { OnErr result (seat.new ≡ seat.old) }
-        ensures refusal { IfErr result (IsLineRefused L.formula L.seats L.max_steps seat.old
-            (lines.Add addition.now)) }
-    {
+        let Seat {
+            place,
+            own,
+            marks: _,
+        } = seat;
         let mut desk = self.desk(rt);
-        let entered = desk.add_inside(seat, addition, telling);
-        if entered.is_ok() {
-            desk.show_hints(seat, &self.formula, addition);
-        }
+        let answer = desk.enter(place, line, alone, telling);
         self.release(desk);
-        entered
+        gate.answered(number, at);
+        let told = answer?;
+        follow(own, line);
+        Ok(told)
     }
 
     /// An addition under the seat's numbers as a case in joint numbers, which can be tested without the book. Takes time
@@ -413,7 +337,7 @@ impl<L: Opening> Shared<L> {
         ensures lemma { IfOk result (λ case. case.lemma ≡ addition.now.lemma) }
         ensures kept { seat.new ≡ seat.old }
     {
-        self.desk.lock(rt).take(seat, addition)
+        self.desk.lock(rt).take(&mut seat.place, addition)
     }
 
     /// Enters the lemma of a receipt of this seat, while the clauses that it lists still live. Takes O(log n) time for each of
@@ -429,108 +353,30 @@ impl<L: Opening> Shared<L> {
     ) -> Result<Told, (Refusal, Receipt)>
         requires { receipt.seat ≡ seat.old.number }
         ensures told { IfOk result
-            (λ told. IsEntryOf seat.old.number (calls.Add receipt.own receipt.lemma) told) }
+            (IsEntryOf seat.old.number (calls.Add receipt.own receipt.lemma)) }
         ensures made { OnOk result
-            (seat.new ≡ making (calls.Add receipt.own receipt.lemma) seat.old) }
+            (IsMaking (calls.Add receipt.own receipt.lemma) seat.old seat.new) }
         ensures kept { OnErr result (seat.new ≡ seat.old) }
         ensures back { IfErr result (λ e. e.1 ≡ receipt) }
-        ensures refusal { IfErr result (λ e. IsRefusedAt L.formula L.seats L.max_steps seat.old
-            (λ s. commit_reply s receipt) e.0) }
+        ensures refusal { IfErr result (λ e. IsBindingRefused L.formula L.seats L.max_steps seat.old
+            receipt.own (λ s. commit_reply s receipt) e.0) }
     {
-        let (joint, told) = self.commit_taken(rt, seat, receipt)?;
-        if let Call::Add { own, lemma } = &told.entry.call {
-            seat.take_up(*own, joint, lemma);
-        }
-        Ok(told)
-    }
-
-    /// Enters the lemma of a receipt of this seat, and tells its joint number and its token.
-    fn commit_taken<R: Wait>(
-        &self,
-        rt: &R,
-        seat: &mut Seat<L>,
-        receipt: Receipt,
-    ) -> Result<(u64, Told), (Refusal, Receipt)>
-        requires { receipt.seat ≡ seat.old.number }
-        ensures told { IfOk result
-            (λ made. IsEntryOf seat.old.number (calls.Add receipt.own receipt.lemma) made.1) }
-        ensures made { OnOk result
-            (seat.new ≡ making (calls.Add receipt.own receipt.lemma) seat.old) }
-        ensures kept { OnErr result (seat.new ≡ seat.old) }
-        ensures back { IfErr result (λ e. e.1 ≡ receipt) }
-        ensures refusal { IfErr result (λ e. IsRefusedAt L.formula L.seats L.max_steps seat.old
-            (λ s. commit_reply s receipt) e.0) }
-    {
-        let mut desk = self.desk.lock(rt);
-        let made = desk.commit(seat, receipt);
-        self.release(desk);
-        made
-    }
-
-    /// The same, where a refused commit gives no receipt back.
-    fn commit_telling<R: Wait>(
-        &self,
-        rt: &R,
-        seat: &mut Seat<L>,
-        receipt: Receipt,
-    ) -> Result<Entered, Refusal>
-        requires { receipt.seat ≡ seat.old.number }
-        ensures told { IfOk result (λ entered. IsTokenOf true seat.old.number
-            (calls.Add receipt.own receipt.lemma) entered.told) }
-        ensures made { OnOk result
-            (seat.new ≡ making (calls.Add receipt.own receipt.lemma) seat.old) }
-        ensures kept { OnErr result (seat.new ≡ seat.old) }
-    {
-        match self.commit_taken(rt, seat, receipt) {
-            Ok((joint, told)) => Ok(Entered {
-                joint,
-                told: Some(told),
-            }),
-            Err((refusal, _receipt)) => Err(refusal),
-        }
-    }
-
-    /// Enters the lemma of a receipt of this seat, without a token. What its entry takes is made before the lock is taken, and
-    /// the receipt is let go of after.
-    fn commit_ready<R: Wait>(
-        &self,
-        rt: &R,
-        seat: &mut Seat<L>,
-        receipt: Receipt,
-    ) -> Result<Entered, Refusal>
-        requires { receipt.seat ≡ seat.old.number }
-        ensures told { IfOk result (λ entered. IsTokenOf false seat.old.number
-            (calls.Add receipt.own receipt.lemma) entered.told) }
-        ensures made { OnOk result
-            (seat.new ≡ making (calls.Add receipt.own receipt.lemma) seat.old) }
-        ensures kept { OnErr result (seat.new ≡ seat.old) }
-    {
-        let ready = match Ready::new(self.alloc, receipt) {
-            Ok(ready) => ready,
-            Err((refused, _receipt)) => return Err(Refusal::NoMemory(refused)),
+        let own = receipt.own();
+        let clause = match receipt.lemma().clause().copy() {
+            Ok(clause) => clause,
+            Err(refused) => return Err((Refusal::NoMemory(refused), receipt)),
         };
-        match self.commit_outside(rt, seat, ready) {
-            Ok((joint, _receipt)) => Ok(Entered { joint, told: None }),
-            Err((refusal, _receipt)) => Err(refusal),
-        }
-    }
-
-    /// Enters the lemma of a receipt that has what its entry takes, and gives the receipt back.
-    fn commit_outside<R: Wait>(
-        &self,
-        rt: &R,
-        seat: &mut Seat<L>,
-        ready: Ready,
-    ) -> Result<(u64, Receipt), (Refusal, Receipt)>
-        requires { ready.seat ≡ seat.old.number }
-        ensures made { OnOk result
-            (seat.new ≡ making (calls.Add ready.own ready.lemma) seat.old) }
-        ensures kept { OnErr result (seat.new ≡ seat.old) }
-    {
-        let mut desk = self.desk(rt);
-        let made = desk.commit_ready(seat, ready);
+        let Seat {
+            place,
+            own: kept,
+            marks: _,
+        } = seat;
+        let mut desk = self.desk.lock(rt);
+        let answer = desk.commit(place, receipt);
         self.release(desk);
-        made
+        let told = answer?;
+        bind(kept, own, &clause);
+        Ok(told)
     }
 
     /// Binds the seat's own number to a joint number that lives. Takes the time of [`Book::adopt`], and time linear in the
@@ -545,15 +391,19 @@ impl<L: Opening> Shared<L> {
         own: u64,
         joint: u64,
     ) -> Result<Told, Refusal>
-        ensures told { IfOk result
-            (λ told. IsEntryOf seat.old.number (calls.Adopt own joint) told) }
-        ensures made { OnOk result (seat.new ≡ making (calls.Adopt own joint) seat.old) }
+        ensures told { IfOk result (IsEntryOf seat.old.number (calls.Adopt own joint)) }
+        ensures made { OnOk result (IsMaking (calls.Adopt own joint) seat.old seat.new) }
         ensures kept { OnErr result (seat.new ≡ seat.old) }
-        ensures refusal { IfErr result (IsRefusedAt L.formula L.seats L.max_steps seat.old
+        ensures refusal { IfErr result (IsBindingRefused L.formula L.seats L.max_steps seat.old own
             (λ s. adopt_reply s seat.old.number own joint)) }
     {
+        let Seat {
+            place,
+            own: kept,
+            marks: _,
+        } = seat;
         let mut desk = self.desk.lock(rt);
-        let told = desk.adopt(seat, own, joint);
+        let told = desk.adopt(self.alloc, place, kept, own, joint);
         self.release(desk);
         told
     }
@@ -564,17 +414,22 @@ impl<L: Opening> Shared<L> {
     /// # Errors
     /// As [`Book::leave`].
     pub fn leave<R: Wait>(&self, rt: &R, seat: &mut Seat<L>) -> Result<Told, Refusal>
-        ensures told { IfOk result (λ told. IsEntryOf seat.old.number calls.Leave told) }
-        ensures made { OnOk result (seat.new ≡ making calls.Leave seat.old) }
+        ensures told { IfOk result (IsEntryOf seat.old.number calls.Leave) }
+        ensures made { OnOk result (IsMaking calls.Leave seat.old seat.new) }
         ensures kept { OnErr result (seat.new ≡ seat.old) }
         ensures refusal { IfErr result (IsRefusedAt L.formula L.seats L.max_steps seat.old
             (λ s. leave_reply s seat.old.number)) }
     {
+        let Seat {
+            place,
+            own,
+            marks: _,
+        } = seat;
         let mut desk = self.desk.lock(rt);
-        let told = desk.leave(seat);
+        let told = desk.leave(place);
         self.release(desk);
         if told.is_ok() {
-            seat.forget();
+            *own = None;
         }
         told
     }
@@ -662,7 +517,7 @@ impl<L: Opening> Shared<L> {
         ensures all { is_ok result ≡ (length seats.items == L.seats) }
         ensures legal { IfOk result (λ closed. IsReached closed) }
         ensures entries { IfOk result (λ closed. length closed.history ≡ entries_made seats.items) }
-        ensures calls { IfOk result (λ closed. HasCallsOf closed.history seats.items) }
+        ensures seats { IfOk result (λ closed. AreSeatsIn closed seats.items) }
         ensures out { IfErr result (λ out. out.seats.items ≡ seats.items) }
     {
         if seats.len() as u64 != u64::from(self.seats) {
@@ -679,45 +534,79 @@ impl<L: Opening> Shared<L> {
     }
 }
 
-/// The seats of an opening, by rising number, each with a part of the ledger and one of these copies.
+/// What is called before lines are handed to the book.
+fn pass_all<G: Gate>(gate: &G, seat: u32, lines: &[Numbered]) {
+    for line in lines {
+        gate.pass(seat, line.at);
+    }
+}
+
+/// What is called once the answers to lines stand.
+fn answered_all<G: Gate>(gate: &G, seat: u32, lines: &[Numbered]) {
+    for line in lines {
+        gate.answered(seat, line.at);
+    }
+}
+
+/// Where a line was refused, nothing is kept any more.
+fn keep_unless(kept: &mut Option<OwnClauses>, refusal: &Option<Refusal>)
+    ensures all { refusal.now ≡ None → kept.new ≡ kept.old }
+    ensures refused { OnSome refusal.now (kept.new ≡ None) }
+{
+    if refusal.is_some() {
+        *kept = None;
+    }
+}
+
+/// The seats of a new book of a formula, by rising number, each with a part of the ledger and one of these copies, which shows it.
 ///
 /// # Errors
 /// [`NoMemory`] where a growth was refused.
 fn seats_of<L: Opening>(
     alloc: Global,
     rest: &mut Share<L>,
+    lists: &mut Lists<L>,
     copies: Vec<SeatCopy>,
+    book: &Book,
+    formula: &Formula,
 ) -> Result<Vec<Seat<L>>, NoMemory>
     requires parts { rest.old.parts ≡ length copies.items }
     requires few { length copies.items < 4294967296 }
     requires amount { rest.old.amount ≡ 0 }
     requires named { map (λ c. c.name) copies.items ≡ L.lists }
-    requires none { All (λ c. c.calls ≡ []) copies.items }
-    ensures seats { IfOk result (λ out. out.items ≡ new_seats (length copies.items)) }
+    requires many { length lists.old ≡ length copies.items }
+    requires formula { formula.now ≡ L.formula }
+    requires opened { book.now
+        ≡ opening formula.now (length copies.items) book.now.max_steps }
+    ensures seats { IfOk result (λ out. out.items ≡ new_seats formula.now (length copies.items)) }
+    ensures shown { OnOk result (AreShown book.now lists.new) }
     ensures parts { OnOk result (rest.new.parts ≡ 0) }
     ensures amount { OnOk result (rest.new.amount ≡ 0) }
 {
+    seats_hold_the_formula();
     let mut out = Vec::new(alloc);
     let mut number = 0;
     for copy in copies {
-        let share = rest.split_off(1, 0);
-        out.push(Seat::new(alloc, number, share, copy))?;
+        let mut shown = copy;
+        lists.follow(&mut shown, book, number);
+        let place = Place::new(number, rest.split_off(1, 0), shown);
+        out.push(Seat::new(alloc, place, OwnClauses::new(alloc, formula)?))?;
         number += 1;
     }
     Ok(out)
 }
 
-/// The shares of these seats, put together with the rest. Their copies of the lists of their calls agree with those of the desk.
+/// The shares of these seats, put together with the rest. Their copies agree with those of the desk.
 fn gathered<L: Opening>(
     book: &Book,
     lists: &mut Lists<L>,
     mut rest: Share<L>,
     seats: Vec<Seat<L>>,
 ) -> Share<L>
-    requires { AreListsOf book.now.history lists.old }
+    requires { AreShown book.now lists.old }
     ensures parts { result.parts ≡ rest.parts + length seats.items }
     ensures amount { result.amount ≡ rest.amount + entries_made seats.items }
-    ensures calls { HasCallsOf book.now.history seats.items }
+    ensures seats { AreSeatsIn book.now seats.items }
 {
     for seat in seats {
         let (number, share, mut copy) = seat.into_parts();

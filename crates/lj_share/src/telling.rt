@@ -3,9 +3,11 @@ ghost use Rattle.std.specs.Prelude.{◌≡◌, IfOk, IfErr, OnOk, OnErr};
 ghost use Rattle.lj_book.specs.Calls.{IsRefusal, drop_entry, drop_reply, import_entry, import_reply};
 ghost use Rattle.lj_book.specs.History.{after_entry};
 ghost use Rattle.lj_book.specs.Inside.{inside_entry, inside_reply};
-ghost use Rattle.lj_share.specs.inner.Telling.{IsAsked};
+ghost use Rattle.lj_book.specs.Solo.{view_of};
+ghost use Rattle.lj_book.specs.Views.{IsClosedAlone};
+ghost use Rattle.lj_share.specs.inner.Telling.{Finds, IsAsked};
 
-use lj_book::{Added, Book, Entry, Imported, Refusal};
+use lj_book::{Book, Entry, Refusal};
 use lj_clause::Clause;
 use lj_hint::Marks;
 use lj_text::{Addition, Numbers};
@@ -20,20 +22,45 @@ pub(crate) fn add_inside(
     addition: &Addition,
     marks: &mut Marks,
     telling: bool,
-) -> Result<(Added, Option<Entry>), Refusal>
+) -> Result<Option<Entry>, Refusal>
     ensures ok { OnOk result
         (book.new ≡ after_entry book.old (inside_entry book.old seat addition.now)) }
-    ensures told { IfOk result
-        (λ made. IsAsked telling (inside_entry book.old seat addition.now) made.1) }
+    ensures told { IfOk result (IsAsked telling (inside_entry book.old seat addition.now)) }
     ensures err { OnErr result (book.new ≡ book.old) }
     ensures refusal { IfErr result (λ e. IsRefusal e (inside_reply book.old seat addition.now)) }
 {
     if telling {
-        let (added, entry) = book.add_inside_telling(seat, addition, marks)?;
-        return Ok((added, Some(entry)));
+        let (_, entry) = book.add_inside_telling(seat, addition, marks)?;
+        return Ok(Some(entry));
     }
-    let added = book.add_inside(seat, addition, marks)?;
-    Ok((added, None))
+    book.add_inside(seat, addition, marks)?;
+    Ok(None)
+}
+
+/// Enters a seat's addition that closes by what the seat sees, after so many of its hints.
+///
+/// # Errors
+/// As [`Book::add_closed`].
+pub(crate) fn add_closed(
+    book: &mut Book,
+    seat: u32,
+    addition: &Addition,
+    read: usize,
+    telling: bool,
+) -> Result<Option<Entry>, Refusal>
+    requires { IsClosedAlone (view_of book.old seat) seat addition.now read }
+    ensures ok { OnOk result
+        (book.new ≡ after_entry book.old (inside_entry book.old seat addition.now)) }
+    ensures told { IfOk result (IsAsked telling (inside_entry book.old seat addition.now)) }
+    ensures err { OnErr result (book.new ≡ book.old) }
+    ensures refusal { IfErr result (λ e. IsRefusal e (inside_reply book.old seat addition.now)) }
+{
+    if telling {
+        let (_, entry) = book.add_closed_telling(seat, addition, read)?;
+        return Ok(Some(entry));
+    }
+    book.add_closed(seat, addition, read)?;
+    Ok(None)
 }
 
 /// Gives own numbers of a seat up.
@@ -70,17 +97,18 @@ pub(crate) fn import(
     own: u64,
     clause: &Clause,
     telling: bool,
-) -> Result<(Imported, Option<Entry>), Refusal>
+) -> Result<Option<Entry>, Refusal>
     ensures ok { OnOk result
         (book.new ≡ after_entry book.old (import_entry seat own clause.now)) }
-    ensures told { IfOk result (λ made. IsAsked telling (import_entry seat own clause.now) made.1) }
+    ensures told { IfOk result (IsAsked telling (import_entry seat own clause.now)) }
+    ensures found { OnOk result (Finds book.old clause.now) }
     ensures err { OnErr result (book.new ≡ book.old) }
     ensures refusal { IfErr result (λ e. IsRefusal e (import_reply book.old seat own clause.now)) }
 {
     if telling {
-        let (imported, entry) = book.import_telling(seat, own, clause)?;
-        return Ok((imported, Some(entry)));
+        let (_, entry) = book.import_telling(seat, own, clause)?;
+        return Ok(Some(entry));
     }
-    let imported = book.import(seat, own, clause)?;
-    Ok((imported, None))
+    book.import(seat, own, clause)?;
+    Ok(None)
 }

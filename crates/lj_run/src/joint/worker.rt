@@ -1,21 +1,22 @@
 //! The worker of one stream on a shared book.
-ghost use Rattle.std.specs.Prelude.{◌≡◌, [], IfOk, IfErr, OnOk, OnErr};
+ghost use Rattle.std.specs.Prelude.{◌≡◌, ◌≤◌, ◌+◌, [], length};
 ghost use Rattle.lj_clause.specs.Truth.{IsUnsatisfiable};
 ghost use Rattle.lj_text.specs.Streams.{source_state};
-ghost use Rattle.lj_share.specs.Entries.{call_of};
 ghost use Rattle.lj_share.specs.Refusals.{IsLineRefused};
-ghost use Rattle.lj_share.specs.Seats.{making};
 ghost use Rattle.lj_run.specs.Joint.{IsStreamBeside};
 ghost use Rattle.lj_run.specs.inner.Joint.{HasRun, report_of};
-ghost use Rattle.lj_run.specs.inner.Run.{IsCounted};
+ghost use Rattle.lj_run.specs.inner.Tally.{counted, with_lines};
+ghost use Rattle.lj_text.specs.declared.lines.fault.LineFaultKind.TheVariants as kinds;
+ghost use Rattle.lj_run.specs.declared.outcome.End.TheVariants as ends;
+ghost use Rattle.lj_run.specs.declared.outcome.LineEnd.TheVariants.{Fault};
 
+use crate::joint::block::{fill, take_back};
 use crate::outcome::{End, LineEnd, Report};
-use crate::reading::{PIECE, next_line};
+use crate::reading::{Miss, PIECE, next_line};
 use crate::stream::{Count, Tally, missed};
-use lj_book::Refusal;
-use lj_clause::MAX_VARIABLE;
-use lj_share::{Gate, Opening, Seat, Shared};
-use lj_text::{Line, LineReader, Source};
+use lj_clause::{MAX_VARIABLE, NoMemory};
+use lj_share::{Gate, Numbered, Opening, Seat, Shared};
+use lj_text::{Line, LineFaultKind, LineReader, Source};
 use std::alloc::Global;
 use std::sync::Wait;
 
@@ -51,7 +52,7 @@ pub(crate) fn run_worker<L: Opening, R: Wait, S: Source, G: Gate>(
     Ran { seat, report }
 }
 
-/// Enters the lines of a source, one after another, until the verdict stands, the source ends or a line isn't accepted.
+/// Enters the lines of a source, block after block, until the verdict stands, the source ends or a line isn't accepted.
 fn run_lines<L: Opening, R: Wait, S: Source, G: Gate>(
     rt: &R,
     alloc: Global,
@@ -70,6 +71,9 @@ fn run_lines<L: Opening, R: Wait, S: Source, G: Gate>(
     let mut reader = LineReader::new(alloc, MAX_VARIABLE);
     let mut room = [0; PIECE];
     let mut ended = false;
+    let mut lines = Vec::new(alloc);
+    // Of the next line, where the reader has met it behind a block.
+    let mut fault = None;
     let mut tally = Tally {
         added: 0,
         deleted: 0,
@@ -81,46 +85,49 @@ fn run_lines<L: Opening, R: Wait, S: Source, G: Gate>(
         if shared.verdict_seen(&mut note).is_some() {
             return tally.ending(End::Stopped);
         }
+        if let Some(behind) = fault {
+            return tally.ending(missed(Miss::AtFault(behind), reader.at()));
+        }
         let line = match next_line(rt, source, &mut reader, &mut ended, &mut room) {
             Ok(Some(line)) => line,
             Ok(None) => return tally.ending(End::Ended),
             Err(miss) => return tally.ending(missed(miss, reader.at())),
         };
-        match enter(rt, shared, gate, seat, &line, reader.at()) {
-            Ok(count) => {
-                tally.count(count, seat.count());
-                reader.reuse(line);
-            }
-            Err(refusal) => {
-                return tally.ending(End::Line(reader.at(), LineEnd::Refused(refusal)));
-            }
+        match fill(&mut lines, &mut reader, line) {
+            Ok(behind) => fault = behind,
+            Err(e) => return tally.ending(out_of_memory(reader.at(), e)),
         }
+        let (count, refusal) = shared.enter_lines(rt, seat, &lines, gate);
+        count_lines(&mut tally, &lines[..count], seat.count());
+        if let Some(refusal) = refusal {
+            return tally.ending(End::Line(lines[count].at, LineEnd::Refused(refusal)));
+        }
+        take_back(&mut lines, &mut reader);
     }
     unreachable!()
 }
 
-/// Enters the line of this number, and answers what it is counted as.
-fn enter<L: Opening, R: Wait, G: Gate>(
-    rt: &R,
-    shared: &Shared<L>,
-    gate: &G,
-    seat: &mut Seat<L>,
-    line: &Line,
-    at: u64,
-) -> Result<Count, Refusal>
-    ensures count { IfOk result (IsCounted line.now) }
-    ensures made { OnOk result (seat.new ≡ making (call_of line.now) seat.old) }
-    ensures kept { OnErr result (seat.new ≡ seat.old) }
-    ensures refusal { IfErr result (IsLineRefused L.formula L.seats L.max_steps seat.old
-        line.now) }
+/// The end of a stream for whose line of this number there is no memory.
+fn out_of_memory(at: u64, e: NoMemory) -> End
+    ensures { result ≡ ends.Line at (Fault (kinds.NoMemory e)) }
 {
-    shared.enter_at(rt, seat, line, at, gate)?;
-    Ok(count_of(line))
+    End::Line(at, LineEnd::Fault(LineFaultKind::NoMemory(e)))
+}
+
+/// Counts lines that were entered, where there are so many entries with them.
+fn count_lines(tally: &mut Tally, lines: &[Numbered], entries: u64)
+    requires { tally.old.added + tally.old.deleted + tally.old.imported + length lines.now
+        ≤ entries }
+    ensures { tally.new ≡ with_lines tally.old lines.now }
+{
+    for numbered in lines {
+        tally.count(count_of(&numbered.line), entries);
+    }
 }
 
 /// What a line is counted as.
 fn count_of(line: &Line) -> Count
-    ensures { IsCounted line.now result }
+    ensures { result ≡ counted line.now }
 {
     match line {
         Line::Add(_) => Count::Addition,

@@ -1,15 +1,14 @@
--- The two copies of a list of calls: each has one half of a name, which stands at the list. The halves agree, and the
--- name is set with both at hand.
-use Rattle.std.specs.Prelude.{ℕ, List}
-use Rattle.std.specs.Coded.{coded_list}
+-- The two copies of what a seat is: each has one half of a name, which stands at it. The halves agree, and the name is set with both at
+-- hand.
+use Rattle.std.specs.Prelude.{ℕ}
 use base.Fml.{Fml, fobs, fauth}
-use Rattle.lj_book.specs.declared.entry.Call.{Call}
-use Rattle.lj_book.specs.inner.Codes.{call_code}
+use Rattle.lj_share.specs.Seats.{SeatValue}
+use Rattle.lj_share.specs.inner.Codes.{seat_code}
 
 -- the half of the copy under the lock
-unfoldable pub desk_copy_owns : ℕ → List Call → Fml
-desk_copy_owns name calls = fauth name ((coded_list call_code).code calls)
+unfoldable pub desk_copy_owns : ℕ → SeatValue → Fml
+desk_copy_owns name seat = fauth name (seat_code.code seat)
 
 -- the half of the seat's copy
-unfoldable pub seat_copy_owns : ℕ → List Call → Fml
-seat_copy_owns name calls = fobs name ((coded_list call_code).code calls)
+unfoldable pub seat_copy_owns : ℕ → SeatValue → Fml
+seat_copy_owns name seat = fobs name (seat_code.code seat)

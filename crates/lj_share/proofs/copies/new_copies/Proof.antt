@@ -1,8 +1,8 @@
--- `new_copies` makes a name at the empty list, and gives each copy one half of it. Assumes `Logic`.
-use Rattle.std.proofs.Common.{List, [], ◌∷◌, ◌++◌, refl}
+-- `new_copies` makes a name at some seat, and gives each copy one half of it. Assumes `Logic`.
+use Rattle.std.proofs.Common.{List, [], ◌∷◌, ◌++◌, None, refl}
 use Rattle.std.proofs.raw_atomic.Walks.{proved}
-use Rattle.std.specs.Coded.{coded_list}
-use Rattle.lj_book.specs.inner.Codes.{call_code}
+use Rattle.lj_share.specs.Seats.{SeatValue}
+use Rattle.lj_share.specs.inner.Codes.{seat_code}
 use mir.Val.{Val, vstruct, vcons, vnil, of_list}
 use base.Fml.{fsep, feq}
 use types.Kit.{raw, ◌$◌, ◌∵◌, !, qed, move, keep, join, fjoin, fjoin3, fpack, feq_i, suffices, frame}
@@ -17,7 +17,7 @@ use denote.Struct.Owning.{shape}
 use denote.Struct.Struct.{Struct}
 use denote.Triple.Entry.{on_entry}
 use denote.Triple.Walked.{ends_at}
-use Rattle.lj_share.proofs.Facts.{tells, tells_last}
+use Rattle.lj_share.proofs.Facts.{tells_last}
 use Rattle.lj_share.specs.inner.Copies.{desk_copy_owns, seat_copy_owns}
 use Rattle.lj_share.specs.declared.copies.DeskCopy.{DeskCopy}
 use Rattle.lj_share.specs.declared.copies.SeatCopy.{SeatCopy}
@@ -30,6 +30,9 @@ use Rattle.lj_share.proofs.copies.new_copies.Code as code
 abbrev empty : Val
 empty = vstruct vnil
 
+abbrev nobody : SeatValue
+nobody = record { number = 0; calls = []; view = None }
+
 abbrev both : Val
 both = vstruct (vcons empty (vcons empty vnil))
 
@@ -41,8 +44,8 @@ new_copies_spec 𝓤 𝓛 𝓜 𝓡 wired =
     (λ κs. tt) (λ κs. tt) (λ κs qs bounds a g are.
     qed 𝓛 (raw (on_entry 𝓛 f.signature κs qs a tt) ∷ raw ((c κs a).requires g) ∷ []) ∵ keep ! [] $
     enter ! _ _ _ _ _ $ alloc_all ! (λ l. pass_all ! refl tt $
-    name_new ! tt ((coded_list call_code).code []) (λ γ.
-    let d : DeskCopy = record { name = γ; calls = [] } in let s : SeatCopy = record { name = γ; calls = [] } in
+    name_new ! tt (seat_code.code nobody) (λ γ.
+    let d : DeskCopy = record { name = γ; seat = nobody } in let s : SeatCopy = record { name = γ; seat = nobody } in
     sets ! (agg ! (no_more !)) refl (tt, tt) $ sets ! (agg ! (no_more !)) refl (tt, tt) $
     sets ! (agg ! (and_then ! (get ! refl) (and_then ! (get ! refl) (no_more !)))) refl (tt, (tt, (tt, tt))) $
     returns ! (look_at ! 0 refl) $ free_all ! refl $
@@ -55,4 +58,4 @@ new_copies_spec 𝓤 𝓛 𝓜 𝓡 wired =
     (λ vss. fsep (feq (List Val) (both ∷ []) (vstruct (of_list (vss.0 ++ (vss.1.0 ++ []))) ∷ [])) (owns (desk.the_row ∷ seat.the_row ∷ []) (d, (s, tt)) vss))
     (empty ∷ [], (empty ∷ [], tt)) $
     nothing ! $ join ! $ nothing ! $ join ! $ frame ! $
-    tells ! refl $ tells ! refl $ tells_last ! refl)))
+    tells_last ! refl)))

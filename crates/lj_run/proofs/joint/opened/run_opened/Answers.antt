@@ -2,7 +2,7 @@ use Rattle.std.proofs.Common.{rules, ◌≡◌, ◌+◌, [], length, sym, ap, �
 use Rattle.std.specs.Prelude.{All}
 use Rattle.std.specs.List.{zip, sum_by, list_all}
 use Rattle.lj_text.specs.Streams.{source_state}
-use Rattle.lj_share.specs.Seats.{SeatValue, entries_made}
+use Rattle.lj_share.specs.Seats.{SeatValue, entries_made, new_seats}
 use Rattle.lj_run.specs.InTurn.{streams_by_seat}
 use Rattle.lj_run.specs.inner.Joint.{is_confirmed}
 use Rattle.lj_run.specs.Joint.{IsBookOfRun, accepted_count}
@@ -13,10 +13,10 @@ use Rattle.lj_run.proofs.joint.opened.run_opened.Goals as goal
 pub run_all-requires-clause-seats : goal.run_all-requires-clause-seats
 run_all-requires-clause-seats g c = λ κs lives.
     let many = streams_counted c.args.streams.items c.args.closing c.len.result c.from.result (search rules) (search rules) in
-    ap length c.in_ok-shared.ensures.seats ∙ length-new_seats (c.len.result + c.from.result) ∙ many
+    ap length c.in_ok-shared.ensures.seats ∙ length-new_seats c.args.formula (c.len.result + c.from.result) ∙ many
 
 pub run_all-requires-clause-fresh : goal.run_all-requires-clause-fresh
-run_all-requires-clause-fresh g c = λ κs lives. subst (All (λ (s : SeatValue). s.calls ≡ [])) (sym c.in_ok-shared.ensures.seats) (fresh_seats (c.len.result + c.from.result))
+run_all-requires-clause-fresh g c = λ κs lives. subst (All (λ (s : SeatValue). s.calls ≡ [])) (sym c.in_ok-shared.ensures.seats) (fresh_seats c.args.formula (c.len.result + c.from.result))
 
 pub unreachable-requires : goal.unreachable-requires
 unreachable-requires g c =
@@ -24,7 +24,7 @@ unreachable-requires g c =
     let streams = streams_by_seat c.args.streams.items c.args.closing in
     let n = c.len.result + c.from.result in
     let many = streams_counted c.args.streams.items c.args.closing c.len.result c.from.result (search rules) (search rules) in
-    let seats = ap length c.in_ok-shared.ensures.seats ∙ length-new_seats n ∙ many in
+    let seats = ap length c.in_ok-shared.ensures.seats ∙ length-new_seats c.args.formula n ∙ many in
     let ran = as_many_ran seen g.L.Opening.formula g.L.Opening.seats g.L.Opening.max_steps (λ r. r.seat) (λ r. r.report) c.in_ok-shared.seats.items streams c.in_ok-ran.ran.items seats c.in_ok-ran.ensures in
     no_other_test (length c.in_ok-seats.seats.items) g.L.Opening.seats (ap length c.in_ok-seats.ensures.seats ∙ ran ∙ sym c.requires.seats) c.in_default.ensures.all
 
@@ -36,9 +36,9 @@ returns-then-not-are_confirmed-clause-fault g c =
     let s = c.in-Ok.closed in
     let many = streams_counted c.args.streams.items c.args.closing c.len.result c.from.result (search rules) (search rules) in
     let opened = opened_by g.L.Opening.formula c.args.formula g.L.Opening.seats (length streams) g.L.Opening.max_steps c.args.max_steps s c.requires.formula c.requires.seats c.requires.limit c.book.ensures.opened in
-    let ran = beside_of seen g.L.Opening.formula g.L.Opening.seats g.L.Opening.max_steps (λ r. r.seat) (λ r. r.report) s.history (c.len.result + c.from.result) c.in_ok-shared.seats.items streams c.in_ok-ran.ran.items c.in_ok-seats.seats.items reports
-    c.in_ok-shared.ensures.seats many c.in_ok-ran.ensures c.in_ok-seats.ensures.seats c.in_ok-seats.ensures.reports c.in-Ok.ensures.calls in
-    let run = run_by seen g.L.Opening.formula c.args.formula g.L.Opening.seats (length streams) g.L.Opening.max_steps c.args.max_steps s.history streams reports c.requires.formula c.requires.seats c.requires.limit ran in
+    let ran = beside_of seen g.L.Opening.formula g.L.Opening.seats g.L.Opening.max_steps (λ r. r.seat) (λ r. r.report) s (c.len.result + c.from.result) c.in_ok-shared.seats.items streams c.in_ok-ran.ran.items c.in_ok-seats.seats.items reports
+    (c.in_ok-shared.ensures.seats ∙ ap (λ f. new_seats f (c.len.result + c.from.result)) c.requires.formula) many c.in_ok-ran.ensures c.in_ok-seats.ensures.seats c.in_ok-seats.ensures.reports c.in-Ok.ensures.seats in
+    let run = run_by seen g.L.Opening.formula c.args.formula g.L.Opening.seats (length streams) g.L.Opening.max_steps c.args.max_steps s streams reports c.requires.formula c.requires.seats c.requires.limit ran in
     let told = ap (λ b. list_all (λ r. is_confirmed (has_verdict b) r.end) reports) (sym c.book.ensures.book) ∙ ap (list_all (λ r. is_confirmed (has_verdict c.book.result.now) r.end)) (sym c.deref.ensures.value) ∙ sym c.are_confirmed.ensures in
     unconfirmed seen c.args.formula c.args.max_steps streams reports s opened c.in-Ok.ensures.legal run (told ∙ c.if-not-are_confirmed.true)
 
@@ -50,9 +50,9 @@ returns-clause-ran g c =
     let s = c.in-Ok.closed in
     let many = streams_counted c.args.streams.items c.args.closing c.len.result c.from.result (search rules) (search rules) in
     let opened = opened_by g.L.Opening.formula c.args.formula g.L.Opening.seats (length streams) g.L.Opening.max_steps c.args.max_steps s c.requires.formula c.requires.seats c.requires.limit c.book.ensures.opened in
-    let ran = beside_of seen g.L.Opening.formula g.L.Opening.seats g.L.Opening.max_steps (λ r. r.seat) (λ r. r.report) s.history (c.len.result + c.from.result) c.in_ok-shared.seats.items streams c.in_ok-ran.ran.items c.in_ok-seats.seats.items reports
-    c.in_ok-shared.ensures.seats many c.in_ok-ran.ensures c.in_ok-seats.ensures.seats c.in_ok-seats.ensures.reports c.in-Ok.ensures.calls in
-    let run = run_by seen g.L.Opening.formula c.args.formula g.L.Opening.seats (length streams) g.L.Opening.max_steps c.args.max_steps s.history streams reports c.requires.formula c.requires.seats c.requires.limit ran in
+    let ran = beside_of seen g.L.Opening.formula g.L.Opening.seats g.L.Opening.max_steps (λ r. r.seat) (λ r. r.report) s (c.len.result + c.from.result) c.in_ok-shared.seats.items streams c.in_ok-ran.ran.items c.in_ok-seats.seats.items reports
+    (c.in_ok-shared.ensures.seats ∙ ap (λ f. new_seats f (c.len.result + c.from.result)) c.requires.formula) many c.in_ok-ran.ensures c.in_ok-seats.ensures.seats c.in_ok-seats.ensures.reports c.in-Ok.ensures.seats in
+    let run = run_by seen g.L.Opening.formula c.args.formula g.L.Opening.seats (length streams) g.L.Opening.max_steps c.args.max_steps s streams reports c.requires.formula c.requires.seats c.requires.limit ran in
     let counted = c.in-Ok.ensures.entries ∙ ap entries_made c.in_ok-seats.ensures.seats ∙ entries_counted seen g.L.Opening.formula g.L.Opening.seats g.L.Opening.max_steps (λ r. r.seat) (λ r. r.report) (zip c.in_ok-shared.seats.items streams) c.in_ok-ran.ran.items c.in_ok-ran.ensures
     ∙ ap (sum_by accepted_count) (sym c.in_ok-seats.ensures.reports) in
     let told = ap (λ b. list_all (λ r. is_confirmed (has_verdict b) r.end) reports) (sym c.book.ensures.book) ∙ ap (list_all (λ r. is_confirmed (has_verdict c.book.result.now) r.end)) (sym c.deref.ensures.value) ∙ sym c.are_confirmed.ensures in

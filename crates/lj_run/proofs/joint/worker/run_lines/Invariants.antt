@@ -1,8 +1,8 @@
-use Rattle.std.proofs.Common.{◌≡◌, true, length}
+use Rattle.std.proofs.Common.{◌≡◌, true, [], None, length}
 use Rattle.lj_text.specs.Streams.{source_state, HasEnded}
 use Rattle.lj_run.specs.Joint.{AreCountsOf}
 use Rattle.lj_run.specs.inner.Reading.{MayRead}
-use Rattle.lj_run.proofs.JointLemmas.{EnteredTo}
+use Rattle.lj_run.proofs.BlockLemmas.{EnteredBefore}
 use Rattle.lj_run.proofs.joint.worker.run_lines.Given as goal
 use Rattle.lj_clause.specs.declared.lit.TheConstants.{MAX_VARIABLE}
 
@@ -13,12 +13,13 @@ invariant-loop g l =
       goes : (goal.iterator-loop g).can_next l.iterator';
       finite : (goal.iterator-loop g).is_finite l.iterator';
       unfailed : g.S.Source.failures l.source ≡ 0;
-      may_read : MayRead l.reader l.ended;
+      may_read : l.fault ≡ None → MayRead l.reader l.ended;
+      empty : l.lines.items ≡ [];
       ended : l.ended ≡ true → HasEnded (seen l.source);
       max : l.reader.max ≡ MAX_VARIABLE;
       room : length l.room ≡ 65536;
       note : l.note.cell ≡ l.shared;
       number : l.seat.number ≡ l.fn.seat.number;
       counts : AreCountsOf l.seat.calls l.tally.added l.tally.deleted l.tally.imported;
-      runs : EnteredTo (seen l.fn.source) (seen l.source) l.seat.calls l.reader;
+      runs : EnteredBefore (seen l.fn.source) (seen l.source) l.seat.calls l.reader l.fault;
     }

@@ -1,9 +1,7 @@
 -- `follow` sets the one name that both copies have a half of. Assumes `Logic`.
 use Rattle.std.proofs.Common.{ℕ, List, [], ◌∷◌, refl, sym}
 use Rattle.std.proofs.raw_atomic.Walks.{proved}
-use Rattle.std.specs.Coded.{coded_list}
-use Rattle.lj_book.specs.declared.entry.Call.{Call}
-use Rattle.lj_book.specs.inner.Codes.{call_code}
+use Rattle.lj_share.specs.inner.Codes.{seat_code}
 use mir.Syntax.{named, w32}
 use mir.Val.{Val, vunit, vptr}
 use base.Fml.{ftrue, flft, fobs}
@@ -21,7 +19,7 @@ use denote.Steps.{nothing, heard, opens, closes}
 use denote.Triple.Walked.{Stays, stay_dropped, stay_ref, Goes-dropped, Goes-ref, ends_at}
 use Rattle.lj_share.proofs.Facts.{tells, tells_last}
 use Rattle.lj_share.specs.inner.Copies.{desk_copy_owns, seat_copy_owns}
-use Rattle.lj_share.specs.Entries.{calls_of}
+use Rattle.lj_share.specs.Seats.{SeatValue, seat_of_book}
 use Rattle.lj_share.specs.declared.copies.DeskCopy.{DeskCopy}
 use Rattle.lj_share.specs.declared.copies.SeatCopy.{SeatCopy}
 use Rattle.lj_book.specs.contracts.book.Book as book
@@ -58,8 +56,8 @@ follow_spec 𝓤 𝓛 𝓜 𝓡 wired =
     let r = a.0 in let s = a.1.0 in let n : ℕ = a.1.1.1.0 in
     let u : Val = vptr r.ref_ptr.0 r.ref_ptr.1 in let v : Val = vptr s.ref_ptr.0 s.ref_ptr.1 in
     let passed : List Val × (List Val × (List Val × (List Val × Unit {0}))) = (u ∷ [], (v ∷ [], (shr_vals a.1.1.0, (uint_vals w32 n, tt)))) in
-    let calls : List Call = calls_of n a.1.1.0.now.history in
-    let d : DeskCopy = record { name = r.now.name; calls = calls } in let e : SeatCopy = record { name = s.now.name; calls = calls } in
+    let shown : SeatValue = seat_of_book a.1.1.0.now n in
+    let d : DeskCopy = record { name = r.now.name; seat = shown } in let e : SeatCopy = record { name = s.now.name; seat = shown } in
     qed 𝓛 (((‵ (flft κs.0 qs.0) ⊛ ‵ (flft κs.1.0 qs.1.0) ⊛ ‵ (flft κs.1.1.0 qs.1.1.0) ⊛ ‵ ftrue) ⊛ ‵ (owns (types_at f.signature.params κs) a passed)) ∷ raw ((c κs a).requires g) ∷ []) ∵
     move ! (1 ∷ []) $ heard ! _ (λ one_name. split ! $ split ! $ move ! (1 ∷ []) $ split ! $
     move ! (3 ∷ []) $ fsplit ! $ fsplit3 ! $ drop ! $ move ! (2 ∷ []) $ fsplit ! $ fsplit3 ! $ drop ! $ keep ! (3 ∷ 4 ∷ 7 ∷ 0 ∷ 1 ∷ 5 ∷ 6 ∷ []) $
@@ -67,9 +65,9 @@ follow_spec 𝓤 𝓛 𝓜 𝓡 wired =
     opens ! tt desk.the_row r.ref_ptr.0 r.ref_ptr.1 (λ us. move ! (5 ∷ 6 ∷ 7 ∷ []) $ opens ! tt seat.the_row s.ref_ptr.0 s.ref_ptr.1 (λ vs.
     move ! (1 ∷ []) $ fsplit ! $ move ! (7 ∷ []) $ fsplit ! $ move ! (3 ∷ 1 ∷ []) $
     -- [the seat's half; the desk's half; what the fields own, twice; the open borrows]
-    rewrite ! 0 (λ (γ : ℕ). ‵ (fobs γ ((coded_list call_code).code s.now.calls))) one_name refl $
-    name_agree ! (coded_list call_code) (λ agree. name_set ! tt ((coded_list call_code).code calls) $
-    rewrite ! 0 (λ (γ : ℕ). ‵ (fobs γ ((coded_list call_code).code calls))) (sym one_name) refl $
+    rewrite ! 0 (λ (γ : ℕ). ‵ (fobs γ (seat_code.code s.now.seat))) one_name refl $
+    name_agree ! seat_code (λ agree. name_set ! tt (seat_code.code shown) $
+    rewrite ! 0 (λ (γ : ℕ). ‵ (fobs γ (seat_code.code shown))) (sym one_name) refl $
     move ! (2 ∷ 1 ∷ []) $ fjoin ! $ move ! (2 ∷ 1 ∷ []) $ fjoin ! $
     move ! (2 ∷ 0 ∷ 3 ∷ 4 ∷ 5 ∷ []) $ closes ! tt seat.the_row e vs s.ref_ptr.0 s.ref_ptr.1 $
     move ! (4 ∷ 3 ∷ 5 ∷ 6 ∷ 7 ∷ []) $ closes ! tt desk.the_row d us r.ref_ptr.0 r.ref_ptr.1 $

@@ -1,23 +1,17 @@
-use Rattle.std.proofs.Common.{refl, sym, ap, ◌∙◌}
-use Rattle.lj_share.specs.Seats.{SeatValue}
-use Rattle.lj_share.specs.Seats.{making}
-use Rattle.lj_share.proofs.Opened.{desk_on, desk_agreed, one_more}
+use Rattle.lj_share.proofs.Opened.{desk_in, desk_agreed, made_in}
 use Rattle.lj_share.proofs.desk.Desk.import.Goals.{in-Ok, in-Err}
 use Rattle.lj_share.proofs.desk.Desk.import.Goals as goal
-
-pub count_one-requires-clause-one : goal.count_one-requires-clause-one
-count_one-requires-clause-one g c = (_, one_more c.self.inside.book _ _ _ _ (c.number.ensures ∙ ap (λ (s : SeatValue). s.number) (sym c.bind.ensures)) c.in-Ok.ensures.ok c.self.invariant.listed, λ stays. refl)
 
 pub returns-clause-made : goal.returns-clause-made
 returns-clause-made g c =
     elim c.match-import.branch [
-      | in-Ok w ↦ rw (w.result-is, w.seat-is) (w.count_one.ensures.seat _ (one_more c.self.inside.book _ _ _ _ (c.number.ensures ∙ ap (λ (s : SeatValue). s.number) (sym w.bind.ensures)) w.in-Ok.ensures.ok c.self.invariant.listed) ∙ ap (making _) w.bind.ensures)
+      | in-Ok w ↦ rw (w.result-is, w.place-is) (made_in c.agree.ensures.views _ _ _ _ _ _ c.agree.ensures.legal w.count_one.ensures.legal c.number.ensures w.in-Ok.ensures.ok c.agree.ensures.seat c.agree.ensures.kept w.count_one.ensures.seat w.in-Ok.ensures.found)
       | in-Err w ↦ rw w.result-is tt
     ]
 
 pub invariant_of-self : goal.invariant_of-self
 invariant_of-self g c =
     elim c.match-import.branch [
-      | in-Ok w ↦ rw w.self-inside-is (desk_on _ _ _ _ _ _ _ _ _ _ _ _ _ (c.number.ensures ∙ ap (λ (s : SeatValue). s.number) (sym w.bind.ensures)) w.in-Ok.ensures.ok w.count_one.ensures.entries w.count_one.ensures.lists c.self.invariant)
-      | in-Err w ↦ rw w.self-inside-is (desk_agreed _ _ _ _ _ _ _ _ _ _ w.in-Err.ensures.err w.agree.ensures.lists c.self.invariant)
+      | in-Ok w ↦ rw w.self-inside-is (desk_in c.agree.ensures.views _ _ _ _ _ _ _ _ _ _ _ _ _ _ c.agree.ensures.legal w.count_one.ensures.legal c.number.ensures w.in-Ok.ensures.ok w.count_one.ensures.entries c.agree.ensures.lists w.count_one.ensures.lists c.self.invariant)
+      | in-Err w ↦ rw w.self-inside-is (desk_agreed _ _ _ _ _ _ _ _ _ _ w.in-Err.ensures.err c.agree.ensures.lists c.self.invariant)
     ]

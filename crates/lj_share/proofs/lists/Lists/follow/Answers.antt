@@ -1,8 +1,7 @@
 use Rattle.std.proofs.Common.{List, Some, slice_set, sym, ap, ◌∙◌, arith}
 use Rattle.std.specs.Prelude.{slice_get}
-use Rattle.lj_book.specs.declared.entry.Call.{Call}
-use Rattle.lj_share.specs.Entries.{calls_of}
-use Rattle.lj_share.proofs.ListLaws.{lists_of, place_within, name_at, list_at, names_kept, list_set}
+use Rattle.lj_share.specs.Seats.{SeatValue, seat_of_book}
+use Rattle.lj_share.proofs.ListLaws.{seats_shown, place_within, name_at, list_at, names_kept, list_set}
 use Rattle.lj_share.proofs.lists.Lists.follow.Goals as goal
 
 pub index_mut-requires : goal.index_mut-requires
@@ -18,12 +17,12 @@ invariant_of-self g c = names_kept c.self.inside.copies.items g.L.Opening.lists 
 
 pub returns-clause-agree : goal.returns-clause-agree
 returns-clause-agree g c =
-    ap (λ (ls : List (List Call)). slice_get ls c.args.seat) (sym c.self.view_is)
+    ap (λ (ls : List SeatValue). slice_get ls c.args.seat) (sym c.self.view_is)
     ∙ list_at c.self.inside.copies.items g.L.Opening.lists c.args.seat c.args.copy.now.name c.index_mut.result.now c.self.invariant c.requires c.index_mut.ensures.value
     ∙ ap Some (sym c.follow.ensures.agree)
 
 pub returns-clause-desk : goal.returns-clause-desk
 returns-clause-desk g c =
     list_set c.self.inside.copies.items c.args.seat c.follow.new.self
-    ∙ ap (slice_set (lists_of c.self.inside.copies.items) c.args.seat) c.follow.ensures.desk
-    ∙ ap (λ (ls : List (List Call)). slice_set ls c.args.seat (calls_of c.args.seat c.args.book.now.history)) c.self.view_is
+    ∙ ap (slice_set (seats_shown c.self.inside.copies.items) c.args.seat) c.follow.ensures.desk
+    ∙ ap (λ (ls : List SeatValue). slice_set ls c.args.seat (seat_of_book c.args.book.now c.args.seat)) c.self.view_is

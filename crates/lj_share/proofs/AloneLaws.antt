@@ -1,0 +1,196 @@
+-- What a seat decides by what it sees.
+use Rattle.std.proofs.Common.{◌≡◌, ap, refl, sym, ◌∙◌, ℕ, Bool, cond, true, false, arith}
+use Rattle.std.specs.Prelude.{◌==◌, List, [], ◌∷◌, map, length, Option, Some, None, option_map, is_some, if◌then◌else◌, Result, Ok, Err, IsSome}
+use Rattle.std.proofs.lemmas.Bool.{false≢true, eqb-true}
+use Rattle.std.specs.Ordering.{nat_cmp, eq_by_cmp}
+use Rattle.std.specs.Cmp.{nat_cmp_total}
+use Rattle.std.specs.FinMap as fin
+use Rattle.std.specs.FinMap.Entries.{find}
+use Rattle.lj_clause.specs.LiteralSet.{LiteralSet, negations}
+use Rattle.lj_clause.specs.ClauseMap.{ClauseMap}
+use Rattle.lj_clause.specs.Rat.{HintGroup}
+use Rattle.lj_clause.specs.Walk as walks
+use Rattle.lj_text.specs.declared.line.Addition.{Addition}
+use Rattle.lj_hint.specs.declared.pair.Pair.{Pair}
+use Rattle.lj_hint.specs.Hints.{named_hints}
+use Rattle.lj_hint.specs.Case.{CaseValue, case_of, walk_of}
+use Rattle.lj_book.specs.declared.refusal.Refusal.{Refusal}
+use Rattle.lj_book.specs.declared.refusal.Refusal.TheVariants.{NumberTaken, UnknownNumber, HintNotUnit}
+use Rattle.lj_book.specs.Calls.{pairs_of, if_held, with_pair, group_pairs_of, case_with, repeated_after}
+use Rattle.lj_book.specs.Solo.{View, Holdings, solo_case, solo_take}
+use Rattle.lj_hint.specs.declared.walk.Ending.{Ending}
+use Rattle.lj_hint.specs.declared.walk.Ending.TheVariants as endings
+use Rattle.lj_hint.specs.Ending.{ending_of}
+use Rattle.lj_hint.specs.Laws.{WalksGoByClauses}
+use Rattle.lj_book.specs.Views.{IsClosedAlone, decided_by, decided_refusal, stuck_refusal}
+use Rattle.lj_share.specs.inner.Seats.{clause_seen, clauses_seen}
+use Rattle.lj_share.specs.inner.Ahead.{AreSeen, first_unseen}
+use Rattle.lj_share.proofs.Confirming.{some_same}
+
+none_some : {X P : Type 0} (x : X) → None ≡ Some x → P
+none_some x e = absurd (false≢true (ap is_some e))
+
+-- ---- the clauses that a seat sees
+
+find_mapped : {A B : Type 0} (g : A → B) (q : ℕ) (es : List (ℕ × A)) → find nat_cmp q (map (λ e. (e.0, g e.1)) es) ≡ option_map g (find nat_cmp q es)
+find_mapped g q [] = refl
+find_mapped {A} {B} g q (e ∷ es) = ap (cond (eq_by_cmp nat_cmp q e.0) (Some (g e.1))) (find_mapped g q es) ∙ by (eq_by_cmp nat_cmp q e.0)
+  where
+    by : (b : Bool) → cond b (Some (g e.1)) (option_map g (find nat_cmp q es)) ≡ option_map g (cond b (Some e.1) (find nat_cmp q es))
+    by true = refl
+    by false = refl
+
+pub get-seen : (view : View) (own : ℕ) → fin.get (clauses_seen view) own ≡ clause_seen view own
+get-seen None own = fin.get-empty nat_cmp own
+get-seen (Some h) own =
+    fin.get-from_entries nat_cmp_total (map (λ (e : ℕ × Pair). (e.0, e.1.clause)) (fin.entries h)) own
+    ∙ find_mapped (λ (p : Pair). p.clause) own (fin.entries h)
+    ∙ ap (option_map (λ (p : Pair). p.clause)) (sym (fin.get-entries h own))
+
+is_some-map : {X Y : Type 0} (f : X → Y) (o : Option X) → is_some (option_map f o) ≡ is_some o
+is_some-map f None = refl
+is_some-map f (Some x) = refl
+
+-- an own number is bound where its clause is seen
+contains-seen : (h : Holdings) (own : ℕ) → fin.contains_key h own ≡ is_some (clause_seen (Some h) own)
+contains-seen h own = sym (is_some-map (λ (p : Pair). p.clause) (fin.get h own))
+
+-- whoever is there sees its own clauses
+pub seen_itself : (view : View) → IsSome view → AreSeen (clauses_seen view) view
+seen_itself view there = (there, get-seen view)
+
+-- whether there is a clause, where one was looked for
+pub whether_bound : (m : ClauseMap) (own : ℕ) (clause : Option LiteralSet) (found b : Bool) → clause ≡ fin.get m own → found ≡ is_some clause → found ≡ b → is_some (fin.get m own) ≡ b
+whether_bound m own clause found b is looked known = ap is_some (sym is) ∙ sym looked ∙ known
+
+-- the same of the seat that sees the clauses
+seen_bound : (m : ClauseMap) (view : View) (own : ℕ) (b : Bool) → AreSeen m view → is_some (fin.get m own) ≡ b → is_some (clause_seen view own) ≡ b
+seen_bound m view own b seen is = ap is_some (sym (seen.1 own)) ∙ is
+
+-- ---- the own number
+
+taken_decided : (view : View) (seat : ℕ) (a : Addition) → is_some (clause_seen view a.number) ≡ true → decided_refusal view seat a ≡ Some NumberTaken
+taken_decided None seat a is = absurd (false≢true is)
+taken_decided (Some h) seat a is = ap (λ (b : Bool). decided_by (if b then Err NumberTaken else solo_case h seat a)) (contains-seen h a.number ∙ is)
+
+pub taken_by : (m : ClauseMap) (a : Addition) → is_some (fin.get m a.number) ≡ true → (view : View) (seat : ℕ) → AreSeen m view → decided_refusal view seat a ≡ Some NumberTaken
+taken_by m a is view seat seen = taken_decided view seat a (seen_bound m view a.number true seen is)
+
+-- ---- the hints
+
+-- the first of these own numbers that a seat doesn't see a clause of
+abbrev first_not_seen : View → List ℕ → Option ℕ
+first_not_seen view [] = None
+first_not_seen view (own ∷ owns) = if is_some (clause_seen view own) then first_not_seen view owns else Some own
+
+first_alike : (m : ClauseMap) (view : View) (owns : List ℕ) → AreSeen m view → first_not_seen view owns ≡ first_unseen m owns
+first_alike m view [] seen = refl
+first_alike m view (own ∷ owns) seen =
+    ap (λ (o : Option LiteralSet). if is_some o then first_not_seen view owns else Some own) (sym (seen.1 own))
+    ∙ ap (λ (o : Option ℕ). if is_some (fin.get m own) then o else Some own) (first_alike m view owns seen)
+
+unseen_pairs : (h : Holdings) (owns : List ℕ) (own : ℕ) → first_not_seen (Some h) owns ≡ Some own → pairs_of (fin.get h) owns ≡ Err (UnknownNumber own)
+unseen_pairs h [] own is = none_some own is
+unseen_pairs h (n ∷ ns) own is = go (unseen_pairs h ns own) (fin.get h n) is
+  where
+    go : (first_not_seen (Some h) ns ≡ Some own → pairs_of (fin.get h) ns ≡ Err (UnknownNumber own)) → (o : Option Pair) → (if is_some (option_map (λ (p : Pair). p.clause) o) then first_not_seen (Some h) ns else Some n) ≡ Some own → if_held n o (λ p. with_pair p (pairs_of (fin.get h) ns)) ≡ Err (UnknownNumber own)
+    go later None e = ap (λ (m : ℕ). Err (UnknownNumber m)) (some_same n own e)
+    go later (Some p) e = ap (with_pair p) (later e)
+
+-- the pairs of the hints, with the clauses that are seen
+abbrev ArePairs : Holdings → List ℕ → Result (List Pair) Refusal → List (Option LiteralSet) → Type 0
+ArePairs h owns found clauses = (pairs : List Pair) × ((found ≡ Ok pairs) × (map (λ (p : Pair). Some p.clause) pairs ≡ clauses))
+
+seen_pairs : (h : Holdings) (owns : List ℕ) → first_not_seen (Some h) owns ≡ None → ArePairs h owns (pairs_of (fin.get h) owns) (map (clause_seen (Some h)) owns)
+seen_pairs h [] is = ([], (refl, refl))
+seen_pairs h (n ∷ ns) is = go (seen_pairs h ns) (fin.get h n) is
+  where
+    go : (first_not_seen (Some h) ns ≡ None → ArePairs h ns (pairs_of (fin.get h) ns) (map (clause_seen (Some h)) ns)) → (o : Option Pair) → (if is_some (option_map (λ (p : Pair). p.clause) o) then first_not_seen (Some h) ns else Some n) ≡ None → ArePairs h (n ∷ ns) (if_held n o (λ p. with_pair p (pairs_of (fin.get h) ns))) (option_map (λ (p : Pair). p.clause) o ∷ map (clause_seen (Some h)) ns)
+    go later None e = none_some n (sym e)
+    go later (Some p) e = let r = later e in (p ∷ r.0, (ap (with_pair p) r.1.0, ap (λ (cs : List (Option LiteralSet)). Some p.clause ∷ cs) r.1.1))
+
+unseen_decided : (view : View) (seat : ℕ) (a : Addition) (own : ℕ) → IsSome view → is_some (clause_seen view a.number) ≡ false → first_not_seen view a.hints ≡ Some own → decided_refusal view seat a ≡ Some (UnknownNumber own)
+unseen_decided None seat a own there free is = absurd (false≢true there)
+unseen_decided (Some h) seat a own there free is =
+    ap (λ (b : Bool). decided_by (if b then Err NumberTaken else solo_case h seat a)) (contains-seen h a.number ∙ free)
+    ∙ ap (λ (r : Result (List Pair) Refusal). decided_by (case_with seat a (repeated_after (λ own. option_map (λ (p : Pair). p.joint) (fin.get h own)) [] a.groups) r (group_pairs_of (fin.get h) a.groups))) (unseen_pairs h a.hints own is)
+
+pub unseen_by : (m : ClauseMap) (a : Addition) (own : ℕ) → is_some (fin.get m a.number) ≡ false → first_unseen m a.hints ≡ Some own → (view : View) (seat : ℕ) → AreSeen m view → decided_refusal view seat a ≡ Some (UnknownNumber own)
+unseen_by m a own free is view seat seen = unseen_decided view seat a own seen.0 (seen_bound m view a.number false seen free) (first_alike m view a.hints seen ∙ is)
+
+-- one that isn't bound is the first of all where it is the first of those that are left
+pub first_found : (m : ClauseMap) (owns left rest : List ℕ) (own : ℕ) → first_unseen m owns ≡ first_unseen m left → left ≡ own ∷ rest → is_some (fin.get m own) ≡ false → Some own ≡ first_unseen m owns
+first_found m owns left rest own so_far steps none = sym (so_far ∙ ap (first_unseen m) steps ∙ ap (λ (b : Bool). if b then first_unseen m rest else Some own) none)
+
+-- one that is bound is passed by
+pub first_later : (m : ClauseMap) (owns left rest : List ℕ) (own : ℕ) → first_unseen m owns ≡ first_unseen m left → left ≡ own ∷ rest → is_some (fin.get m own) ≡ true → first_unseen m owns ≡ first_unseen m rest
+first_later m owns left rest own so_far steps one = so_far ∙ ap (first_unseen m) steps ∙ ap (λ (b : Bool). if b then first_unseen m rest else Some own) one
+
+-- ---- the walk
+
+pub no_groups : (groups : List HintGroup) (none : Bool) → none ≡ (length groups == 0) → none ≡ true → groups ≡ []
+no_groups [] none is known = refl
+no_groups (g ∷ gs) none is known = let no = eqb-true (length (g ∷ gs)) 0 (sym is ∙ known) in absurd (omega arith)
+
+case_of_pairs : (h : Holdings) (seat : ℕ) (a : Addition) (pairs : List Pair) → is_some (clause_seen (Some h) a.number) ≡ false → a.groups ≡ [] → pairs_of (fin.get h) a.hints ≡ Ok pairs → solo_take (Some h) seat a ≡ Ok (case_of seat a.number a.lemma pairs [])
+case_of_pairs h seat a pairs free none found =
+    ap (λ (b : Bool). if b then Err NumberTaken else solo_case h seat a) (contains-seen h a.number ∙ free)
+    ∙ ap (λ (gs : List HintGroup). case_with seat a (repeated_after (λ own. option_map (λ (p : Pair). p.joint) (fin.get h own)) [] gs) (pairs_of (fin.get h) a.hints) (group_pairs_of (fin.get h) gs)) none
+    ∙ ap (λ (r : Result (List Pair) Refusal). case_with seat a None r (Ok [])) found
+
+abbrev clauses_of : List walks.Hint → List (Option LiteralSet)
+clauses_of hs = map (λ (h : walks.Hint). h.clause) hs
+
+named_clauses : (pairs : List Pair) → clauses_of (named_hints pairs) ≡ map (λ (p : Pair). Some p.clause) pairs
+named_clauses [] = refl
+named_clauses (p ∷ pairs) = ap (λ (cs : List (Option LiteralSet)). Some p.clause ∷ cs) (named_clauses pairs)
+
+seen_clauses : (m : ClauseMap) (view : View) (owns : List ℕ) → AreSeen m view → map (clause_seen view) owns ≡ clauses_of (walks.hints_in m owns)
+seen_clauses m view [] seen = refl
+seen_clauses m view (n ∷ ns) seen = λ i. sym (seen.1 n) i ∷ seen_clauses m view ns seen i
+
+-- the case of an addition without groups whose hints are all seen, and how its walk ends
+record IsWalked (view : View) (seat : ℕ) (a : Addition) (end : Ending) : Type 0 where
+  case : CaseValue
+  is_taken : solo_take view seat a ≡ Ok case
+  ends : ending_of (walk_of case) ≡ end
+
+-- these clauses have all hints of the addition, which has no groups and whose number is free, and its walk over them ends so
+pub record IsWalkedBy (m : ClauseMap) (a : Addition) (end : Ending) : Type 0 where
+  pub free : is_some (fin.get m a.number) ≡ false
+  pub none : a.groups ≡ []
+  pub bound : first_unseen m a.hints ≡ None
+  pub ends_so : end ≡ ending_of (walks.walk m (negations a.lemma.clause) a.hints)
+
+walked : WalksGoByClauses → (m : ClauseMap) (view : View) (seat : ℕ) (a : Addition) (end : Ending) → IsWalkedBy m a end → AreSeen m view → IsWalked view seat a end
+walked laws m None seat a end w seen = absurd (false≢true seen.0)
+walked laws m (Some h) seat a end w seen =
+    let found = seen_pairs h a.hints (first_alike m (Some h) a.hints seen ∙ w.bound) in
+    let same = named_clauses found.0 ∙ found.1.1 ∙ seen_clauses m (Some h) a.hints seen in
+    record {
+      case = case_of seat a.number a.lemma found.0 [];
+      is_taken = case_of_pairs h seat a found.0 (seen_bound m (Some h) a.number false seen w.free) w.none found.1.0;
+      ends = laws (negations a.lemma.clause) (named_hints found.0) (walks.hints_in m a.hints) same ∙ sym w.ends_so;
+    }
+
+closed_of : (view : View) (seat : ℕ) (a : Addition) (read : ℕ) → IsWalked view seat a (endings.ClosedAfter read) → IsClosedAlone view seat a read
+closed_of view seat a read w = go (walk_of w.case) refl w.ends
+  where
+    go : (end : walks.Walk) → walk_of w.case ≡ end → ending_of end ≡ endings.ClosedAfter read → IsClosedAlone view seat a read
+    go (walks.Closed used) at is = record { case = w.case; used = used; taken = w.is_taken; closed = at; read_is = cc }
+    go (walks.Open lits) at is = absurd cc
+    go (walks.Stuck place) at is = absurd cc
+
+stuck_of : (view : View) (seat : ℕ) (a : Addition) (place : ℕ) → IsWalked view seat a (endings.StuckAt place) → decided_refusal view seat a ≡ Some (HintNotUnit place)
+stuck_of view seat a place w = ap decided_by w.is_taken ∙ go (walk_of w.case) w.ends
+  where
+    go : (end : walks.Walk) → ending_of end ≡ endings.StuckAt place → stuck_refusal end ≡ Some (HintNotUnit place)
+    go (walks.Closed used) is = absurd cc
+    go (walks.Open lits) is = absurd cc
+    go (walks.Stuck at) is = let same : at ≡ place = cc in ap (λ (n : ℕ). Some (HintNotUnit n)) same
+
+pub closed_by : WalksGoByClauses → (m : ClauseMap) (a : Addition) (read : ℕ) → IsWalkedBy m a (endings.ClosedAfter read) → (view : View) (seat : ℕ) → AreSeen m view → IsClosedAlone view seat a read
+closed_by laws m a read w view seat seen = closed_of view seat a read (walked laws m view seat a (endings.ClosedAfter read) w seen)
+
+pub stuck_by : WalksGoByClauses → (m : ClauseMap) (a : Addition) (place : ℕ) → IsWalkedBy m a (endings.StuckAt place) → (view : View) (seat : ℕ) → AreSeen m view → decided_refusal view seat a ≡ Some (HintNotUnit place)
+stuck_by laws m a place w view seat seen = stuck_of view seat a place (walked laws m view seat a (endings.StuckAt place) w seen)

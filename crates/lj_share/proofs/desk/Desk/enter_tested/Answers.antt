@@ -1,0 +1,57 @@
+use Rattle.std.proofs.Common.{◌<◌, length, take, refl, sym, subst, ◌∙◌, arith}
+use Rattle.std.specs.Prelude.{slice_index_or}
+use Rattle.std.proofs.lemmas.List.{append-nil}
+use Rattle.std.proofs.lemmas.Option.{slice_get-get_or}
+use Rattle.lj_clause.specs.ClauseMap.{ClauseMap}
+use Rattle.lj_share.specs.inner.Seats.{clauses_seen}
+use Rattle.lj_share.specs.Refusals.{HoldsInAState, IsRefusedLine}
+use Rattle.lj_share.specs.Seats.{SeatValue}
+use Rattle.lj_share.specs.inner.Ahead.{AreSeen, clauses_behind}
+use Rattle.lj_share.proofs.AheadLaws.{behind_next, calls_next, tested_as}
+use Rattle.lj_share.proofs.AloneLaws.{seen_itself}
+use Rattle.lj_share.proofs.OwnLaws.{seen_after}
+use Rattle.lj_share.proofs.desk.Desk.enter_tested.Goals as goal
+
+pub loop-k-init : goal.loop-k-init
+loop-k-init g c = record {
+  number = refl;
+  calls = sym (append-nil c.args.place.now.calls);
+  seen = seen_itself c.args.place.now.view c.requires.here;
+}
+
+pub enter_read-requires : goal.enter_read-requires
+enter_read-requires g c =
+    let ls = c.args.lines.now in
+    let reads = c.args.reads.now in
+    let k = c.loop-k.k in
+    let below : k < c.args.count = c.loop-k-test.true in
+    let in_lines : k < length ls = let a = c.requires.lines in omega (arith, a, below) in
+    let in_reads : k < length reads = let a = c.requires.reads in omega (arith, a, below) in
+    let l = slice_index_or ls k c.index-lines-k.result in
+    tested_as (clauses_behind (clauses_seen c.args.place.now.view) (take k ls)) c.loop-k.place.view c.loop-k.place.number l.line (slice_index_or reads k 0) c.loop-k.invariant.seen
+    (c.requires.tested k l (slice_index_or reads k 0) below (slice_get-get_or ls k c.index-lines-k.result in_lines) (slice_get-get_or reads k 0 in_reads))
+
+pub returns-in-Err-clause-refused : goal.returns-in-Err-clause-refused
+returns-in-Err-clause-refused g c =
+    let ls = c.args.lines.now in
+    let k = c.loop-k.k in
+    let in_lines : k < length ls = let a = c.requires.lines in let below = c.loop-k-test.true in omega (arith, a, below) in
+    let l = slice_index_or ls k c.index-lines-k.result in
+    (l, slice_get-get_or ls k c.index-lines-k.result in_lines, subst (λ (s : SeatValue). HoldsInAState g.L.Opening.formula g.L.Opening.seats g.L.Opening.max_steps s (IsRefusedLine s.number l.line c.in-Err.refusal)) (sym c.in-Err.ensures.kept) c.in-Err.ensures.refusal)
+
+pub loop-k-preserved : goal.loop-k-preserved
+loop-k-preserved g c =
+    let i = c.loop-k.invariant in
+    let ls = c.args.lines.now in
+    let k = c.loop-k.k in
+    let m = clauses_seen c.args.place.now.view in
+    let in_lines : k < length ls = let a = c.requires.lines in let below = c.loop-k-test.true in omega (arith, a, below) in
+    let l = slice_index_or ls k c.index-lines-k.result in
+    let at = slice_get-get_or ls k c.index-lines-k.result in_lines in
+    let made = c.in_default.ensures.made in
+    let after = c.enter_read.new.place in
+    record {
+      number = made.number_is ∙ i.number;
+      calls = calls_next c.args.place.now.calls c.loop-k.place.calls after.calls ls k l at i.calls made.calls_are;
+      seen = subst (λ (x : ClauseMap). AreSeen x after.view) (sym (behind_next m ls k l at)) (seen_after (clauses_behind m (take k ls)) c.loop-k.place.view after.view l.line i.seen made.view_is);
+    }

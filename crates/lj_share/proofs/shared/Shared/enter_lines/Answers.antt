@@ -1,0 +1,35 @@
+use Rattle.std.proofs.Common.{◌≡◌, Option, Some, subst, sym, ◌∙◌}
+use Rattle.std.specs.Prelude.{IfSome}
+use Rattle.lj_share.specs.Refusals.{IsLineRefused}
+use Rattle.lj_share.specs.declared.numbered.Numbered.{Numbered}
+use Rattle.lj_share.proofs.AheadLaws.{calls_plus, get_behind, none_of, turns_on, within_on}
+use Rattle.lj_share.proofs.shared.Shared.enter_lines.Goals as goal
+
+pub returns-then-is_some-clause-calls : goal.returns-then-is_some-clause-calls
+returns-then-is_some-clause-calls g c =
+    calls_plus c.args.seat.now.calls c.loop.seat.calls c.enter_some-entered.new.seat.calls c.args.lines.now c.loop.done c.enter_some-entered.result.0 c.loop.invariant.calls c.enter_some-entered.ensures.calls
+
+pub returns-then-is_some-clause-refused : goal.returns-then-is_some-clause-refused
+returns-then-is_some-clause-refused g c =
+    let after = c.enter_some-entered.new.seat in
+    subst (λ (o : Option Numbered). IfSome c.enter_some-entered.result.1 (λ e. (x : Numbered) × (o ≡ Some x) × IsLineRefused g.L.Opening.formula g.L.Opening.seats g.L.Opening.max_steps after x.line e))
+    (get_behind c.args.lines.now c.loop.done c.enter_some-entered.result.0) c.enter_some-entered.ensures.refused
+
+pub returns-then-done-lines-clause-calls : goal.returns-then-done-lines-clause-calls
+returns-then-done-lines-clause-calls g c =
+    calls_plus c.args.seat.now.calls c.loop.seat.calls c.enter_some-entered.new.seat.calls c.args.lines.now c.loop.done c.enter_some-entered.result.0 c.loop.invariant.calls c.enter_some-entered.ensures.calls
+
+pub loop-preserved : goal.loop-preserved
+loop-preserved g c =
+    let i = c.loop.invariant in
+    let ls = c.args.lines.now in
+    let done = c.loop.done in
+    let entered = c.enter_some-entered.result.0 in
+    let after = c.enter_some-entered.new.seat in
+    let none = none_of c.enter_some-entered.result.1 (sym c.is_some.ensures ∙ c.if-is_some.false) in
+    record {
+      number = c.enter_some-entered.ensures.number ∙ i.number;
+      calls = calls_plus c.args.seat.now.calls c.loop.seat.calls after.calls ls done entered i.calls c.enter_some-entered.ensures.calls;
+      within = within_on ls done entered i.within c.enter_some-entered.ensures.within;
+      turns = turns_on ls c.loop.counter done entered c.enter_some-entered.result.1 i.turns c.loop-test.true c.enter_some-entered.ensures.some none;
+    }
