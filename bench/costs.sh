@@ -6,7 +6,7 @@
 #   - instructions for an input and for one of twice its size;
 #   - instructions for an input and for another one beside it, which costs more or less by a known part;
 #   - the reads and writes that an input and a proof of so many bytes may take, and those that they take.
-# Each bound stands between the ratio of the right body and that of a wrong one, which `docs/GUARANTEES.md` lists under
+# Each bound stands between the ratio of the right body and that of a wrong one, which `docs/MEASUREMENTS.md` lists under
 # "Costs". Both were counted over builds with checks.
 # A ratio above its bound is wrong: the row says so, and the status is 1. Status 2: a tool is missing, or a run went wrong.
 # It needs valgrind (`apt-get install valgrind`) and Python 3, and takes some two minutes of one processor.
