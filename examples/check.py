@@ -55,28 +55,36 @@ def follows(clauses, lemma, hints):
     return True
 
 
+def take(clauses, line):
+    """Carries a line out, and gives the lemma that it adds. Any error says that the line is wrong."""
+    words = line.split()
+    if words[1] == "d":
+        numbers = [int(word) for word in words[2:]]
+        if numbers.index(0) < len(numbers) - 1:
+            raise ValueError(line)
+        for number in numbers[:-1]:
+            del clauses[number]
+        return None
+    number, *rest = map(int, words)
+    middle = rest.index(0)
+    lemma, hints = rest[:middle], rest[middle + 1:]
+    if hints.index(0) < len(hints) - 1 or number in clauses or not follows(clauses, lemma, hints[:-1]):
+        raise ValueError(line)
+    clauses[number] = frozenset(lemma)
+    return lemma
+
+
 def main():
     clauses = read_formula(sys.argv[1])
     for place, line in enumerate(open(sys.argv[2]), 1):
-        words = line.split()
         try:
-            if words[1] == "d":
-                for word in words[2:-1]:
-                    del clauses[int(word)]
-                continue
-            number, rest = int(words[0]), [int(word) for word in words[1:]]
-            end = rest.index(0)
-            lemma, hints = rest[:end], rest[end + 1:-1]
-            right = rest[-1] == 0 and number not in clauses and follows(clauses, lemma, hints)
+            lemma = take(clauses, line)
         except (IndexError, KeyError, ValueError):
-            right = False
-        if not right:
             print(f"c line {place} is wrong")
             break
-        if not lemma:
+        if lemma == []:
             print("s VERIFIED UNSAT")
             sys.exit(0)
-        clauses[number] = frozenset(lemma)
     print("s NOT VERIFIED")
     sys.exit(1)
 
