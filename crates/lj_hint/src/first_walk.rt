@@ -14,8 +14,8 @@ use lj_text::Numbers;
 /// The walk of a lemma's negation over hints that are looked up by number. The room may have served any walk before, and may
 /// serve any after.
 ///
-/// Each hint is looked up once at most. Takes constant time for each literal that the walk reads, or O(log n) where its
-/// variable is beyond 16,383, amortized.
+/// Each hint is looked up once at most. Takes constant time for each literal that the walk reads, or O(log n) for a variable
+/// beyond 2,047 and beyond four for each number that walks have read.
 ///
 /// # Errors
 /// [`NoMemory`] where a growth was refused.
@@ -28,9 +28,7 @@ pub fn walk_first<C: Clauses>(
     ensures { IfOk result (λ ending. ending ≡ ending_of
         (walk (C.clauses clauses.now) (negations lemma.now.clause) hints.now)) }
 {
-    let ending = walk_numbers(&mut marks.lits, clauses, lemma.clause(), hints);
-    marks.let_go_of_many();
-    ending
+    walk_numbers(&mut marks.lits, clauses, lemma.clause(), hints)
 }
 
 /// The walk of a clause's negation over hints that are looked up by number. What is held at its end stays.

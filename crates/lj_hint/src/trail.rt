@@ -7,8 +7,8 @@ use lj_clause::{Lit, NoMemory};
 use std::alloc::Global;
 use std::marker::Model;
 
-/// Literals in the order in which they came in, each once, with constant time for the question whether one is there. Of a
-/// variable beyond 511 it takes O(log n) time, until many such literals have been there, in many walks.
+/// Literals in the order in which they came in, each once, with constant time for the question whether one is there. For a
+/// variable beyond 2,047 it takes O(log n) time, until the trail has held so many literals as an eighth of its place.
 #[derive(Drop)]
 pub(crate) struct Trail {
     stamps: Stamps,
@@ -46,7 +46,7 @@ impl Trail {
     pub(crate) fn clear(&mut self)
         ensures { self.new ≡ [] }
     {
-        self.stamps.begin_walk();
+        self.stamps.begin_walk(self.lits.len());
         if self.stamp == u32::MAX {
             self.stamps.clear();
             self.stamp = 1;
@@ -54,37 +54,6 @@ impl Trail {
             self.stamp += 1;
         }
         self.lits.clear();
-    }
-
-    /// Takes every literal out, and gives back their room. Takes the time of [`Trail::clear`], but for what is given back.
-    pub(crate) fn let_go(&mut self)
-        ensures { self.new ≡ [] }
-    {
-        self.clear();
-        self.lits = Vec::new(self.allocator());
-    }
-
-    /// The number of literals that there is room for.
-    #[inline]
-    pub(crate) fn capacity(&self) -> usize {
-        self.lits.capacity()
-    }
-
-    /// Makes room for so many literals more. Takes constant time, but for a growth.
-    ///
-    /// # Errors
-    /// [`NoMemory`] where a growth was refused.
-    #[inline]
-    pub(crate) fn make_room(&mut self, count: usize) -> Result<(), NoMemory>
-        ensures { self.new ≡ self.old }
-    {
-        self.lits.reserve(count)?;
-        Ok(())
-    }
-
-    /// Where the memory of its lists comes from.
-    pub(crate) fn allocator(&self) -> Global {
-        *self.lits.allocator()
     }
 
     /// The number of literals.
@@ -95,7 +64,7 @@ impl Trail {
         self.lits.len()
     }
 
-    /// Whether the literal is there. Takes constant time, and O(log n) for a far one without a page.
+    /// Whether the literal is there. Takes constant time, and O(log n) for one beyond the list of stamps.
     #[inline]
     pub(crate) fn holds(&self, lit: Lit) -> bool
         ensures { result ≡ holds (from_literals self.now) lit }
@@ -104,7 +73,7 @@ impl Trail {
     }
 
     /// The trail, lent to who asks for many literals.
-    #[inline]
+    #[inline(always)]
     pub(crate) fn lent(&self) -> LentTrail<'_>
         ensures { result ≡ self.now }
     {
@@ -115,8 +84,8 @@ impl Trail {
         }
     }
 
-    /// Puts a literal at the end that isn't there yet. Takes constant time, amortized, and O(log n) for a far one without a
-    /// page.
+    /// Puts a literal at the end that isn't there yet. Takes constant time, amortized, and O(log n) for one
+    /// beyond the list of stamps.
     ///
     /// # Errors
     /// [`NoMemory`] where a growth was refused.
@@ -135,7 +104,7 @@ impl Trail {
         Ok(())
     }
 
-    /// Takes the last literal out. Takes constant time, and O(log n) for a far one without a page.
+    /// Takes the last literal out. Takes constant time, and O(log n) for one beyond the list of stamps.
     #[inline]
     pub(crate) fn pop(&mut self)
         ensures { self.new ≡ take (length self.old - 1) self.old }
@@ -166,7 +135,7 @@ impl<'a> Model for LentTrail<'a> {
 }
 
 impl<'a> LentTrail<'a> {
-    /// Whether the literal is there. Takes constant time, and O(log n) for a far one without a page.
+    /// Whether the literal is there. Takes constant time, and O(log n) for one beyond the list of stamps.
     #[inline(always)]
     pub(crate) fn holds(&self, lit: Lit) -> bool
         ensures { result ≡ holds (from_literals self.now) lit }
