@@ -5,7 +5,7 @@ use Rattle.std.proofs.lemmas.List.Elements.{filter-append}
 use Rattle.std.specs.Prelude.{ℤ, neg_ℤ, Bool, true, false, cond, ◌||◌, List, [], ◌∷◌, ◌++◌, filter}
 use Rattle.std.specs.Ordering.{eq_by_cmp}
 use Rattle.lj_clause.specs.Literal.{lit_cmp}
-use Rattle.lj_clause.specs.LiteralSet.{LiteralSet, holds, with_literal, with_negations, from_literals}
+use Rattle.lj_clause.specs.LiteralSet.{LiteralSet, holds, with_literal, with_negations}
 use Rattle.lj_clause.proofs.LiteralSets.{same_set, holds-with_literal}
 
 or-swap : (a b c : Bool) → (a || (b || c)) ≡ (b || (a || c))

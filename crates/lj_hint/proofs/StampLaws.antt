@@ -1,6 +1,6 @@
 -- Stamps in a list and in a tree.
 use Rattle.std.proofs.Common.{◌≡◌, ap, refl, sym, ◌∙◌, ℕ, ◌<◌, ◌≤◌, true, false, cond, arith, length}
-use Rattle.std.specs.Prelude.{◌==◌, nat_lt, List, [], slice_index, slice_set, if◌then◌else◌, Option, Some, None, unwrap_or}
+use Rattle.std.specs.Prelude.{◌==◌, nat_lt, List, [], slice_index, slice_set, if◌then◌else◌, Option, unwrap_or}
 use Rattle.std.specs.Map.{lookup}
 use Rattle.std.specs.BTreeMap.{is_at}
 use Rattle.std.specs.Ordering.{nat_cmp}

@@ -14,8 +14,8 @@ use lj_text::Numbers;
 /// The walk of a lemma's negation over hints that are looked up by number. The room may have served any walk before, and may
 /// serve any after.
 ///
-/// Each hint is looked up once at most. Takes constant time for each literal that the walk reads, or O(log n) for a variable
-/// beyond 2,047 and beyond four for each number that walks have read.
+/// Each hint is looked up once at most. Takes constant time for each literal that the walk reads, or O(log n) where its
+/// variable is beyond 2,047 and walks have held less than half so many literals.
 ///
 /// # Errors
 /// [`NoMemory`] where a growth was refused.

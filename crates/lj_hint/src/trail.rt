@@ -1,5 +1,5 @@
 //! Sets of literals that can be taken back.
-ghost use Rattle.std.specs.Prelude.{◌≡◌, ◌<◌, ◌-◌, [], ◌∷◌, ◌++◌, OnOk, OnErr, take, length, false};
+ghost use Rattle.std.specs.Prelude.{◌≡◌, ◌<◌, ◌-◌, [], ◌∷◌, ◌++◌, OnOk, OnErr, take, length, false, vec_len, vec_capacity};
 ghost use Rattle.lj_clause.specs.LiteralSet.{holds, from_literals};
 
 use crate::stamps::{LentStamps, Stamps};
@@ -7,8 +7,8 @@ use lj_clause::{Lit, NoMemory};
 use std::alloc::Global;
 use std::marker::Model;
 
-/// Literals in the order in which they came in, each once, with constant time for the question whether one is there. For a
-/// variable beyond 2,047 it takes O(log n) time, until the trail has held so many literals as an eighth of its place.
+/// Literals in the order in which they came in, each once, with constant time for the question whether one is there. It takes
+/// O(log n) time where its variable is beyond 2,047 and the trail has held less than half so many literals.
 #[derive(Drop)]
 pub(crate) struct Trail {
     stamps: Stamps,
@@ -95,12 +95,9 @@ impl Trail {
         ensures ok { OnOk result (self.new ≡ self.old ++ lit ∷ []) }
         ensures err { OnErr result (self.new ≡ self.old) }
     {
-        let place = lit.negated().place();
-        self.stamps.set(place, self.stamp)?;
-        if let Err(refused) = self.lits.push(lit) {
-            self.stamps.erase(place);
-            return Err(NoMemory::from(refused));
-        }
+        make_room(&mut self.lits)?;
+        self.stamps.set(lit.negated().place(), self.stamp)?;
+        self.lits.push_reserved(lit);
         Ok(())
     }
 
@@ -113,6 +110,35 @@ impl Trail {
             self.stamps.erase(lit.negated().place());
         }
     }
+}
+
+/// Makes room for one literal more. Takes constant time, amortized.
+///
+/// # Errors
+/// [`NoMemory`] where a growth was refused.
+#[inline(always)]
+fn make_room(lits: &mut Vec<Lit>) -> Result<(), NoMemory>
+    ensures room { OnOk result (vec_len lits.new < vec_capacity lits.new) }
+    ensures same { lits.new.items ≡ lits.old.items }
+{
+    if lits.len() < lits.capacity() {
+        return Ok(());
+    }
+    grow(lits)
+}
+
+/// Makes room for one literal more, as [`make_room`] does: where there is none.
+///
+/// # Errors
+/// [`NoMemory`] where a growth was refused.
+#[cold]
+#[inline(never)]
+fn grow(lits: &mut Vec<Lit>) -> Result<(), NoMemory>
+    ensures room { OnOk result (vec_len lits.new < vec_capacity lits.new) }
+    ensures same { lits.new.items ≡ lits.old.items }
+{
+    lits.reserve(1)?;
+    Ok(())
 }
 
 /// A trail that is lent, with its stamps at hand.
