@@ -44,9 +44,10 @@ pub enum LineRefusal {
 /// first list and, where that stays open, the test of the pivot's candidates. The room may have served any walk before.
 ///
 /// Each hint is looked up once. Takes constant time for each literal that a walk reads, or O(log n) where its variable is
-/// beyond 2,047 and walks have held less than half so many literals; where the first walk stays open, the candidates' look-up, constant time for each of them and
-/// O(log c) for each group, with c candidates. Room for the groups of a line and of its candidates, by eight bytes a
-/// candidate, or sixteen with more than eight groups, and four a group, is freed at its end.
+/// beyond 2,047 and walks have held less than half so many literals. Where the first walk stays open, takes the candidates'
+/// look-up, constant time for each of them and O(log c) for each group, with c candidates. Room for the groups of a line and
+/// of its candidates, by eight bytes a candidate, or sixteen with more than eight groups, and four a group, is freed at its
+/// end.
 ///
 /// # Errors
 /// The first of [`LineRefusal::Stuck`], [`RatRefusal::EmptyOpen`] for a lemma without a pivot and the refusal of the
