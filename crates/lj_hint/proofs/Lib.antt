@@ -6,7 +6,6 @@ pub mod Used
 pub mod Receipts
 pub mod Renamings
 pub mod StampLaws
-pub mod NearLaws
 pub mod TrailLaws
 pub mod RatTests
 pub mod Places

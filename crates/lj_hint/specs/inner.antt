@@ -6,4 +6,3 @@ pub mod Trail
 pub mod Groups
 pub mod Codes
 pub mod Coverings
-pub mod EveryOther

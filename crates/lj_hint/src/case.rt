@@ -4,7 +4,6 @@ use crate::marks::Marks;
 use crate::pair::Pair;
 use crate::receipt::Receipt;
 use crate::tested::Tested;
-use crate::true_lits::TrueLits;
 use crate::walk::{Ending, walk_negation};
 use lj_clause::Lemma;
 use std::alloc::Global;
@@ -104,19 +103,8 @@ impl Case {
         ensures walk { IfAnswered result (λ answer. answer ≡ tested_of self (walk_of self)) }
         ensures no_memory { IfNoMemory result (λ case. case ≡ self) }
     {
-        let tested = self.test_hints(&mut marks.lits);
-        marks.let_go_of_many();
-        tested
-    }
-
-    /// The same, where what is held at its end stays.
-    #[inline]
-    fn test_hints(self, held: &mut TrueLits) -> Tested
-        ensures walk { IfAnswered result (λ answer. answer ≡ tested_of self (walk_of self)) }
-        ensures no_memory { IfNoMemory result (λ case. case ≡ self) }
-    {
         let hints = PairHints { pairs: &self.hints };
-        match walk_negation(held, self.lemma.clause(), &hints) {
+        match walk_negation(&mut marks.lits, self.lemma.clause(), &hints) {
             Ok(Ending::ClosedAfter(read)) => Tested::Closed(self.into_receipt(read)),
             Ok(Ending::StaysOpen) => Tested::Open(self),
             Ok(Ending::StuckAt(place)) => Tested::Stuck(place),

@@ -15,7 +15,7 @@ use lj_text::Numbers;
 /// serve any after.
 ///
 /// Each hint is looked up once at most. Takes constant time for each literal that the walk reads, or O(log n) where its
-/// variable is beyond 16,383, amortized.
+/// variable is beyond 2,047 and walks have held less than half so many literals.
 ///
 /// # Errors
 /// [`NoMemory`] where a growth was refused.
@@ -28,9 +28,7 @@ pub fn walk_first<C: Clauses>(
     ensures { IfOk result (λ ending. ending ≡ ending_of
         (walk (C.clauses clauses.now) (negations lemma.now.clause) hints.now)) }
 {
-    let ending = walk_numbers(&mut marks.lits, clauses, lemma.clause(), hints);
-    marks.let_go_of_many();
-    ending
+    walk_numbers(&mut marks.lits, clauses, lemma.clause(), hints)
 }
 
 /// The walk of a clause's negation over hints that are looked up by number. What is held at its end stays.

@@ -5,7 +5,6 @@
 
 mod case;
 mod covering;
-mod few_stamps;
 mod first_walk;
 mod group_list;
 mod hint_list;
@@ -14,8 +13,6 @@ mod live;
 mod live_line;
 mod marks;
 mod open_case;
-mod page;
-mod pages;
 mod pair;
 mod rat;
 mod rat_refusal;

@@ -44,9 +44,10 @@ pub enum LineRefusal {
 /// first list and, where that stays open, the test of the pivot's candidates. The room may have served any walk before.
 ///
 /// Each hint is looked up once. Takes constant time for each literal that a walk reads, or O(log n) where its variable is
-/// beyond 16,383, amortized; where the first walk stays open, the candidates' look-up, constant time for each of them and
-/// O(log c) for each group, with c candidates. Room for the groups of a line and of its candidates, by eight bytes a
-/// candidate, or sixteen with more than eight groups, and four a group, is let go of at its end.
+/// beyond 2,047 and walks have held less than half so many literals. Where the first walk stays open, takes the candidates'
+/// look-up, constant time for each of them and O(log c) for each group, with c candidates. Room for the groups of a line and
+/// of its candidates, by eight bytes a candidate, or sixteen with more than eight groups, and four a group, is freed at its
+/// end.
 ///
 /// # Errors
 /// The first of [`LineRefusal::Stuck`], [`RatRefusal::EmptyOpen`] for a lemma without a pivot and the refusal of the
@@ -63,25 +64,7 @@ pub fn test_line<L: Live>(
         (line_reply (L.clauses live.now) lemma.now.pivot groups.now
         (walk (L.clauses live.now) (negations lemma.now.clause) hints.now)) }
 {
-    let passed = test_lists(alloc, live, lemma, hints, groups, &mut marks.lits);
-    marks.let_go_of_many();
-    passed
-}
-
-/// The same, where what is held at its end stays.
-#[inline]
-fn test_lists<L: Live>(
-    alloc: Global,
-    live: &L,
-    lemma: &Lemma,
-    hints: &Numbers,
-    groups: &Groups,
-    held: &mut TrueLits,
-) -> Result<Passed, LineRefusal>
-    ensures { IsLineReply groups.now result
-        (line_reply (L.clauses live.now) lemma.now.pivot groups.now
-        (walk (L.clauses live.now) (negations lemma.now.clause) hints.now)) }
-{
+    let held = &mut marks.lits;
     match walk_numbers(held, live, lemma.clause(), hints) {
         Ok(Ending::ClosedAfter(read)) => Ok(Passed::Closed(read)),
         Ok(Ending::StuckAt(place)) => Err(LineRefusal::Stuck(place)),

@@ -26,7 +26,8 @@ use lj_text::Groups;
 /// before.
 ///
 /// Takes the time of the first walk again, O(log c) for each group, with c candidates, and for each candidate constant
-/// time for each literal that its walk reads, or O(log n) where its variable is beyond 16,383, amortized.
+/// time for each literal that its walk reads, or O(log n) where its variable is beyond 2,047 and walks have held less than
+/// half so many literals.
 ///
 /// # Errors
 /// [`RatRefusal::EmptyOpen`] for a lemma without a pivot, else that of the first candidate that isn't covered, and

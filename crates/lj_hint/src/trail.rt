@@ -1,5 +1,5 @@
 //! Sets of literals that can be taken back.
-ghost use Rattle.std.specs.Prelude.{◌≡◌, ◌<◌, ◌-◌, [], ◌∷◌, ◌++◌, OnOk, OnErr, take, length, false};
+ghost use Rattle.std.specs.Prelude.{◌≡◌, ◌<◌, ◌-◌, [], ◌∷◌, ◌++◌, OnOk, OnErr, take, length, false, vec_len, vec_capacity};
 ghost use Rattle.lj_clause.specs.LiteralSet.{holds, from_literals};
 
 use crate::stamps::{LentStamps, Stamps};
@@ -7,8 +7,8 @@ use lj_clause::{Lit, NoMemory};
 use std::alloc::Global;
 use std::marker::Model;
 
-/// Literals in the order in which they came in, each once, with constant time for the question whether one is there. Of a
-/// variable beyond 511 it takes O(log n) time, until many such literals have been there, in many walks.
+/// Literals in the order in which they came in, each once, with constant time for the question whether one is there. It takes
+/// O(log n) time where its variable is beyond 2,047 and the trail has held less than half so many literals.
 #[derive(Drop)]
 pub(crate) struct Trail {
     stamps: Stamps,
@@ -46,7 +46,7 @@ impl Trail {
     pub(crate) fn clear(&mut self)
         ensures { self.new ≡ [] }
     {
-        self.stamps.begin_walk();
+        self.stamps.begin_walk(self.lits.len());
         if self.stamp == u32::MAX {
             self.stamps.clear();
             self.stamp = 1;
@@ -54,37 +54,6 @@ impl Trail {
             self.stamp += 1;
         }
         self.lits.clear();
-    }
-
-    /// Takes every literal out, and gives back their room. Takes the time of [`Trail::clear`], but for what is given back.
-    pub(crate) fn let_go(&mut self)
-        ensures { self.new ≡ [] }
-    {
-        self.clear();
-        self.lits = Vec::new(self.allocator());
-    }
-
-    /// The number of literals that there is room for.
-    #[inline]
-    pub(crate) fn capacity(&self) -> usize {
-        self.lits.capacity()
-    }
-
-    /// Makes room for so many literals more. Takes constant time, but for a growth.
-    ///
-    /// # Errors
-    /// [`NoMemory`] where a growth was refused.
-    #[inline]
-    pub(crate) fn make_room(&mut self, count: usize) -> Result<(), NoMemory>
-        ensures { self.new ≡ self.old }
-    {
-        self.lits.reserve(count)?;
-        Ok(())
-    }
-
-    /// Where the memory of its lists comes from.
-    pub(crate) fn allocator(&self) -> Global {
-        *self.lits.allocator()
     }
 
     /// The number of literals.
@@ -95,7 +64,7 @@ impl Trail {
         self.lits.len()
     }
 
-    /// Whether the literal is there. Takes constant time, and O(log n) for a far one without a page.
+    /// Whether the literal is there. Takes constant time, and O(log n) for one beyond the list of stamps.
     #[inline]
     pub(crate) fn holds(&self, lit: Lit) -> bool
         ensures { result ≡ holds (from_literals self.now) lit }
@@ -104,7 +73,7 @@ impl Trail {
     }
 
     /// The trail, lent to who asks for many literals.
-    #[inline]
+    #[inline(always)]
     pub(crate) fn lent(&self) -> LentTrail<'_>
         ensures { result ≡ self.now }
     {
@@ -115,8 +84,8 @@ impl Trail {
         }
     }
 
-    /// Puts a literal at the end that isn't there yet. Takes constant time, amortized, and O(log n) for a far one without a
-    /// page.
+    /// Puts a literal at the end that isn't there yet. Takes constant time, amortized, and O(log n) for one
+    /// beyond the list of stamps.
     ///
     /// # Errors
     /// [`NoMemory`] where a growth was refused.
@@ -126,16 +95,13 @@ impl Trail {
         ensures ok { OnOk result (self.new ≡ self.old ++ lit ∷ []) }
         ensures err { OnErr result (self.new ≡ self.old) }
     {
-        let place = lit.negated().place();
-        self.stamps.set(place, self.stamp)?;
-        if let Err(refused) = self.lits.push(lit) {
-            self.stamps.erase(place);
-            return Err(NoMemory::from(refused));
-        }
+        make_room(&mut self.lits)?;
+        self.stamps.set(lit.negated().place(), self.stamp)?;
+        self.lits.push_reserved(lit);
         Ok(())
     }
 
-    /// Takes the last literal out. Takes constant time, and O(log n) for a far one without a page.
+    /// Takes the last literal out. Takes constant time, and O(log n) for one beyond the list of stamps.
     #[inline]
     pub(crate) fn pop(&mut self)
         ensures { self.new ≡ take (length self.old - 1) self.old }
@@ -144,6 +110,35 @@ impl Trail {
             self.stamps.erase(lit.negated().place());
         }
     }
+}
+
+/// Makes room for one literal more. Takes constant time, amortized.
+///
+/// # Errors
+/// [`NoMemory`] where a growth was refused.
+#[inline(always)]
+fn make_room(lits: &mut Vec<Lit>) -> Result<(), NoMemory>
+    ensures room { OnOk result (vec_len lits.new < vec_capacity lits.new) }
+    ensures same { lits.new.items ≡ lits.old.items }
+{
+    if lits.len() < lits.capacity() {
+        return Ok(());
+    }
+    grow(lits)
+}
+
+/// Makes room for one literal more, as [`make_room`] does: where there is none.
+///
+/// # Errors
+/// [`NoMemory`] where a growth was refused.
+#[cold]
+#[inline(never)]
+fn grow(lits: &mut Vec<Lit>) -> Result<(), NoMemory>
+    ensures room { OnOk result (vec_len lits.new < vec_capacity lits.new) }
+    ensures same { lits.new.items ≡ lits.old.items }
+{
+    lits.reserve(1)?;
+    Ok(())
 }
 
 /// A trail that is lent, with its stamps at hand.
@@ -166,7 +161,7 @@ impl<'a> Model for LentTrail<'a> {
 }
 
 impl<'a> LentTrail<'a> {
-    /// Whether the literal is there. Takes constant time, and O(log n) for a far one without a page.
+    /// Whether the literal is there. Takes constant time, and O(log n) for one beyond the list of stamps.
     #[inline(always)]
     pub(crate) fn holds(&self, lit: Lit) -> bool
         ensures { result ≡ holds (from_literals self.now) lit }

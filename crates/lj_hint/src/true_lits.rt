@@ -5,7 +5,6 @@ ghost use Rattle.lj_clause.specs.Literal.{lit_cmp};
 ghost use Rattle.lj_clause.specs.LiteralSet.{from_literals, holds, with_negations};
 ghost use Rattle.lj_clause.specs.Walk.{is_contradictory};
 ghost use Rattle.lj_hint.specs.inner.Trail.{with_mark, Extends};
-ghost use Rattle.lj_hint.specs.inner.EveryOther.{every_other};
 
 use crate::trail::{LentTrail, Trail};
 use lj_clause::{Lit, NoMemory};
@@ -51,37 +50,6 @@ impl TrueLits {
         self.contradictory = false;
     }
 
-    /// Takes every literal out, and gives back their room.
-    pub(crate) fn let_go(&mut self)
-        ensures { self.new ≡ [] }
-    {
-        self.trail.let_go();
-        self.contradictory = false;
-    }
-
-    /// The number of literals that there is room for.
-    #[inline]
-    pub(crate) fn capacity(&self) -> usize {
-        self.trail.capacity()
-    }
-
-    /// Makes room for so many literals more. Takes constant time, but for a growth.
-    ///
-    /// # Errors
-    /// [`NoMemory`] where a growth was refused.
-    #[cold]
-    #[inline(never)]
-    pub(crate) fn make_room(&mut self, count: usize) -> Result<(), NoMemory>
-        ensures { self.new ≡ self.old }
-    {
-        self.trail.make_room(count)
-    }
-
-    /// Where the memory of its lists comes from.
-    pub(crate) fn allocator(&self) -> Global {
-        self.trail.allocator()
-    }
-
     /// The number of literals.
     pub(crate) fn len(&self) -> usize
         ensures { result ≡ length self.now }
@@ -98,7 +66,7 @@ impl TrueLits {
     }
 
     /// The set, lent to who asks for many literals.
-    #[inline]
+    #[inline(always)]
     pub(crate) fn lent(&self) -> LentTrail<'_>
         ensures { result ≡ self.now }
     {
@@ -184,44 +152,6 @@ impl TrueLits {
     {
         for lit in lits {
             self.insert(lit.negated())?;
-        }
-        Ok(())
-    }
-
-    /// The same of many literals, in two rounds: where the literals rise, those of the second come between those of the first,
-    /// so that they fill the nodes of a tree that the first left half full.
-    ///
-    /// # Errors
-    /// [`NoMemory`] where a growth was refused.
-    #[cold]
-    #[inline(never)]
-    pub(crate) fn insert_many_negations(&mut self, lits: &[Lit]) -> Result<(), NoMemory>
-        ensures ok { OnOk result
-            (from_literals self.new ≡ with_negations (from_literals self.old) lits.now) }
-        ensures extends { Extends self.old self.new }
-    {
-        self.insert_every_other(lits, true)?;
-        self.insert_every_other(lits, false)
-    }
-
-    /// Puts the negation of every other one of these literals into the set, from the first on or from the second on. Takes the
-    /// time of [`TrueLits::insert`] for each of them.
-    ///
-    /// # Errors
-    /// [`NoMemory`] where a growth was refused.
-    fn insert_every_other(&mut self, lits: &[Lit], first: bool) -> Result<(), NoMemory>
-        ensures ok { OnOk result (from_literals self.new
-            ≡ with_negations (from_literals self.old) (every_other first lits.now)) }
-        ensures extends { Extends self.old self.new }
-    {
-        let mut rest = lits;
-        let mut wanted = first;
-        while let [next, others @ ..] = rest {
-            if wanted {
-                self.insert(next.negated())?;
-            }
-            wanted = !wanted;
-            rest = others;
         }
         Ok(())
     }

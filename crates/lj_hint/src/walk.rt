@@ -1,6 +1,6 @@
 //! The walk over hints: hinted unit propagation.
-ghost use Rattle.std.specs.Prelude.{◌≡◌, ◌∷◌, IfOk, OnOk, false, filter, not, neg_ℤ};
-ghost use Rattle.lj_clause.specs.LiteralSet.{from_literals, holds, negations, with_negations};
+ghost use Rattle.std.specs.Prelude.{◌≡◌, ◌∷◌, IfOk, false, filter, not, neg_ℤ};
+ghost use Rattle.lj_clause.specs.LiteralSet.{from_literals, holds, negations};
 ghost use Rattle.lj_clause.specs.Walk.{rest, walk_over, is_contradictory, Open};
 ghost use Rattle.lj_hint.specs.inner.Trail.{Extends};
 ghost use Rattle.lj_hint.specs.inner.Rest.{rest_seen};
@@ -10,9 +10,6 @@ use crate::hint_list::HintList;
 use crate::trail::LentTrail;
 use crate::true_lits::TrueLits;
 use lj_clause::{Clause, ClauseView, Lit, NoMemory};
-
-/// A negation of more literals than these is long.
-const LONG: usize = 128;
 
 /// The literals of a clause that a walk leaves open, seen up to two.
 #[derive(Clone, Copy)]
@@ -53,26 +50,8 @@ pub(crate) fn walk_negation<H: HintList>(
         → is_contradictory (from_literals held.new) ≡ false }
 {
     held.clear();
-    hold_negation(held, clause.lits(), hints)?;
+    held.insert_negations(clause.lits())?;
     walk(held, hints)
-}
-
-/// Puts the negation of each of these literals into the set. Room for a long negation is made at once, with that for a literal
-/// of each hint, up to as many again: a list that grows beside the stamps leaves its shorter forms behind.
-///
-/// # Errors
-/// [`NoMemory`] where a growth was refused.
-#[inline(always)]
-fn hold_negation<H: HintList>(held: &mut TrueLits, lits: &[Lit], hints: &H) -> Result<(), NoMemory>
-    ensures { OnOk result
-        (from_literals held.new ≡ with_negations (from_literals held.old) lits.now) }
-{
-    let count = lits.len();
-    if count > LONG {
-        held.make_room(count.saturating_add(hints.count().min(count)))?;
-        return held.insert_many_negations(lits);
-    }
-    held.insert_negations(lits)
 }
 
 /// The walk of the literals that are held over the hints. Each clause is read once. No hint makes what is held

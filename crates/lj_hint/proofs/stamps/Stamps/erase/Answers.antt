@@ -1,17 +1,15 @@
 use Rattle.std.proofs.Common.{ap, refl, ◌∙◌, arith}
-use Rattle.std.specs.Prelude.{◌==◌, if◌then◌else◌}
+use Rattle.std.specs.Prelude.{◌==◌, if◌then◌else◌, None}
 use Rattle.lj_hint.specs.inner.Stamps.{Stamped, stamp_at}
-use Rattle.lj_hint.proofs.NearLaws.{near_set, far_set}
+use Rattle.lj_hint.proofs.StampLaws.{dense_set, sparse_set}
 use Rattle.lj_hint.proofs.stamps.Stamps.erase.Goals as goal
 
-pub returns-then-place-self : goal.returns-then-place-self
-returns-then-place-self c = λ q.
-    let before : Stamped = (c.self.inside.count, c.self.inside.near, c.self.inside.far) in
-    far_set before (c.self.inside.count, c.self.inside.near, c.erase.new.self) c.args.place 0 refl (omega (arith, c.if-place-self.true)) refl c.erase.ensures q
+pub returns-then-place-len : goal.returns-then-place-len
+returns-then-place-len c = λ q.
+    dense_set (c.self.inside.dense.items, c.self.inside.sparse.entries) c.args.place 0 (omega arith) q
     ∙ ap (λ (s : Stamped). if q == c.args.place then 0 else stamp_at s q) c.self.view_is
 
-pub returns-else-place-self : goal.returns-else-place-self
-returns-else-place-self c = λ q.
-    let before : Stamped = (c.self.inside.count, c.self.inside.near, c.self.inside.far) in
-    near_set before (c.self.inside.count, c.erase-else-place-self.new.self, c.self.inside.far) c.args.place 0 refl (omega (arith, c.if-place-self.false)) refl c.erase-else-place-self.ensures.erased q
+pub returns-else-place-len : goal.returns-else-place-len
+returns-else-place-len c = λ q.
+    sparse_set (c.self.inside.dense.items, c.self.inside.sparse.entries) (c.self.inside.dense.items, c.remove.new.self.entries) c.args.place None refl (omega arith) c.remove.ensures.updates.0 q
     ∙ ap (λ (s : Stamped). if q == c.args.place then 0 else stamp_at s q) c.self.view_is

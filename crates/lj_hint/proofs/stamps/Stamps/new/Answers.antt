@@ -1,7 +1,5 @@
-use Rattle.std.proofs.Common.{ap}
-use Rattle.std.specs.Prelude.{List, ℕ, slice_index}
-use Rattle.lj_hint.proofs.NearLaws.{none_stamped}
+use Rattle.lj_hint.proofs.StampLaws.{none_stamped}
 use Rattle.lj_hint.proofs.stamps.Stamps.new.Goals as goal
 
 pub returns : goal.returns
-returns c = none_stamped (1024, c.new.result, c.new-2.result) (λ q. ap (λ (xs : List ℕ). slice_index xs q) c.new.ensures) c.new-2.ensures
+returns c = none_stamped (c.new.result.items, c.new-2.result.entries) c.new.ensures.items c.new-2.ensures.empty

@@ -1,11 +1,16 @@
-use Rattle.std.proofs.Common.{◌≤◌, refl, subst, arith}
+use Rattle.std.proofs.Common.{◌≤◌, refl, subst}
 use Rattle.lj_hint.specs.inner.Stamps.{Stamped, stamp_at}
-use Rattle.lj_hint.proofs.NearLaws.{widened}
+use Rattle.lj_hint.proofs.StampLaws.{none_sparse}
 use Rattle.lj_hint.proofs.stamps.Stamps.widen.Goals as goal
 
-pub returns-then-self-lt-NEAR : goal.returns-then-self-lt-NEAR
-returns-then-self-lt-NEAR c = λ q.
-    let before : Stamped = (c.self.inside.count, c.self.inside.near, c.self.inside.far) in
-    let after : Stamped = (c.min-self-inside.result, c.self.inside.near, c.clear.new.self) in
-    let more : c.self.inside.count ≤ c.min-self-inside.result = omega (arith, c.min-self-inside.ensures, c.if-self-lt-NEAR.true) in
-    subst (λ (s : Stamped). stamp_at after q ≤ stamp_at s q) c.self.view_is (widened before after c.self.invariant.0 more refl c.clear.ensures q)
+pub returns-then-len-self : goal.returns-then-len-self
+returns-then-len-self c = λ q.
+    let after : Stamped = (c.lengthen.new.stamps.items, c.clear.new.self.entries) in
+    subst (λ (s : Stamped). stamp_at after q ≤ stamp_at s q) c.self.view_is
+    (none_sparse (c.self.inside.dense.items, c.self.inside.sparse.entries) after c.lengthen.ensures c.clear.ensures.empty q)
+
+pub returns-else-len-self : goal.returns-else-len-self
+returns-else-len-self c = λ q.
+    let after : Stamped = (c.self.inside.dense.items, c.clear.new.self.entries) in
+    subst (λ (s : Stamped). stamp_at after q ≤ stamp_at s q) c.self.view_is
+    (none_sparse (c.self.inside.dense.items, c.self.inside.sparse.entries) after (λ p. refl) c.clear.ensures.empty q)

@@ -5,7 +5,7 @@ use Rattle.lj_hint.specs.Hints.{named_hints}
 use Rattle.lj_hint.specs.Ending.{ending_of}
 use Rattle.lj_hint.specs.Case.{walk_of}
 use Rattle.lj_hint.proofs.Used.{closed_by_read}
-use Rattle.lj_hint.proofs.case.Case.test_hints.Goals as goal
+use Rattle.lj_hint.proofs.case.Case.test.Goals as goal
 
 pub into_receipt-requires : goal.into_receipt-requires
 into_receipt-requires c =
