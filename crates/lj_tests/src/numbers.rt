@@ -40,20 +40,6 @@ fn assert_widths(rt: &impl Abort, alloc: Global) -> Result<(), Fail> {
     Ok(())
 }
 
-fn assert_room_again(rt: &impl Abort, alloc: Global) -> Result<(), Fail> {
-    let mut numbers = Numbers::from_slice(alloc, &[1, 7, LONG])?;
-    for wanted in [[1, 7, LONG - 1], [7, 1, 1]] {
-        let mut room = numbers.take_room(9).unwrap_or(Vec::new(alloc));
-        assert!(rt; numbers.is_empty() && room.is_empty() && room.capacity() >= 9);
-        for number in wanted {
-            room.push(number as u32)?;
-        }
-        numbers = Numbers::from_short(room);
-        assert_are(rt, &numbers, &wanted);
-    }
-    Ok(())
-}
-
 #[test]
 fn literals_take_four_bytes_and_print_as_numbers(rt: HostRuntime) -> Result<(), Fail> {
     let not_three = Lit::of(3, true);
@@ -66,6 +52,5 @@ fn literals_take_four_bytes_and_print_as_numbers(rt: HostRuntime) -> Result<(), 
 
 #[test]
 fn numbers_of_all_widths(rt: HostRuntime) -> Result<(), Fail> {
-    assert_widths(&rt, rt.alloc())?;
-    assert_room_again(&rt, rt.alloc())
+    assert_widths(&rt, rt.alloc())
 }

@@ -1,12 +1,11 @@
 //! Lists of clause numbers.
-ghost use Rattle.std.specs.Prelude.{◌≡◌, true, ◌==◌, ◌<◌, ◌≤◌, ◌∷◌, ◌++◌, ◌↔◌, ◌⊎◌, IsTrue, [], length, take, drop, slice_get, vec_capacity, IfOk, IfSome, OnOk, OnErr};
+ghost use Rattle.std.specs.Prelude.{◌≡◌, true, ◌==◌, ◌<◌, ◌≤◌, ◌∷◌, ◌++◌, ◌↔◌, ◌⊎◌, IsTrue, [], length, take, drop, slice_get, IfOk, IfSome, OnOk, OnErr};
 ghost use Rattle.lj_text.specs.inner.LineReading.{IsReadOn};
 ghost use Rattle.lj_text.specs.inner.ShortNumbers.{AreNumbersAhead};
 
 use crate::bytes::{WINDOW, number_of_digits, others_in, short_number};
 use std::alloc::{AllocError, Global};
 use std::marker::Model;
-use std::mem::replace;
 
 /// The greatest number that takes four bytes.
 const MAX_SHORT: u64 = u32::MAX as u64;
@@ -144,28 +143,6 @@ impl Numbers {
     {
         if self.len() > MANY {
             self.let_go();
-        }
-    }
-
-    /// Lets go of the numbers, and hands out the list that they stood in, with room for so many of four bytes each. None tells
-    /// that they stood in no such list, or that a growth was refused. [`Numbers::from_short`] takes the list back. Takes
-    /// constant time, but for a growth.
-    #[inline(always)]
-    pub fn take_room(&mut self, count: usize) -> Option<Vec<u32>>
-        ensures none { self.new ≡ [] }
-        ensures room { IfSome result
-            (λ list. (list.items ≡ []) × (count ≤ vec_capacity list)) }
-    {
-        self.clear();
-        match &mut self.form {
-            Form::Short(numbers) => {
-                if numbers.reserve(count).is_err() {
-                    return None;
-                }
-                let empty = Vec::new(*numbers.allocator());
-                Some(replace(numbers, empty))
-            }
-            Form::Long(_) => None,
         }
     }
 

@@ -79,7 +79,12 @@ fn write_at_front<'a>(
         bytes.now after.now) }
     ensures shorter { IfSome result (λ after. length after.now < length bytes.now) }
 {
-    let after = proof_at_front(&mut place.hints, &mut place.groups, &mut room.hints, bytes)?;
+    let after = proof_at_front(
+        &mut place.hints,
+        &mut place.groups,
+        &mut room.numbers,
+        bytes,
+    )?;
     if place.lemma.put(room.alloc, &mut room.literals).is_err() {
         return None;
     }
@@ -125,15 +130,10 @@ fn deletion_at_front<'a>(room: &mut Room, bytes: &'a [u8]) -> Option<(Line, &'a 
         (λ line. deletion_of true (words_of line) ≡ Ok found.0) bytes.now found.1.now) }
     ensures shorter { IfSome result (λ found. length found.1.now < length bytes.now) }
 {
-    let Ok(mut place) = room.deletion() else {
-        return None;
-    };
-    match numbers_at_front(&mut place, bytes) {
-        Some(after) => Some((Line::Delete(Boxed::from_box(place)), after)),
-        None => {
-            room.deletion = Some(place);
-            None
-        }
+    let after = numbers_at_front(&mut room.numbers, bytes)?;
+    match room.deletion() {
+        Ok(line) => Some((line, after)),
+        Err(_) => None,
     }
 }
 

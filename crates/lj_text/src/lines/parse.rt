@@ -57,7 +57,7 @@ fn write_addition(
     read_proof(
         &mut place.hints,
         &mut place.groups,
-        &mut room.hints,
+        &mut room.numbers,
         ended,
         bytes,
     )?;
@@ -70,9 +70,8 @@ fn write_addition(
 fn deletion(room: &mut Room, ended: bool, bytes: &[u8]) -> Result<Line, LineFaultKind>
     ensures { Gives (λ line. line) result (deletion_of ended (words_of bytes.now)) }
 {
-    let mut place = room.deletion()?;
-    read_numbers(&mut place, ended, bytes)?;
-    Ok(Line::Delete(Boxed::from_box(place)))
+    read_numbers(&mut room.numbers, ended, bytes)?;
+    Ok(room.deletion()?)
 }
 
 /// The literals of an import.

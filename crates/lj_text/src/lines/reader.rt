@@ -224,12 +224,7 @@ impl LineReader {
                 place.groups.let_go_of_many();
                 self.room.take_back(place);
             }
-            Line::Delete(numbers) => {
-                let mut place = numbers.into_box();
-                place.let_go_of_many();
-                self.room.deletion = Some(place);
-            }
-            Line::Import { .. } => {}
+            Line::Delete(_) | Line::Import { .. } => {}
         }
     }
 

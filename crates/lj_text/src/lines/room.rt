@@ -1,8 +1,11 @@
 //! Room for what a line says.
-ghost use Rattle.std.specs.Prelude.{◌≡◌};
+ghost use Rattle.std.specs.Prelude.{◌≡◌, ◌<◌, ◌≤◌, [], length, None, Some, IfOk};
+ghost use Rattle.lj_clause.specs.LiteralSet.{literals};
+ghost use Rattle.lj_text.specs.declared.line.Line.TheVariants.{Delete};
 
+use crate::boxed::Boxed;
 use crate::groups::Groups;
-use crate::line::Addition;
+use crate::line::{Addition, Line};
 use crate::numbers::{MANY, Numbers};
 use lj_clause::{Lemma, Lit, NoMemory};
 use std::alloc::Global;
@@ -10,35 +13,31 @@ use std::alloc::Global;
 /// How many literals a lemma has at most that takes no memory for them.
 const FEW: usize = 3;
 
-/// How many numbers of a deletion have room from the first one on: in so much memory, which the system makes page by page as it is
-/// written, the list stands apart from others and leaves no shorter one behind while it grows.
-const FIRST_NUMBERS: usize = 33_000;
-
 /// Room for the literals and the numbers of a line, which is used again for the next line.
 #[derive(Debug, Drop)]
 pub(super) struct Room {
     pub alloc: Global,
     pub literals: Vec<Lit>,
-    /// The hints of a group.
-    pub hints: Numbers,
+    /// The numbers of a deletion, or the hints of a group.
+    pub numbers: Numbers,
     /// Where the next addition of up to three literals is written, if there is a place.
     short: Option<Box<Addition>>,
     /// Where the next one of more is, whose literals stand in memory of their own.
     long: Option<Box<Addition>>,
-    /// Where the next deletion is written, if there is a place.
-    pub deletion: Option<Box<Numbers>>,
 }
 
 impl Room {
     /// Room for nothing yet. Takes constant time.
-    pub fn new(alloc: Global) -> Room {
+    pub fn new(alloc: Global) -> Room
+        ensures empty { (result.literals.items ≡ []) × (result.numbers ≡ []) }
+        ensures no_place { (result.short ≡ None) × (result.long ≡ None) }
+    {
         Room {
             alloc,
             literals: Vec::new(alloc),
-            hints: Numbers::from_short(Vec::new(alloc)),
+            numbers: Numbers::from_short(Vec::new(alloc)),
             short: None,
             long: None,
-            deletion: None,
         }
     }
 
@@ -61,7 +60,12 @@ impl Room {
     /// Takes a place back for additions to come whose literals are few as its own are, or many as those; lets go of one of
     /// very many. Takes constant time.
     #[inline(always)]
-    pub fn take_back(&mut self, place: Box<Addition>) {
+    pub fn take_back(&mut self, place: Box<Addition>)
+        ensures short { length (literals place.value.lemma.clause) ≤ 3 → self.new.short ≡ Some place }
+        ensures long { 3 < length (literals place.value.lemma.clause) → length (literals place.value.lemma.clause) ≤ MANY
+            → self.new.long ≡ Some place }
+        ensures kept { (self.new.literals ≡ self.old.literals) × (self.new.numbers ≡ self.old.numbers) }
+    {
         let count = place.lemma.clause().lits().len();
         if count <= FEW {
             self.short = Some(place);
@@ -70,21 +74,15 @@ impl Room {
         }
     }
 
-    /// A place for a deletion, with whatever stands there. Takes constant time.
+    /// A deletion of the numbers that were read, in exactly the memory that they need. Takes time linear in them.
     #[inline(always)]
-    pub fn deletion(&mut self) -> Result<Box<Numbers>, NoMemory> {
-        match self.deletion.take() {
-            Some(place) => Ok(place),
-            None => new_deletion(self.alloc),
-        }
+    pub fn deletion(&mut self) -> Result<Line, NoMemory>
+        ensures { IfOk result (λ line. line ≡ Delete self.old.numbers) }
+    {
+        let numbers = self.numbers.copy()?;
+        self.numbers.let_go_of_many();
+        Ok(Line::Delete(Boxed::new(self.alloc, numbers)?))
     }
-}
-
-/// A new place for a deletion.
-#[cold]
-fn new_deletion(alloc: Global) -> Result<Box<Numbers>, NoMemory> {
-    let numbers = Numbers::from_short(Vec::with_capacity(alloc, FIRST_NUMBERS)?);
-    Ok(Box::new(alloc, numbers)?)
 }
 
 /// A new place for an addition.
