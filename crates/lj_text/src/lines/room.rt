@@ -61,10 +61,12 @@ impl Room {
     /// very many. Takes constant time.
     #[inline(always)]
     pub fn take_back(&mut self, place: Box<Addition>)
-        ensures short { length (literals place.value.lemma.clause) ≤ 3 → self.new.short ≡ Some place }
-        ensures long { 3 < length (literals place.value.lemma.clause) → length (literals place.value.lemma.clause) ≤ MANY
-            → self.new.long ≡ Some place }
-        ensures kept { (self.new.literals ≡ self.old.literals) × (self.new.numbers ≡ self.old.numbers) }
+        ensures short { length (literals place.value.lemma.clause) ≤ 3
+            → self.new.short ≡ Some place }
+        ensures long { 3 < length (literals place.value.lemma.clause)
+            → length (literals place.value.lemma.clause) ≤ MANY → self.new.long ≡ Some place }
+        ensures kept { (self.new.literals ≡ self.old.literals)
+            × (self.new.numbers ≡ self.old.numbers) }
     {
         let count = place.lemma.clause().lits().len();
         if count <= FEW {
