@@ -6,6 +6,7 @@ ghost use Rattle.lj_text.specs.inner.ShortNumbers.{AreNumbersAhead};
 use crate::bytes::{WINDOW, number_of_digits, others_in, short_number};
 use std::alloc::{AllocError, Global};
 use std::marker::Model;
+use std::mem::swap;
 
 /// The greatest number that takes four bytes.
 const MAX_SHORT: u64 = u32::MAX as u64;
@@ -182,6 +183,33 @@ impl Numbers {
             None => Form::Long(Vec::from_slice(alloc, numbers)?),
         };
         Ok(Numbers { form })
+    }
+
+    /// Becomes the other list: a copy in exactly the room that it needs where this one has no room yet, and else by exchanging
+    /// the two. Takes time linear in the numbers where they are copied, and constant time else.
+    ///
+    /// # Errors
+    /// [`AllocError`] where a growth was refused, and then nothing has changed.
+    #[inline(always)]
+    pub(crate) fn take_over(&mut self, other: &mut Numbers) -> Result<(), AllocError>
+        ensures ok { OnOk result (self.new ≡ other.old) }
+        ensures err { OnErr result ((self.new ≡ self.old) × (other.new ≡ other.old)) }
+    {
+        if self.has_room() {
+            swap(self, other);
+        } else {
+            *self = other.copy()?;
+        }
+        Ok(())
+    }
+
+    /// Whether some numbers fit in at no cost.
+    #[inline(always)]
+    fn has_room(&self) -> bool {
+        match &self.form {
+            Form::Short(numbers) => numbers.capacity() > 0,
+            Form::Long(numbers) => numbers.capacity() > 0,
+        }
     }
 
     /// How many numbers there are. Takes constant time.

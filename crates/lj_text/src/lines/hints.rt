@@ -70,7 +70,7 @@ fn read_groups(
     }
 }
 
-/// The hints behind those that were read, and the groups, up to the closing 0.
+/// The hints behind those that were read into the room, and the groups, up to the closing 0.
 pub(super) fn read_rest(
     hints: &mut Numbers,
     groups: &mut Groups,
@@ -80,9 +80,12 @@ pub(super) fn read_rest(
 ) -> Result<(), LineFaultKind>
     requires { groups.old ≡ [] }
     ensures { Gives (λ _. (hints.new, groups.new)) result
-        (behind_hints hints.old (hints_of ended (words_of bytes.now))) }
+        (behind_hints room.old (hints_of ended (words_of bytes.now))) }
 {
-    if let Some((candidate, after)) = read_hints(hints, ended, bytes)? {
+    let next = read_hints(room, ended, bytes)?;
+    hints.take_over(room)?;
+    room.let_go_of_many();
+    if let Some((candidate, after)) = next {
         read_groups(groups, room, ended, candidate, after)?;
     }
     Ok(())
@@ -98,11 +101,7 @@ pub(super) fn read_proof(
 ) -> Result<(), LineFaultKind>
     ensures { Gives (λ _. (hints.new, groups.new)) result (hints_of ended (words_of bytes.now)) }
 {
-    hints.clear();
+    room.clear();
     groups.clear();
-    let rest = hints.read_short(bytes);
-    if let [b'0'] = rest {
-        return Ok(());
-    }
-    read_rest(hints, groups, room, ended, rest)
+    read_rest(hints, groups, room, ended, bytes)
 }

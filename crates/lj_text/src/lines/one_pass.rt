@@ -31,11 +31,14 @@ fn proof_at_front<'a>(
         bytes.now after.now) }
     ensures shorter { IfSome result (λ after. length after.now < length bytes.now) }
 {
-    hints.clear();
+    room.clear();
     groups.clear();
-    let rest = hints.read_short(bytes);
+    let rest = room.read_short(bytes);
     if let [b'0', b'\n', after @ ..] = rest {
-        return Some(after);
+        return match hints.take_over(room) {
+            Ok(()) => Some(after),
+            Err(_) => None,
+        };
     }
     let (line, after) = first_line(rest, 0)?;
     match hints::read_rest(hints, groups, room, true, line) {
