@@ -2,7 +2,7 @@
 ghost use Rattle.std.specs.Prelude.{◌≡◌, ◌<◌, ◌≤◌, ◌++◌, ◌∷◌, [], List, length, take, IfOk, OnOk};
 ghost use Rattle.lj_clause.specs.Walk.{Hint};
 ghost use Rattle.lj_hint.specs.Hints.{named_hints};
-ghost use Rattle.lj_hint.specs.inner.Hints.{hint_number, hint_numbers, clause_at};
+ghost use Rattle.lj_hint.specs.inner.Hints.{hint_numbers, clause_at};
 ghost use Rattle.lj_hint.specs.inner.Groups.{read_group};
 
 use crate::pair::Pair;
@@ -17,10 +17,6 @@ pub(crate) trait HintList {
     /// The number of hints. Takes constant time.
     fn count(&self) -> usize
         ensures { result ≡ length (hints self.now) };
-
-    /// The number of the hint at an index, and 0 where there is none. Takes constant time.
-    fn number(&self, index: usize) -> u64
-        ensures { result ≡ hint_number (hints self.now) index };
 
     /// The clause that the hint at an index names. Takes the time of [`Clauses::clause`], where a hint is but a number.
     fn clause(&self, index: usize) -> Option<ClauseView<'_>>
@@ -61,14 +57,6 @@ impl HintList for PairHints<'_> {
     }
 
     #[inline]
-    fn number(&self, index: usize) -> u64 {
-        match self.pairs.get(index) {
-            Some(pair) => pair.joint,
-            None => 0,
-        }
-    }
-
-    #[inline]
     fn clause(&self, index: usize) -> Option<ClauseView<'_>> {
         Some(self.pairs[index].clause.view())
     }
@@ -82,42 +70,23 @@ impl GroupHints for PairHints<'_> {
         count: usize,
         groups: &mut Groups,
     ) -> Result<(), NoMemory> {
-        put_numbers(alloc, self, candidate, count, groups)
+        let numbers = joint_numbers(alloc, self.pairs, count)?;
+        groups.push(candidate, numbers.iter())?;
+        Ok(())
     }
 }
 
-/// Puts a candidate with the first hints, so many, behind the groups, by way of a list of their numbers.
+/// The joint numbers of the first pairs, so many.
 ///
 /// # Errors
 /// [`NoMemory`] where a growth was refused.
-fn put_numbers<H: HintList>(
-    alloc: Global,
-    hints: &H,
-    candidate: u64,
-    count: usize,
-    groups: &mut Groups,
-) -> Result<(), NoMemory>
-    requires { count ≤ length (H.hints hints.now) }
-    ensures { OnOk result
-        (groups.new ≡ groups.old ++ read_group candidate (H.hints hints.now) count ∷ []) }
-{
-    let numbers = numbers_of(alloc, hints, count)?;
-    groups.push(candidate, numbers.iter())?;
-    Ok(())
-}
-
-/// The numbers of the first hints, so many.
-///
-/// # Errors
-/// [`NoMemory`] where a growth was refused.
-fn numbers_of<H: HintList>(alloc: Global, hints: &H, count: usize) -> Result<Numbers, NoMemory>
-    requires { count ≤ length (H.hints hints.now) }
-    ensures { IfOk result
-        (λ numbers. numbers ≡ hint_numbers (take count (H.hints hints.now))) }
+fn joint_numbers(alloc: Global, pairs: &[Pair], count: usize) -> Result<Numbers, NoMemory>
+    requires { count ≤ length pairs.now }
+    ensures { IfOk result (λ joint. joint ≡ hint_numbers (take count (named_hints pairs.now))) }
 {
     let mut numbers = Numbers::with_capacity(alloc, count)?;
     for index in 0..count {
-        numbers.push(hints.number(index))?;
+        numbers.push(pairs[index].joint)?;
     }
     Ok(numbers)
 }

@@ -49,14 +49,6 @@ impl<C: Clauses> HintList for ShortHints<'_, C> {
     }
 
     #[inline]
-    fn number(&self, index: usize) -> u64 {
-        match self.numbers.get(index) {
-            Some(number) => u64::from(*number),
-            None => 0,
-        }
-    }
-
-    #[inline]
     fn clause(&self, index: usize) -> Option<ClauseView<'_>> {
         self.clauses.clause(u64::from(self.numbers[index]))
     }
@@ -75,11 +67,6 @@ impl<C: Clauses> HintList for NumberHints<'_, C> {
     #[inline]
     fn count(&self) -> usize {
         self.numbers.len()
-    }
-
-    #[inline]
-    fn number(&self, index: usize) -> u64 {
-        self.numbers.get(index).unwrap_or(0)
     }
 
     #[inline]

@@ -20,7 +20,7 @@ use crate::walk::{Ending, walk_negation};
 use lj_clause::NoMemory;
 use lj_text::Groups;
 
-/// The test of a case whose walk stays open, by resolution asymmetric tautology (Cruz-Filipe et al., CADE 2017): the
+/// The test of a case whose walk stays open, by resolution asymmetric tautology: the
 /// candidates are the live clauses that hold the negation of the lemma's pivot, their hints those of the case. The
 /// groups come back by rising candidate, one for each, cut after its closing hint. The room may have served any walk
 /// before.
