@@ -5,3 +5,4 @@ pub mod books;
 pub mod clauses;
 pub mod hints;
 pub mod texts;
+pub mod trims;
