@@ -227,7 +227,8 @@ class Repository:
     def __init__(self, root=ROOT):
         self.root = root
         order = [line.split(":")[0].split()[0] for line in (root / "crates.txt").read_text().split("\n") if line.strip()]
-        self.crates = [c for c in order if (root / "crates" / c / "src").exists()]
+        # callers promise nothing to users, so what they cite is named by others or by nobody
+        self.crates = [c for c in order if (root / "crates" / c / "src").exists() and c != "lj_callers"]
         self.sources = {c: Sources(root, c) for c in self.crates}
         self.modules = {}
         for crate in self.crates:
