@@ -1,23 +1,22 @@
 -- Lines that are tested ahead and then entered, one after the other.
-use Rattle.std.proofs.Common.{◌≡◌, ap, refl, sym, ◌∙◌, subst, ℕ, zero, suc, ◌+◌, ◌-◌, ◌<◌, ◌≤◌, Bool, true, false, arith}
-use Rattle.std.specs.Prelude.{nat_lt, Result, Ok, Err, IfOk, IfErr, IsSome, is_some, Option, None, List, [], ◌∷◌, ◌++◌, length, map, take, drop, Some, slice_get, slice_set}
+use Rattle.std.proofs.Common.{◌≡◌, ap, inr, refl, sym, ◌∙◌, subst, ℕ, zero, suc, ◌+◌, ◌-◌, ◌<◌, ◌≤◌, Bool, true, false, arith}
+use Rattle.std.specs.Prelude.{nat_lt, Result, Ok, Err, IfOk, IfErr, IfSome, IsSome, is_some, Option, None, List, [], ◌∷◌, ◌++◌, length, map, take, drop, Some, slice_get, slice_set}
 use Rattle.std.proofs.lemmas.Bool.{false≢true, ltb-true, ltb-false}
-use Rattle.std.proofs.lemmas.List.{append_assoc, length-drop, map-append, take_all}
+use Rattle.std.proofs.lemmas.List.{length-drop, take_all}
 use Rattle.lj_clause.specs.ClauseMap.{ClauseMap, FormulaValue}
 use Rattle.lj_text.specs.declared.line.Addition.{Addition}
 use Rattle.lj_text.specs.declared.line.Line.{Line}
 use Rattle.lj_text.specs.declared.line.Line.TheVariants as lines
-use Rattle.lj_book.specs.declared.entry.Call.{Call}
 use Rattle.lj_book.specs.declared.refusal.Refusal.{Refusal}
 use Rattle.lj_book.specs.Solo.{View}
 use Rattle.lj_book.specs.Views.{IsClosedAlone, decided_refusal}
 use Rattle.lj_share.specs.declared.seat.Alone.{Alone}
 use Rattle.lj_share.specs.declared.seat.Alone.TheVariants.{Closed, Open}
-use Rattle.lj_share.specs.Refusals.{IsDecided}
+use Rattle.lj_share.specs.Refusals.{IsDecided, IsLineRefused, line_refusal}
+use Rattle.lj_share.specs.Seats.{SeatValue}
 use Rattle.lj_share.specs.inner.Seats.{IfClosed, IsOwnOf, IsTestedAs, OwnValue, clauses_seen}
-use Rattle.lj_share.specs.Entries.{call_of}
 use Rattle.lj_share.specs.declared.numbered.Numbered.{Numbered}
-use Rattle.lj_share.specs.inner.Ahead.{AreKept, AreSeen, AreTested, IsClosedBy, IsRefusedBy, IsTestedLine, clauses_after_line, clauses_behind}
+use Rattle.lj_share.specs.inner.Ahead.{AreKept, AreSeen, AreTested, IsClosedBy, IsNextRefused, IsRefusedAhead, IsRefusedBy, IsTestedLine, clauses_after_line, clauses_behind}
 use Rattle.lj_share.proofs.AloneLaws.{get-seen}
 use Rattle.lj_share.proofs.Confirming.{some_same}
 use Rattle.lj_share.proofs.OwnLaws.{set_at, set_apart}
@@ -35,7 +34,7 @@ take_none : {A : Type 0} (n : ℕ) (xs : List A) → xs ≡ [] → take n xs ≡
 take_none zero xs is = ap (take 0) is
 take_none (suc n) xs is = ap (take (suc n)) is
 
-take_plus : {A : Type 0} (xs : List A) (a b : ℕ) → take a xs ++ take b (drop a xs) ≡ take (a + b) xs
+pub take_plus : {A : Type 0} (xs : List A) (a b : ℕ) → take a xs ++ take b (drop a xs) ≡ take (a + b) xs
 take_plus [] zero b = let on : b ≡ 0 + b = omega arith in ap (λ n. take n []) on
 take_plus [] (suc a) b = take_none b [] refl ∙ sym (take_none (suc a + b) [] refl)
 take_plus (y ∷ xs) zero b = let on : b ≡ 0 + b = omega arith in ap (λ n. take n (y ∷ xs)) on
@@ -55,33 +54,11 @@ get_dropped (y ∷ xs) (suc a) k =
 abbrev pub behind : {A : Type 0} → List A → ℕ → List A
 behind xs a = take (length xs - a) (drop a xs)
 
-behind_is : {A : Type 0} (xs : List A) (a : ℕ) → behind xs a ≡ drop a xs
+pub behind_is : {A : Type 0} (xs : List A) (a : ℕ) → behind xs a ≡ drop a xs
 behind_is xs a = take_all (length xs - a) (drop a xs) (let long = length-drop a xs in omega (arith, long))
 
 pub get_behind : {A : Type 0} (xs : List A) (a k : ℕ) → slice_get (behind xs a) k ≡ slice_get xs (a + k)
 get_behind xs a k = ap (λ ys. slice_get ys k) (behind_is xs a) ∙ get_dropped xs a k
-
--- ---- calls
-
-abbrev pub calls_in : List Numbered → List Call
-calls_in ls = map (λ l. call_of l.line) ls
-
--- one line more
-pub calls_next : (before mid after : List Call) (ls : List Numbered) (k : ℕ) (l : Numbered) → slice_get ls k ≡ Some l → mid ≡ before ++ calls_in (take k ls) → after ≡ mid ++ call_of l.line ∷ [] → after ≡ before ++ calls_in (take (k + 1) ls)
-calls_next before mid after ls k l at so_far more =
-    more
-    ∙ ap (λ cs. cs ++ call_of l.line ∷ []) so_far
-    ∙ append_assoc before (calls_in (take k ls)) (call_of l.line ∷ [])
-    ∙ ap (λ cs. before ++ cs) (sym (ap calls_in (take_next ls k l at) ∙ map-append (λ (x : Numbered). call_of x.line) (take k ls) (l ∷ [])))
-
--- more lines
-pub calls_plus : (before mid after : List Call) (ls : List Numbered) (a b : ℕ) → mid ≡ before ++ calls_in (take a ls) → after ≡ mid ++ calls_in (take b (behind ls a)) → after ≡ before ++ calls_in (take (a + b) ls)
-calls_plus before mid after ls a b so_far more =
-    more
-    ∙ ap (λ xs. mid ++ calls_in (take b xs)) (behind_is ls a)
-    ∙ ap (λ cs. cs ++ calls_in (take b (drop a ls))) so_far
-    ∙ append_assoc before (calls_in (take a ls)) (calls_in (take b (drop a ls)))
-    ∙ ap (λ cs. before ++ cs) (sym (map-append (λ (x : Numbered). call_of x.line) (take a ls) (take b (drop a ls))) ∙ ap calls_in (take_plus ls a b))
 
 -- ---- clauses
 
@@ -124,6 +101,18 @@ pub tested_as : (m : ClauseMap) (view : View) (seat : ℕ) (line : Line) (read :
 tested_as m view seat (lines.Add a) read seen by = by view seat seen
 tested_as m view seat (lines.Delete numbers) read seen by = tt
 tested_as m view seat (lines.Import own clause) read seen by = tt
+
+-- a line that the clauses refuse is refused by what the seat sees
+pub decided_ahead : (m : ClauseMap) (seat : SeatValue) (line : Line) (e : Refusal) → AreSeen m seat.view → IsRefusedAhead m line e → IsDecided (line_refusal seat line) e
+decided_ahead m seat (lines.Add a) e seen by = by seat.view seat.number seen
+decided_ahead m seat (lines.Delete numbers) e seen by = absurd by
+decided_ahead m seat (lines.Import own clause) e seen by = absurd by
+
+-- the next line is refused so by what the seat sees that entered all before it
+pub next_refused : (f : FormulaValue) (seats max : ℕ) (m : ClauseMap) (ls : List Numbered) (count n : ℕ) (r : Option Refusal) (seat : SeatValue) (there : Type 0) → n ≡ count → IfSome r (λ e. IsNextRefused m ls count e × there) → (there → AreSeen (clauses_behind m (take count ls)) seat.view) → IfSome r (λ e. (l : Numbered) × (slice_get ls n ≡ Some l) × IsLineRefused f seats max seat l.line e)
+next_refused f seats max m ls count n None seat there is next seen = tt
+next_refused f seats max m ls count n (Some e) seat there is next seen =
+    (next.0.0, ap (slice_get ls) is ∙ next.0.1.0, inr (decided_ahead (clauses_behind m (take count ls)) seat next.0.0.line e (seen next.1) next.0.1.1))
 
 -- what is kept before any line
 pub kept_init : (f : FormulaValue) (o : Option OwnValue) (v : View) → IsOwnOf f o v → AreKept f o v (clauses_seen v)

@@ -1,12 +1,12 @@
 -- What a seat decides by what it sees.
-use Rattle.std.proofs.Common.{◌≡◌, ap, refl, sym, ◌∙◌, ℕ, Bool, cond, true, false, arith}
-use Rattle.std.specs.Prelude.{◌==◌, List, [], ◌∷◌, map, length, Option, Some, None, option_map, is_some, if◌then◌else◌, Result, Ok, Err, IsSome}
+use Rattle.std.proofs.Common.{◌≡◌, ap, refl, sym, ◌∙◌, ℕ, zero, suc, ◌+◌, ◌-◌, ◌≤◌, Bool, cond, true, false, arith}
+use Rattle.std.specs.Prelude.{◌==◌, ℤ, List, [], ◌∷◌, map, length, drop, slice_get, Option, Some, None, option_map, is_some, if◌then◌else◌, Result, Ok, Err, IsSome}
 use Rattle.std.proofs.lemmas.Bool.{false≢true, eqb-true}
 use Rattle.std.specs.Ordering.{nat_cmp, eq_by_cmp}
 use Rattle.std.specs.Cmp.{nat_cmp_total}
 use Rattle.std.specs.FinMap as fin
 use Rattle.std.specs.FinMap.Entries.{find}
-use Rattle.lj_clause.specs.LiteralSet.{LiteralSet, negations}
+use Rattle.lj_clause.specs.LiteralSet.{LiteralSet, negations, with_literal}
 use Rattle.lj_clause.specs.ClauseMap.{ClauseMap}
 use Rattle.lj_clause.specs.Rat.{HintGroup}
 use Rattle.lj_clause.specs.Walk as walks
@@ -24,7 +24,7 @@ use Rattle.lj_hint.specs.Ending.{ending_of}
 use Rattle.lj_hint.specs.Laws.{WalksGoByClauses}
 use Rattle.lj_book.specs.Views.{IsClosedAlone, decided_by, decided_refusal, stuck_refusal}
 use Rattle.lj_share.specs.inner.Seats.{clause_seen, clauses_seen}
-use Rattle.lj_share.specs.inner.Ahead.{AreSeen, first_unseen}
+use Rattle.lj_share.specs.inner.Ahead.{AreSeen, IsClosedBy, IsWalkedTo, first_unseen}
 use Rattle.lj_share.proofs.Confirming.{some_same}
 
 none_some : {X P : Type 0} (x : X) → None ≡ Some x → P
@@ -118,13 +118,26 @@ unseen_decided (Some h) seat a own there free is =
 pub unseen_by : (m : ClauseMap) (a : Addition) (own : ℕ) → is_some (fin.get m a.number) ≡ false → first_unseen m a.hints ≡ Some own → (view : View) (seat : ℕ) → AreSeen m view → decided_refusal view seat a ≡ Some (UnknownNumber own)
 unseen_by m a own free is view seat seen = unseen_decided view seat a own seen.0 (seen_bound m view a.number false seen free) (first_alike m view a.hints seen ∙ is)
 
--- one that isn't bound is the first of all where it is the first of those that are left
-pub first_found : (m : ClauseMap) (owns left rest : List ℕ) (own : ℕ) → first_unseen m owns ≡ first_unseen m left → left ≡ own ∷ rest → is_some (fin.get m own) ≡ false → Some own ≡ first_unseen m owns
-first_found m owns left rest own so_far steps none = sym (so_far ∙ ap (first_unseen m) steps ∙ ap (λ (b : Bool). if b then first_unseen m rest else Some own) none)
+-- the numbers from a place on
+drop_at : (owns : List ℕ) (k own : ℕ) → slice_get owns k ≡ Some own → drop k owns ≡ own ∷ drop (k + 1) owns
+drop_at [] k own at = none_some own at
+drop_at (n ∷ ns) zero own at = ap (λ x. x ∷ ns) (some_same n own at)
+drop_at (n ∷ ns) (suc k) own at = let on : suc (k + 1) ≡ suc k + 1 = omega arith in drop_at ns k own at ∙ ap (λ j. own ∷ drop j (n ∷ ns)) on
+
+-- one that isn't bound is the first
+pub first_found : (m : ClauseMap) (owns : List ℕ) (k own : ℕ) → slice_get owns k ≡ Some own → is_some (fin.get m own) ≡ false → Some own ≡ first_unseen m (drop k owns)
+first_found m owns k own at none = sym (ap (first_unseen m) (drop_at owns k own at) ∙ ap (λ (b : Bool). if b then first_unseen m (drop (k + 1) owns) else Some own) none)
 
 -- one that is bound is passed by
-pub first_later : (m : ClauseMap) (owns left rest : List ℕ) (own : ℕ) → first_unseen m owns ≡ first_unseen m left → left ≡ own ∷ rest → is_some (fin.get m own) ≡ true → first_unseen m owns ≡ first_unseen m rest
-first_later m owns left rest own so_far steps one = so_far ∙ ap (first_unseen m) steps ∙ ap (λ (b : Bool). if b then first_unseen m rest else Some own) one
+pub first_later : (m : ClauseMap) (owns : List ℕ) (k own : ℕ) → slice_get owns k ≡ Some own → is_some (fin.get m own) ≡ true → first_unseen m (drop k owns) ≡ first_unseen m (drop (k + 1) owns)
+first_later m owns k own at one = ap (first_unseen m) (drop_at owns k own at) ∙ ap (λ (b : Bool). if b then first_unseen m (drop (k + 1) owns) else Some own) one
+
+-- none is behind the last
+pub first_none : (m : ClauseMap) (owns : List ℕ) (k : ℕ) → length owns ≤ k → None ≡ first_unseen m (drop k owns)
+first_none m [] zero past = refl
+first_none m [] (suc k) past = refl
+first_none m (n ∷ ns) zero past = absurd (let no : ⊥ = omega (arith, past) in no)
+first_none m (n ∷ ns) (suc k) past = first_none m ns k (omega (arith, past))
 
 -- ---- the walk
 
@@ -155,17 +168,10 @@ record IsWalked (view : View) (seat : ℕ) (a : Addition) (end : Ending) : Type 
   is_taken : solo_take view seat a ≡ Ok case
   ends : ending_of (walk_of case) ≡ end
 
--- these clauses have all hints of the addition, which has no groups and whose number is free, and its walk over them ends so
-pub record IsWalkedBy (m : ClauseMap) (a : Addition) (end : Ending) : Type 0 where
-  pub free : is_some (fin.get m a.number) ≡ false
-  pub none : a.groups ≡ []
-  pub bound : first_unseen m a.hints ≡ None
-  pub ends_so : end ≡ ending_of (walks.walk m (negations a.lemma.clause) a.hints)
-
-walked : WalksGoByClauses → (m : ClauseMap) (view : View) (seat : ℕ) (a : Addition) (end : Ending) → IsWalkedBy m a end → AreSeen m view → IsWalked view seat a end
-walked laws m None seat a end w seen = absurd (false≢true seen.0)
-walked laws m (Some h) seat a end w seen =
-    let found = seen_pairs h a.hints (first_alike m (Some h) a.hints seen ∙ w.bound) in
+walked : WalksGoByClauses → (m : ClauseMap) (view : View) (seat : ℕ) (a : Addition) (end : Ending) → IsWalkedTo m a end → first_unseen m a.hints ≡ None → AreSeen m view → IsWalked view seat a end
+walked laws m None seat a end w bound seen = absurd (false≢true seen.0)
+walked laws m (Some h) seat a end w bound seen =
+    let found = seen_pairs h a.hints (first_alike m (Some h) a.hints seen ∙ bound) in
     let same = named_clauses found.0 ∙ found.1.1 ∙ seen_clauses m (Some h) a.hints seen in
     record {
       case = case_of seat a.number a.lemma found.0 [];
@@ -189,8 +195,68 @@ stuck_of view seat a place w = ap decided_by w.is_taken ∙ go (walk_of w.case) 
     go (walks.Open lits) is = absurd cc
     go (walks.Stuck at) is = let same : at ≡ place = cc in ap (λ (n : ℕ). Some (HintNotUnit n)) same
 
-pub closed_by : WalksGoByClauses → (m : ClauseMap) (a : Addition) (read : ℕ) → IsWalkedBy m a (endings.ClosedAfter read) → (view : View) (seat : ℕ) → AreSeen m view → IsClosedAlone view seat a read
-closed_by laws m a read w view seat seen = closed_of view seat a read (walked laws m view seat a (endings.ClosedAfter read) w seen)
+pub closed_by : WalksGoByClauses → (m : ClauseMap) (a : Addition) (read : ℕ) → IsWalkedTo m a (endings.ClosedAfter read) → first_unseen m a.hints ≡ None → IsClosedBy m a read
+closed_by laws m a read w bound view seat seen = closed_of view seat a read (walked laws m view seat a (endings.ClosedAfter read) w bound seen)
 
-pub stuck_by : WalksGoByClauses → (m : ClauseMap) (a : Addition) (place : ℕ) → IsWalkedBy m a (endings.StuckAt place) → (view : View) (seat : ℕ) → AreSeen m view → decided_refusal view seat a ≡ Some (HintNotUnit place)
-stuck_by laws m a place w view seat seen = stuck_of view seat a place (walked laws m view seat a (endings.StuckAt place) w seen)
+pub stuck_by : WalksGoByClauses → (m : ClauseMap) (a : Addition) (place : ℕ) → IsWalkedTo m a (endings.StuckAt place) → first_unseen m a.hints ≡ None → (view : View) (seat : ℕ) → AreSeen m view → decided_refusal view seat a ≡ Some (HintNotUnit place)
+stuck_by laws m a place w bound view seat seen = stuck_of view seat a place (walked laws m view seat a (endings.StuckAt place) w bound seen)
+
+-- ---- the hints that a walk read
+
+-- how many hints in front the walk found clauses of, at least
+abbrev found_by : walks.Walk → ℕ
+found_by (walks.Closed used) = length used
+found_by (walks.Open lits) = 0
+found_by (walks.Stuck place) = place - 1
+
+found_stuck : (m : ClauseMap) (n : ℕ) (ns : List ℕ) (place : ℕ) → first_unseen m (n ∷ ns) ≡ first_unseen m ns → first_unseen m ns ≡ first_unseen m (drop (place - 1) ns) → first_unseen m (n ∷ ns) ≡ first_unseen m (drop (suc place - 1) (n ∷ ns))
+found_stuck m n ns zero one later = let none : 0 ≡ suc 0 - 1 = omega arith in ap (λ k. first_unseen m (drop k (n ∷ ns))) none
+found_stuck m n ns (suc p) one later =
+    let more : suc p ≡ suc (suc p) - 1 = omega arith in
+    let less : suc p - 1 ≡ p = omega arith in
+    one ∙ later ∙ ap (λ k. first_unseen m (drop k ns)) less ∙ ap (λ k. first_unseen m (drop k (n ∷ ns))) more
+
+found_after : (m : ClauseMap) (n : ℕ) (ns : List ℕ) (w : walks.Walk) → first_unseen m (n ∷ ns) ≡ first_unseen m ns → first_unseen m ns ≡ first_unseen m (drop (found_by w) ns) → first_unseen m (n ∷ ns) ≡ first_unseen m (drop (found_by (walks.after_hint n w)) (n ∷ ns))
+found_after m n ns (walks.Closed used) one later = one ∙ later
+found_after m n ns (walks.Open lits) one later = refl
+found_after m n ns (walks.Stuck place) one later = found_stuck m n ns place one later
+
+found_rest : (m : ClauseMap) (n : ℕ) (ns : List ℕ) (left : List ℤ) (onward : ℤ → walks.Walk) → first_unseen m (n ∷ ns) ≡ first_unseen m ns → ((l : ℤ) → first_unseen m ns ≡ first_unseen m (drop (found_by (onward l)) ns)) → first_unseen m (n ∷ ns) ≡ first_unseen m (drop (found_by (walks.by_rest n left onward)) (n ∷ ns))
+found_rest m n ns [] onward one later = one
+found_rest m n ns (l ∷ []) onward one later = found_after m n ns (onward l) one (later l)
+found_rest m n ns (l ∷ k ∷ ls) onward one later = let none : 0 ≡ 1 - 1 = omega arith in ap (λ k. first_unseen m (drop k (n ∷ ns))) none
+
+found_hint : (m : ClauseMap) (n : ℕ) (ns : List ℕ) (a : LiteralSet) (o : Option LiteralSet) (onward : ℤ → walks.Walk) → fin.get m n ≡ o → ((l : ℤ) → first_unseen m ns ≡ first_unseen m (drop (found_by (onward l)) ns)) → first_unseen m (n ∷ ns) ≡ first_unseen m (drop (found_by (walks.by_hint n o a onward)) (n ∷ ns))
+found_hint m n ns a None onward at later = let none : 0 ≡ 1 - 1 = omega arith in ap (λ k. first_unseen m (drop k (n ∷ ns))) none
+found_hint m n ns a (Some d) onward at later =
+    found_rest m n ns (walks.rest d a) onward (ap (λ (o : Option LiteralSet). if is_some o then first_unseen m ns else Some n) at) later
+
+found_unless : (m : ClauseMap) (owns : List ℕ) (b : Bool) (w : walks.Walk) → first_unseen m owns ≡ first_unseen m (drop (found_by w) owns) → first_unseen m owns ≡ first_unseen m (drop (found_by (cond b (walks.Closed []) w)) owns)
+found_unless m owns true w later = refl
+found_unless m owns false w later = later
+
+found : (m : ClauseMap) (a : LiteralSet) (owns : List ℕ) → first_unseen m owns ≡ first_unseen m (drop (found_by (walks.walk_over a (walks.hints_in m owns))) owns)
+unfolding walks.walk_over
+found m a [] = found_unless m [] (walks.is_contradictory a) (walks.Open a) refl
+found m a (n ∷ ns) =
+    let onward : ℤ → walks.Walk = λ l. walks.walk_over (with_literal a l) (walks.hints_in m ns) in
+    found_unless m (n ∷ ns) (walks.is_contradictory a) (walks.by_hint n (fin.get m n) a onward) (found_hint m n ns a (fin.get m n) onward refl (λ l. found m (with_literal a l) ns))
+
+found_closed : (w : walks.Walk) (read : ℕ) → endings.ClosedAfter read ≡ ending_of w → found_by w ≡ read
+found_closed (walks.Closed used) read is = let same : read ≡ length used = cc in sym same
+found_closed (walks.Open lits) read is = absurd cc
+found_closed (walks.Stuck place) read is = absurd cc
+
+found_place : (w : walks.Walk) (place : ℕ) → endings.StuckAt place ≡ ending_of w → found_by w ≡ place - 1
+found_place (walks.Closed used) place is = absurd cc
+found_place (walks.Open lits) place is = absurd cc
+found_place (walks.Stuck at) place is = let same : place ≡ at = cc in ap (λ n. n - 1) (sym same)
+
+-- the first hint that isn't bound is the first behind those that the walk read
+pub behind_closed : (m : ClauseMap) (a : Addition) (read : ℕ) → IsWalkedTo m a (endings.ClosedAfter read) → first_unseen m a.hints ≡ first_unseen m (drop read a.hints)
+behind_closed m a read w =
+    found m (negations a.lemma.clause) a.hints ∙ ap (λ k. first_unseen m (drop k a.hints)) (found_closed (walks.walk m (negations a.lemma.clause) a.hints) read w.ends_so)
+
+pub behind_stuck : (m : ClauseMap) (a : Addition) (place : ℕ) → IsWalkedTo m a (endings.StuckAt place) → first_unseen m a.hints ≡ first_unseen m (drop (place - 1) a.hints)
+behind_stuck m a place w =
+    found m (negations a.lemma.clause) a.hints ∙ ap (λ k. first_unseen m (drop k a.hints)) (found_place (walks.walk m (negations a.lemma.clause) a.hints) place w.ends_so)

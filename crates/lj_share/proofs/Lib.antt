@@ -4,6 +4,8 @@ mod Confirming
 mod Opened
 mod ListLaws
 mod Facts
+mod EnteredLaws
+mod FreeLaws
 mod Leaving
 mod Adopting
 mod OwnLaws

@@ -1,4 +1,5 @@
 pub mod Seats
 pub mod Entries
 pub mod Refusals
+pub mod Entered
 pub mod inner

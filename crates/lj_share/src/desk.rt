@@ -1,11 +1,13 @@
 //! What lies under the lock.
-ghost use Rattle.std.specs.Prelude.{◌≡◌, ◌≤◌, ◌++◌, length, map, take, slice_get, None, Some, IfOk, IfErr, IfSome, IsSome, OnOk, OnErr};
+ghost use Rattle.std.specs.Prelude.{◌≡◌, ◌≤◌, length, take, slice_get, None, Some, IfOk, IfErr, IfSome, IsSome, OnOk, OnErr};
 ghost use Rattle.lj_book.specs.Calls.{IsReply, take_reply, commit_reply, adopt_reply, leave_reply};
 ghost use Rattle.lj_book.specs.declared.entry.Call.TheVariants as calls;
 ghost use Rattle.lj_text.specs.declared.line.Line.TheVariants as lines;
-ghost use Rattle.lj_book.specs.Views.{IsClosedAlone};
+ghost use Rattle.lj_share.specs.Entered.{AreEntered};
 ghost use Rattle.lj_share.specs.Entries.{IsEntryOf, call_of};
-ghost use Rattle.lj_share.specs.Refusals.{HoldsInAState, IsRefusedAt, IsRefusedLine};
+ghost use Rattle.lj_book.specs.Solo.{solo_refusal};
+ghost use Rattle.lj_book.specs.Views.{IsClosedAlone, decided_refusal};
+ghost use Rattle.lj_share.specs.Refusals.{HoldsInAState, IsRefusedAt, IsRefusedLine, gone_refusal, line_refusal};
 ghost use Rattle.lj_share.specs.Seats.{IsMaking};
 ghost use Rattle.lj_share.specs.inner.Seats.{IfClosed, IsBoundIf, IsDesk, IsOwnOf, IsTestedAs, clauses_seen};
 ghost use Rattle.lj_share.specs.inner.Ahead.{AreSeen, AreTested, clauses_behind};
@@ -129,6 +131,7 @@ impl<L: Opening> Desk<L> {
             (IsEntryOf place.old.number (calls.Add receipt.own receipt.lemma)) }
         ensures made { OnOk result
             (IsMaking (calls.Add receipt.own receipt.lemma) place.old place.new) }
+        ensures free { OnOk result (solo_refusal place.old.view receipt.own ≡ None) }
         ensures kept { OnErr result (place.new ≡ place.old) }
         ensures back { IfErr result (λ e. e.1 ≡ receipt) }
         ensures refusal { IfErr result (λ e. IsRefusedAt L.formula L.seats L.max_steps place.old
@@ -161,6 +164,7 @@ impl<L: Opening> Desk<L> {
         requires { IsTestedAs place.old.view place.old.number line.now alone }
         ensures told { IfOk result (IsTokenOf telling place.old.number (call_of line.now)) }
         ensures made { OnOk result (IsMaking (call_of line.now) place.old place.new) }
+        ensures free { OnOk result (line_refusal place.old line.now ≡ None) }
         ensures kept { OnErr result (place.new ≡ place.old) }
         ensures refusal { IfErr result (λ e. HoldsInAState L.formula L.seats L.max_steps place.old
             (IsRefusedLine place.old.number line.now e)) }
@@ -184,9 +188,7 @@ impl<L: Opening> Desk<L> {
         requires here { IsSome place.old.view }
         requires lines { count ≤ length lines.now }
         requires reads { count ≤ length reads.now }
-        ensures number { place.new.number ≡ place.old.number }
-        ensures calls { place.new.calls
-            ≡ place.old.calls ++ map (λ l. call_of l.line) (take result.0 lines.now) }
+        ensures entered { AreEntered place.old (take result.0 lines.now) place.new }
         ensures seen { AreSeen
             (clauses_behind (clauses_seen place.old.view) (take result.0 lines.now))
             place.new.view }
@@ -209,6 +211,7 @@ impl<L: Opening> Desk<L> {
     fn enter_read(&mut self, place: &mut Place<L>, line: &Line, read: usize) -> Result<(), Refusal>
         requires { IsTestedAs place.old.view place.old.number line.now (Closed read) }
         ensures made { OnOk result (IsMaking (call_of line.now) place.old place.new) }
+        ensures free { OnOk result (line_refusal place.old line.now ≡ None) }
         ensures kept { OnErr result (place.new ≡ place.old) }
         ensures refusal { IfErr result (λ e. HoldsInAState L.formula L.seats L.max_steps place.old
             (IsRefusedLine place.old.number line.now e)) }
@@ -231,6 +234,7 @@ impl<L: Opening> Desk<L> {
             (calls.Add addition.now.number addition.now.lemma)) }
         ensures made { OnOk result
             (IsMaking (calls.Add addition.now.number addition.now.lemma) place.old place.new) }
+        ensures free { OnOk result (decided_refusal place.old.view place.old.number addition.now ≡ None) }
         ensures kept { OnErr result (place.new ≡ place.old) }
         ensures refusal { IfErr result (λ e. HoldsInAState L.formula L.seats L.max_steps place.old
             (IsRefusedLine place.old.number (lines.Add addition.now) e)) }
@@ -254,6 +258,7 @@ impl<L: Opening> Desk<L> {
             (calls.Add addition.now.number addition.now.lemma)) }
         ensures made { OnOk result
             (IsMaking (calls.Add addition.now.number addition.now.lemma) place.old place.new) }
+        ensures free { OnOk result (decided_refusal place.old.view place.old.number addition.now ≡ None) }
         ensures kept { OnErr result (place.new ≡ place.old) }
         ensures refusal { IfErr result (λ e. HoldsInAState L.formula L.seats L.max_steps place.old
             (IsRefusedLine place.old.number (lines.Add addition.now) e)) }
@@ -285,6 +290,7 @@ impl<L: Opening> Desk<L> {
             (calls.Add addition.now.number addition.now.lemma)) }
         ensures made { OnOk result
             (IsMaking (calls.Add addition.now.number addition.now.lemma) place.old place.new) }
+        ensures free { OnOk result (decided_refusal place.old.view place.old.number addition.now ≡ None) }
         ensures kept { OnErr result (place.new ≡ place.old) }
         ensures refusal { IfErr result (λ e. HoldsInAState L.formula L.seats L.max_steps place.old
             (IsRefusedLine place.old.number (lines.Add addition.now) e)) }
@@ -315,6 +321,7 @@ impl<L: Opening> Desk<L> {
     ) -> Result<Option<Told>, Refusal>
         ensures told { IfOk result (IsTokenOf telling place.old.number (calls.Drop numbers.now)) }
         ensures made { OnOk result (IsMaking (calls.Drop numbers.now) place.old place.new) }
+        ensures free { OnOk result (gone_refusal place.old.view ≡ None) }
         ensures kept { OnErr result (place.new ≡ place.old) }
         ensures refusal { IfErr result (λ e. HoldsInAState L.formula L.seats L.max_steps place.old
             (IsRefusedLine place.old.number (lines.Delete numbers.now) e)) }
@@ -346,6 +353,7 @@ impl<L: Opening> Desk<L> {
         ensures told { IfOk result
             (IsTokenOf telling place.old.number (calls.Import own clause.now)) }
         ensures made { OnOk result (IsMaking (calls.Import own clause.now) place.old place.new) }
+        ensures free { OnOk result (solo_refusal place.old.view own ≡ None) }
         ensures kept { OnErr result (place.new ≡ place.old) }
         ensures refusal { IfErr result (λ e. HoldsInAState L.formula L.seats L.max_steps place.old
             (IsRefusedLine place.old.number (lines.Import own clause.now) e)) }
@@ -378,6 +386,7 @@ impl<L: Opening> Desk<L> {
         requires { IsOwnOf L.formula kept.old place.old.view }
         ensures told { IfOk result (IsEntryOf place.old.number (calls.Adopt own joint)) }
         ensures made { OnOk result (IsMaking (calls.Adopt own joint) place.old place.new) }
+        ensures free { OnOk result (solo_refusal place.old.view own ≡ None) }
         ensures kept { OnErr result (place.new ≡ place.old) }
         ensures own { IsOwnOf L.formula kept.new place.new.view }
         ensures refusal { IfErr result (IsRefusedAt L.formula L.seats L.max_steps place.old
@@ -408,6 +417,7 @@ impl<L: Opening> Desk<L> {
     pub(crate) fn leave(&mut self, place: &mut Place<L>) -> Result<Told, Refusal>
         ensures told { IfOk result (IsEntryOf place.old.number calls.Leave) }
         ensures made { OnOk result (IsMaking calls.Leave place.old place.new) }
+        ensures free { OnOk result (gone_refusal place.old.view ≡ None) }
         ensures kept { OnErr result (place.new ≡ place.old) }
         ensures refusal { IfErr result (IsRefusedAt L.formula L.seats L.max_steps place.old
             (λ s. leave_reply s place.old.number)) }

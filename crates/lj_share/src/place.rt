@@ -1,7 +1,7 @@
 //! What a seat has of its book's ledger and of its copies.
 ghost use Rattle.std.specs.Prelude.{◌≡◌, ◌+◌, ◌<◌, [], length, Some, slice_get, slice_set};
 ghost use Rattle.lj_book.specs.History.{IsReached};
-ghost use Rattle.lj_book.specs.Views.{ViewsFollowEntries};
+ghost use Rattle.lj_book.specs.Views.{ViewsFollowEntries, DecidedAlone, FreeAlone};
 ghost use Rattle.lj_share.specs.Entries.{calls_of};
 ghost use Rattle.lj_share.specs.Seats.{seat_of_book};
 ghost use Rattle.lj_share.specs.inner.Seats.{AreShown};
@@ -10,7 +10,7 @@ use crate::copies::SeatCopy;
 use crate::lists::Lists;
 use crate::opening::Opening;
 use lj_book::laws::history_is_legal;
-use lj_book::{Book, views_follow_entries};
+use lj_book::{Book, decided_alone, free_alone, views_follow_entries};
 use std::marker::Model;
 use std::sync::ledger::{Book as Tally, Share};
 
@@ -100,9 +100,13 @@ impl<L: Opening> Place<L> {
         ensures seat { seat_of_book book.now self.old.number ≡ self.old }
         ensures legal { IsReached book.now }
         ensures views { ViewsFollowEntries }
+        ensures decided { DecidedAlone }
+        ensures free { FreeAlone }
     {
         history_is_legal(book);
         views_follow_entries();
+        decided_alone();
+        free_alone();
         let number = self.number;
         lists.follow(&mut self.copy, book, number);
     }

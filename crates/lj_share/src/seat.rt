@@ -1,10 +1,10 @@
 //! Seats.
-ghost use Rattle.std.specs.Prelude.{◌≡◌, length, Ok, Some, IfOk, IfErr, IfSome, slice_get};
+ghost use Rattle.std.specs.Prelude.{◌≡◌, length, drop, Some, IfOk, IfErr, slice_get};
 ghost use Rattle.lj_book.specs.Views.{IsClosedAlone, decided_refusal};
 ghost use Rattle.lj_share.specs.Refusals.{IsDecided, line_refusal};
-ghost use Rattle.lj_share.specs.inner.Ahead.{IsClosedBy, IsRefusedBy, IsTestedLine, first_unseen};
+ghost use Rattle.lj_hint.specs.declared.walk.Ending.TheVariants.{ClosedAfter, StuckAt};
+ghost use Rattle.lj_share.specs.inner.Ahead.{IsClosedBy, IsRefusedAhead, IsRefusedBy, IsTestedLine, IsWalkedTo, first_unseen};
 ghost use Rattle.lj_share.specs.inner.Seats.{IfClosed, IsOwnOf, IsTestedAs};
-ghost use Rattle.lj_share.specs.declared.seat.Alone.TheVariants.{Closed};
 
 use crate::copies::SeatCopy;
 use crate::numbered::Numbered;
@@ -170,19 +170,22 @@ impl<L: Opening> Clauses for SeenClauses<'_, L> {
 }
 
 impl<L: Opening> SeenClauses<'_, L> {
-    /// How many hints a line reads that these clauses decide, so that it can be entered: an addition whose walk closes, or a
-    /// deletion, which reads none. None for other lines.
-    pub(crate) fn decide(&self, line: &Line, marks: &mut Marks) -> Option<usize>
-        ensures { IfSome result (IsTestedLine self.now line.now) }
+    /// The test of a line. A deletion closes, and reads no hint; an import stays open.
+    ///
+    /// # Errors
+    /// As [`Seat::test`].
+    pub(crate) fn test_line(&self, line: &Line, marks: &mut Marks) -> Result<Alone, Refusal>
+        ensures closed { IfOk result (λ alone. IfClosed alone (IsTestedLine self.now line.now)) }
+        ensures refusal { IfErr result (IsRefusedAhead self.now line.now) }
     {
         match line {
-            Line::Add(addition) => closed(self.test(addition, marks)),
-            Line::Delete(_) => Some(0),
-            Line::Import { .. } => None,
+            Line::Add(addition) => self.test(addition, marks),
+            Line::Delete(_) => Ok(Alone::Closed(0)),
+            Line::Import { .. } => Ok(Alone::Open),
         }
     }
 
-    /// The test of an addition.
+    /// The test of an addition. Each hint is looked up once.
     ///
     /// # Errors
     /// As [`Seat::test`].
@@ -191,7 +194,6 @@ impl<L: Opening> SeenClauses<'_, L> {
             (IsClosedBy self.now addition.now)) }
         ensures refusal { IfErr result (IsRefusedBy self.now addition.now) }
     {
-        walks_go_by_clauses();
         let _ = &self.place;
         let _ = &self.ahead;
         if self.clause(addition.number).is_some() {
@@ -200,36 +202,52 @@ impl<L: Opening> SeenClauses<'_, L> {
         if !addition.groups.is_empty() {
             return Ok(Alone::Open);
         }
-        if let Some(own) = self.first_unseen(&addition.hints) {
-            return Err(Refusal::UnknownNumber(own));
-        }
         match walk_first(self, &addition.lemma, &addition.hints, marks) {
-            Ok(Ending::ClosedAfter(read)) => Ok(Alone::Closed(read)),
+            Ok(Ending::ClosedAfter(read)) => self.closed_after(addition, read),
             Ok(Ending::StaysOpen) => Ok(Alone::Open),
-            Ok(Ending::StuckAt(place)) => Err(Refusal::HintNotUnit(place)),
+            Ok(Ending::StuckAt(place)) => Err(self.stuck_at(addition, place)),
             Err(refused) => Err(Refusal::NoMemory(refused)),
         }
     }
 
-    /// The first of these own numbers that is bound to no clause.
-    fn first_unseen(&self, numbers: &Numbers) -> Option<u64>
-        ensures { result ≡ first_unseen self.now numbers.now }
+    /// The answer where the walk closed after so many hints: those that weren't read have to be bound too.
+    ///
+    /// # Errors
+    /// [`Refusal::UnknownNumber`].
+    fn closed_after(&self, addition: &Addition, read: usize) -> Result<Alone, Refusal>
+        requires { IsWalkedTo self.now addition.now (ClosedAfter read) }
+        ensures closed { IfOk result (λ alone. IfClosed alone (IsClosedBy self.now addition.now)) }
+        ensures refusal { IfErr result (IsRefusedBy self.now addition.now) }
     {
-        for own in numbers.iter() {
+        walks_go_by_clauses();
+        if let Some(own) = self.first_unseen(&addition.hints, read) {
+            return Err(Refusal::UnknownNumber(own));
+        }
+        Ok(Alone::Closed(read))
+    }
+
+    /// The refusal where the walk is stuck at a place: the hint there, or one behind it, may be bound to no clause.
+    fn stuck_at(&self, addition: &Addition, place: u64) -> Refusal
+        requires { IsWalkedTo self.now addition.now (StuckAt place) }
+        ensures { IsRefusedBy self.now addition.now result }
+    {
+        walks_go_by_clauses();
+        match self.first_unseen(&addition.hints, place.saturating_sub(1) as usize) {
+            Some(own) => Refusal::UnknownNumber(own),
+            None => Refusal::HintNotUnit(place),
+        }
+    }
+
+    /// The first of these own numbers, from a place on, that is bound to no clause.
+    fn first_unseen(&self, numbers: &Numbers, from: usize) -> Option<u64>
+        ensures { result ≡ first_unseen self.now (drop from numbers.now) }
+    {
+        for index in from..numbers.len() {
+            let own = numbers.get(index)?;
             if self.clause(own).is_none() {
                 return Some(own);
             }
         }
         None
-    }
-}
-
-/// After how many hints the walk closed, if it did.
-fn closed(test: Result<Alone, Refusal>) -> Option<usize>
-    ensures { IfSome result (λ read. test ≡ Ok (Closed read)) }
-{
-    match test {
-        Ok(Alone::Closed(read)) => Some(read),
-        Ok(Alone::Open) | Err(_) => None,
     }
 }

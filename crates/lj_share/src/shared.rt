@@ -5,10 +5,12 @@ ghost use Rattle.lj_book.specs.declared.entry.Call.TheVariants as calls;
 ghost use Rattle.lj_book.specs.History.{IsReached};
 ghost use Rattle.lj_book.specs.State.{opening};
 ghost use Rattle.lj_book.specs.Calls.{IsReply, take_reply, commit_reply, adopt_reply, leave_reply};
+ghost use Rattle.lj_share.specs.Entered.{AreEntered};
 ghost use Rattle.lj_share.specs.Entries.{call_of, IsEntryOf};
-ghost use Rattle.lj_share.specs.Refusals.{HoldsInAState, IsLineRefused, IsBindingRefused, IsRefusedAt};
+ghost use Rattle.lj_book.specs.Solo.{solo_refusal};
+ghost use Rattle.lj_share.specs.Refusals.{HoldsInAState, IsLineRefused, IsBindingRefused, IsRefusedAt, IsRefusedLine, gone_refusal, line_refusal};
 ghost use Rattle.lj_share.specs.Seats.{AreSeatsIn, IsMaking, IsSeen, entries_made, new_seats};
-ghost use Rattle.lj_share.specs.inner.Seats.{AreShown};
+ghost use Rattle.lj_share.specs.inner.Seats.{AreShown, IsTestedAs};
 ghost use Rattle.lj_share.specs.declared.numbered.Numbered.{Numbered};
 ghost use Rattle.lj_share.specs.inner.Telling.{IsTokenOf};
 
@@ -23,7 +25,7 @@ use crate::numbered::Numbered;
 use crate::opening::Opening;
 use crate::own_clauses::{OwnClauses, bind, follow};
 use crate::place::Place;
-use crate::seat::Seat;
+use crate::seat::{Alone, Seat};
 use crate::told::Told;
 use crate::verdict::{Note, Verdict};
 use lj_book::laws::history_is_legal;
@@ -127,6 +129,7 @@ impl<L: Opening> Shared<L> {
     pub fn submit<R: Wait>(&self, rt: &R, seat: &mut Seat<L>, line: &Line) -> Result<Told, Refusal>
         ensures told { IfOk result (λ told. IsEntryOf seat.old.number (call_of line.now) told) }
         ensures made { OnOk result (IsMaking (call_of line.now) seat.old seat.new) }
+        ensures free { OnOk result (line_refusal seat.old line.now ≡ None) }
         ensures kept { OnErr result (seat.new ≡ seat.old) }
         ensures refusal { IfErr result (IsLineRefused L.formula L.seats L.max_steps seat.old
             line.now) }
@@ -149,6 +152,7 @@ impl<L: Opening> Shared<L> {
     ) -> Result<Told, Refusal>
         ensures told { IfOk result (λ told. IsEntryOf seat.old.number (call_of line.now) told) }
         ensures made { OnOk result (IsMaking (call_of line.now) seat.old seat.new) }
+        ensures free { OnOk result (line_refusal seat.old line.now ≡ None) }
         ensures kept { OnErr result (seat.new ≡ seat.old) }
         ensures refusal { IfErr result (IsLineRefused L.formula L.seats L.max_steps seat.old
             line.now) }
@@ -173,6 +177,7 @@ impl<L: Opening> Shared<L> {
         gate: &G,
     ) -> Result<(), Refusal>
         ensures made { OnOk result (IsMaking (call_of line.now) seat.old seat.new) }
+        ensures free { OnOk result (line_refusal seat.old line.now ≡ None) }
         ensures kept { OnErr result (seat.new ≡ seat.old) }
         ensures refusal { IfErr result (IsLineRefused L.formula L.seats L.max_steps seat.old
             line.now) }
@@ -191,6 +196,7 @@ impl<L: Opening> Shared<L> {
         lines: &[Numbered],
         gate: &G,
     ) -> (usize, Option<Refusal>)
+        ensures entered { AreEntered seat.old (take result.0 lines.now) seat.new }
         ensures number { seat.new.number ≡ seat.old.number }
         ensures calls { seat.new.calls
             ≡ seat.old.calls ++ map (λ l. call_of l.line) (take result.0 lines.now) }
@@ -222,7 +228,7 @@ impl<L: Opening> Shared<L> {
         }
     }
 
-    /// Enters the first of these lines: those that what the seat sees decides, and one line more.
+    /// Enters the first of these lines: those that what the seat sees closes, and one line more, which the book tests.
     fn enter_some<R: Wait, G: Gate>(
         &self,
         rt: &R,
@@ -231,9 +237,7 @@ impl<L: Opening> Shared<L> {
         reads: &mut [usize],
         gate: &G,
     ) -> (usize, Option<Refusal>)
-        ensures number { seat.new.number ≡ seat.old.number }
-        ensures calls { seat.new.calls
-            ≡ seat.old.calls ++ map (λ l. call_of l.line) (take result.0 lines.now) }
+        ensures entered { AreEntered seat.old (take result.0 lines.now) seat.new }
         ensures within { result.0 ≤ length lines.now }
         ensures some { result.1 ≡ None → 0 < length lines.now → 0 < result.0 }
         ensures refused { IfSome result.1 (λ e. (line : Numbered)
@@ -247,14 +251,32 @@ impl<L: Opening> Shared<L> {
         let Some(next) = lines.get(entered) else {
             return (entered, None);
         };
-        match self.enter_at(rt, seat, &next.line, next.at, gate) {
+        match self.enter_open(rt, seat, next, gate) {
             Ok(()) => (entered + 1, None),
             Err(refusal) => (entered, Some(refusal)),
         }
     }
 
-    /// Enters the first of these lines, as far as what the seat sees decides them, in one hold of the lock. Where one is
-    /// refused, the seat keeps its clauses no longer.
+    /// Enters a line that the book tests.
+    fn enter_open<R: Wait, G: Gate>(
+        &self,
+        rt: &R,
+        seat: &mut Seat<L>,
+        line: &Numbered,
+        gate: &G,
+    ) -> Result<(), Refusal>
+        ensures made { OnOk result (IsMaking (call_of line.now.line) seat.old seat.new) }
+        ensures free { OnOk result (line_refusal seat.old line.now.line ≡ None) }
+        ensures kept { OnErr result (seat.new ≡ seat.old) }
+        ensures refusal { IfErr result (λ e. HoldsInAState L.formula L.seats L.max_steps seat.old
+            (IsRefusedLine seat.old.number line.now.line e)) }
+    {
+        self.hand_over(rt, seat, &line.line, line.at, gate, Alone::Open, false)?;
+        Ok(())
+    }
+
+    /// Enters the first of these lines, as far as what the seat sees closes them, in one hold of the lock; gives the refusal of
+    /// the next one too, where what the seat sees refuses it. Where the book refuses one, the seat keeps its clauses no longer.
     fn enter_tested<R: Wait, G: Gate>(
         &self,
         rt: &R,
@@ -263,9 +285,7 @@ impl<L: Opening> Shared<L> {
         reads: &mut [usize],
         gate: &G,
     ) -> (usize, Option<Refusal>)
-        ensures number { seat.new.number ≡ seat.old.number }
-        ensures calls { seat.new.calls
-            ≡ seat.old.calls ++ map (λ l. call_of l.line) (take result.0 lines.now) }
+        ensures entered { AreEntered seat.old (take result.0 lines.now) seat.new }
         ensures within { result.0 ≤ length lines.now }
         ensures refused { IfSome result.1 (λ e. (line : Numbered)
             × (slice_get lines.now result.0 ≡ Some line)
@@ -273,16 +293,19 @@ impl<L: Opening> Shared<L> {
     {
         let number = seat.number();
         let Seat { place, own, marks } = seat;
-        let count = test_ahead(place, own, &self.formula, marks, lines, reads);
+        let (count, refusal) = test_ahead(place, own, &self.formula, marks, lines, reads);
         if count == 0 {
-            return (0, None);
+            return (0, refusal);
         }
         pass_all(gate, number, &lines[..count]);
         let mut desk = self.desk(rt);
-        let (entered, refusal) = desk.enter_tested(place, lines, reads, count);
+        let (entered, inside) = desk.enter_tested(place, lines, reads, count);
         self.release(desk);
         answered_all(gate, number, &lines[..count]);
-        keep_unless(own, &refusal);
+        keep_unless(own, &inside);
+        if inside.is_some() {
+            return (entered, inside);
+        }
         (entered, refusal)
     }
 
@@ -298,12 +321,35 @@ impl<L: Opening> Shared<L> {
     ) -> Result<Option<Told>, Refusal>
         ensures told { IfOk result (IsTokenOf telling seat.old.number (call_of line.now)) }
         ensures made { OnOk result (IsMaking (call_of line.now) seat.old seat.new) }
+        ensures free { OnOk result (line_refusal seat.old line.now ≡ None) }
         ensures kept { OnErr result (seat.new ≡ seat.old) }
         ensures refusal { IfErr result (IsLineRefused L.formula L.seats L.max_steps seat.old
             line.now) }
     {
-        let number = seat.number();
         let alone = seat.test(&self.formula, line)?;
+        self.hand_over(rt, seat, line, at, gate, alone, telling)
+    }
+
+    /// Hands a line over that was tested, and gives its token where one is asked for.
+    fn hand_over<R: Wait, G: Gate>(
+        &self,
+        rt: &R,
+        seat: &mut Seat<L>,
+        line: &Line,
+        at: u64,
+        gate: &G,
+        alone: Alone,
+        telling: bool,
+    ) -> Result<Option<Told>, Refusal>
+        requires { IsTestedAs seat.old.view seat.old.number line.now alone }
+        ensures told { IfOk result (IsTokenOf telling seat.old.number (call_of line.now)) }
+        ensures made { OnOk result (IsMaking (call_of line.now) seat.old seat.new) }
+        ensures free { OnOk result (line_refusal seat.old line.now ≡ None) }
+        ensures kept { OnErr result (seat.new ≡ seat.old) }
+        ensures refusal { IfErr result (λ e. HoldsInAState L.formula L.seats L.max_steps seat.old
+            (IsRefusedLine seat.old.number line.now e)) }
+    {
+        let number = seat.number();
         gate.pass(number, at);
         let Seat {
             place,
@@ -356,6 +402,7 @@ impl<L: Opening> Shared<L> {
             (IsEntryOf seat.old.number (calls.Add receipt.own receipt.lemma)) }
         ensures made { OnOk result
             (IsMaking (calls.Add receipt.own receipt.lemma) seat.old seat.new) }
+        ensures free { OnOk result (solo_refusal seat.old.view receipt.own ≡ None) }
         ensures kept { OnErr result (seat.new ≡ seat.old) }
         ensures back { IfErr result (λ e. e.1 ≡ receipt) }
         ensures refusal { IfErr result (λ e. IsBindingRefused L.formula L.seats L.max_steps seat.old
@@ -393,6 +440,7 @@ impl<L: Opening> Shared<L> {
     ) -> Result<Told, Refusal>
         ensures told { IfOk result (IsEntryOf seat.old.number (calls.Adopt own joint)) }
         ensures made { OnOk result (IsMaking (calls.Adopt own joint) seat.old seat.new) }
+        ensures free { OnOk result (solo_refusal seat.old.view own ≡ None) }
         ensures kept { OnErr result (seat.new ≡ seat.old) }
         ensures refusal { IfErr result (IsBindingRefused L.formula L.seats L.max_steps seat.old own
             (λ s. adopt_reply s seat.old.number own joint)) }
@@ -416,6 +464,7 @@ impl<L: Opening> Shared<L> {
     pub fn leave<R: Wait>(&self, rt: &R, seat: &mut Seat<L>) -> Result<Told, Refusal>
         ensures told { IfOk result (IsEntryOf seat.old.number calls.Leave) }
         ensures made { OnOk result (IsMaking calls.Leave seat.old seat.new) }
+        ensures free { OnOk result (gone_refusal seat.old.view ≡ None) }
         ensures kept { OnErr result (seat.new ≡ seat.old) }
         ensures refusal { IfErr result (IsRefusedAt L.formula L.seats L.max_steps seat.old
             (λ s. leave_reply s seat.old.number)) }

@@ -1,5 +1,5 @@
 //! Calls on the book that tell a copy of their entry where it is asked for.
-ghost use Rattle.std.specs.Prelude.{◌≡◌, IfOk, IfErr, OnOk, OnErr};
+ghost use Rattle.std.specs.Prelude.{◌≡◌, IfOk, IfErr, OnOk, OnErr, is_ok, true};
 ghost use Rattle.lj_book.specs.Calls.{IsRefusal, drop_entry, drop_reply, import_entry, import_reply};
 ghost use Rattle.lj_book.specs.History.{after_entry};
 ghost use Rattle.lj_book.specs.Inside.{inside_entry, inside_reply};
@@ -27,6 +27,7 @@ pub(crate) fn add_inside(
         (book.new ≡ after_entry book.old (inside_entry book.old seat addition.now)) }
     ensures told { IfOk result (IsAsked telling (inside_entry book.old seat addition.now)) }
     ensures err { OnErr result (book.new ≡ book.old) }
+    ensures accepted { OnOk result (is_ok (inside_reply book.old seat addition.now) ≡ true) }
     ensures refusal { IfErr result (λ e. IsRefusal e (inside_reply book.old seat addition.now)) }
 {
     if telling {
@@ -53,6 +54,7 @@ pub(crate) fn add_closed(
         (book.new ≡ after_entry book.old (inside_entry book.old seat addition.now)) }
     ensures told { IfOk result (IsAsked telling (inside_entry book.old seat addition.now)) }
     ensures err { OnErr result (book.new ≡ book.old) }
+    ensures accepted { OnOk result (is_ok (inside_reply book.old seat addition.now) ≡ true) }
     ensures refusal { IfErr result (λ e. IsRefusal e (inside_reply book.old seat addition.now)) }
 {
     if telling {
@@ -77,6 +79,7 @@ pub(crate) fn drop_numbers(
         (book.new ≡ after_entry book.old (drop_entry book.old seat numbers.now)) }
     ensures told { IfOk result (IsAsked telling (drop_entry book.old seat numbers.now)) }
     ensures err { OnErr result (book.new ≡ book.old) }
+    ensures accepted { OnOk result (is_ok (drop_reply book.old seat numbers.now) ≡ true) }
     ensures refusal { IfErr result (λ e. IsRefusal e (drop_reply book.old seat numbers.now)) }
 {
     if telling {
@@ -103,6 +106,7 @@ pub(crate) fn import(
     ensures told { IfOk result (IsAsked telling (import_entry seat own clause.now)) }
     ensures found { OnOk result (Finds book.old clause.now) }
     ensures err { OnErr result (book.new ≡ book.old) }
+    ensures accepted { OnOk result (is_ok (import_reply book.old seat own clause.now) ≡ true) }
     ensures refusal { IfErr result (λ e. IsRefusal e (import_reply book.old seat own clause.now)) }
 {
     if telling {

@@ -3,8 +3,9 @@ use Rattle.std.specs.Prelude.{slice_index_or}
 use Rattle.std.proofs.lemmas.List.{length-set}
 use Rattle.std.proofs.lemmas.Option.{slice_get-get_or}
 use Rattle.lj_clause.specs.ClauseMap.{ClauseMap}
-use Rattle.lj_share.specs.inner.Seats.{clauses_seen}
-use Rattle.lj_share.specs.inner.Ahead.{AreKept, clauses_behind}
+use Rattle.lj_share.specs.declared.seat.Alone.{Alone}
+use Rattle.lj_share.specs.inner.Seats.{IfClosed, clauses_seen}
+use Rattle.lj_share.specs.inner.Ahead.{AreKept, IsTestedLine, clauses_behind}
 use Rattle.lj_share.proofs.AheadLaws.{behind_next, kept_here, kept_init, tested_next}
 use Rattle.lj_share.proofs.OwnLaws.{kept_after}
 use Rattle.lj_share.proofs.ahead.test_ahead.Goals as goal
@@ -34,8 +35,8 @@ loop-k-preserved g c =
     let l = slice_index_or ls k c.index-lines-k.result in
     let at = slice_get-get_or ls k c.index-lines-k.result in_lines in
     record {
-      tested = tested_next m ls reads (slice_set reads k c.in-Some-decide.read) k l c.in-Some-decide.read i.tested at in_reads c.in-Some-decide.ensures refl;
+      tested = tested_next m ls reads (slice_set reads k c.in-Ok-Closed.read) k l c.in-Ok-Closed.read i.tested at in_reads (subst (λ (a : Alone). IfClosed a (IsTestedLine (clauses_behind m (take k ls)) l.line)) c.in-Ok-Closed.field-0-is c.in-Ok-Closed.ensures.closed) refl;
       kept = subst (λ (x : ClauseMap). AreKept f c.follow.new.kept view x) (sym (behind_next m ls k l at)) (kept_after f c.loop-k.kept c.follow.new.kept view (clauses_behind m (take k ls)) l.line i.kept c.follow.ensures);
       here = λ _. kept_here f c.loop-k.kept c.in-Some.own view (clauses_behind m (take k ls)) c.in-Some.is i.kept;
-      many = length-set reads k c.in-Some-decide.read ∙ many;
+      many = length-set reads k c.in-Ok-Closed.read ∙ many;
     }

@@ -1,21 +1,20 @@
 use Rattle.std.proofs.Common.{◌<◌, length, take, refl, sym, subst, ◌∙◌, arith}
 use Rattle.std.specs.Prelude.{slice_index_or}
-use Rattle.std.proofs.lemmas.List.{append-nil}
 use Rattle.std.proofs.lemmas.Option.{slice_get-get_or}
 use Rattle.lj_clause.specs.ClauseMap.{ClauseMap}
 use Rattle.lj_share.specs.inner.Seats.{clauses_seen}
 use Rattle.lj_share.specs.Refusals.{HoldsInAState, IsRefusedLine}
 use Rattle.lj_share.specs.Seats.{SeatValue}
 use Rattle.lj_share.specs.inner.Ahead.{AreSeen, clauses_behind}
-use Rattle.lj_share.proofs.AheadLaws.{behind_next, calls_next, tested_as}
+use Rattle.lj_share.proofs.AheadLaws.{behind_next, tested_as}
+use Rattle.lj_share.proofs.EnteredLaws.{entered_next, entered_none}
 use Rattle.lj_share.proofs.AloneLaws.{seen_itself}
 use Rattle.lj_share.proofs.OwnLaws.{seen_after}
 use Rattle.lj_share.proofs.desk.Desk.enter_tested.Goals as goal
 
 pub loop-k-init : goal.loop-k-init
 loop-k-init g c = record {
-  number = refl;
-  calls = sym (append-nil c.args.place.now.calls);
+  entered = entered_none c.args.place.now c.args.place.now c.args.lines.now refl;
   seen = seen_itself c.args.place.now.view c.requires.here;
 }
 
@@ -51,7 +50,6 @@ loop-k-preserved g c =
     let made = c.in_default.ensures.made in
     let after = c.enter_read.new.place in
     record {
-      number = made.number_is ∙ i.number;
-      calls = calls_next c.args.place.now.calls c.loop-k.place.calls after.calls ls k l at i.calls made.calls_are;
+      entered = entered_next c.args.place.now c.loop-k.place after ls k l at i.entered (record { made = made; free = c.in_default.ensures.free });
       seen = subst (λ (x : ClauseMap). AreSeen x after.view) (sym (behind_next m ls k l at)) (seen_after (clauses_behind m (take k ls)) c.loop-k.place.view after.view l.line i.seen made.view_is);
     }

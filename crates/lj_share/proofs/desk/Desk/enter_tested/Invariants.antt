@@ -1,13 +1,12 @@
-use Rattle.std.specs.Prelude.{◌≡◌, ◌++◌, map, take}
+use Rattle.std.specs.Prelude.{take}
 use Rattle.lj_share.specs.inner.Seats.{clauses_seen}
-use Rattle.lj_share.specs.Entries.{call_of}
+use Rattle.lj_share.specs.Entered.{AreEntered}
 use Rattle.lj_share.specs.inner.Ahead.{AreSeen, clauses_behind}
 use Rattle.lj_share.proofs.desk.Desk.enter_tested.Given as goal
 
 -- the lines so far are entered, and the seat sees the clauses behind them
 abbrev pub invariant-loop-k : goal.invariant-loop-k
 invariant-loop-k g l = record {
-  number : l.place.number ≡ l.fn.place.number;
-  calls : l.place.calls ≡ l.fn.place.calls ++ map (λ x. call_of x.line) (take l.k l.fn.lines);
+  entered : AreEntered l.fn.place (take l.k l.fn.lines) l.place;
   seen : AreSeen (clauses_behind (clauses_seen l.fn.place.view) (take l.k l.fn.lines)) l.place.view;
 }

@@ -1,4 +1,7 @@
+use Rattle.std.proofs.Common.{ap, ◌∙◌}
+use Rattle.lj_share.specs.Seats.{SeatValue}
 use Rattle.lj_share.proofs.Opened.{desk_in, desk_agreed, made_in}
+use Rattle.lj_share.proofs.FreeLaws.{free_bound}
 use Rattle.lj_share.proofs.desk.Desk.import.Goals.{in-Ok, in-Err}
 use Rattle.lj_share.proofs.desk.Desk.import.Goals as goal
 
@@ -14,4 +17,11 @@ invariant_of-self g c =
     elim c.match-import.branch [
       | in-Ok w ↦ rw w.self-inside-is (desk_in c.agree.ensures.views _ _ _ _ _ _ _ _ _ _ _ _ _ _ c.agree.ensures.legal w.count_one.ensures.legal c.number.ensures w.in-Ok.ensures.ok w.count_one.ensures.entries c.agree.ensures.lists w.count_one.ensures.lists c.self.invariant)
       | in-Err w ↦ rw w.self-inside-is (desk_agreed _ _ _ _ _ _ _ _ _ _ w.in-Err.ensures.err c.agree.ensures.lists c.self.invariant)
+    ]
+
+pub returns-clause-free : goal.returns-clause-free
+returns-clause-free g c =
+    elim c.match-import.branch [
+      | in-Ok w ↦ rw w.result-is (free_bound c.agree.ensures.free _ c.self.inside.book c.number.result c.args.own c.args.place.now (c.number.ensures ∙ ap (λ (s : SeatValue). s.number) c.agree.ensures.kept) c.agree.ensures.seat w.in-Ok.ensures.accepted)
+      | in-Err w ↦ rw w.result-is tt
     ]

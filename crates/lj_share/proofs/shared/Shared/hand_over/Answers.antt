@@ -1,5 +1,5 @@
 use Rattle.lj_share.proofs.OwnLaws.{own_followed}
-use Rattle.lj_share.proofs.shared.Shared.hand_in.Goals as goal
+use Rattle.lj_share.proofs.shared.Shared.hand_over.Goals as goal
 
 pub invariant_of-seat-2 : goal.invariant_of-seat-2
 invariant_of-seat-2 g c =
