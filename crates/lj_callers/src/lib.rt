@@ -4,5 +4,6 @@
 pub mod books;
 pub mod clauses;
 pub mod hints;
+pub mod sharing;
 pub mod texts;
 pub mod trims;

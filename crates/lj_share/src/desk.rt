@@ -234,7 +234,8 @@ impl<L: Opening> Desk<L> {
             (calls.Add addition.now.number addition.now.lemma)) }
         ensures made { OnOk result
             (IsMaking (calls.Add addition.now.number addition.now.lemma) place.old place.new) }
-        ensures free { OnOk result (decided_refusal place.old.view place.old.number addition.now ≡ None) }
+        ensures free { OnOk result
+            (decided_refusal place.old.view place.old.number addition.now ≡ None) }
         ensures kept { OnErr result (place.new ≡ place.old) }
         ensures refusal { IfErr result (λ e. HoldsInAState L.formula L.seats L.max_steps place.old
             (IsRefusedLine place.old.number (lines.Add addition.now) e)) }
@@ -258,7 +259,8 @@ impl<L: Opening> Desk<L> {
             (calls.Add addition.now.number addition.now.lemma)) }
         ensures made { OnOk result
             (IsMaking (calls.Add addition.now.number addition.now.lemma) place.old place.new) }
-        ensures free { OnOk result (decided_refusal place.old.view place.old.number addition.now ≡ None) }
+        ensures free { OnOk result
+            (decided_refusal place.old.view place.old.number addition.now ≡ None) }
         ensures kept { OnErr result (place.new ≡ place.old) }
         ensures refusal { IfErr result (λ e. HoldsInAState L.formula L.seats L.max_steps place.old
             (IsRefusedLine place.old.number (lines.Add addition.now) e)) }
@@ -290,7 +292,8 @@ impl<L: Opening> Desk<L> {
             (calls.Add addition.now.number addition.now.lemma)) }
         ensures made { OnOk result
             (IsMaking (calls.Add addition.now.number addition.now.lemma) place.old place.new) }
-        ensures free { OnOk result (decided_refusal place.old.view place.old.number addition.now ≡ None) }
+        ensures free { OnOk result
+            (decided_refusal place.old.view place.old.number addition.now ≡ None) }
         ensures kept { OnErr result (place.new ≡ place.old) }
         ensures refusal { IfErr result (λ e. HoldsInAState L.formula L.seats L.max_steps place.old
             (IsRefusedLine place.old.number (lines.Add addition.now) e)) }
