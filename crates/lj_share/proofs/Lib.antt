@@ -6,6 +6,7 @@ mod ListLaws
 mod Facts
 mod EnteredLaws
 mod FreeLaws
+mod OpenLaws
 mod Leaving
 mod Adopting
 mod OwnLaws

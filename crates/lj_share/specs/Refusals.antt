@@ -1,10 +1,10 @@
 -- Why a call of a seat is refused.
-use Rattle.std.specs.Prelude.{◌≡◌, ℕ, ◌⊎◌, Option, Some, None, Result}
+use Rattle.std.specs.Prelude.{◌≡◌, ℕ, ◌⊎◌, Option, Some, None, IfSome, Result, MatchResult}
 use Rattle.lj_clause.specs.ClauseMap.{FormulaValue}
 use Rattle.lj_text.specs.declared.line.Line.{Line}
 use Rattle.lj_text.specs.declared.line.Line.TheVariants as lines
 use Rattle.lj_book.specs.declared.refusal.Refusal.{Refusal}
-use Rattle.lj_book.specs.declared.refusal.Refusal.TheVariants.{SeatGone, NoMemory}
+use Rattle.lj_book.specs.declared.refusal.Refusal.TheVariants.{SeatGone, EmptyOpen, MissingGroup, GroupStuck, GroupOpen, NoSuchClause, Full, NoMemory}
 use Rattle.lj_book.specs.State.{State}
 use Rattle.lj_book.specs.History.{IsReached}
 use Rattle.lj_book.specs.Calls.{IsRefusal, drop_reply, import_reply}
@@ -51,6 +51,36 @@ line_refusal seat (lines.Import own clause) = solo_refusal seat.view own
 abbrev pub IsDecided : Option Refusal → Refusal → Type 0
 IsDecided decided (NoMemory e) = Unit {0}
 IsDecided decided e = decided ≡ Some e
+
+-- Where a refusal is decided, the answer is that one; memory may be short in its place.
+abbrev pub IsToldIfDecided : {A : Type 0} → Option Refusal → Result A Refusal → Type 0
+IsToldIfDecided decided answer = IfSome decided (λ e. MatchResult answer (λ _. ⊥)
+    (IsDecided (Some e)))
+
+-- memory is short
+abbrev pub IsShort : Refusal → Type 0
+IsShort (NoMemory e) = Unit {0}
+IsShort e = ⊥
+
+-- the addition isn't RAT by its groups, the history is full, or memory is short
+abbrev pub IsRatOrFull : Refusal → Type 0
+IsRatOrFull EmptyOpen = Unit {0}
+IsRatOrFull (MissingGroup joint) = Unit {0}
+IsRatOrFull (GroupStuck joint place) = Unit {0}
+IsRatOrFull (GroupOpen joint) = Unit {0}
+IsRatOrFull Full = Unit {0}
+IsRatOrFull e = IsShort e
+
+-- no such clause lives, or memory is short
+abbrev pub IsNotFound : Refusal → Type 0
+IsNotFound NoSuchClause = Unit {0}
+IsNotFound e = IsShort e
+
+-- how a line can be refused where what the seat sees decides no refusal
+abbrev pub IsOpenRefusal : Line → Refusal → Type 0
+IsOpenRefusal (lines.Add a) e = IsRatOrFull e
+IsOpenRefusal (lines.Delete numbers) e = IsShort e
+IsOpenRefusal (lines.Import own clause) e = IsNotFound e
 
 -- in such a state the reply to the seat's line is this refusal, or what the seat sees decides it so
 abbrev pub IsLineRefused : FormulaValue → ℕ → ℕ → SeatValue → Line → Refusal → Type 0

@@ -8,7 +8,7 @@ ghost use Rattle.lj_book.specs.Calls.{IsReply, take_reply, commit_reply, adopt_r
 ghost use Rattle.lj_share.specs.Entered.{AreEntered};
 ghost use Rattle.lj_share.specs.Entries.{call_of, IsEntryOf};
 ghost use Rattle.lj_book.specs.Solo.{solo_refusal};
-ghost use Rattle.lj_share.specs.Refusals.{HoldsInAState, IsLineRefused, IsBindingRefused, IsRefusedAt, IsRefusedLine, gone_refusal, line_refusal};
+ghost use Rattle.lj_share.specs.Refusals.{HoldsInAState, IsLineRefused, IsBindingRefused, IsOpenRefusal, IsRefusedAt, IsRefusedLine, IsToldIfDecided, gone_refusal, line_refusal};
 ghost use Rattle.lj_share.specs.Seats.{AreSeatsIn, IsMaking, IsSeen, entries_made, new_seats};
 ghost use Rattle.lj_share.specs.inner.Seats.{AreShown, IsTestedAs};
 ghost use Rattle.lj_share.specs.declared.numbered.Numbered.{Numbered};
@@ -29,7 +29,7 @@ use crate::seat::{Alone, Seat};
 use crate::told::Told;
 use crate::verdict::{Note, Verdict};
 use lj_book::laws::history_is_legal;
-use lj_book::{Book, Entry, Refusal, Verified, seats_hold_the_formula};
+use lj_book::{Book, Entry, Refusal, Verified, decided_alone, free_alone, seats_hold_the_formula};
 use lj_clause::{Clause, Formula, NoMemory};
 use lj_hint::{Case, Receipt};
 use lj_text::{Addition, Line};
@@ -130,6 +130,9 @@ impl<L: Opening> Shared<L> {
         ensures told { IfOk result (λ told. IsEntryOf seat.old.number (call_of line.now) told) }
         ensures made { OnOk result (IsMaking (call_of line.now) seat.old seat.new) }
         ensures free { OnOk result (line_refusal seat.old line.now ≡ None) }
+        ensures decided { IsToldIfDecided (line_refusal seat.old line.now) result }
+        ensures open { line_refusal seat.old line.now ≡ None
+            → IfErr result (IsOpenRefusal line.now) }
         ensures kept { OnErr result (seat.new ≡ seat.old) }
         ensures refusal { IfErr result (IsLineRefused L.formula L.seats L.max_steps seat.old
             line.now) }
@@ -153,6 +156,9 @@ impl<L: Opening> Shared<L> {
         ensures told { IfOk result (λ told. IsEntryOf seat.old.number (call_of line.now) told) }
         ensures made { OnOk result (IsMaking (call_of line.now) seat.old seat.new) }
         ensures free { OnOk result (line_refusal seat.old line.now ≡ None) }
+        ensures decided { IsToldIfDecided (line_refusal seat.old line.now) result }
+        ensures open { line_refusal seat.old line.now ≡ None
+            → IfErr result (IsOpenRefusal line.now) }
         ensures kept { OnErr result (seat.new ≡ seat.old) }
         ensures refusal { IfErr result (IsLineRefused L.formula L.seats L.max_steps seat.old
             line.now) }
@@ -178,6 +184,9 @@ impl<L: Opening> Shared<L> {
     ) -> Result<(), Refusal>
         ensures made { OnOk result (IsMaking (call_of line.now) seat.old seat.new) }
         ensures free { OnOk result (line_refusal seat.old line.now ≡ None) }
+        ensures decided { IsToldIfDecided (line_refusal seat.old line.now) result }
+        ensures open { line_refusal seat.old line.now ≡ None
+            → IfErr result (IsOpenRefusal line.now) }
         ensures kept { OnErr result (seat.new ≡ seat.old) }
         ensures refusal { IfErr result (IsLineRefused L.formula L.seats L.max_steps seat.old
             line.now) }
@@ -311,6 +320,31 @@ impl<L: Opening> Shared<L> {
 
     /// Hands a line in, and gives its token where one is asked for.
     fn hand_in<R: Wait, G: Gate>(
+        &self,
+        rt: &R,
+        seat: &mut Seat<L>,
+        line: &Line,
+        at: u64,
+        gate: &G,
+        telling: bool,
+    ) -> Result<Option<Told>, Refusal>
+        ensures told { IfOk result (IsTokenOf telling seat.old.number (call_of line.now)) }
+        ensures made { OnOk result (IsMaking (call_of line.now) seat.old seat.new) }
+        ensures free { OnOk result (line_refusal seat.old line.now ≡ None) }
+        ensures decided { IsToldIfDecided (line_refusal seat.old line.now) result }
+        ensures open { line_refusal seat.old line.now ≡ None
+            → IfErr result (IsOpenRefusal line.now) }
+        ensures kept { OnErr result (seat.new ≡ seat.old) }
+        ensures refusal { IfErr result (IsLineRefused L.formula L.seats L.max_steps seat.old
+            line.now) }
+    {
+        decided_alone();
+        free_alone();
+        self.test_and_hand_over(rt, seat, line, at, gate, telling)
+    }
+
+    /// As [`Shared::hand_in`]: a line that what the seat sees refuses doesn't reach the book.
+    fn test_and_hand_over<R: Wait, G: Gate>(
         &self,
         rt: &R,
         seat: &mut Seat<L>,
