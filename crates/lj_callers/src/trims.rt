@@ -1,9 +1,11 @@
 //! The part of a proof that its refutation needs.
-ghost use Rattle.std.specs.Prelude.{◌≡◌, ◌++◌, true, length, map, IfOk, OnOk};
-ghost use Rattle.lj_text.specs.Steps.{refutes};
+ghost use Rattle.std.specs.Prelude.{◌≡◌, ◌≢◌, ◌++◌, true, length, map, Err, IfOk, OnOk};
+ghost use Rattle.std.specs.List.{list_any};
+ghost use Rattle.lj_text.specs.Steps.{adds_empty, refutes};
 ghost use Rattle.lj_text.specs.StepText.{proof_text};
 ghost use Rattle.lj_trim.specs.Laws.{AreAbove};
 ghost use Rattle.lj_trim.specs.Trimmed.{step_of};
+ghost use Rattle.lj_trim.specs.declared.trimming.TrimRefusal.TheVariants as TrimRefusal;
 
 use lj_clause::Formula;
 use lj_text::{Sink, SinkFault, Step, write_proof};
@@ -18,7 +20,8 @@ pub fn needed<'a>(
 ) -> Result<Vec<Kept<'a>>, TrimRefusal>
     requires refuted { refutes formula.now steps.now ≡ true }
     requires above { AreAbove (length formula.now.clauses) steps.now }
-    ensures { IfOk result (λ kept. refutes formula.now (map step_of kept.items) ≡ true) }
+    ensures refutes { IfOk result (λ kept. refutes formula.now (map step_of kept.items) ≡ true) }
+    ensures found { list_any adds_empty steps.now ≡ true → result ≢ Err TrimRefusal.NoRefutation }
 {
     laws::trimmed_refutes();
     trim(alloc, formula, steps)
