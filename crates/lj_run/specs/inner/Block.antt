@@ -1,5 +1,5 @@
 -- How the lines of a block are read, which are handed in together.
-use Rattle.std.specs.Prelude.{◌≡◌, ℕ, ◌+◌, Bool, false, true, List, [], ◌∷◌, ◌++◌, length, take, Option, Some, Ok, IfSome, is_none, slice_get}
+use Rattle.std.specs.Prelude.{◌≡◌, ℕ, ◌+◌, Bool, false, List, [], ◌∷◌, ◌++◌, length, take, Option, Some, Ok, IfSome, is_none, slice_get}
 use Rattle.lj_text.specs.declared.line.Line.{Line}
 use Rattle.lj_text.specs.declared.line.Line.TheVariants.{Add, Delete, Import}
 use Rattle.lj_text.specs.declared.lines.fault.LineFault.{LineFault}
@@ -11,10 +11,10 @@ use Rattle.lj_share.specs.declared.numbered.Numbered.{Numbered}
 use Rattle.lj_run.specs.Reading.{AreWhole}
 use Rattle.lj_run.specs.inner.Reading.{LineMissed}
 
--- whether the line ends its block: it adds the empty clause, or is a deletion
+-- whether the line ends its block: it adds the empty clause
 abbrev pub ends_block : Line → Bool
 ends_block (Add a) = is_none a.lemma.pivot
-ends_block (Delete numbers) = true
+ends_block (Delete numbers) = false
 ends_block (Import number clause) = false
 
 -- what a line with its number says

@@ -11,8 +11,8 @@ use lj_text::{Line, LineFault, LineReader};
 /// The most lines that are handed in together.
 const BLOCK: usize = 1024;
 
-/// Begins a block with a line that the reader has handed out, and reads on into it what the reader has whole, up to a deletion or
-/// a line that adds the empty clause. Gives the fault of the line behind them, where it is known. Takes the time of [`LineReader::next`] for
+/// Begins a block with a line that the reader has handed out, and reads on into it what the reader has whole, up to a line that
+/// adds the empty clause. Gives the fault of the line behind them, where it is known. Takes the time of [`LineReader::next`] for
 /// each line.
 ///
 /// # Errors
@@ -74,15 +74,13 @@ fn fill_up(lines: &mut Vec<Numbered>, reader: &mut LineReader) -> Option<LineFau
     None
 }
 
-/// Whether a line ends its block: one that adds the empty clause, behind which nothing is entered, and a deletion, since the
-/// reader has room for one at a time.
+/// Whether a line ends its block: one that adds the empty clause, behind which nothing is entered.
 fn ends_block(line: &Line) -> bool
     ensures { result ≡ ends_block line.now }
 {
     match line {
         Line::Add(addition) => addition.lemma.pivot().is_none(),
-        Line::Delete(_) => true,
-        Line::Import { .. } => false,
+        Line::Delete(_) | Line::Import { .. } => false,
     }
 }
 
