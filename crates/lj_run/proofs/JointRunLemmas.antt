@@ -27,9 +27,9 @@ use Rattle.lj_run.specs.declared.outcome.LineEnd.TheVariants.{Fault, Refused, Re
 use Rattle.lj_run.specs.declared.outcome.Outcome.{Outcome}
 use Rattle.lj_run.specs.declared.outcome.Report.{Report}
 use Rattle.lj_run.specs.InTurn.{streams_by_seat}
-use Rattle.lj_run.specs.Joint.{EndsBeside, IsStreamBeside, RunBeside, IsUnconfirmed, IsBookOfRun, IsJointOutcome, accepted_count}
+use Rattle.lj_run.specs.Joint.{IsStreamBeside, RunBeside, IsUnconfirmed, IsBookOfRun, IsJointOutcome, accepted_count}
 use Rattle.lj_run.specs.inner.Joint.{HasRun, is_confirmed}
-use Rattle.lj_run.specs.Run.{has_verdict}
+use Rattle.lj_run.specs.Run.{has_verdict, StreamEnds}
 use Rattle.lj_run.proofs.JointLemmas.{as_many_counted}
 use Rattle.lj_run.proofs.WayLemmas.{verified_is}
 use Rattle.lj_clause.specs.declared.lit.TheConstants.{MAX_VARIABLE}
@@ -110,12 +110,12 @@ both_true : (a b : Bool) → (a && b) ≡ true → (a ≡ true) × (b ≡ true)
 both_true true b all = (refl, all)
 both_true false b all = cc
 
-end_confirmed : (refuses : Line → Refusal → Type 0) (refuted : Type 0) (verdict : Bool) (rest : List Said) (end : End) → EndsBeside refuses refuted rest end → is_confirmed verdict end ≡ true → EndsBeside refuses (verdict ≡ true) rest end
-end_confirmed refuses refuted verdict rest Ended e is = e
-end_confirmed refuses refuted verdict rest Stopped e is = is
-end_confirmed refuses refuted verdict rest (AtLine n (Fault kind)) e is = e
-end_confirmed refuses refuted verdict rest (AtLine n (Refused refusal)) e is = e
-end_confirmed refuses refuted verdict rest (AtLine n ReadFailed) e is = e
+end_confirmed : (refuses : Line → Refusal → Type 0) (refuted goes_on : Type 0) (verdict : Bool) (rest : List Said) (end : End) → StreamEnds refuses refuted goes_on rest end → is_confirmed verdict end ≡ true → StreamEnds refuses (verdict ≡ true) goes_on rest end
+end_confirmed refuses refuted goes_on verdict rest Ended e is = e
+end_confirmed refuses refuted goes_on verdict rest Stopped e is = is
+end_confirmed refuses refuted goes_on verdict rest (AtLine n (Fault kind)) e is = e
+end_confirmed refuses refuted goes_on verdict rest (AtLine n (Refused refusal)) e is = e
+end_confirmed refuses refuted goes_on verdict rest (AtLine n ReadFailed) e is = e
 
 end_denied : (verdict : Bool) (end : End) → is_confirmed verdict end ≡ false → (end ≡ Stopped) × (verdict ≡ false)
 end_denied verdict Ended is = absurd cc
@@ -130,7 +130,7 @@ module _ {S : Type 0} (seen : S → SourceState) (refuses : SeatValue → Line �
     count = r.count;
     enters = r.enters;
     counts = r.counts;
-    ends = end_confirmed (refuses seat) refuted verdict _ report.end r.ends is;
+    ends = end_confirmed (refuses seat) refuted (Unit {0}) verdict _ report.end r.ends is;
     failed_read = r.failed_read;
     no_room = r.no_room;
     ended = r.ended;
@@ -196,7 +196,7 @@ unconfirmed seen f max streams reports s opened legal ran all =
       runs = subst (λ n. IsStreamBeside seen (IsLineRefused f (length streams) max) (IsUnsatisfiable f) (seat_of_book s n) d.1 d.2) (zero-add d.0) d.4;
       stopped = d.5;
       denied = d.6;
-      unsatisfiable = subst (EndsBeside (IsLineRefused f (length streams) max (seat_of_book s (0 + d.0))) (IsUnsatisfiable f) (drop d.4.count (all_said MAX_VARIABLE d.4.text))) d.5 d.4.ends;
+      unsatisfiable = subst (StreamEnds (IsLineRefused f (length streams) max (seat_of_book s (0 + d.0))) (IsUnsatisfiable f) (Unit {0}) (drop d.4.count (all_said MAX_VARIABLE d.4.text))) d.5 d.4.ends;
     }
 
 -- ---- the outcome

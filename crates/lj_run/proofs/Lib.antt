@@ -10,8 +10,8 @@ mod JointRunLemmas
 mod ProgramLemmas
 mod ProofLemmas
 mod ReadingLemmas
-mod RunLemmas
 mod StartLemmas
+mod StreamLemmas
 mod TextLemmas
 mod WayLemmas
 mod WordsLemmas

@@ -1,5 +1,5 @@
 -- What comes of a run of streams one after the other.
-use Rattle.std.specs.Prelude.{◌≡◌, ℕ, ◌+◌, List, [], ◌∷◌, ◌++◌, length, Option, Some, None, if◌then◌else◌}
+use Rattle.std.specs.Prelude.{◌≡◌, ℕ, ◌+◌, true, false, List, [], ◌∷◌, ◌++◌, length, Option, Some, None, if◌then◌else◌}
 use Rattle.lj_clause.specs.ClauseMap.{FormulaValue, formula_map}
 use Rattle.lj_text.specs.Steps.{replay, refutes}
 use Rattle.lj_text.specs.Streams.{SourceState}
@@ -7,23 +7,20 @@ use Rattle.lj_book.specs.State.{State, opening, live, steps_of}
 use Rattle.lj_book.specs.History.{IsReached}
 use Rattle.lj_run.specs.declared.outcome.Outcome.{Outcome}
 use Rattle.lj_run.specs.declared.outcome.Report.{Report}
-use Rattle.lj_run.specs.Run.{IsStreamRun, Progress, progress_of}
+use Rattle.lj_share.specs.Refusals.{IsRefusedLine}
+use Rattle.lj_run.specs.Run.{IsStreamRun, state_after_lines, has_verdict}
 
 -- the streams of a run by their seats: the closing one has the last
 abbrev pub streams_by_seat : {S : Type 0} → List S → Option S → List S
 streams_by_seat streams None = streams
 streams_by_seat streams (Some closing) = streams ++ closing ∷ []
 
--- the state, and what a report counts
-abbrev pub report_progress : {S : Type 0} → State → Report S → Progress
-report_progress s report = record
-    { state = s; added = report.added; deleted = report.deleted; imported = report.imported }
-
--- The report is right of this stream, which led from one state to the other under this seat: its source is the stream, with what
--- the run took of it.
+-- The report is right of this stream, whose lines led from one state to the other under this seat, each of them before the verdict; and
+-- the book refused a line in the state that it was left in.
 abbrev pub IsReport : {S : Type 0} → (S → SourceState) → ℕ → State → State → S → Report S → Type 0
-IsReport seen seat s next stream report = IsStreamRun seat (seen stream) (seen report.source)
-    (progress_of s 0 0 0) (report_progress next report) report.end
+IsReport seen seat s next stream report = IsStreamRun
+    (λ lines. state_after_lines seat s lines ≡ Some next) (λ line e. IsRefusedLine seat line e next)
+    (has_verdict next ≡ true) (has_verdict next ≡ false) seen stream report
 
 -- These streams run one after the other, the first under this seat, the next under the next, and lead from this state to the final
 -- one; the reports are theirs.

@@ -5,11 +5,10 @@ use Rattle.lj_clause.specs.ClauseMap.{FormulaValue, formula_map}
 use Rattle.lj_clause.specs.Truth.{IsUnsatisfiable}
 use Rattle.lj_text.specs.declared.line.Line.{Line}
 use Rattle.lj_text.specs.declared.lines.fault.LineFaultKind.{LineFaultKind}
-use Rattle.lj_text.specs.Lines.{Said, all_said}
+use Rattle.lj_text.specs.Lines.{Said}
 use Rattle.lj_text.specs.Steps.{replay, refutes}
-use Rattle.lj_text.specs.Streams.{SourceState, HasGiven, HasEnded}
+use Rattle.lj_text.specs.Streams.{SourceState}
 use Rattle.lj_book.specs.declared.entry.Call.{Call}
-use Rattle.lj_book.specs.declared.entry.Call.TheVariants as calls
 use Rattle.lj_book.specs.declared.entry.Entry.{Entry}
 use Rattle.lj_book.specs.declared.refusal.Refusal.{Refusal}
 use Rattle.lj_book.specs.State.{State, live, steps_of}
@@ -17,17 +16,13 @@ use Rattle.lj_book.specs.History.{IsReached}
 use Rattle.lj_share.specs.Entries.{call_of}
 use Rattle.lj_share.specs.Refusals.{IsLineRefused}
 use Rattle.lj_share.specs.Seats.{SeatValue, IsOpenedAs, seat_of_book}
-use Rattle.lj_run.specs.declared.outcome.End.{End}
-use Rattle.lj_run.specs.declared.outcome.End.TheVariants.{Ended, Stopped, Line as AtLine}
-use Rattle.lj_run.specs.declared.outcome.LineEnd.TheVariants.{Fault, Refused, ReadFailed}
+use Rattle.lj_run.specs.declared.outcome.End.TheVariants.{Stopped}
 use Rattle.lj_run.specs.declared.outcome.Outcome.{Outcome}
 use Rattle.lj_run.specs.declared.outcome.Report.{Report}
 use Rattle.lj_run.specs.declared.outcome.RunFault.{RunFault}
 use Rattle.lj_run.specs.declared.outcome.RunFault.TheVariants.{Formula, FormulaRead, NoMemory, Unconfirmed}
 use Rattle.lj_run.specs.FormulaReading.{GaveFormula, IsFormulaFault}
-use Rattle.lj_run.specs.Reading.{FailsAt, IsRoomRefused, AreWhole}
-use Rattle.lj_run.specs.Run.{has_verdict, MeetsFault, IfReadFailed, IfRoomRefused, failed_reads, judged_count}
-use Rattle.lj_clause.specs.declared.lit.TheConstants.{MAX_VARIABLE}
+use Rattle.lj_run.specs.Run.{has_verdict, IsStreamRun}
 
 -- ---- the calls of one stream
 
@@ -40,68 +35,12 @@ said_call (Err kind) = None
 abbrev pub AreCallsOf : List Said → List Call → Type 0
 AreCallsOf lines made = map (λ said. said_call said.says) lines ≡ map (λ call. Some call) made
 
--- whether the call is an addition
-abbrev pub is_addition : Call → Bool
-is_addition (calls.Add own lemma) = true
-is_addition call = false
-
--- whether it is a deletion
-abbrev pub is_deletion : Call → Bool
-is_deletion (calls.Drop numbers) = true
-is_deletion call = false
-
--- whether it is an import
-abbrev pub is_import : Call → Bool
-is_import (calls.Import own clause) = true
-is_import call = false
-
--- how many of the calls are of such a kind
-abbrev pub how_many : (Call → Bool) → List Call → ℕ
-how_many is made = length (filter is made)
-
--- The counts are how many of the calls are additions, deletions and imports.
-pub record AreCountsOf (made : List Call) (added deleted imported : ℕ) : Type 0 where
-  pub added_is : added ≡ how_many is_addition made
-  pub deleted_is : deleted ≡ how_many is_deletion made
-  pub imported_is : imported ≡ how_many is_import made
-
--- ---- how a stream ends
-
--- The first of the lines is this one, and it is refused for this reason.
-pub record MeetsRefusedLine (refuses : Line → Refusal → Type 0) (n : ℕ) (refusal : Refusal)
-    (rest : List Said) : Type 0 where
-  pub line : Line
-  pub first : slice_get rest 0 ≡ Some (record { line = n; says = Ok line })
-  pub refused : refuses line refusal
-
--- A stream ends so with these lines still to come, where lines are refused in this way, and a book that is refuted has this property: at
--- its end, where the verdict stands, or at that line. Of a read that failed see FailsAt.
-abbrev pub EndsBeside : (Line → Refusal → Type 0) → Type 0 → List Said → End → Type 0
-EndsBeside refuses refuted rest Ended = rest ≡ []
-EndsBeside refuses refuted rest Stopped = refuted
-EndsBeside refuses refuted rest (AtLine n (Fault kind)) = MeetsFault n kind rest
-EndsBeside refuses refuted rest (AtLine n (Refused refusal)) = MeetsRefusedLine refuses n refusal rest
-EndsBeside refuses refuted rest (AtLine n ReadFailed) = Unit {0}
-
--- The report is right of this stream, whose seat has the calls of its entries, in order. Lines of a seat are refused in this way, and a
--- book that is refuted has this property. What its source gave meanwhile are its lines: all of them where it ended, as the source has
--- then, and the first ones else. The calls are those of its first lines. No line is entered or judged that isn't whole, unless the source
--- has ended. A read failed exactly where that is how it ended. Where memory was refused to the reading of a line see IsRoomRefused.
-pub record IsStreamBeside {S : Type 0} (seen : S → SourceState)
-    (refuses : SeatValue → Line → Refusal → Type 0) (refuted : Type 0) (seat : SeatValue)
-    (stream : S) (report : Report S) : Type 0 where
-  pub text : List ℕ
-  pub gave : HasGiven (seen stream) (seen report.source) text
-  pub count : ℕ
-  pub enters : AreCallsOf (take count (all_said MAX_VARIABLE text)) seat.calls
-  pub counts : AreCountsOf seat.calls report.added report.deleted report.imported
-  pub ends : EndsBeside (refuses seat) refuted (drop count (all_said MAX_VARIABLE text)) report.end
-  pub failed_read : IfReadFailed report.end (FailsAt MAX_VARIABLE text count)
-  pub no_room : IfRoomRefused report.end
-      (IsRoomRefused MAX_VARIABLE text (seen report.source).ended count)
-  pub ended : report.end ≡ Ended → HasEnded (seen report.source)
-  pub failures : (seen report.source).failures ≡ failed_reads report.end
-  pub whole : AreWhole MAX_VARIABLE text (seen report.source) (judged_count count report.end)
+-- The report is right of this stream, whose seat has the calls of its entries, in order: they are those of the lines that were
+-- entered. Lines of a seat are refused in this way, and a book that is refuted has this property.
+abbrev pub IsStreamBeside : {S : Type 0} → (S → SourceState) →
+    (SeatValue → Line → Refusal → Type 0) → Type 0 → SeatValue → S → Report S → Type 0
+IsStreamBeside seen refuses refuted seat stream report = IsStreamRun
+    (λ lines. AreCallsOf lines seat.calls) (refuses seat) refuted (Unit {0}) seen stream report
 
 -- Each report is right of its stream, by what its seat is of the final book: this seat for the first, the next for the next.
 abbrev pub RunBeside : {S : Type 0} → (S → SourceState) → (SeatValue → Line → Refusal → Type 0)

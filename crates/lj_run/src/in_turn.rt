@@ -8,6 +8,7 @@ ghost use Rattle.lj_run.specs.Proof.{sink_state};
 ghost use Rattle.lj_run.specs.Ways.{IsAnswerBy};
 ghost use Rattle.lj_run.specs.declared.outcome.Way.TheVariants.{InTurn};
 
+use crate::book_seat::BookSeat;
 use crate::outcome::{Options, Outcome, Report, RunFault};
 use crate::proving::prove;
 use crate::reading::read_formula;
@@ -53,8 +54,10 @@ pub fn run_in_turn<R: Wait, F: Source, S: Source + Drop, W: Sink>(
     let formula = read_formula(rt, alloc, formula)?;
     let clauses = formula.len() as u64;
     let streams = by_seat(streams, closing)?;
-    let mut book = Book::open(alloc, formula, streams.len() as u32, options.max_steps)?;
-    let reports = run_all(rt, alloc, &mut book, streams)?;
+    let book = Book::open(alloc, formula, streams.len() as u32, options.max_steps)?;
+    let mut seat = BookSeat::new(alloc, book);
+    let reports = run_all(rt, alloc, &mut seat, streams)?;
+    let book = seat.book;
     history_is_legal(&book);
     live_is_the_replay(&book);
     let verified = book.verified()?;
@@ -83,45 +86,38 @@ fn by_seat<S: Drop>(streams: Vec<S>, closing: Option<S>) -> Result<Vec<S>, Alloc
 fn run_all<R: Wait, S: Source + Drop>(
     rt: &R,
     alloc: Global,
-    book: &mut Book,
+    seat: &mut BookSeat,
     streams: Vec<S>,
 ) -> Result<Vec<Report<S>>, AllocFailed<Report<S>>>
     requires at_most { length streams.items ≤ 1024 }
     requires unfailed { All (λ stream. S.failures stream ≡ 0) streams.items }
     ensures reports { IfOk result
         (λ reports. RunInTurn (source_state S.given S.ended S.rest S.failures) 0 streams.items
-        book.old reports.items book.new) }
-    ensures formula { book.new.formula ≡ book.old.formula }
+        seat.old.book reports.items seat.new.book) }
+    ensures formula { seat.new.book.formula ≡ seat.old.book.formula }
 {
     let mut reports = Vec::new(alloc);
-    let mut seat = 0;
+    let mut number = 0;
     for stream in streams {
-        reports.push(run_of(rt, alloc, book, seat, stream))?;
-        seat += 1;
+        reports.push(run_of(rt, alloc, seat, number, stream))?;
+        number += 1;
     }
     Ok(reports)
 }
 
-/// Runs a stream under a seat, and reports of it.
+/// Runs a stream under the seat of this number, and reports of it.
 fn run_of<R: Wait, S: Source>(
     rt: &R,
     alloc: Global,
-    book: &mut Book,
-    seat: u32,
+    seat: &mut BookSeat,
+    number: u32,
     stream: S,
 ) -> Report<S>
     requires { S.failures stream ≡ 0 }
-    ensures report { IsReport (source_state S.given S.ended S.rest S.failures) seat book.old
-        book.new stream result }
-    ensures formula { book.new.formula ≡ book.old.formula }
+    ensures report { IsReport (source_state S.given S.ended S.rest S.failures) number
+        seat.old.book seat.new.book stream result }
+    ensures formula { seat.new.book.formula ≡ seat.old.book.formula }
 {
-    let mut source = stream;
-    let tally = run_stream(rt, alloc, book, seat, &mut source);
-    Report {
-        added: tally.added,
-        deleted: tally.deleted,
-        imported: tally.imported,
-        end: tally.end,
-        source,
-    }
+    seat.number = number;
+    run_stream(rt, alloc, seat, stream)
 }

@@ -8,7 +8,6 @@ ghost use Rattle.lj_run.specs.Proof.{sink_state};
 ghost use Rattle.lj_run.specs.Ways.{IsAnswerBy};
 ghost use Rattle.lj_run.specs.declared.outcome.Way.TheVariants.{OnThreads};
 
-mod block;
 mod opened;
 mod worker;
 

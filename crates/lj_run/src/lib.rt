@@ -3,9 +3,12 @@
 //! A call takes constant time where neither it nor its type tells a cost.
 #![tactic(auto)]
 
+mod block;
 mod body;
+mod book_seat;
 mod checking;
 mod command_line;
+mod entering;
 mod fault;
 pub mod files;
 mod in_turn;

@@ -1,18 +1,21 @@
-//! The run of one stream on a book.
-ghost use Rattle.std.specs.Prelude.{◌≡◌, ◌+◌, ◌<◌, MatchResult, Ok};
+//! The run of one stream.
+ghost use Rattle.std.specs.Prelude.{◌≡◌, ◌+◌, ◌<◌, ◌≤◌, length};
 ghost use Rattle.lj_text.specs.Streams.{source_state};
-ghost use Rattle.lj_run.specs.Run.{reply_to_line, IsStreamRun, progress_of, has_verdict};
-ghost use Rattle.lj_run.specs.inner.Run.{IsLineEnd, IsCounted};
-ghost use Rattle.lj_text.specs.declared.line.Line.TheVariants.{Delete};
-ghost use Rattle.lj_run.specs.declared.outcome.LineEnd.TheVariants.{Refused};
-ghost use Rattle.lj_run.specs.inner.Tally.{with_count, with_end, missed_at};
+ghost use Rattle.lj_run.specs.Run.{IsStreamRun};
+ghost use Rattle.lj_run.specs.inner.Block.{BlockEntered};
+ghost use Rattle.lj_run.specs.inner.Joint.{report_of};
+ghost use Rattle.lj_run.specs.inner.Tally.{with_count, with_end, with_lines, missed_at};
+ghost use Rattle.lj_text.specs.declared.lines.fault.LineFaultKind.TheVariants as kinds;
+ghost use Rattle.lj_run.specs.declared.outcome.End.TheVariants as ends;
+ghost use Rattle.lj_run.specs.declared.outcome.LineEnd.TheVariants.{Fault};
 
-use crate::outcome::{End, LineEnd};
+use crate::block::{fill, take_back};
+use crate::entering::Entering;
+use crate::outcome::{End, LineEnd, Report};
 use crate::reading::{Miss, PIECE, next_line};
-use lj_book::{Book, Refusal};
-use lj_clause::MAX_VARIABLE;
-use lj_hint::Marks;
-use lj_text::{Line, LineReader, Numbers, Source};
+use lj_clause::{MAX_VARIABLE, NoMemory};
+use lj_share::Numbered;
+use lj_text::{Line, LineFaultKind, LineReader, Source};
 use std::alloc::Global;
 use std::sync::Wait;
 
@@ -25,27 +28,49 @@ pub(crate) struct Tally {
     pub end: End,
 }
 
-/// Gives the lines of a source to the book, one after another, until the verdict stands, the source ends or a line
-/// isn't accepted. Takes the time of the source's pulls, of the reader and of the book's calls for the lines.
-pub(crate) fn run_stream<R: Wait, S: Source>(
+/// Runs a stream through a seat, and reports of it.
+pub(crate) fn run_stream<E: Entering, R: Wait, S: Source>(
     rt: &R,
     alloc: Global,
-    book: &mut Book,
-    seat: u32,
+    seat: &mut E,
+    stream: S,
+) -> Report<S>
+    requires { S.failures stream ≡ 0 }
+    ensures { IsStreamRun (λ lines. E.entered seat.old lines seat.new) (E.refused seat.new)
+        (E.stopped seat.new) (E.goes_on seat.new)
+        (source_state S.given S.ended S.rest S.failures) stream result }
+{
+    let mut source = stream;
+    let tally = run_lines(rt, alloc, seat, &mut source);
+    Report {
+        added: tally.added,
+        deleted: tally.deleted,
+        imported: tally.imported,
+        end: tally.end,
+        source,
+    }
+}
+
+/// Enters the lines of a source, block after block, until the verdict stands, the source ends or a line isn't accepted. Takes the
+/// time of the source's pulls, of the reader and of the seat's calls for the lines.
+fn run_lines<E: Entering, R: Wait, S: Source>(
+    rt: &R,
+    alloc: Global,
+    seat: &mut E,
     source: &mut S,
 ) -> Tally
     requires { S.failures source.old ≡ 0 }
-    ensures run { IsStreamRun seat
-        (source_state S.given S.ended S.rest S.failures source.old)
-        (source_state S.given S.ended S.rest S.failures source.new)
-        (progress_of book.old 0 0 0)
-        (progress_of book.new result.added result.deleted result.imported) result.end }
-    ensures formula { book.new.formula ≡ book.old.formula }
+    ensures { IsStreamRun (λ lines. E.entered seat.old lines seat.new) (E.refused seat.new)
+        (E.stopped seat.new) (E.goes_on seat.new)
+        (source_state S.given S.ended S.rest S.failures) source.old
+        (report_of result source.new) }
 {
     let mut reader = LineReader::new(alloc, MAX_VARIABLE);
-    let mut marks = Marks::new(alloc);
     let mut room = [0; PIECE];
     let mut ended = false;
+    let mut lines = Vec::new(alloc);
+    // Of the next line, where the reader has met it behind a block.
+    let mut fault = None;
     let mut tally = Tally {
         added: 0,
         deleted: 0,
@@ -53,47 +78,82 @@ pub(crate) fn run_stream<R: Wait, S: Source>(
         end: End::Stopped,
     };
     for _ in rt.forever() {
-        if is_done(book) {
+        if seat.is_stopped() {
             return tally.ending(End::Stopped);
+        }
+        if let Some(behind) = fault {
+            return tally.ending(missed(Miss::AtFault(behind), reader.at()));
         }
         let line = match next_line(rt, source, &mut reader, &mut ended, &mut room) {
             Ok(Some(line)) => line,
             Ok(None) => return tally.ending(End::Ended),
             Err(miss) => return tally.ending(missed(miss, reader.at())),
         };
-        match enter(book, seat, &line, &mut marks) {
-            Ok(count) => {
-                tally.count(count, book.history_len());
-                reader.reuse(line);
-            }
-            Err(end) => return tally.ending(End::Line(reader.at(), end)),
+        match fill(&mut lines, &mut reader, line, E::BLOCK) {
+            Ok(behind) => fault = behind,
+            Err(e) => return tally.ending(out_of_memory(reader.at(), e)),
         }
+        if let Some(end) = enter_block(rt, seat, &lines, &mut tally) {
+            return tally.ending(end);
+        }
+        take_back(&mut lines, &mut reader);
     }
     unreachable!()
 }
 
-/// Whether the verdict stands, so that no more lines are read.
-fn is_done(book: &Book) -> bool
-    ensures { result ≡ has_verdict book.now }
+/// Enters the lines of a block and counts those that were entered; gives the stream's end, where it ends among them.
+fn enter_block<E: Entering, R: Wait>(
+    rt: &R,
+    seat: &mut E,
+    lines: &[Numbered],
+    tally: &mut Tally,
+) -> Option<End>
+    requires { tally.old.added + tally.old.deleted + tally.old.imported ≤ E.known seat.old }
+    ensures entered { BlockEntered (λ lines. E.entered seat.old lines seat.new)
+        (E.refused seat.new) (E.stopped seat.new) (E.goes_on seat.new) lines.now tally.old
+        tally.new result }
+    ensures known { tally.new.added + tally.new.deleted + tally.new.imported
+        ≤ E.known seat.new }
 {
-    book.verdict().is_some()
+    let (count, refusal) = seat.enter_lines(rt, lines);
+    count_lines(tally, &lines[..count], seat.entries());
+    match refusal {
+        Some(refusal) => Some(End::Line(lines[count].at, LineEnd::Refused(refusal))),
+        None if count < lines.len() => Some(End::Stopped),
+        None => None,
+    }
+}
+
+/// Counts lines that were entered, where there are so many entries with them.
+fn count_lines(tally: &mut Tally, lines: &[Numbered], entries: u64)
+    requires { tally.old.added + tally.old.deleted + tally.old.imported + length lines.now
+        ≤ entries }
+    ensures counted { tally.new ≡ with_lines tally.old lines.now }
+    ensures sum { tally.new.added + tally.new.deleted + tally.new.imported
+        ≡ tally.old.added + tally.old.deleted + tally.old.imported + length lines.now }
+{
+    for numbered in lines {
+        tally.count(&numbered.line, entries);
+    }
 }
 
 impl Tally {
     /// Counts a line, which is one of so many entries.
-    pub(crate) fn count(&mut self, count: Count, entries: u64)
+    fn count(&mut self, line: &Line, entries: u64)
         requires { self.old.added + self.old.deleted + self.old.imported < entries }
-        ensures { self.new ≡ with_count self.old count }
+        ensures counted { self.new ≡ with_count self.old line.now }
+        ensures sum { self.new.added + self.new.deleted + self.new.imported
+            ≡ self.old.added + self.old.deleted + self.old.imported + 1 }
     {
-        match count {
-            Count::Addition => self.added += 1,
-            Count::Deletion => self.deleted += 1,
-            Count::Importing => self.imported += 1,
+        match line {
+            Line::Add(_) => self.added += 1,
+            Line::Delete(_) => self.deleted += 1,
+            Line::Import { .. } => self.imported += 1,
         }
     }
 
     /// The tally of a stream that ended so.
-    pub(crate) fn ending(self, end: End) -> Tally
+    fn ending(self, end: End) -> Tally
         ensures { result ≡ with_end self end }
     {
         Tally { end, ..self }
@@ -101,7 +161,7 @@ impl Tally {
 }
 
 /// The end of a stream whose next line is missed, where this line is being read.
-pub(crate) fn missed(miss: Miss, at: u64) -> End
+fn missed(miss: Miss, at: u64) -> End
     ensures { result ≡ missed_at at miss }
 {
     match miss {
@@ -110,48 +170,9 @@ pub(crate) fn missed(miss: Miss, at: u64) -> End
     }
 }
 
-/// What a line is counted as.
-#[derive(Clone, Copy, Debug)]
-pub(crate) enum Count {
-    Addition,
-    Deletion,
-    Importing,
-}
-
-/// Gives a line to the book.
-pub(crate) fn enter(
-    book: &mut Book,
-    seat: u32,
-    line: &Line,
-    marks: &mut Marks,
-) -> Result<Count, LineEnd>
-    ensures { MatchResult result
-        (λ count. (reply_to_line book.old seat line.now ≡ Ok book.new) × IsCounted line.now count)
-        (λ end. (book.new ≡ book.old) × IsLineEnd end (reply_to_line book.old seat line.now)) }
+/// The end of a stream for whose line of this number there is no memory.
+fn out_of_memory(at: u64, e: NoMemory) -> End
+    ensures { result ≡ ends.Line at (Fault (kinds.NoMemory e)) }
 {
-    match line {
-        Line::Add(addition) => match book.add_inside(seat, addition, marks) {
-            Ok(_) => Ok(Count::Addition),
-            Err(refusal) => Err(LineEnd::Refused(refusal)),
-        },
-        Line::Delete(numbers) => match delete(book, seat, numbers) {
-            Ok(()) => Ok(Count::Deletion),
-            Err(refusal) => Err(LineEnd::Refused(refusal)),
-        },
-        Line::Import { number, clause } => match book.import(seat, *number, clause) {
-            Ok(_) => Ok(Count::Importing),
-            Err(refusal) => Err(LineEnd::Refused(refusal)),
-        },
-    }
-}
-
-/// Drops the numbers of a seat.
-fn delete(book: &mut Book, seat: u32, numbers: &Numbers) -> Result<(), Refusal>
-    ensures { MatchResult result
-        (λ _. reply_to_line book.old seat (Delete numbers.now) ≡ Ok book.new)
-        (λ refusal. (book.new ≡ book.old)
-        × IsLineEnd (Refused refusal) (reply_to_line book.old seat (Delete numbers.now))) }
-{
-    book.drop_numbers(seat, numbers)?;
-    Ok(())
+    End::Line(at, LineEnd::Fault(LineFaultKind::NoMemory(e)))
 }

@@ -1,20 +1,26 @@
 -- How the lines of a block are read, which are handed in together.
-use Rattle.std.specs.Prelude.{◌≡◌, ℕ, ◌+◌, Bool, false, true, List, [], ◌∷◌, ◌++◌, length, take, Option, Some, Ok, IfSome, is_none, slice_get}
+use Rattle.std.specs.Prelude.{◌≡◌, ℕ, ◌+◌, ◌≤◌, Bool, false, true, List, [], ◌∷◌, ◌++◌, length, map, take, drop, Option, Some, Ok, IfSome, MatchOption, is_none, slice_get}
 use Rattle.lj_text.specs.declared.line.Line.{Line}
 use Rattle.lj_text.specs.declared.line.Line.TheVariants.{Add, Delete, Import}
 use Rattle.lj_text.specs.declared.lines.fault.LineFault.{LineFault}
 use Rattle.lj_text.specs.Lines.{Said, all_said}
 use Rattle.lj_text.specs.LinesRead.{LinesRead, LineReaderStandsAt}
 use Rattle.lj_text.specs.Streams.{SourceState, HasGiven}
+use Rattle.lj_book.specs.declared.refusal.Refusal.{Refusal}
+use Rattle.lj_run.specs.declared.outcome.End.{End}
+use Rattle.lj_run.specs.declared.outcome.End.TheVariants.{Ended, Stopped, Line as AtLine}
+use Rattle.lj_run.specs.declared.outcome.LineEnd.TheVariants.{Refused}
+use Rattle.lj_run.specs.declared.stream.Tally.{Tally}
+use Rattle.lj_run.specs.inner.Tally.{with_lines}
 use Rattle.lj_run.specs.declared.reading.Miss.TheVariants.{AtFault}
 use Rattle.lj_share.specs.declared.numbered.Numbered.{Numbered}
 use Rattle.lj_run.specs.Reading.{AreWhole}
 use Rattle.lj_run.specs.inner.Reading.{LineMissed}
 
--- whether the line ends its block: it adds the empty clause, or is a deletion
+-- whether the line adds the empty clause, and so ends its block
 abbrev pub ends_block : Line → Bool
 ends_block (Add a) = is_none a.lemma.pivot
-ends_block (Delete numbers) = true
+ends_block (Delete numbers) = false
 ends_block (Import number clause) = false
 
 -- what a line with its number says
@@ -39,3 +45,22 @@ pub record BlockRead (max : ℕ) (fed : List ℕ) (handed : ℕ) (reader : Lines
   pub whole : AreWhole max (fed ++ piece) after (handed + length lines)
   pub ahead : IfSome fault (λ told. LineMissed max (fed ++ piece) (handed + length lines) told.line
       after after (AtFault told))
+
+-- a stream ends so at the next of these lines, or before it
+abbrev pub EndsInBlock : (Line → Refusal → Type 0) → Type 0 → Type 0 → List Numbered → End → Type 0
+EndsInBlock refused stopped goes_on rest Ended = ⊥
+EndsInBlock refused stopped goes_on rest Stopped = stopped
+EndsInBlock refused stopped goes_on rest (AtLine n (Refused refusal)) = (line : Numbered)
+    × (slice_get rest 0 ≡ Some line) × (n ≡ line.at) × refused line.line refusal × goes_on
+EndsInBlock refused stopped goes_on rest (AtLine n end) = ⊥
+
+-- The first of a block's lines were entered, so many, and counted: all of them, or the stream ends so at the next one.
+pub record BlockEntered (entered : List Said → Type 0) (refused : Line → Refusal → Type 0)
+    (stopped goes_on : Type 0) (lines : List Numbered) (before after : Tally)
+    (end : Option End) : Type 0 where
+  pub count : ℕ
+  pub within : count ≤ length lines
+  pub enters : entered (map said_in_block (take count lines))
+  pub counted : after ≡ with_lines before (take count lines)
+  pub ends : MatchOption end (count ≡ length lines)
+      (EndsInBlock refused stopped goes_on (drop count lines))

@@ -1,5 +1,9 @@
 -- What comes of a run of streams beside one another, on one shared book.
-use Rattle.std.specs.Prelude.{◌≡◌, ℕ, Bool, true, List}
+use Rattle.std.specs.Prelude.{◌≡◌, ℕ, Bool, true, List, [], ◌++◌, map, Some}
+use Rattle.std.proofs.Common.{refl, sym, ap, ◌∙◌, append_assoc}
+use Rattle.std.proofs.lemmas.List.{append-nil, map-append}
+use Rattle.lj_text.specs.Lines.{Said}
+use Rattle.lj_book.specs.declared.entry.Call.{Call}
 use Rattle.lj_clause.specs.ClauseMap.{FormulaValue}
 use Rattle.lj_clause.specs.Truth.{IsUnsatisfiable}
 use Rattle.lj_text.specs.Streams.{SourceState}
@@ -11,7 +15,7 @@ use Rattle.lj_run.specs.declared.outcome.Report.{Report}
 use Rattle.lj_run.specs.declared.outcome.RunFault.{RunFault}
 use Rattle.lj_run.specs.declared.outcome.RunFault.TheVariants.{Formula, FormulaRead, NoMemory, Unconfirmed}
 use Rattle.lj_run.specs.declared.stream.Tally.{Tally}
-use Rattle.lj_run.specs.Joint.{IsStreamBeside, IsUnconfirmed}
+use Rattle.lj_run.specs.Joint.{said_call, IsStreamBeside, IsUnconfirmed}
 
 -- ---- how a stream ends
 
@@ -25,6 +29,26 @@ report_of tally source = record {
   end = tally.end;
   source = source;
 }
+
+-- ---- the calls of a seat
+
+-- The seat has the calls of these lines behind those that it had.
+abbrev pub AreCallsFurther : SeatValue → List Said → SeatValue → Type 0
+AreCallsFurther before lines after = (map (λ call. Some call) after.calls
+    ≡ map (λ call. Some call) before.calls ++ map (λ said. said_call said.says) lines)
+    × (after.number ≡ before.number)
+
+pub no_calls_further : (seat : SeatValue) → AreCallsFurther seat [] seat
+no_calls_further seat = (sym (append-nil (map (λ (call : Call). Some call) seat.calls)), refl)
+
+pub calls_further : (a b c : SeatValue) (front rest : List Said) → AreCallsFurther a front b
+    → AreCallsFurther b rest c → AreCallsFurther a (front ++ rest) c
+calls_further a b c front rest first then = (
+  then.0 ∙ ap (λ cs. cs ++ map (λ (said : Said). said_call said.says) rest) first.0
+      ∙ append_assoc (map (λ (call : Call). Some call) a.calls) (map (λ (said : Said). said_call said.says) front) (map (λ (said : Said). said_call said.says) rest)
+      ∙ ap (λ cs. map (λ (call : Call). Some call) a.calls ++ cs) (sym (map-append (λ (said : Said). said_call said.says) front rest)),
+  then.1 ∙ first.1,
+)
 
 -- ---- what the workers leave
 

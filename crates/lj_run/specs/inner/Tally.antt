@@ -2,8 +2,6 @@
 use Rattle.std.specs.Prelude.{ℕ, ◌+◌, List, [], ◌∷◌}
 use Rattle.lj_text.specs.declared.line.Line as line
 use Rattle.lj_text.specs.declared.line.Line.TheVariants as lines
-use Rattle.lj_run.specs.declared.stream.Count.{Count}
-use Rattle.lj_run.specs.declared.stream.Count.TheVariants.{Addition, Deletion, Importing}
 use Rattle.lj_run.specs.declared.stream.Tally.{Tally}
 use Rattle.lj_share.specs.declared.numbered.Numbered.{Numbered}
 use Rattle.lj_run.specs.declared.reading.Miss.{Miss}
@@ -13,21 +11,15 @@ use Rattle.lj_run.specs.declared.outcome.End.TheVariants.{Line}
 use Rattle.lj_run.specs.declared.outcome.LineEnd.TheVariants.{Fault, ReadFailed}
 
 -- the tally with one line more
-abbrev pub with_count : Tally → Count → Tally
-with_count tally Addition = record tally { added = tally.added + 1 }
-with_count tally Deletion = record tally { deleted = tally.deleted + 1 }
-with_count tally Importing = record tally { imported = tally.imported + 1 }
-
--- what a line is counted as
-abbrev pub counted : line.Line → Count
-counted (lines.Add a) = Addition
-counted (lines.Delete numbers) = Deletion
-counted (lines.Import number clause) = Importing
+abbrev pub with_count : Tally → line.Line → Tally
+with_count tally (lines.Add a) = record tally { added = tally.added + 1 }
+with_count tally (lines.Delete numbers) = record tally { deleted = tally.deleted + 1 }
+with_count tally (lines.Import number clause) = record tally { imported = tally.imported + 1 }
 
 -- the tally with these lines more
 abbrev pub with_lines : Tally → List Numbered → Tally
 with_lines tally [] = tally
-with_lines tally (one ∷ more) = with_lines (with_count tally (counted one.line)) more
+with_lines tally (one ∷ more) = with_lines (with_count tally one.line) more
 
 abbrev pub with_end : Tally → End → Tally
 with_end tally end = record tally { end = end }

@@ -9,7 +9,7 @@ invariant-loop-stream g l =
     record {
       goes : (goal.iterator-loop-stream g).can_next l.stream-iterator;
       finite : (goal.iterator-loop-stream g).is_finite l.stream-iterator;
-      seat_is : l.seat ≡ length l.yielded;
-      formula : l.book.formula ≡ l.fn.book.formula;
-      runs : RunInTurn seen 0 l.yielded l.fn.book l.reports.items l.book;
+      seat_is : l.number ≡ length l.yielded;
+      formula : l.seat.book.formula ≡ l.fn.seat.book.formula;
+      runs : RunInTurn seen 0 l.yielded l.fn.seat.book l.reports.items l.seat.book;
     }

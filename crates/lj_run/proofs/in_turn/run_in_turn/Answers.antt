@@ -17,7 +17,7 @@ use Rattle.lj_run.proofs.in_turn.run_in_turn.Goals as goal
 
 pub prove-proof-requires-clause-verified : goal.prove-proof-requires-clause-verified
 prove-proof-requires-clause-verified g c =
-    refutes_any c.in_ok-verified.verified c.run_all.new.book.formula (steps_of c.run_all.new.book.history) (live c.run_all.new.book) c.in_ok-verified.ensures.refuted c.live_is_the_replay.ensures
+    refutes_any c.in_ok-verified.verified c.run_all.new.seat.book.formula (steps_of c.run_all.new.seat.book.history) (live c.run_all.new.seat.book) c.in_ok-verified.ensures.refuted c.live_is_the_replay.ensures
     ∙ ap (list_any adds_empty) (sym c.into_steps-steps.ensures)
 
 pub returns-clause-outcome : goal.returns-clause-outcome
@@ -27,13 +27,13 @@ returns-clause-outcome g c =
     let max = c.args.options.now.max_steps in
     let streams = c.in_ok-streams.streams.items in
     let seats : c.len.result ≡ length streams = search rules in
-    let opened = c.in_ok-book.ensures ∙ ap (λ n. opening f n max) seats in
-    let same : c.run_all.new.book.formula ≡ f = c.in_ok-reports.ensures.formula ∙ ap (λ (s : State). s.formula) opened in
+    let opened = c.new-seat.ensures ∙ c.in_ok-book.ensures ∙ ap (λ n. opening f n max) seats in
+    let same : c.run_all.new.seat.book.formula ≡ f = c.in_ok-reports.ensures.formula ∙ ap (λ (s : State). s.formula) opened in
     let outcome : Outcome g.row.S.Denot = record { reports = c.in_ok-reports.reports; verified = c.in_ok-verified.verified; steps = c.into_steps-steps.result; proof = c.prove-proof.result } in
-    let is = outcome_is seen f max streams c.in_ok-book.book c.run_all.new.book outcome opened c.in_ok-reports.ensures.formula c.in_ok-reports.ensures.reports
+    let is = outcome_is seen f max streams c.new-seat.result.book c.run_all.new.seat.book outcome opened c.in_ok-reports.ensures.formula c.in_ok-reports.ensures.reports
     c.history_is_legal.ensures c.into_steps-steps.ensures c.live_is_the_replay.ensures c.in_ok-verified.ensures.refuted c.in_ok-verified.ensures.formula in
     let formula : IfSome c.in_ok-verified.verified (λ g. g ≡ f) = subst (λ (h : FormulaValue). IfSome c.in_ok-verified.verified (λ g. g ≡ h)) same c.in_ok-verified.ensures.formula in
-    answer_by InTurn _ _ seen (sink_state g.W.Sink.taken g.W.Sink.failures) f max c.args.options.now.trim _ _ _ outcome c.run_all.new.book c.in_ok-formula.ensures.formula
+    answer_by InTurn _ _ seen (sink_state g.W.Sink.taken g.W.Sink.failures) f max c.args.options.now.trim _ _ _ outcome c.run_all.new.seat.book c.in_ok-formula.ensures.formula
     (subst (λ all. IsOutcome seen f max all outcome) c.in_ok-streams.ensures is) c.history_is_legal.ensures same c.into_steps-steps.ensures
     (c.prove-proof.ensures f c.len-clauses.ensures.len formula)
 

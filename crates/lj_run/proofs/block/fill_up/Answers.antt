@@ -3,7 +3,7 @@ use Rattle.lj_text.specs.LinesRead.{LineReaderStandsAt, IsReadingAt, handed_out}
 use Rattle.lj_share.specs.declared.numbered.Numbered.{Numbered}
 use Rattle.lj_run.specs.inner.Block.{BlockRead}
 use Rattle.lj_run.proofs.BlockLemmas.{block_more, block_faulty}
-use Rattle.lj_run.proofs.joint.block.fill_up.Goals as goal
+use Rattle.lj_run.proofs.block.fill_up.Goals as goal
 
 pub returns-in-Err-clause-read : goal.returns-in-Err-clause-read
 returns-in-Err-clause-read c = λ fed handed before after was.

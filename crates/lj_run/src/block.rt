@@ -1,4 +1,4 @@
-//! Lines that a stream's worker hands in together.
+//! Lines of a stream that are handed in together.
 ghost use Rattle.std.specs.Prelude.{◌≡◌, ℕ, List, [], None, Some, Ok, IfOk, OnErr};
 ghost use Rattle.lj_text.specs.Streams.{SourceState};
 ghost use Rattle.lj_run.specs.inner.Block.{BlockRead, ends_block};
@@ -8,12 +8,9 @@ use lj_clause::NoMemory;
 use lj_share::Numbered;
 use lj_text::{Line, LineFault, LineReader};
 
-/// The most lines that are handed in together.
-const BLOCK: usize = 1024;
-
-/// Begins a block with a line that the reader has handed out, and reads on into it what the reader has whole, up to a deletion or
-/// a line that adds the empty clause. Gives the fault of the line behind them, where it is known. Takes the time of [`LineReader::next`] for
-/// each line.
+/// Begins a block with a line that the reader has handed out, and reads on into it what the reader has whole, up to so many lines
+/// in all, or to one that adds the empty clause. Gives the fault of the line behind them, where it is known. Takes the time of
+/// [`LineReader::next`] for each line.
 ///
 /// # Errors
 /// [`NoMemory`] where there is no memory for the first line.
@@ -21,6 +18,7 @@ pub(crate) fn fill(
     lines: &mut Vec<Numbered>,
     reader: &mut LineReader,
     line: Line,
+    most: usize,
 ) -> Result<Option<LineFault>, NoMemory>
     requires empty { lines.old.items ≡ [] }
     requires no_fault { reader.old.fault ≡ None }
@@ -40,11 +38,11 @@ pub(crate) fn fill(
     if closes {
         return Ok(None);
     }
-    Ok(fill_up(lines, reader))
+    Ok(fill_up(lines, reader, most))
 }
 
 /// Reads on into a block. Where a growth is refused, the block ends.
-fn fill_up(lines: &mut Vec<Numbered>, reader: &mut LineReader) -> Option<LineFault>
+fn fill_up(lines: &mut Vec<Numbered>, reader: &mut LineReader, most: usize) -> Option<LineFault>
     requires { reader.old.fault ≡ None }
     ensures read { (fed : List ℕ) (handed : ℕ) (before after : SourceState)
         → BlockRead reader.old.max fed handed reader.old before after lines.old.items None
@@ -53,7 +51,7 @@ fn fill_up(lines: &mut Vec<Numbered>, reader: &mut LineReader) -> Option<LineFau
     ensures max { reader.new.max ≡ reader.old.max }
     ensures finished { reader.new.finished ≡ reader.old.finished }
 {
-    for _ in 1..BLOCK {
+    for _ in 1..most {
         if lines.try_reserve(1).is_err() {
             return None;
         }
@@ -74,15 +72,13 @@ fn fill_up(lines: &mut Vec<Numbered>, reader: &mut LineReader) -> Option<LineFau
     None
 }
 
-/// Whether a line ends its block: one that adds the empty clause, behind which nothing is entered, and a deletion, since the
-/// reader has room for one at a time.
+/// Whether a line ends its block: one that adds the empty clause, behind which nothing is entered.
 fn ends_block(line: &Line) -> bool
     ensures { result ≡ ends_block line.now }
 {
     match line {
         Line::Add(addition) => addition.lemma.pivot().is_none(),
-        Line::Delete(_) => true,
-        Line::Import { .. } => false,
+        Line::Delete(_) | Line::Import { .. } => false,
     }
 }
 

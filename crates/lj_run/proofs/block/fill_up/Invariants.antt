@@ -1,7 +1,7 @@
 use Rattle.std.proofs.Common.{◌≡◌, ℕ, List, None}
 use Rattle.lj_text.specs.Streams.{SourceState}
 use Rattle.lj_run.specs.inner.Block.{BlockRead}
-use Rattle.lj_run.proofs.joint.block.fill_up.Given as goal
+use Rattle.lj_run.proofs.block.fill_up.Given as goal
 
 -- what was read so far is a block
 abbrev pub invariant-loop : goal.invariant-loop

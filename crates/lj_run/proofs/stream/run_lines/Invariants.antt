@@ -1,9 +1,8 @@
-use Rattle.std.proofs.Common.{◌≡◌, ◌+◌, ◌≤◌, true, length}
+use Rattle.std.proofs.Common.{◌≡◌, ◌+◌, ◌≤◌, true, [], None, length}
 use Rattle.lj_text.specs.Streams.{source_state, HasEnded}
 use Rattle.lj_run.specs.inner.Reading.{MayRead}
-use Rattle.lj_run.specs.Run.{progress_of}
-use Rattle.lj_run.proofs.RunLemmas.{RunsTo}
-use Rattle.lj_run.proofs.stream.run_stream.Given as goal
+use Rattle.lj_run.proofs.StreamLemmas.{EnteredBefore}
+use Rattle.lj_run.proofs.stream.run_lines.Given as goal
 use Rattle.lj_clause.specs.declared.lit.TheConstants.{MAX_VARIABLE}
 
 abbrev pub invariant-loop : goal.invariant-loop
@@ -13,11 +12,11 @@ invariant-loop g l =
       goes : (goal.iterator-loop g).can_next l.iterator';
       finite : (goal.iterator-loop g).is_finite l.iterator';
       unfailed : g.S.Source.failures l.source ≡ 0;
-      may_read : MayRead l.reader l.ended;
+      may_read : l.fault ≡ None → MayRead l.reader l.ended;
+      empty : l.lines.items ≡ [];
       ended : l.ended ≡ true → HasEnded (seen l.source);
       max : l.reader.max ≡ MAX_VARIABLE;
       room : length l.room ≡ 65536;
-      counted : l.tally.added + l.tally.deleted + l.tally.imported ≤ length l.book.history;
-      formula : l.book.formula ≡ l.fn.book.formula;
-      runs : RunsTo l.seat (seen l.fn.source) (seen l.source) (progress_of l.fn.book 0 0 0) (progress_of l.book l.tally.added l.tally.deleted l.tally.imported) l.reader;
+      known : l.tally.added + l.tally.deleted + l.tally.imported ≤ g.E.Entering.known l.seat;
+      runs : EnteredBefore (λ lines. g.E.Entering.entered l.fn.seat lines l.seat) (seen l.fn.source) (seen l.source) l.tally l.reader l.fault;
     }

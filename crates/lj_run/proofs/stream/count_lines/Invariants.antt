@@ -1,10 +1,10 @@
 use Rattle.std.proofs.Common.{◌≡◌, ◌≤◌, ◌+◌, drop, length}
 use Rattle.lj_run.specs.inner.Tally.{with_lines}
-use Rattle.lj_run.proofs.joint.worker.count_lines.Given as goal
+use Rattle.lj_run.proofs.stream.count_lines.Given as goal
 
--- the lines so far are counted, and there are entries for those to come
+-- the lines so far are counted
 abbrev pub invariant-loop-numbered : goal.invariant-loop-numbered
 invariant-loop-numbered l = record {
   counted : with_lines l.tally (drop l.numbered-index l.lines) ≡ with_lines l.fn.tally l.lines;
-  entries : l.tally.added + l.tally.deleted + l.tally.imported + length l.lines ≤ l.entries + l.numbered-index;
+  sum : l.tally.added + l.tally.deleted + l.tally.imported ≡ l.fn.tally.added + l.fn.tally.deleted + l.fn.tally.imported + l.numbered-index;
 }
