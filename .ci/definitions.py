@@ -74,7 +74,7 @@ class Module:
             raise SystemExit(f"{self.path}: what is this? {lines[i]}")
         name, body = head.group(7), [lines[i]]
         i += 1
-        while i < len(lines) and (lines[i].startswith((" ", "}")) and lines[i].strip() or re.match(re.escape(name) + r"[ .]", lines[i])):
+        while i < len(lines) and (lines[i].startswith((" ", "}", ")")) and lines[i].strip() or re.match(re.escape(name) + r"[ .]", lines[i])):
             body.append(lines[i])
             i += 1
         self.definitions.append(Definition(self, name, comment, body, section))
