@@ -11,7 +11,7 @@ use Rattle.lj_clause.specs.Literal.{place_of, lit_cmp}
 use Rattle.lj_clause.specs.LiteralSet.{LiteralSet, literals}
 use Rattle.lj_clause.proofs.Tests.{left_of, right_of, turned}
 use Rattle.lj_clause.proofs.SortedEntries.{less_not_equal}
-use Rattle.lj_hint.specs.inner.EveryOther.{every_other}
+use Rattle.lj_book.specs.inner.EveryOther.{every_other}
 use Rattle.lj_book.specs.Tables.{is_among}
 use Rattle.lj_book.specs.inner.Occurrences.{Lists, places_of, list_at, put_if, put_each, with_number}
 use Rattle.lj_book.proofs.OccurrenceLaws.{list-insert, some_places}

@@ -16,3 +16,4 @@ pub mod Slots
 pub mod Opened
 pub mod Occurrences
 pub mod Chains
+pub mod EveryOther

@@ -3,7 +3,7 @@ ghost use Rattle.std.specs.Prelude.{◌≡◌, ◌<◌, ◌≤◌, ℕ, [], ◌�
 ghost use Rattle.std.specs.FinMap as fin;
 ghost use Rattle.lj_clause.specs.Literal.{place_of};
 ghost use Rattle.lj_clause.specs.LiteralSet.{literals};
-ghost use Rattle.lj_hint.specs.inner.EveryOther.{every_other};
+ghost use Rattle.lj_book.specs.inner.EveryOther.{every_other};
 ghost use Rattle.lj_book.specs.Tables.{is_among};
 ghost use Rattle.lj_book.specs.Lookup.{is_clause};
 ghost use Rattle.lj_book.specs.inner.Occurrences.{AreOccurrences, list_at, places_of, put_if, put_each, with_number};

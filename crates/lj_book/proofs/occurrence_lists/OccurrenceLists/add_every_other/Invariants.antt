@@ -1,5 +1,5 @@
 use Rattle.std.proofs.Common.{◌≡◌, ℕ, length}
-use Rattle.lj_hint.specs.inner.EveryOther.{every_other}
+use Rattle.lj_book.specs.inner.EveryOther.{every_other}
 use Rattle.lj_book.specs.inner.Occurrences.{list_at, put_each}
 use Rattle.lj_book.proofs.occurrence_lists.OccurrenceLists.add_every_other.Given as goal
 

@@ -1,6 +1,6 @@
 use Rattle.std.proofs.Common.{ap, ◌∙◌, ℕ, true, false}
 use Rattle.std.specs.Prelude.{List}
-use Rattle.lj_hint.specs.inner.EveryOther.{every_other}
+use Rattle.lj_book.specs.inner.EveryOther.{every_other}
 use Rattle.lj_book.specs.inner.Occurrences.{list_at, put_each}
 use Rattle.lj_book.proofs.LongClauses.{halves_put}
 use Rattle.lj_book.proofs.occurrence_lists.OccurrenceLists.add_part.Goals as goal
