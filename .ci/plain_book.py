@@ -27,6 +27,17 @@ def addition_words(number, lemma, hints, groups):
     return words(number, lemma_words(lemma), 0, hints, listed, 0)
 
 
+def hints_and_groups(numbers):
+    """The hints and the groups of the numbers that stand behind a lemma."""
+    hints, groups = [], []
+    for number in numbers:
+        if number < 0:
+            groups.append((-number, []))
+        else:
+            (groups[-1][1] if groups else hints).append(number)
+    return hints, groups
+
+
 def walk(held, hints, clause_of):
     """The walk of a set of literals over hints: Closed and how many hints it read, Open and the set, or Stuck and the place."""
     held = set(held)
@@ -202,3 +213,31 @@ class Book:
         live = [f"live {words(number, in_order(clause), 0)}" for number, clause in sorted(self.live().items())]
         verdict = "no verdict" if self.verdict is None else f"verdict {self.verdict}"
         return [*self.entries, *live, verdict]
+
+
+def trimmed(formula, steps):
+    """Those of the steps that the first addition of the empty clause needs, as they are written; the formula has so many
+    clauses."""
+    numbers = [[int(word) for word in step.split() if word != "d"] for step in steps]
+    adds, kept = {}, []
+    for at, (step, (number, *rest)) in enumerate(zip(steps, numbers)):
+        if " d " not in step:
+            end = rest.index(0)
+            adds[at] = number, rest[:end], *hints_and_groups(rest[end + 1 : -1])
+    last = min(at for at, (_, lemma, _, _) in adds.items() if not lemma)
+    hints_of = {number: [*hints, *(hint for _, own in groups for hint in own)] for number, _, hints, groups in adds.values()}
+    needed, wanted = set(), [adds[last][0]]
+    while wanted:
+        number = wanted.pop()
+        if number > formula and number not in needed:
+            needed.add(number)
+            wanted += hints_of[number]
+    greatest = formula
+    for at in range(last + 1):
+        if at not in adds:
+            dead = [number for number in numbers[at][1:-1] if number <= formula or number in needed]
+            kept += [words(greatest, "d", dead, 0)] if dead else []
+        elif adds[at][0] in needed:
+            greatest, lemma, hints, groups = adds[at]
+            kept.append(addition_words(greatest, lemma, hints, [it for it in groups if it[0] <= formula or it[0] in needed]))
+    return kept

@@ -1,9 +1,9 @@
 /* Lets requests for memory be refused, those of a program that is started with this library loaded before the C library's:
  *   cc -shared -fPIC -O1 -o refuse.so refuse.c
- *   LD_PRELOAD=./refuse.so REFUSE_FROM=N REFUSE_TO=N REFUSE_TOLD=FILE program ..
+ *   LD_PRELOAD=./refuse.so REFUSE_FROM=N REFUSE_TO=N REFUSE_AGAIN=N REFUSE_TOLD=FILE program ..
  * Requests are counted from 1, those of all threads together, from where `main` begins to where it returns. Those from
- * REFUSE_FROM to REFUSE_TO answer null; what the loader and the C library ask for before and after isn't counted. FILE
- * holds the counts of requests and of those refused, eight bytes each, however the program ends. */
+ * REFUSE_FROM to REFUSE_TO and that of REFUSE_AGAIN answer null; what the loader and the C library ask for before and after
+ * isn't counted. FILE holds the counts of requests and of those refused, eight bytes each, however the program ends. */
 #define _GNU_SOURCE
 #include <dlfcn.h>
 #include <errno.h>
@@ -25,13 +25,13 @@ struct counts {
 
 static atomic_int counting;
 static struct counts *counts;
-static long from, to;
+static long from, to, again;
 static int (*program)(int, char **, char **);
 
 static int refuse(void) {
     if (!counting) return 0;
     long number = ++counts->asked;
-    if (number < from || number > to) return 0;
+    if ((number < from || number > to) && number != again) return 0;
     counts->refused++;
     errno = ENOMEM;
     return 1;
@@ -50,13 +50,14 @@ int posix_memalign(void **block, size_t line, size_t size) {
 }
 
 static int counted(int count, char **words, char **environment) {
-    if (!getenv("REFUSE_FROM") || !getenv("REFUSE_TO") || !getenv("REFUSE_TOLD")) _exit(99);
+    if (!getenv("REFUSE_FROM") || !getenv("REFUSE_TO") || !getenv("REFUSE_AGAIN") || !getenv("REFUSE_TOLD")) _exit(99);
     int file = open(getenv("REFUSE_TOLD"), O_RDWR | O_CREAT | O_TRUNC, 0600);
     if (file < 0 || ftruncate(file, sizeof *counts)) _exit(99);
     counts = mmap(NULL, sizeof *counts, PROT_READ | PROT_WRITE, MAP_SHARED, file, 0);
     if (counts == MAP_FAILED || close(file)) _exit(99);
     from = atol(getenv("REFUSE_FROM"));
     to = atol(getenv("REFUSE_TO"));
+    again = atol(getenv("REFUSE_AGAIN"));
     counting = 1;
     int status = program(count, words, environment);
     counting = 0;

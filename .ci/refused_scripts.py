@@ -1,12 +1,19 @@
 """Refuses each growth of memory in turn to the program that plays scripts, in scripts that reach each call of a book and of a
-shared book: the Nth request alone, and in a second run all from the Nth on. A call that is refused for want of memory is made
-once more, so where one request is refused the program prints the script's whole output, or a beginning of its lines and then
-`line L: NoMemory`, where L is the line whose command would have printed what comes next. Where all are refused from the Nth
-on it prints a beginning and then that, or a beginning and then a reply `Refused(NoMemory)`; what comes after that is free.
+shared book. A call that is refused for want of memory is made once more. Each request is refused in three ways:
+
+- once: the program prints the script's whole output, or a beginning of its lines and then `line L: NoMemory`, where L is the line
+  whose command would have printed what comes next.
+- twice, the second time some requests later: where the call that met the first meets the second too, its reply is
+  `Refused(NoMemory)`, and all that is printed is as of a plain book that leaves this one call out (`plain_script.py`).
+- on, with all behind it: the program prints a beginning and then that `line L: NoMemory`, or a beginning and then a reply
+  `Refused(NoMemory)`; what comes after that is free.
+
 A command `verdict` right behind the line that adds the empty clause to a shared book may print `no verdict`: that call was
-accepted, though the memory for its verdict was refused, and the next call makes up for it. Where the memory for the script's
-own text is refused the program ends with status 1 and prints nothing."""
-import functools
+accepted, though the memory for its verdict was refused, and the next call makes up for it. Where the memory for the script's own
+text is refused the program ends with status 1 and prints nothing.
+
+Some scripts are played as lists of events too, each by one call of `play`. There a refused event isn't played once more, so a
+request that is refused once shows what two do elsewhere."""
 import pathlib
 import re
 import subprocess
@@ -14,24 +21,30 @@ import sys
 import tempfile
 import threading
 
+from plain_script import NO_MEMORY, refused_outputs
 from refusing import ALL, SECONDS, refuse_each, run_refused
 
 SCRIPTS = pathlib.Path(__file__).resolve().parent.parent / "crates" / "lj_script" / "scripts"
-NAMES = (
-    *("stale_receipts", "given_up", "imports", "groups", "found", "verdicts", "trimming", "walks", "rat_lines"),
-    *("shared", "shared_receipts", "shared_untold"),
-)
+OF_BOOKS = ("stale_receipts", "given_up", "imports", "groups", "found", "verdicts", "trimming")
+OF_SHARED_BOOKS = ("shared", "shared_receipts", "shared_untold")
+UNPLAYED = ("walks", "rat_lines")
+BY_EVENTS = ("stale_receipts", "neighbours", "leaving", "given_up", "imports", "groups")
+# How many requests later the second is refused: a shared book's lines are read once more before the call is made once more.
+AGAIN = {**dict.fromkeys(OF_BOOKS, (1, 2)), **dict.fromkeys(OF_SHARED_BOOKS, (1, 4, 6, 8, 10))}
 # The least count of runs of a program that have to tell NoMemory.
 LEAST = 10_000
-REFUSED = "Refused(NoMemory)"
+# The least count of runs that have to show a call that was refused for good.
+LEAST_CALLS = 1_000
 NO_START = "Error: Kind(OutOfMemory)\n"
 
 
 class Script:
-    """A stored script: its text, its output, and after each line of the script how many lines of the output there are."""
+    """A stored script: its text, its output, after each line of the script how many lines of the output there are, and the
+    outputs with a call refused for good, where a plain book plays it, with the way that shows them."""
 
-    def __init__(self, name, text, wanted, counts):
+    def __init__(self, name, text, wanted, counts, refused=(), way="twice"):
         self.name, self.text, self.wanted, self.counts = name, text, wanted.splitlines(), counts
+        self.refused, self.way = refused, way
         before = re.finditer(r"^(submit|enter) \d+ \d+ 0 .*\n(?=verdict$)", text, flags=re.M)
         self.verdicts = {counts[text.count("\n", 0, found.end())] for found in before}
 
@@ -43,20 +56,27 @@ class Script:
         )
 
 
-def stored(program, name):
+def stored(program, name, by_events):
     """The script of this name, whose counts the program tells by its output of each beginning."""
     text, wanted = ((SCRIPTS / f"{name}.{ending}").read_text() for ending in ("txt", "out"))
+    if by_events:
+        text = re.sub("^open ", "events ", text, flags=re.M)
+    right, refused = (wanted.splitlines(), set()) if name in UNPLAYED else refused_outputs(text)
+    if right != wanted.splitlines():
+        raise SystemExit(f"a plain book doesn't print what the script {name} has to")
     lines, counts = text.splitlines(), [0]
     for number in range(1, len(lines) + 1):
         beginning = "".join(line + "\n" for line in lines[:number])
         ran = subprocess.run([program], input=beginning, capture_output=True, text=True, timeout=SECONDS)
         counts.append(sum(not line.startswith("line ") for line in ran.stdout.splitlines()))
-    return Script(name, text, wanted, counts)
+    if by_events:
+        return Script(f"{name}, by events", text, wanted, counts, refused, "once")
+    return Script(name, text, wanted, counts, refused)
 
 
-def judge(script, is_behind, status, out, err):
-    """What is wrong with how a script ended where a request was refused, or also all behind it, and what it told: "NoMemory", a
-    "start" that failed, or "nothing"."""
+def judge(script, way, status, out, err):
+    """What is wrong with how a script ended where a request was refused in a way, and what it told: "NoMemory", a "call" that was
+    refused for good, a "start" that failed, or "nothing"."""
     if (status, out, err) == (1, "", NO_START):
         return None, "start"
     lines = out.splitlines()
@@ -64,8 +84,10 @@ def judge(script, is_behind, status, out, err):
         return f"status {status}, on standard output {out[-200:]!r}, and on standard error {err!r}", None
     if len(lines) == len(script.wanted) and script.begins_with(lines) and status == 0:
         return None, "nothing"
-    if is_behind and REFUSED in lines:
-        front = lines[: lines.index(REFUSED)]
+    if status == 0 and way == script.way and tuple(lines) in script.refused:
+        return None, "call"
+    if way == "on" and NO_MEMORY in lines:
+        front = lines[: lines.index(NO_MEMORY)]
         return (None, "NoMemory") if script.begins_with(front) else (f"the lines {front[-3:]}", None)
     end = re.fullmatch(r"line ([1-9]\d*): NoMemory", lines[-1]) if lines else None
     if not end or status != 2 or not script.begins_with(lines[:-1]):
@@ -79,37 +101,41 @@ def judge(script, is_behind, status, out, err):
 def check_judge():
     """Sees that wrong ends are told from right ones."""
     wanted = "Added(0, 2)\nlive 1 0\nno verdict\nverdict 0\n"
-    script = Script("", "\n\nshow\nsubmit 0 1 0 0\nverdict\n", wanted, [0, 0, 0, 1, 3, 4])
+    refused = {("Refused(NoMemory)", "live 1 0", "no verdict", "verdict 0")}
+    script = Script("", "\n\nshow\nsubmit 0 1 0 0\nverdict\n", wanted, [0, 0, 0, 1, 3, 4], refused)
     right = [
-        (False, 1, "", NO_START),
-        (False, 0, wanted, ""),
-        (False, 0, "Added(0, 2)\nlive 1 0\nno verdict\nno verdict\n", ""),
-        (False, 2, "Added(0, 2)\nlive 1 0\nno verdict\nline 5: NoMemory\n", ""),
-        (False, 2, "line 2: NoMemory\n", ""),
-        (False, 2, "Added(0, 2)\nlive 1 0\nline 4: NoMemory\n", ""),
-        (True, 2, "Added(0, 2)\nline 4: NoMemory\n", ""),
-        (True, 0, "Refused(NoMemory)\nno verdict\n", ""),
-        (True, 2, "Refused(NoMemory)\nline 4: NoMemory\n", ""),
+        ("once", 1, "", NO_START),
+        ("once", 0, wanted, ""),
+        ("once", 0, "Added(0, 2)\nlive 1 0\nno verdict\nno verdict\n", ""),
+        ("once", 2, "Added(0, 2)\nlive 1 0\nno verdict\nline 5: NoMemory\n", ""),
+        ("once", 2, "line 2: NoMemory\n", ""),
+        ("once", 2, "Added(0, 2)\nlive 1 0\nline 4: NoMemory\n", ""),
+        ("twice", 0, "Refused(NoMemory)\nlive 1 0\nno verdict\nverdict 0\n", ""),
+        ("on", 2, "Added(0, 2)\nline 4: NoMemory\n", ""),
+        ("on", 0, "Refused(NoMemory)\nno verdict\n", ""),
+        ("on", 2, "Refused(NoMemory)\nline 4: NoMemory\n", ""),
     ]
     wrong = [
-        (False, -6, "", ""),
-        (False, 1, "Added(0, 2)\n", NO_START),
-        (False, 0, "Added(0, 2)\nlive 1 0\n", ""),
-        (False, 0, "Added(0, 2)\nlive 1 0\nno verdict\n", ""),
-        (False, 0, "Added(0, 2)\nlive 1 0\nno verdict\nverdict 1\n", ""),
-        (False, 0, "no verdict\nlive 1 0\nno verdict\nverdict 0\n", ""),
-        (False, 2, "Added(0, 2)\nlive 1 0\nno verdict\nverdict 0\n", ""),
-        (False, 0, "Refused(NoMemory)\nno verdict\n", ""),
-        (False, 2, "Added(0, 2)\nlive 1line 4: NoMemory\n", ""),
-        (False, 2, "Added(0, 2)\nlive 2 0\nline 4: NoMemory\n", ""),
-        (False, 2, "Added(0, 2)\nline 3: Full\n", ""),
-        (False, 2, "Added(0, 2)\nline 2: NoMemory\n", ""),
-        (False, 2, "line 4: NoMemory\n", ""),
-        (False, 2, "Added(0, 2)\nlive 1 0\nline 5: NoMemory\n", ""),
-        (False, 2, "Added(0, 2)\nlive 1 0\nline 6: NoMemory\n", ""),
-        (False, 0, "Added(0, 2)\nlive 1 0\nline 4: NoMemory\n", ""),
-        (True, 0, "Added(0, 3)\nRefused(NoMemory)\n", ""),
-        (True, 0, "Added(0, 2)\nlive 1 0\n", ""),
+        ("once", -6, "", ""),
+        ("once", 1, "Added(0, 2)\n", NO_START),
+        ("once", 0, "Added(0, 2)\nlive 1 0\n", ""),
+        ("once", 0, "Added(0, 2)\nlive 1 0\nno verdict\n", ""),
+        ("once", 0, "Added(0, 2)\nlive 1 0\nno verdict\nverdict 1\n", ""),
+        ("once", 0, "no verdict\nlive 1 0\nno verdict\nverdict 0\n", ""),
+        ("once", 2, "Added(0, 2)\nlive 1 0\nno verdict\nverdict 0\n", ""),
+        ("once", 0, "Refused(NoMemory)\nno verdict\n", ""),
+        ("once", 0, "Refused(NoMemory)\nlive 1 0\nno verdict\nverdict 0\n", ""),
+        ("twice", 0, "Refused(NoMemory)\nno verdict\n", ""),
+        ("once", 2, "Added(0, 2)\nlive 1line 4: NoMemory\n", ""),
+        ("once", 2, "Added(0, 2)\nlive 2 0\nline 4: NoMemory\n", ""),
+        ("once", 2, "Added(0, 2)\nline 3: Full\n", ""),
+        ("once", 2, "Added(0, 2)\nline 2: NoMemory\n", ""),
+        ("once", 2, "line 4: NoMemory\n", ""),
+        ("once", 2, "Added(0, 2)\nlive 1 0\nline 5: NoMemory\n", ""),
+        ("once", 2, "Added(0, 2)\nlive 1 0\nline 6: NoMemory\n", ""),
+        ("once", 0, "Added(0, 2)\nlive 1 0\nline 4: NoMemory\n", ""),
+        ("on", 0, "Added(0, 3)\nRefused(NoMemory)\n", ""),
+        ("on", 0, "Added(0, 2)\nlive 1 0\n", ""),
     ]
     for ends, is_wrong in ((right, False), (wrong, True)):
         for end in ends:
@@ -124,16 +150,16 @@ class Player:
         self.program, self.library, self.room = program, library, room
         self.own = threading.local()
 
-    def play(self, script, first, last):
-        """Refuses the requests from the first to the last. Answers how many there were, how many were refused, what was told
-        and what is wrong."""
+    def play(self, script, way, first, later=0):
+        """Refuses a request in a way. Answers how many there were, how many were refused, what was told and what is wrong."""
         if not hasattr(self.own, "folder"):
             self.own.folder = pathlib.Path(tempfile.mkdtemp(dir=self.room))
-        named = f"{self.program.name}, script {script.name}, requests {first} to {last}"
-        ran, counts = run_refused([self.program], self.library, self.own.folder, first, last, input=script.text)
+        last, again = ALL if way == "on" else first, first + later if way == "twice" else 0
+        named = f"{self.program.name}, script {script.name}, request {first} refused {way}, {later} later"
+        ran, counts = run_refused([self.program], self.library, self.own.folder, first, last, again, input=script.text)
         if not ran:
             return 0, 1, None, f"{named}: not done after {SECONDS} seconds"
-        wrong, told = judge(script, last > first, ran.returncode, ran.stdout, ran.stderr)
+        wrong, told = judge(script, way, ran.returncode, ran.stdout, ran.stderr)
         if not wrong and not counts:
             wrong = "nothing told of its requests"
         asked, refused = counts if not wrong else (0, 1)
@@ -144,15 +170,16 @@ class Player:
 
 def refuse_all(program, library, room, pool):
     """Refuses each request of each script to a program. Answers whether all was well."""
-    player, kinds = Player(program, library, room), {"NoMemory": 0, "start": 0, "nothing": 0}
-    for script in pool.map(functools.partial(stored, program), NAMES):
-        asked, refused, _, wrong = player.play(script, ALL, ALL)
+    player, kinds = Player(program, library, room), {"NoMemory": 0, "call": 0, "start": 0, "nothing": 0}
+    names = [*((name, False) for name in (*AGAIN, *UNPLAYED)), *((name, True) for name in BY_EVENTS)]
+    for script in pool.map(lambda name: stored(program, *name), names):
+        asked, refused, _, wrong = player.play(script, "once", ALL)
         faults = [wrong] if wrong else []
         if refused and not faults:
             faults.append(f"{program.name}, script {script.name}: {refused} requests refused where none was to be")
-        for last in (None, ALL):
+        for way, later in (("once", 0), *(("twice", later) for later in AGAIN.get(script.name, ())), ("on", 0)):
             if not faults:
-                count, faults = refuse_each(functools.partial(player.play, script), last, pool, kinds)
+                count, faults = refuse_each(lambda first: player.play(script, way, first, later), pool, kinds)
                 if not faults and count < asked:
                     faults.append(f"{program.name}, script {script.name}: only {count} of {asked} requests were refused")
         if faults:
@@ -161,6 +188,10 @@ def refuse_all(program, library, room, pool):
     if kinds["NoMemory"] < LEAST:
         print(f"{program.name}: {kinds['NoMemory']} runs tell NoMemory, and not {LEAST}", file=sys.stderr)
         return False
-    told = f"{kinds['NoMemory']} told NoMemory, {kinds['start']} didn't start, {kinds['nothing']} did without"
+    if kinds["call"] < LEAST_CALLS:
+        print(f"{program.name}: {kinds['call']} runs show a call that was refused, and not {LEAST_CALLS}", file=sys.stderr)
+        return False
+    told = f"{kinds['NoMemory']} told NoMemory, {kinds['call']} a call that was refused for good"
+    told += f", {kinds['start']} didn't start, {kinds['nothing']} did without"
     print(f"{program.name}: memory was refused in {sum(kinds.values())} runs, {told}")
     return True

@@ -11,21 +11,22 @@ SECONDS = 10
 ALL = 10**9
 
 
-def compile_library(room):
+def compile_library(room, name="refuse"):
     if not shutil.which("cc"):
-        sys.exit("no C compiler is here under the name cc, and refuse.c needs one")
-    library = pathlib.Path(room) / "refuse.so"
-    if subprocess.run(["cc", "-shared", "-fPIC", "-O1", "-o", library, HERE / "refuse.c"]).returncode:
-        sys.exit("refuse.c couldn't be compiled")
+        sys.exit(f"no C compiler is here under the name cc, and {name}.c needs one")
+    library = pathlib.Path(room) / f"{name}.so"
+    if subprocess.run(["cc", "-shared", "-fPIC", "-O1", "-o", library, HERE / f"{name}.c"]).returncode:
+        sys.exit(f"{name}.c couldn't be compiled")
     return library
 
 
-def run_refused(words, library, folder, first, last, **how):
-    """Runs a program's words in a folder, with the requests from the first to the last refused. Answers how it ended, None
-    where that took too long, and how many requests there were and how many were refused, None where nothing told of them."""
+def run_refused(words, library, folder, first, last, again=0, **how):
+    """Runs a program's words in a folder, with the requests from the first to the last refused, and one more. Answers how it
+    ended, None where that took too long, and how many requests there were and how many were refused, None where nothing told of
+    them."""
     told = folder / "told"
     told.unlink(missing_ok=True)
-    refusing = {"REFUSE_FROM": str(first), "REFUSE_TO": str(last), "REFUSE_TOLD": "told"}
+    refusing = {"REFUSE_FROM": str(first), "REFUSE_TO": str(last), "REFUSE_AGAIN": str(again), "REFUSE_TOLD": "told"}
     environment = {**os.environ, "LD_PRELOAD": str(library), **refusing}
     try:
         ran = subprocess.run(words, cwd=folder, env=environment, timeout=SECONDS, capture_output=True, text=True, **how)
@@ -34,13 +35,13 @@ def run_refused(words, library, folder, first, last, **how):
     return ran, struct.unpack("=qq", told.read_bytes()) if told.exists() else None
 
 
-def refuse_each(run, last, pool, kinds):
-    """Refuses each request in turn, and where `last` is given all behind it. `run` answers of the requests from the first to
-    the last how many there were, how many were refused, what was told and what is wrong. Counts what was told, and answers how
-    many requests could be refused, and what is wrong."""
+def refuse_each(run, pool, kinds):
+    """Refuses each request in turn. `run` refuses that of a number, and maybe others behind it, and answers how many there were,
+    how many were refused, what was told and what is wrong. Counts what was told, and answers how many requests could be refused,
+    and what is wrong."""
     number = 1
     while True:
-        ends = list(pool.map(lambda n: run(n, last or n), range(number, number + 64)))
+        ends = list(pool.map(run, range(number, number + 64)))
         for at, (_, refused, told, wrong) in enumerate(ends):
             if wrong or not refused:
                 return number + at - 1, [wrong for *_, wrong in ends if wrong]

@@ -2,17 +2,19 @@
 # Measures the memory and the time that a built program takes for streams that are meant to take much: for each, how many
 # bytes beyond those of empty streams it takes at most for each byte of the streams' text, and how many times as long as for
 # half as many of what its lines are made of.
-#   hostile.sh PATH-OF-LRATJOIN
+#   hostile.sh PATH-OF-LRATJOIN [WORDS]
+# With WORDS, only the rows whose names have them.
 # Each stream is made of lines of one kind, and none adds the empty clause: first one stream in turn, and then the same stream
-# twice on threads. Then come the same stream many times on threads, formulas of one kind of clause, with an empty stream, and
-# last 64 streams of a line or none over one formula. In these the bytes are for each byte of the formula's text.
-# A stream's row is wrong above 32 bytes for a byte, or 128 where its lines have a hundred candidates and name none; a
-# formula's row has no such limit. Each row is wrong above 2.6 times as long as its half: a time is that of a whole process,
-# the least of three, each in turn, and of nine where it is wrong after three; none is told where the whole takes less than
-# 0.2 s. The rows that are wrong are named in the last line, and the status is 1 then.
+# twice on threads. Then come a stream through a pipe, the same stream many times on threads, formulas of one kind of clause,
+# with an empty stream, and last 64 streams of a line or none over one formula. In the last two the bytes are for each byte of
+# the formula's text. A row is wrong where the program accepts another count of lines. It is wrong above 32 bytes for a byte,
+# or 128 where its lines have a hundred candidates and name none, and above 2.6 times as long as its half: a time is that of a
+# whole process, the least of three, each in turn, and of nine where it is wrong after three; none is told where the whole
+# takes less than 0.2 s. The rows that are wrong are named in the last line, and the status is 1 then.
 set -euo pipefail
 
-program=$(realpath "${1:?usage: hostile.sh PATH-OF-LRATJOIN}")
+program=$(realpath "${1:?usage: hostile.sh PATH-OF-LRATJOIN [WORDS]}")
+words=${2:-}
 scratch=$(mktemp -d)
 trap 'rm -rf "$scratch"' EXIT
 cd "$scratch"
@@ -70,13 +72,16 @@ tell() {
             times = least["whole"] / least["half"]
             if (seconds >= 0.2) printf ", %5.2f s, %4.2f times as long as its half", seconds, times
             print ""
-            if (limit && taken + 0 > limit) printf "%s (%s bytes for each byte, and not %s)\n", name, taken, limit
+            if (taken + 0 > limit) printf "%s (%s bytes for each byte, and not %s)\n", name, taken, limit
             if (seconds >= 0.2 && times > 2.6) {
                 printf "%s (%.2f times as long as its half)\n", name, times
                 exit 1
             }
         }'
 }
+
+# Whether a row of this name is asked for.
+asked_for() { [[ $1 == *"$words"* ]]; }
 
 # What a row is made from: a formula is a file, or is made from a count as a stream is.
 make() {
@@ -93,6 +98,7 @@ make() {
 # then what the row's own formula takes is counted too, and its text.
 stream() {
     local name=$1 formula=$2 count=$3 text=$4 other=${6:-} bytes=0 done_half done_whole
+    asked_for "$name" || return 0
     make half "$((count / 2))" "$formula" "$text"
     make whole "$count" "$formula" "$text"
     if [ "$other" ]; then bytes=$(wc -c < whole.cnf); fi
@@ -125,6 +131,8 @@ stream 'deletions that delete nothing' few.cnf 1300000 'BEGIN { for (i = 0; i < 
 stream 'additions under numbers near one another' few.cnf 600000 'BEGIN { for (i = 2; i < n; i++) print i " 1 0 1 0" }'
 stream 'additions under numbers far apart' few.cnf 300000 \
     'BEGIN { for (i = 0; i < n; i++) printf "9223372036854%06d 1 0 1 0\n", 775807 - i }'
+stream 'additions under numbers that are 2^40 apart' few.cnf 300000 \
+    'BEGIN { for (i = 1; i <= n; i++) printf "%.0f 1 0 1 0\n", i * 1099511627776 }'
 stream 'imports' few.cnf 600000 'BEGIN { for (i = 2; i < n; i++) print i " i 1 0" }'
 stream 'imports under every second number' few.cnf 600000 'BEGIN { for (i = 2; i < n; i += 2) print i " i 1 0" }'
 stream 'lemmas of nine literals, behind an import' few.cnf 300000 \
@@ -168,6 +176,13 @@ stream 'an import of a long clause' \
 stream 'lemmas added and given up in turn, behind an import' few.cnf 300000 'BEGIN {
     print "2 i 1 0"
     for (i = 3; i < n; i++) { print "3 1 2 3 4 5 6 7 8 9 0 1 0"; print "3 d 3 0" } }'
+stream 'a number that is bound and given up in turn' few.cnf 1000000 \
+    'BEGIN { for (i = 0; i < n; i++) { print "2 1 0 1 0"; print "2 d 2 0" } }'
+stream 'a number that is bound by imports and given up in turn' few.cnf 1000000 \
+    'BEGIN { for (i = 0; i < n; i++) { print "2 i 1 0"; print "2 d 2 0" } }'
+stream 'a RAT line of many candidates that it does not name, with the formula' \
+    'BEGIN { print "p cnf 2 " n; for (i = 1; i <= n; i++) print "-1 2 0" }' 1000000 \
+    'BEGIN { print n + 1 " 1 -2 0 0" }' '' few.cnf
 stream 'an accepted line of groups without hints' \
     'BEGIN { print "p cnf 2 " n; for (i = 1; i <= n; i++) print "-1 2 0" }' 1000000 \
     'BEGIN { printf "%d 1 -2 0", n + 1; for (i = 1; i <= n; i++) printf " -%d", i; print " 0" }'
@@ -232,10 +247,25 @@ pivots 100 10000 1
 pivots 20 20000 2 more
 pivots 5 60000 2 more
 
+# A row of a stream that comes through a pipe: its name, its formula, a count and its text.
+piped() {
+    local name=$1 formula=$2 count=$3 text=$4
+    asked_for "$name" || return 0
+    make half "$((count / 2))" "$formula" "$text"
+    make whole "$count" "$formula" "$text"
+    empty() { run 0 whole.cnf /dev/stdin < <(:); }
+    half() { run "$(wc -l < half)" half.cnf /dev/stdin < <(cat half); }
+    whole() { run "$(wc -l < whole)" whole.cnf /dev/stdin < <(cat whole); }
+    row "$name" "$limit" "$(wc -c < whole)"
+}
+
+piped 'additions through a pipe' few.cnf 600000 'BEGIN { for (i = 2; i < n; i++) print i " 1 0 1 0" }'
+
 # A row of a stream that so many seats have, on threads: their number, its name, its formula, a count and its text. The sixth
 # word is as that of `stream`.
 crowd() {
     local seats=$1 name=$2 formula=$3 count=$4 text=$5 other=${6:-} bytes=0 lines_half lines_whole
+    asked_for "$name" || return 0
     make half "$((count / 2))" "$formula" "$text"
     make whole "$count" "$formula" "$text"
     if [ "$other" ]; then bytes=$(wc -c < whole.cnf); fi
@@ -250,6 +280,24 @@ crowd() {
 
 crowd 64 '64 streams of a line of 65,536 hints' few.cnf 65536 \
     'BEGIN { printf "2 3 0"; for (i = 0; i < n; i++) printf " 1"; print " 0" }'
+
+# Behind 63 streams of a line comes one whose line stands behind so many blanks.
+blanks() {
+    local name=$1 count=$2 size=$(($2 / 2)) file
+    asked_for "$name" || return 0
+    for file in half whole; do
+        { head -c "$size" < /dev/zero | tr '\0' ' '; echo '2 1 0 1 0'; } > "$file"
+        size=$count
+    done
+    echo '2 1 0 1 0' > few
+    empty() { run 0 few.cnf $(yes nothing | head -n 64); }
+    half() { run 1 few.cnf $(yes few | head -n 63) half; }
+    whole() { run 1 few.cnf $(yes few | head -n 63) whole; }
+    row "$name" "$limit" "$(wc -c < whole)"
+}
+
+blanks '64 streams of a line, one of them behind many blanks' 100000000
+
 for candidates in 4 20 100; do
     crowd 16 "16 streams of a RAT line for each pivot of $candidates candidates, with the formula" "$(asked "$candidates")" 10000 \
         "BEGIN { for (i = 2; i < n + 2; i++) print i + $candidates * n / 100 - 1, i, \"0 0\" }" few.cnf
@@ -258,12 +306,13 @@ done
 # A row of a formula, with an empty stream: its name, a count and its text.
 formula() {
     local name=$1 count=$2 text=$3
+    asked_for "$name" || return 0
     awk -v n="$((count / 2))" "$text" > half.cnf
     awk -v n="$count" "$text" > whole.cnf
     empty() { run 0 few.cnf nothing --in-turn; }
     half() { run 0 half.cnf nothing --in-turn; }
     whole() { run 0 whole.cnf nothing --in-turn; }
-    row "$name" '' "$(wc -c < whole.cnf)"
+    row "$name" "$limit" "$(wc -c < whole.cnf)"
 }
 
 formula 'a formula of unit clauses' 2000000 'BEGIN { print "p cnf 9 " n; for (i = 0; i < n; i++) print 1, 0 }'
@@ -273,6 +322,7 @@ formula 'a formula of empty clauses' 4000000 'BEGIN { print "p cnf 9 " n; for (i
 # count, and how many lines are done.
 seats() {
     local name=$1 count=$2 formula=$3 line=$4 lines=$5 seat
+    asked_for "$name" || return 0
     awk -v n="$((count / 2))" "$formula" > half.cnf
     awk -v n="$count" "$formula" > whole.cnf
     for seat in {0..63}; do

@@ -150,7 +150,7 @@ use_at p last (u ∷ us) (suc i) d lt are = use_at p last us i d (omega (arith, 
 
 -- ---- those of a formula
 
-name_at : (v : ℕ) (cs : List LiteralSet) (i : ℕ) (c : LiteralSet) → list_all (names_up_to v) cs ≡ true → slice_get cs i ≡ Some c → names_up_to v c ≡ true
+pub name_at : (v : ℕ) (cs : List LiteralSet) (i : ℕ) (c : LiteralSet) → list_all (names_up_to v) cs ≡ true → slice_get cs i ≡ Some c → names_up_to v c ≡ true
 name_at v [] i c all at = absurd (false≢true (ap is_some at))
 name_at v (d ∷ cs) zero c all at = let e : d ≡ c = cc in ap (names_up_to v) (sym e) ∙ first (names_up_to v d) (list_all (names_up_to v) cs) all
   where

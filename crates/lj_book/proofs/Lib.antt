@@ -2,6 +2,10 @@ pub mod Lists
 pub mod NumberMaps
 mod Mapped
 pub mod TableLaws
+pub mod VariableLaws
+pub mod GivenOrder
+pub mod GivenLaws
+pub mod NamedLaws
 pub mod HistoryLaws
 pub mod DropLaws
 pub mod Copies
@@ -16,18 +20,28 @@ pub mod SoloWorlds
 pub mod SoloSteps
 pub mod SoloRuns
 pub mod ViewLaws
+pub mod NamedTakes
+pub mod OwnHoldings
+pub mod DecidedBeneath
 pub mod Scans
 pub mod BindingLaws
 pub mod LeaveLaws
 mod HolderBounds
 mod PlaceLaws
+mod PrivateClauses
+mod SeenClauses
+mod PrivateCandidates
+mod PrivateRefusals
 pub mod PlayLaws
 mod Slots
+mod VariableTables
+mod TakenBack
+mod GivingLaws
+mod WithinTop
 mod Shifts
 mod OpenedLaws
 mod Bounds
 mod OccurrenceLaws
-mod LongClauses
 mod Chains
 mod FirstUseLaws
 pub mod InsideLaws

@@ -1,10 +1,10 @@
 -- Maps whose values are those of another map, each changed in one way.
-use Rattle.std.proofs.Common.{◌≡◌, ap, refl, sym, ◌∙◌, ℕ, Bool, cond, true, false}
-use Rattle.std.specs.Prelude.{List, [], ◌∷◌, map, Option, Some, None, option_map}
-use Rattle.std.specs.Ordering.{nat_cmp, eq_by_cmp}
+use Rattle.std.proofs.Common.{◌≡◌, ap, refl, sym, subst, ◌∙◌, ℕ, Bool, cond, true, false}
+use Rattle.std.specs.Prelude.{T, ◌&&◌, List, [], ◌∷◌, map, Option, Some, None, option_map}
+use Rattle.std.specs.Ordering.{nat_cmp, eq_by_cmp, is_lt}
 use Rattle.std.specs.Cmp.{nat_cmp_total}
 use Rattle.std.specs.FinMap as fin
-use Rattle.std.specs.FinMap.Entries.{find}
+use Rattle.std.specs.FinMap.Entries.{find, is_sorted, below_all, same_entries}
 use Rattle.lj_book.proofs.NumberMaps.{same_map}
 
 -- the map with each value changed
@@ -24,6 +24,20 @@ get_mapped g m q =
     fin.get-from_entries nat_cmp_total (map (λ e. (e.0, g e.1)) (fin.entries m)) q
     ∙ find_mapped g q (fin.entries m)
     ∙ ap (option_map g) (sym (fin.get-entries m q))
+
+below_mapped : {A B : Type 0} (g : A → B) (n : ℕ) (es : List (ℕ × A)) → below_all nat_cmp n (map (λ e. (e.0, g e.1)) es) ≡ below_all nat_cmp n es
+below_mapped g n [] = refl
+below_mapped g n (e ∷ es) = ap (λ b. is_lt (nat_cmp n e.0) && b) (below_mapped g n es)
+
+sorted_mapped : {A B : Type 0} (g : A → B) (es : List (ℕ × A)) → is_sorted nat_cmp (map (λ e. (e.0, g e.1)) es) ≡ is_sorted nat_cmp es
+sorted_mapped g [] = refl
+sorted_mapped g (e ∷ es) = λ i. below_mapped g e.0 es i && sorted_mapped g es i
+
+pub entries_mapped : {A B : Type 0} (g : A → B) (m : fin.FinMap nat_cmp A) → fin.entries (mapped g m) ≡ map (λ e. (e.0, g e.1)) (fin.entries m)
+entries_mapped g m =
+    same_entries nat_cmp nat_cmp_total fin.nat_cmp-IsAntisymmetric (fin.entries (mapped g m)) (map (λ e. (e.0, g e.1)) (fin.entries m))
+    (fin.entries_sorted (mapped g m)) (subst T (sym (sorted_mapped g (fin.entries m))) (fin.entries_sorted m))
+    (λ q. sym (fin.get-entries (mapped g m) q) ∙ fin.get-from_entries nat_cmp_total (map (λ e. (e.0, g e.1)) (fin.entries m)) q)
 
 pub mapped_empty : {A B : Type 0} (g : A → B) (m : fin.FinMap nat_cmp A) → m ≡ fin.empty → mapped g m ≡ fin.empty
 mapped_empty {A} g m is = same_map _ _ (λ q. get_mapped g m q ∙ ap (λ (n : fin.FinMap nat_cmp A). option_map g (fin.get n q)) is ∙ ap (option_map g) (fin.get-empty nat_cmp q) ∙ sym (fin.get-empty nat_cmp q))

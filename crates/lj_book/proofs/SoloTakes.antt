@@ -111,7 +111,7 @@ AllHeld-take h n [] all = nothing n
 AllHeld-take h zero (p ∷ ps) all = tt
 AllHeld-take h (suc n) (p ∷ ps) all = (all.0, AllHeld-take h n ps all.1)
 
-pairs_held : (h : Holdings) (owns : List ℕ) (ps : List Pair) → pairs_of (fin.get h) owns ≡ Ok ps → AllHeld h ps
+pub pairs_held : (h : Holdings) (owns : List ℕ) (ps : List Pair) → pairs_of (fin.get h) owns ≡ Ok ps → AllHeld h ps
 pairs_held h [] ps e = let is : [] ≡ ps = cc in subst (AllHeld h) is tt
 pairs_held h (own ∷ owns) ps e = go (fin.get h own) refl (pairs_of (fin.get h) owns) (pairs_held h owns) e
   where

@@ -1,13 +1,17 @@
 pub mod Tables
+pub mod Variables
+pub mod VariableLaws
 pub mod Lookup
 pub mod State
 pub mod History
 pub mod Calls
 pub mod Inside
+pub mod Named
 pub mod Events
 pub mod Worlds
 pub mod Solo
 pub mod Views
+pub mod NamedViews
 pub mod RefusalText
 pub mod Telling
 pub mod inner

@@ -16,4 +16,5 @@ pub mod Slots
 pub mod Opened
 pub mod Occurrences
 pub mod Chains
-pub mod EveryOther
+pub mod VariableTables
+pub mod NamedReplies

@@ -30,6 +30,8 @@ mod solo_laws;
 mod steps;
 mod taking;
 mod tree_map;
+mod variable_laws;
+mod variable_table;
 mod verified;
 mod view_laws;
 mod words;
@@ -41,6 +43,12 @@ pub use own_map::OwnMap;
 pub use refusal::Refusal;
 pub use solo_laws::{fresh_receipts_are_not_stale, tidy_seats_are_alone};
 pub use steps::Steps;
+pub use variable_laws::{
+    beneath_is_reached, clauses_give_variables, decided_beneath, images_are_own,
+    named_clauses_give_none, named_takes_are_alone, no_variables_at_first,
+    private_candidates_are_seen, private_clauses_are_held, private_tests_are_alone,
+    seats_hold_their_own,
+};
 pub use verified::Verified;
 pub use view_laws::{
     decided_alone, free_alone, seats_hold_the_formula, takes_are_alone, views_follow_entries,

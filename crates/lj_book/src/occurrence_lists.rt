@@ -1,12 +1,10 @@
 //! Lists of the clauses that hold a literal.
-ghost use Rattle.std.specs.Prelude.{◌≡◌, ◌<◌, ◌≤◌, ℕ, [], ◌∷◌, ◌++◌, IfOk, IfSome, true, length, filter, map, slice_get};
+ghost use Rattle.std.specs.Prelude.{◌≡◌, ◌<◌, ◌≤◌, ℕ, IfOk, IfSome, true, length, filter, map, slice_get};
 ghost use Rattle.std.specs.FinMap as fin;
 ghost use Rattle.lj_clause.specs.Literal.{place_of};
-ghost use Rattle.lj_clause.specs.LiteralSet.{literals};
-ghost use Rattle.lj_book.specs.inner.EveryOther.{every_other};
 ghost use Rattle.lj_book.specs.Tables.{is_among};
 ghost use Rattle.lj_book.specs.Lookup.{is_clause};
-ghost use Rattle.lj_book.specs.inner.Occurrences.{AreOccurrences, list_at, places_of, put_if, put_each, with_number};
+ghost use Rattle.lj_book.specs.inner.Occurrences.{AreOccurrences, list_at, places_of, put_if, with_number};
 ghost use Rattle.lj_book.specs.inner.Chains.{AreChains, AreLinked, chain, last_at, with_list};
 
 use crate::lent_clauses::LentClauses;
@@ -17,12 +15,6 @@ use std::marker::Model;
 
 /// The place of the list of the empty clauses, which no literal has.
 const EMPTY_PLACE: u64 = 1;
-
-/// A clause of more literals than these is long.
-const LONG: usize = 128;
-
-/// So many literals of a long clause are listed at a time.
-const PART: usize = 256;
 
 /// A list of so many numbers stays as it is, however many of their clauses have died.
 const FEW: usize = 16;
@@ -97,63 +89,10 @@ impl OccurrenceLists {
         if lits.is_empty() {
             return self.add(EMPTY_PLACE, number);
         }
-        if lits.len() > LONG {
-            return self.add_long(number, clause);
-        }
         for lit in lits {
             if !self.add(lit.place() as u64, number) {
                 return false;
             }
-        }
-        true
-    }
-
-    /// The same of a clause with many literals, a part of them at a time. Slots reach farther with each literal that is listed: one
-    /// that came before many of those below it might have none.
-    #[cold]
-    #[inline(never)]
-    fn add_long(&mut self, number: u32, clause: &ClauseView<'_>) -> bool
-        requires { 0 < length (literals clause.now) }
-        ensures { result ≡ true → (k : ℕ) → list_at self.new k
-            ≡ put_if (is_among (places_of clause.now) k) (list_at self.old k) number }
-    {
-        let mut rest = clause.lits();
-        while !rest.is_empty() {
-            let (part, others) = rest.split_at(rest.len().min(PART));
-            if !self.add_part(number, part) {
-                return false;
-            }
-            rest = others;
-        }
-        true
-    }
-
-    /// Puts a number at the end of the lists of these literals, in two rounds: where they rise, the places of the second come
-    /// between those of the first, so that they fill the nodes of a tree that the first left half full. Answers whether it could be
-    /// put there.
-    fn add_part(&mut self, number: u32, lits: &[Lit]) -> bool
-        ensures { result ≡ true → (k : ℕ)
-            → list_at self.new k ≡ put_each (list_at self.old k) lits.now k number }
-    {
-        self.add_every_other(number, lits, true) && self.add_every_other(number, lits, false)
-    }
-
-    /// Puts a number at the end of the lists of every other one of these literals, from the first on or from the second on. Answers
-    /// whether it could be put there.
-    fn add_every_other(&mut self, number: u32, lits: &[Lit], first: bool) -> bool
-        ensures { result ≡ true → (k : ℕ) → list_at self.new k
-            ≡ put_each (list_at self.old k) (every_other first lits.now) k number }
-    {
-        let mut rest = lits;
-        let mut wanted = first;
-        while let [lit, others @ ..] = rest {
-            if wanted {
-                if !self.add(lit.place() as u64, number) {
-                    return false;
-                }
-            }
-            wanted = !wanted;
-            rest = others;
         }
         true
     }

@@ -6,10 +6,13 @@ pub mod LiteralSets
 pub mod ShortLists
 pub mod InOrder
 pub mod Searches
+pub mod Greatest
 pub mod Formulas
 pub mod Lemmas
 pub mod Evaluation
 pub mod Among
 pub mod TruthLaws
+pub mod Images
+pub mod Renaming
 pub mod WalkLaws
 pub mod RatLaws

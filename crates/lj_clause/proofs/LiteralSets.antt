@@ -1,11 +1,11 @@
 -- What sets of literals hold, and how they are listed.
-use Rattle.std.proofs.Common.{◌≡◌, ap, refl, sym, ◌∙◌}
-use Rattle.std.specs.Prelude.{ℤ, Bool, true, false, cond, T, ◌||◌, ◌&&◌, List, [], ◌∷◌, map, is_some, Option, Some, None}
+use Rattle.std.proofs.Common.{◌≡◌, ap, refl, sym, ◌∙◌, inl, inr}
+use Rattle.std.specs.Prelude.{ℤ, Bool, true, false, cond, T, ◌||◌, ◌&&◌, ◌⊎◌, List, [], ◌∷◌, map, is_some, Option, Some, None}
 use Rattle.std.specs.List.{list_any, dedup, dedup_from, AllByRecursion}
 use Rattle.std.specs.List.Sorted.{IsStrictlySortedBy}
 use Rattle.std.specs.Ordering.{eq_by_cmp, is_eq}
-use Rattle.std.specs.Cmp.{tied_itself}
-use Rattle.std.proofs.lemmas.Bool.{false≢true, and_parts}
+use Rattle.std.specs.Cmp.{both_ways, tied_itself}
+use Rattle.std.proofs.lemmas.Bool.{false≢true, and_parts, or_cases, or_left, or_right}
 use lib.Pointwise.{pointwise}
 use Rattle.std.specs.declared.cmp.Ordering.TheVariants.{Less}
 use Rattle.std.specs.FinMap as fin
@@ -14,8 +14,8 @@ use Rattle.lj_clause.specs.Literal.{lit_cmp}
 use Rattle.lj_clause.specs.inner.Literal.{lit_cmp_total}
 use Rattle.lj_clause.specs.LiteralSet.{LiteralSet, no_literals, holds, with_literal, literals, from_literals}
 use Rattle.lj_clause.proofs.Literals.{lit_cmp-antisymmetric, same_literal}
-use Rattle.lj_clause.proofs.Tests.{marked, both_of}
-use Rattle.lj_clause.proofs.SortedEntries.{less}
+use Rattle.lj_clause.proofs.Tests.{marked, left_of, right_of, both_of}
+use Rattle.lj_clause.proofs.SortedEntries.{less, is_less}
 
 pub holds-no_literals : (q : ℤ) → holds no_literals q ≡ false
 holds-no_literals q = ap is_some (fin.get-empty lit_cmp q)
@@ -31,6 +31,16 @@ holds-from_literals (l ∷ ls) q = holds-with_literal (from_literals ls) l q ∙
 pub holds-literals : (s : LiteralSet) (q : ℤ) → holds s q ≡ list_any (eq_by_cmp lit_cmp q) (literals s)
 holds-literals s q = fin.contains_key-keys s q
 
+pub held_still : (s : LiteralSet) (l q : ℤ) → holds s q ≡ true → holds (with_literal s l) q ≡ true
+held_still s l q h = holds-with_literal s l q ∙ or_right (eq_by_cmp lit_cmp q l) (holds s q) h
+
+pub held_now : (s : LiteralSet) (l : ℤ) → holds (with_literal s l) l ≡ true
+held_now s l = holds-with_literal s l l ∙ or_left (eq_by_cmp lit_cmp l l) (holds s l) (ap is_eq (tied_itself lit_cmp_total l))
+
+pub held_before : (s : LiteralSet) (l q : ℤ) → holds (with_literal s l) q ≡ true → (q ≡ l) ⊎ (holds s q ≡ true)
+held_before s l q h =
+    elim (or_cases (eq_by_cmp lit_cmp q l) (holds s q) (sym (holds-with_literal s l q) ∙ h)) [ inl e ↦ inl (same_literal q l e) | inr e ↦ inr e ]
+
 marks : (x : Option (Unit {0})) → x ≡ cond (is_some x) (Some tt) None
 marks None = refl
 marks (Some u) = refl
@@ -39,7 +49,11 @@ marks (Some u) = refl
 pub same_set : (s t : LiteralSet) → ((q : ℤ) → holds s q ≡ holds t q) → s ≡ t
 same_set s t is = fin.same_map lit_cmp_total lit_cmp-antisymmetric s t (λ q. marks _ ∙ ap (λ b. cond b (Some tt) None) (is q) ∙ sym (marks _))
 
--- and so are two that list the same
+-- and so are two of which each holds what the other does
+pub same_by : (s t : LiteralSet) → ((q : ℤ) → holds s q ≡ true → holds t q ≡ true) → ((q : ℤ) → holds t q ≡ true → holds s q ≡ true) → s ≡ t
+same_by s t f g = same_set s t (λ q. both_ways (holds s q) (holds t q) (f q) (g q))
+
+-- and two that list the same
 pub same_literals : (s t : LiteralSet) → literals s ≡ literals t → s ≡ t
 same_literals s t e = same_set s t (λ q. holds-literals s q ∙ ap (list_any (eq_by_cmp lit_cmp q)) e ∙ sym (holds-literals t q))
 
@@ -68,6 +82,23 @@ pub literals-from_literals : (ls : List ℤ) → IsStrictlySortedBy lit_cmp ls �
 literals-from_literals ls h =
     ap (map (λ (e : ℤ × Unit {0}). e.0)) (same_entries lit_cmp lit_cmp_total lit_cmp-antisymmetric (fin.entries (from_literals ls)) (as_entries ls) (fin.entries_sorted (from_literals ls)) (rising_entries ls h) (λ q. sym (fin.get-entries (from_literals ls) q) ∙ get-from_literals ls q))
     ∙ keys-as_entries ls
+
+rising_keys : (es : List (ℤ × Unit {0})) → T (is_sorted lit_cmp es) → IsStrictlySortedBy lit_cmp (map (λ (e : ℤ × Unit {0}). e.0) es)
+unfolding IsStrictlySortedBy
+rising_keys [] h = tt
+rising_keys (e ∷ es) h = (above e.0 es (left_of _ _ h), rising_keys es (right_of _ _ h))
+  where
+    above : (x : ℤ) (es : List (ℤ × Unit {0})) → T (below_all lit_cmp x es) → AllByRecursion (λ y. lit_cmp x y ≡ Less) (map (λ (e : ℤ × Unit {0}). e.0) es)
+    above x [] h = tt
+    above x (f ∷ fs) h = (is_less _ (left_of _ _ h), above x fs (right_of _ _ h))
+
+-- the literals of a set rise
+pub literals_rise : (s : LiteralSet) → IsStrictlySortedBy lit_cmp (literals s)
+literals_rise s = rising_keys (fin.entries s) (fin.entries_sorted s)
+
+-- and they make the set
+pub from_literals-literals : (s : LiteralSet) → from_literals (literals s) ≡ s
+from_literals-literals s = same_literals _ s (literals-from_literals (literals s) (literals_rise s))
 
 -- two lists that hold the same literals make one set
 pub from_literals-same : (xs ys : List ℤ) → ((q : ℤ) → list_any (eq_by_cmp lit_cmp q) xs ≡ list_any (eq_by_cmp lit_cmp q) ys) → from_literals xs ≡ from_literals ys

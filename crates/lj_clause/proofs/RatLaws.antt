@@ -4,8 +4,7 @@ use Rattle.std.specs.Prelude.{ℤ, pos, negsuc, neg_ℤ, Bool, true, false, not,
 use Rattle.std.specs.List.{list_any, list_all, AllByRecursion, AllZip}
 use Rattle.std.specs.List.Sorted.{IsStrictlySortedBy, IsStrictlyIncreasing}
 use Rattle.std.specs.Ordering.{eq_by_cmp, nat_cmp, is_lt, is_eq}
-use Rattle.std.specs.declared.cmp.Ordering.{Ordering}
-use Rattle.std.specs.declared.cmp.Ordering.TheVariants.{Less, Equal, Greater}
+use Rattle.std.specs.declared.cmp.Ordering.TheVariants.{Less, Equal}
 use Rattle.std.proofs.lemmas.Bool.{false≢true, both_ways, or_cases, or_from, and_from, false_from_ne_true, ne_eqb, eq-eqb, not-true}
 use Rattle.std.proofs.lemmas.Map.Keys.{IsStrictlyIncreasing-from_sorted}
 use Rattle.std.specs.Cmp.{Equal-is, tied_itself, nat_cmp_total}
@@ -25,7 +24,7 @@ use Rattle.lj_clause.proofs.Among.{among, itself, any_at, any_found, passed}
 use Rattle.lj_clause.proofs.TruthLaws.{is_true-neg_ℤ, neg_nonzero, satisfies_by, true_literal, false_literal, holds-with_negations, SatisfiesAll-insert}
 use Rattle.lj_clause.proofs.WalkLaws.{AllTrue, not_all_true, all_true, AllTrue-negations, SatisfiesHints-hints_in, walk-used, used-first, list_all-each, used-all_in}
 use Rattle.lj_clause.proofs.Tests.{left_of, right_of}
-use Rattle.lj_clause.proofs.SortedEntries.{is_sorted-filter, none_below}
+use Rattle.lj_clause.proofs.SortedEntries.{is_less, is_sorted-filter, none_below}
 
 -- ---- a covered pivot, candidate by candidate
 
@@ -152,16 +151,11 @@ abbrev Apart : List (ℕ × LiteralSet) → Type 0
 Apart [] = Unit {0}
 Apart (e ∷ es) = AllByRecursion (λ (f : ℕ × LiteralSet). (e.0 == f.0) ≡ false) es × Apart es
 
-less : (o : Ordering) → T (is_lt o) → o ≡ Less
-less Less h = refl
-less Equal h = absurd h
-less Greater h = absurd h
-
 unequal : (m : ℕ) → nat_cmp m m ≡ Less → ⊥
 unequal m h = let tied : Less ≡ Equal = sym h ∙ tied_itself nat_cmp_total m in cc
 
 less_apart : (m n : ℕ) → T (is_lt (nat_cmp m n)) → (m == n) ≡ false
-less_apart m n h = ne_eqb m n (λ e. unequal m (less (nat_cmp m m) (subst (λ k. T (is_lt (nat_cmp m k))) (sym e) h)))
+less_apart m n h = ne_eqb m n (λ e. unequal m (is_less (nat_cmp m m) (subst (λ k. T (is_lt (nat_cmp m k))) (sym e) h)))
 
 below_apart : (n : ℕ) (es : List (ℕ × LiteralSet)) → T (below_all nat_cmp n es) → AllByRecursion (λ (f : ℕ × LiteralSet). (n == f.0) ≡ false) es
 below_apart n [] h = tt
@@ -173,7 +167,7 @@ Apart-sorted (e ∷ es) h = (below_apart e.0 es (left_of _ _ h), Apart-sorted es
 
 below_numbers : (n : ℕ) (es : List (ℕ × LiteralSet)) → T (below_all nat_cmp n es) → AllByRecursion (λ m. nat_cmp n m ≡ Less) (map (λ (e : ℕ × LiteralSet). e.0) es)
 below_numbers n [] h = tt
-below_numbers n (e ∷ es) h = (less (nat_cmp n e.0) (left_of _ _ h), below_numbers n es (right_of _ _ h))
+below_numbers n (e ∷ es) h = (is_less (nat_cmp n e.0) (left_of _ _ h), below_numbers n es (right_of _ _ h))
 
 rising_numbers : (es : List (ℕ × LiteralSet)) → T (is_sorted nat_cmp es) → IsStrictlySortedBy nat_cmp (map (λ (e : ℕ × LiteralSet). e.0) es)
 unfolding IsStrictlySortedBy

@@ -10,6 +10,11 @@ use Rattle.lj_clause.proofs.Tests.{left_of, right_of, both_of}
 pub less : (r : Ordering) → r ≡ Less → T (is_lt r)
 less r e = subst (λ o. T (is_lt o)) (sym e) tt
 
+pub is_less : (r : Ordering) → T (is_lt r) → r ≡ Less
+is_less Less h = refl
+is_less Equal h = absurd h
+is_less Greater h = absurd h
+
 pub less_not_equal : (r : Ordering) → T (is_lt r) → is_eq r ≡ false
 less_not_equal Less h = refl
 less_not_equal Equal h = absurd h

@@ -5,6 +5,7 @@ pub mod ClauseMap
 pub mod Truth
 pub mod Walk
 pub mod Rat
+pub mod Renaming
 pub mod Listed
 pub mod Examples
 pub mod Laws

@@ -1,8 +1,10 @@
 //! Clauses.
-ghost use Rattle.std.specs.Prelude.{◌≡◌, ◌↔◌, IsTrue, IfOk, OnOk, OnErr};
+ghost use Rattle.std.specs.Prelude.{◌≡◌, ◌↔◌, ℕ, nat_le, IsTrue, IfOk, OnOk, OnErr};
 ghost use Rattle.std.specs.List.Sorted.{IsStrictlySortedBy};
 ghost use Rattle.lj_clause.specs.Literal.{lit_cmp};
 ghost use Rattle.lj_clause.specs.LiteralSet.{holds, literals, from_literals};
+ghost use Rattle.lj_clause.specs.ClauseMap.{names_up_to};
+ghost use Rattle.lj_clause.specs.Renaming.{image};
 ghost use Rattle.lj_clause.specs.inner.LiteralList.{literals_in};
 
 use crate::clause_view::ClauseView;
@@ -10,6 +12,7 @@ use crate::in_order::eight_in_order;
 use crate::lit::Lit;
 use crate::literal_list::{LiteralList, up_to_three};
 use crate::memory::NoMemory;
+use crate::renames::{Renames, all_stay, renamed_lits};
 use std::alloc::Global;
 use std::marker::Model;
 
@@ -170,6 +173,31 @@ impl Clause {
         Ok(Clause {
             lits: self.lits.copy()?,
         })
+    }
+
+    /// The greatest variable of its literals, 0 if it has none. Takes constant time.
+    pub fn max_variable(&self) -> u32
+        ensures { (v : ℕ) → names_up_to v self.now ≡ nat_le result v }
+    {
+        match self.lits().last() {
+            Some(lit) => lit.variable(),
+            None => 0,
+        }
+    }
+
+    /// The clause with its variables renamed. It shares the literals if none changes. Takes the time of
+    /// [`Renames::variable`] for each literal, and O(n log n) time if one changes.
+    ///
+    /// # Errors
+    /// [`NoMemory`] where a growth was refused.
+    pub fn renamed<R: Renames>(&self, alloc: Global, renaming: &R) -> Result<Clause, NoMemory>
+        ensures { IfOk result (λ clause. clause ≡ image (R.renaming renaming.now) self.now) }
+    {
+        if all_stay(renaming, self.lits()) {
+            return self.copy();
+        }
+        let mut lits = renamed_lits(alloc, renaming, self.lits())?;
+        Clause::from_room(alloc, &mut lits)
     }
 }
 

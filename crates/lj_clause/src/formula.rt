@@ -35,8 +35,8 @@ impl Model for Formula {
 
 impl Formula {
     /// The formula of these clauses over the variables from 1 to `variables`: `None` where a clause names a variable above that
-    /// number, or where it is above [`MAX_VARIABLE`] or the clauses are more than [`MAX_CLAUSES`]. Takes time linear in the
-    /// clauses and their literals.
+    /// number, or where it is above [`MAX_VARIABLE`] or the clauses are more than [`MAX_CLAUSES`]. Takes time linear in how
+    /// many clauses they are.
     pub fn new(variables: u32, clauses: Vec<Clause>) -> Option<Formula>
         ensures { SomeIff result (IsFormula (formula_of variables clauses.items))
             (formula_of variables clauses.items) }
@@ -104,7 +104,7 @@ fn all_name_up_to(clauses: &[Clause], variables: u32) -> bool
 fn names_only_up_to(clause: &Clause, variables: u32) -> bool
     ensures { result ≡ names_up_to variables clause.now }
 {
-    clause.lits().iter().all(|lit| lit.variable() <= variables)
+    clause.max_variable() <= variables
 }
 
 /// The clauses once more.

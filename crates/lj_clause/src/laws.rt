@@ -1,6 +1,6 @@
 //! Laws of the walk and of the test of candidates, each for all clause maps: what a checker that computes them may
 //! conclude. The functions do nothing.
-ghost use Rattle.lj_clause.specs.Laws.{ClosedWalkImplies, UsedPartCloses, RatKeepsSatisfiable, CoveredIsRecorded};
+ghost use Rattle.lj_clause.specs.Laws.{ClosedWalkImplies, UsedPartCloses, RatKeepsSatisfiable, CoveredIsRecorded, RenamingLaws, NamingLaws, MapImageLaws};
 
 /// An assignment that satisfies every clause of a map satisfies each clause whose negations have a closed walk there
 /// (reverse unit propagation). Takes constant time.
@@ -24,4 +24,12 @@ pub fn rat_keeps_satisfiable()
 /// for it, and they cover the candidates by themselves. Takes constant time.
 pub fn covered_is_recorded()
     ensures { CoveredIsRecorded }
+{}
+
+/// What renamings of variables make of clauses and lemmas, how a renaming grows, and what it makes of clause maps. Takes constant
+/// time.
+pub fn renaming_laws()
+    ensures clauses { RenamingLaws }
+    ensures growing { NamingLaws }
+    ensures maps { MapImageLaws }
 {}

@@ -1,10 +1,12 @@
 //! Lemmas.
 ghost use Rattle.std.specs.Prelude.{◌≡◌, IfOk, OnOk, OnErr};
 ghost use Rattle.lj_clause.specs.Lemma.{lemma_of, IsLemma};
+ghost use Rattle.lj_clause.specs.Renaming.{lemma_image};
 
 use crate::clause::Clause;
 use crate::lit::Lit;
 use crate::memory::NoMemory;
+use crate::renames::Renames;
 use std::alloc::Global;
 use std::marker::Model;
 
@@ -85,6 +87,23 @@ impl Lemma {
         Ok(Lemma {
             clause: self.clause.copy()?,
             pivot: self.pivot,
+        })
+    }
+
+    /// The lemma with its variables renamed. Takes the time of [`Clause::renamed`].
+    ///
+    /// # Errors
+    /// [`NoMemory`] where a growth was refused.
+    pub fn renamed<R: Renames>(&self, alloc: Global, renaming: &R) -> Result<Lemma, NoMemory>
+        ensures { IfOk result (λ lemma. lemma ≡ lemma_image (R.renaming renaming.now) self.now) }
+    {
+        let pivot = match self.pivot {
+            Some(pivot) => Some(pivot.renamed(renaming)),
+            None => None,
+        };
+        Ok(Lemma {
+            clause: self.clause.renamed(alloc, renaming)?,
+            pivot,
         })
     }
 }

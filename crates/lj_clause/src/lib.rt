@@ -13,6 +13,7 @@ mod lemma;
 mod lit;
 mod literal_list;
 mod memory;
+mod renames;
 
 pub use clause::Clause;
 pub use clause_view::ClauseView;
@@ -20,3 +21,4 @@ pub use formula::{Formula, MAX_CLAUSES};
 pub use lemma::Lemma;
 pub use lit::{Lit, MAX_VARIABLE};
 pub use memory::NoMemory;
+pub use renames::Renames;

@@ -1,7 +1,9 @@
 //! Literals.
 ghost use Rattle.std.specs.Prelude.{◌≡◌, ◌+◌, ◌-◌, ◌*◌, ◌%◌, ◌<◌, ◌≤◌, SomeIff, neg_ℤ};
 ghost use Rattle.lj_clause.specs.Literal.{IsLiteral, literal_on, variable_of, place_of};
+ghost use Rattle.lj_clause.specs.Renaming.{literal_image};
 
+use crate::renames::Renames;
 use std::cmp::Ordering;
 use std::fmt;
 use std::marker::Model;
@@ -101,6 +103,16 @@ impl Lit {
     {
         Lit {
             code: turned(self.code),
+        }
+    }
+
+    /// The literal with its variable renamed. Takes the time of [`Renames::variable`].
+    pub fn renamed<R: Renames>(self, renaming: &R) -> Lit
+        ensures { result ≡ literal_image (R.renaming renaming.now) self }
+    {
+        match renaming.variable(self.variable()) {
+            Some(other) => Lit::of(other, self.get() < 0),
+            None => self,
         }
     }
 }

@@ -9,8 +9,9 @@ use Rattle.lj_clause.specs.Literal.{lit_cmp, variable_of}
 use Rattle.lj_clause.specs.LiteralSet.{LiteralSet, no_literals, holds, with_literal, literals}
 use Rattle.lj_clause.specs.Walk.{is_contradictory}
 use Rattle.lj_clause.proofs.Literals.{same_literal}
-use Rattle.lj_clause.proofs.LiteralSets.{holds-no_literals, holds-with_literal, holds-literals}
+use Rattle.lj_clause.proofs.LiteralSets.{holds-no_literals, holds-literals, held_still, held_now, held_before}
 use Rattle.lj_clause.proofs.Among.{any_at, any_found, itself}
+use Rattle.lj_clause.proofs.Images.{AllKnown, IsRenamer, image_by, holds_image, imaged, holds-image}
 
 -- a literal of a set that holds it and its negation
 record HoldsBoth (a : LiteralSet) (l : ℤ) : Type 0 where
@@ -38,16 +39,6 @@ positive_not_negation : (l : ℤ) → int_lt (pos 0) l ≡ true → eq_by_cmp li
 positive_not_negation (pos zero) h e = h
 positive_not_negation (pos (suc n)) h e = let same : negsuc n ≡ pos (suc n) = same_literal (negsuc n) (pos (suc n)) e in cc
 positive_not_negation (negsuc n) h e = h
-
-held_still : (a : LiteralSet) (l q : ℤ) → holds a q ≡ true → holds (with_literal a l) q ≡ true
-held_still a l q h = holds-with_literal a l q ∙ or_right (eq_by_cmp lit_cmp q l) (holds a q) h
-
-held_now : (a : LiteralSet) (l : ℤ) → holds (with_literal a l) l ≡ true
-held_now a l = holds-with_literal a l l ∙ or_left (eq_by_cmp lit_cmp l l) (holds a l) (itself l)
-
-held_before : (a : LiteralSet) (l q : ℤ) → holds (with_literal a l) q ≡ true → (q ≡ l) ⊎ (holds a q ≡ true)
-held_before a l q h =
-    elim (or_cases (eq_by_cmp lit_cmp q l) (holds a q) (sym (holds-with_literal a l q) ∙ h)) [ inl e ↦ inl (same_literal q l e) | inr e ↦ inr e ]
 
 more_contradictory : (a : LiteralSet) (l : ℤ) → is_contradictory (with_literal a l) ≡ true → (is_contradictory a || holds a (neg_ℤ l)) ≡ true
 more_contradictory a l h =
@@ -88,3 +79,22 @@ is_contradictory-unopposed a l nonzero e = is_contradictory-with_literal a l non
     or_false : (b : Bool) → (b || false) ≡ b
     or_false true = refl
     or_false false = refl
+
+-- the image of a set whose literals are told apart is contradictory exactly where the set is
+module _ {r : ℤ → ℤ} {known : ℤ → Bool} (is : IsRenamer r known) (a : LiteralSet) (all : AllKnown known a) where
+  pub is_contradictory-image : is_contradictory (image_by r a) ≡ is_contradictory a
+  is_contradictory-image =
+      both_ways _ _
+      (λ h. let both = both_held (image_by r a) h in
+      let found = imaged r a both.0 both.1.held in
+      contradictory_by a found.0 (record {
+        positive = sym (is.signs found.0) ∙ ap (int_lt (pos 0)) (sym found.2) ∙ both.1.positive;
+        held = found.1;
+        negation = sym (holds-image is a (neg_ℤ found.0) all (is.negated found.0 (all found.0 found.1))) ∙ ap (holds (image_by r a)) (is.turns found.0 ∙ ap neg_ℤ (sym found.2)) ∙ both.1.negation;
+      }))
+      (λ h. let both = both_held a h in
+      contradictory_by (image_by r a) (r both.0) (record {
+        positive = is.signs both.0 ∙ both.1.positive;
+        held = holds_image r a both.0 both.1.held;
+        negation = ap (holds (image_by r a)) (sym (is.turns both.0)) ∙ holds_image r a (neg_ℤ both.0) both.1.negation;
+      }))

@@ -5,6 +5,7 @@ pub mod Walks
 pub mod Used
 pub mod Receipts
 pub mod Renamings
+pub mod Images
 pub mod StampLaws
 pub mod TrailLaws
 pub mod RatTests

@@ -1,13 +1,20 @@
--- What a receipt means, whenever it is used, and that the numbers of hints are but names.
-use Rattle.std.specs.Prelude.{◌≡◌, List, map, true, Some, All}
+-- What a receipt means, whenever it is used, and that the numbers of hints and the variables are but names.
+use Rattle.std.specs.Prelude.{◌≡◌, ℕ, ℤ, List, map, length, true, Some, option_map, All}
 use Rattle.std.specs.FinMap.{get}
-use Rattle.lj_clause.specs.LiteralSet.{LiteralSet, negations}
+use Rattle.lj_clause.specs.Literal.{variable_of}
+use Rattle.lj_clause.specs.LiteralSet.{LiteralSet, from_literals, negations}
+use Rattle.lj_clause.specs.Lemma.{LemmaValue, IsLemma}
 use Rattle.lj_clause.specs.ClauseMap.{ClauseMap}
 use Rattle.lj_clause.specs.Truth.{Assignment, satisfies, SatisfiesAll}
-use Rattle.lj_clause.specs.Walk.{Closed, Open, Hint, walk, walk_over}
+use Rattle.lj_clause.specs.Walk.{Walk, Closed, Open, Hint, rest, walk, walk_over}
+use Rattle.lj_clause.specs.Rat.{HintGroup, NamedGroup, candidates, rat_over, rat}
+use Rattle.lj_clause.specs.Renaming.{Renaming, literal_image, image, has_name, is_named, IsOneToOne, entry_image, clauses_image, hint_image, group_image, walk_image, AreNamed, AreNamedHints}
 use Rattle.lj_hint.specs.Hints.{numbers}
+use Rattle.lj_hint.specs.Case.{CaseValue, walk_of}
 use Rattle.lj_hint.specs.Ending.{ending_of}
-use Rattle.lj_hint.specs.Receipt.{ReceiptValue, IsReceipt}
+use Rattle.lj_hint.specs.Receipt.{ReceiptValue, IsReceipt, receipt_of}
+use Rattle.lj_hint.specs.Images.{case_image, receipt_image, IsNamedCase, IsNamedReceipt}
+use Rattle.lj_hint.specs.LineTest.{line_reply}
 
 -- the clause map has each listed clause under its number
 abbrev pub HasListed : ClauseMap → ReceiptValue → Type 0
@@ -36,3 +43,53 @@ WalksGoByClauses = (a : LiteralSet) (hs gs : List Hint) → HaveSameClauses hs g
 abbrev pub OpenWalksGoByClauses : Type 0
 OpenWalksGoByClauses = (a b : LiteralSet) (hs gs : List Hint) → HaveSameClauses hs gs
     → walk_over a hs ≡ Open b → walk_over a gs ≡ Open b
+
+-- Tests under a renaming that has the variables of all that is tested.
+pub record TestsCommute (v : ℕ) (m : Renaming) : Type 0 where
+  -- what is left of a clause's image is the image of what is left of the clause, and as much
+  pub left : (d a : LiteralSet) → is_named v m d ≡ true → is_named v m a ≡ true
+      → (from_literals (rest (image m d) (image m a)) ≡ image m (from_literals (rest d a)))
+      × (length (rest (image m d) (image m a)) ≡ length (rest d a))
+  -- the walk of the images is the image of the walk, whose literals are named too
+  pub walked : (a : LiteralSet) (hs : List Hint) → is_named v m a ≡ true → AreNamedHints v m hs
+      → walk_over (image m a) (map (hint_image m) hs) ≡ walk_image m (walk_over a hs)
+  pub open_named : (a b : LiteralSet) (hs : List Hint) → is_named v m a ≡ true
+      → AreNamedHints v m hs → walk_over a hs ≡ Open b → is_named v m b ≡ true
+  -- the candidates of a pivot's image are the images of its candidates
+  pub found : (p : ClauseMap) (pivot : ℤ) → AreNamed v m p
+      → has_name v m (variable_of pivot) ≡ true
+      → candidates (clauses_image m p) (literal_image m pivot)
+      ≡ map (entry_image m) (candidates p pivot)
+  -- and their test ends alike, with whatever groups
+  pub covered : (a : LiteralSet) (pivot : ℤ) (groups : List NamedGroup)
+      (es : List (ℕ × LiteralSet)) → is_named v m a ≡ true
+      → has_name v m (variable_of pivot) ≡ true
+      → All (λ g. AreNamedHints v m g.hints) groups → All (λ e. is_named v m e.1 ≡ true) es
+      → rat_over (image m a) (literal_image m pivot) (map (group_image m) groups)
+      (map (entry_image m) es)
+      ≡ rat_over a pivot groups es
+  pub covered_in : (p : ClauseMap) (a : LiteralSet) (pivot : ℤ) (groups : List HintGroup)
+      → AreNamed v m p → is_named v m a ≡ true → has_name v m (variable_of pivot) ≡ true
+      → rat (clauses_image m p) (image m a) (literal_image m pivot) groups ≡ rat p a pivot groups
+  -- so the reply to a line is the one to its image
+  pub line : (p : ClauseMap) (lemma : LemmaValue) (numbers : List ℕ) (groups : List HintGroup)
+      → AreNamed v m p → IsLemma lemma → is_named v m lemma.clause ≡ true
+      → line_reply (clauses_image m p) (option_map (literal_image m) lemma.pivot) groups
+      (walk (clauses_image m p) (negations (image m lemma.clause)) numbers)
+      ≡ line_reply p lemma.pivot groups (walk p (negations lemma.clause) numbers)
+  -- the walk of a case's image is the image of its walk, and so are the hints that it read
+  pub case : (c : CaseValue) → IsNamedCase v m c
+      → walk_of (case_image m c) ≡ walk_image m (walk_of c)
+  pub read : (c : CaseValue) (count : ℕ)
+      → receipt_of (case_image m c) count ≡ receipt_image m (receipt_of c count)
+  -- and the image of a receipt is one
+  pub receipt : (r : ReceiptValue) → IsNamedReceipt v m r → IsReceipt r
+      → IsReceipt (receipt_image m r)
+
+-- tests commute with each renaming that is one to one
+abbrev pub TestsCommuteWithRenamings : Type 0
+TestsCommuteWithRenamings = (v : ℕ) (m : Renaming) → IsOneToOne v m → TestsCommute v m
+
+-- a walk and its image end alike
+abbrev pub EndingOfImage : Type 0
+EndingOfImage = (m : Renaming) (w : Walk) → ending_of (walk_image m w) ≡ ending_of w

@@ -2,8 +2,9 @@ pub mod Hints
 pub mod Ending
 pub mod Case
 pub mod Receipt
+pub mod Images
 pub mod Tested
 pub mod RatTest
-pub mod Laws
 pub mod LineTest
+pub mod Laws
 pub mod inner

@@ -1,11 +1,15 @@
 //! Cases: what a test needs of an addition.
+ghost use Rattle.std.specs.Prelude.{◌≡◌, map, IfOk};
+ghost use Rattle.lj_hint.specs.Case.{groups_of};
+ghost use Rattle.lj_hint.specs.Images.{hinted_image};
+
 use crate::hint_list::PairHints;
 use crate::marks::Marks;
-use crate::pair::Pair;
+use crate::pair::{Pair, renamed_pairs};
 use crate::receipt::Receipt;
 use crate::tested::Tested;
 use crate::walk::{Ending, walk_negation};
-use lj_clause::Lemma;
+use lj_clause::{Lemma, NoMemory, Renames};
 use std::alloc::Global;
 use std::marker::Model;
 
@@ -31,8 +35,9 @@ impl Model for Case {
 }
 
 impl Case {
-    ghost use Rattle.std.specs.Prelude.{◌≡◌, ◌≤◌, length};
+    ghost use Rattle.std.specs.Prelude.{◌≡◌, ◌≤◌, length, OnOk, OnErr};
     ghost use Rattle.lj_hint.specs.Case.{case_of, groups_of, walk_of};
+    ghost use Rattle.lj_hint.specs.Images.{case_image};
     ghost use Rattle.lj_hint.specs.Receipt.{receipt_of, IsReceipt};
     ghost use Rattle.lj_hint.specs.Tested.{tested_of, IfAnswered, IfNoMemory};
 
@@ -112,6 +117,25 @@ impl Case {
         }
     }
 
+    /// Renames the variables of the lemma and of all clauses. Takes the time of [`Clause::renamed`](lj_clause::Clause::renamed)
+    /// for each of them.
+    ///
+    /// # Errors
+    /// [`NoMemory`] where a growth was refused, and then nothing has changed.
+    pub fn rename<R: Renames>(&mut self, renaming: &R) -> Result<(), NoMemory>
+        ensures ok { OnOk result (self.new ≡ case_image (R.renaming renaming.now) self.old) }
+        ensures err { OnErr result (self.new ≡ self.old) }
+    {
+        let alloc = self.allocator();
+        let lemma = self.lemma.renamed(alloc, renaming)?;
+        let hints = renamed_pairs(alloc, renaming, &self.hints)?;
+        let groups = renamed_groups(alloc, renaming, &self.groups)?;
+        self.lemma = lemma;
+        self.hints = hints;
+        self.groups = groups;
+        Ok(())
+    }
+
     /// The receipt of so many hints.
     fn into_receipt(self, read: usize) -> Receipt
         requires { IsReceipt (receipt_of self read) }
@@ -127,4 +151,25 @@ impl Case {
         hints.truncate(read);
         Receipt::new(seat, own, lemma, hints)
     }
+}
+
+/// The groups with their variables renamed.
+///
+/// # Errors
+/// [`NoMemory`] where a growth was refused.
+fn renamed_groups<R: Renames>(
+    alloc: Global,
+    renaming: &R,
+    groups: &[(Pair, Vec<Pair>)],
+) -> Result<Vec<(Pair, Vec<Pair>)>, NoMemory>
+    ensures { IfOk result (λ all. groups_of all.items
+        ≡ map (hinted_image (R.renaming renaming.now)) (groups_of groups.now)) }
+{
+    let mut all = Vec::with_capacity(alloc, groups.len())?;
+    for group in groups {
+        let candidate = group.0.renamed(alloc, renaming)?;
+        let hints = renamed_pairs(alloc, renaming, &group.1)?;
+        all.push((candidate, hints))?;
+    }
+    Ok(all)
 }

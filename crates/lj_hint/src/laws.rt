@@ -1,6 +1,6 @@
-//! Laws of walks: what a receipt means, whenever and wherever it was made, and that numbers are but names. The functions do
-//! nothing.
-ghost use Rattle.lj_hint.specs.Laws.{ReceiptIsRup, ReceiptImplies, WalksGoByClauses, OpenWalksGoByClauses};
+//! Laws of walks: what a receipt means, whenever and wherever it was made, and that numbers and variables are but names. The
+//! functions do nothing.
+ghost use Rattle.lj_hint.specs.Laws.{ReceiptIsRup, ReceiptImplies, WalksGoByClauses, OpenWalksGoByClauses, TestsCommuteWithRenamings, EndingOfImage};
 
 /// In a clause map in which each number that a receipt lists has exactly the listed clause, these numbers close the
 /// walk of the lemma's negation, and every assignment that satisfies the map satisfies the lemma. Takes constant time.
@@ -14,4 +14,11 @@ pub fn receipt_implies()
 pub fn walks_go_by_clauses()
     ensures ending { WalksGoByClauses }
     ensures open { OpenWalksGoByClauses }
+{}
+
+/// Walks, the test of candidates, the reply to a line and receipts commute with a renaming of variables that is one to one.
+/// Takes constant time.
+pub fn walks_commute_with_renamings()
+    ensures tests { TestsCommuteWithRenamings }
+    ensures ending { EndingOfImage }
 {}

@@ -25,7 +25,7 @@ mod walk;
 
 pub use case::Case;
 pub use first_walk::walk_first;
-pub use laws::{receipt_implies, walks_go_by_clauses};
+pub use laws::{receipt_implies, walks_commute_with_renamings, walks_go_by_clauses};
 pub use live::{Clauses, Live};
 pub use live_line::{LineRefusal, Passed, test_line};
 pub use marks::Marks;

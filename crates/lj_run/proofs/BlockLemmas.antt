@@ -11,6 +11,7 @@ use Rattle.lj_text.specs.Lines.{Said, whole_said, all_said}
 use Rattle.lj_text.specs.LinesRead.{LinesRead, LineReaderStandsAt, IsSaidAt, IsSaidRight, line_answer, line_number_of, last_number, is_line_no_memory}
 use Rattle.lj_text.specs.Streams.{SourceState}
 use Rattle.lj_run.specs.declared.reading.Miss.TheVariants.{AtFault}
+use Rattle.lj_run.specs.declared.reading.Next.TheVariants as nexts
 use Rattle.lj_share.specs.declared.numbered.Numbered.{Numbered}
 use Rattle.lj_run.specs.inner.Block.{said_in_block, AreNext, BlockRead}
 use Rattle.lj_run.specs.inner.Reading.{LineRead, LineMissed}
@@ -36,13 +37,13 @@ longer : (handed : ℕ) (lines : List Numbered) (line : Numbered) → (handed + 
 longer handed lines line = let more = length-append lines (line ∷ []) in omega (arith, more)
 
 -- a line alone is a block
-pub block_of_one : (max : ℕ) (fed : List ℕ) (handed : ℕ) (reader : LinesRead) (before after : SourceState) (line : Line) → LineRead max fed handed reader before after (Some line)
+pub block_of_one : (max : ℕ) (fed : List ℕ) (handed : ℕ) (reader : LinesRead) (before after : SourceState) (line : Line) → LineRead max fed handed reader before after (nexts.Line line)
     → BlockRead max fed handed reader before after (record { at = reader.at; line = line } ∷ []) None
 block_of_one max fed handed reader before after line read = record {
   piece = read.piece;
   gave = read.gave;
   same = read.same;
-  next = (read.next, tt);
+  next = (read.is, tt);
   stands = read.stands;
   whole = read.whole;
   ahead = tt;
@@ -115,13 +116,13 @@ block_faulty max fed handed old new before after lines fault max_is b answer pla
     }
 
 -- there was no memory for a line that was read
-pub line_without_room : (max : ℕ) (fed : List ℕ) (handed : ℕ) (reader : LinesRead) (before after : SourceState) (line : Line) (e : NoMemory) → LineRead max fed handed reader before after (Some line)
+pub line_without_room : (max : ℕ) (fed : List ℕ) (handed : ℕ) (reader : LinesRead) (before after : SourceState) (line : Line) (e : NoMemory) → LineRead max fed handed reader before after (nexts.Line line)
     → LineMissed max fed handed reader.at before after (AtFault (record { kind = kinds.NoMemory e; line = reader.at }))
 line_without_room max fed handed reader before after line e read = record {
   piece = read.piece;
   gave = read.gave;
   same = read.same;
   is = λ memory. absurd (false≢true (sym memory));
-  no_room = λ memory. inl (record { line = line; next = read.next });
+  no_room = λ memory. inl (record { line = line; next = read.is });
   whole = whole_before max (fed ++ read.piece) after handed (handed + 1) (omega arith) read.whole;
 }

@@ -102,6 +102,7 @@ worker_ran seen refuses refuted seat now stream report fresh run =
         enters = sym (run.enters.0 ∙ ap (λ (made : List Call). map (λ (call : Call). Some call) made ++ map (λ (said : Said). said_call said.says) lines) fresh);
         counts = run.counts;
         ends = run.ends;
+        kept = run.kept;
         failed_read = run.failed_read;
         no_room = run.no_room;
         ended = run.ended;

@@ -131,6 +131,7 @@ module _ {S : Type 0} (seen : S → SourceState) (refuses : SeatValue → Line �
     enters = r.enters;
     counts = r.counts;
     ends = end_confirmed (refuses seat) refuted (Unit {0}) verdict _ report.end r.ends is;
+    kept = r.kept;
     failed_read = r.failed_read;
     no_room = r.no_room;
     ended = r.ended;

@@ -1,6 +1,7 @@
 mod AskedLemmas
 mod BlockLemmas
 mod CheckLemmas
+mod ExplanationLemmas
 mod FaultKinds
 mod FormulaLemmas
 mod GivenLemmas

@@ -1,18 +1,20 @@
 -- The steps of reading a stream's lines.
 use Rattle.std.proofs.Common.{◌≡◌, ℕ, zero, suc, ◌+◌, ◌≤◌, Bool, true, false, cond, List, [], ◌∷◌, ◌++◌, length, take, Option, None, Some, Result, Ok, Err, refl, sym, ap, ◌∙◌, subst, append_assoc, add-zero, inl, inr, arith, length-append}
-use Rattle.std.specs.Prelude.{slice_get, MatchBool, IfErr, IfOk, IsErrAnd, IsOk}
+use Rattle.std.specs.Prelude.{slice_get, MatchBool, IfErr, IsErrAnd, IsOk}
 use Rattle.std.proofs.lemmas.List.{append-nil}
 use Rattle.std.proofs.lemmas.Bool.{false≢true}
 use Rattle.lj_text.specs.declared.line.Line.{Line}
 use Rattle.lj_text.specs.declared.lines.fault.LineFault.{LineFault}
 use Rattle.lj_text.specs.declared.lines.fault.LineFaultKind.{LineFaultKind}
 use Rattle.lj_text.specs.Lines.{Said, said_from, whole_said_from, whole_said, all_said_from, all_said}
-use Rattle.lj_text.specs.LinesRead.{LinesRead, LineReaderStandsAt, StandsWithin, StandsBehind, IsSaidAt, IsSaidRight, line_answer, answer_of_line, line_number_of, last_number, handed_out, text_of_lines, is_line_no_memory}
+use Rattle.lj_text.specs.LinesRead.{LinesRead, LineReaderStandsAt, StandsWithin, StandsBehind, IsSaidAt, IsSaidRight, line_answer, answer_of_line, line_number_of, last_number, text_of_lines, is_line_no_memory}
 use Rattle.lj_text.specs.Streams.{SourceState, HasGiven, HasEnded}
 use Rattle.lj_text.proofs.Fronts.{said_in_front}
 use Rattle.lj_text.proofs.StandLemmas.{whole-joined, all-joined, get-behind}
 use Rattle.lj_run.specs.declared.reading.Miss.{Miss}
 use Rattle.lj_run.specs.declared.reading.Miss.TheVariants.{Failed, AtFault}
+use Rattle.lj_run.specs.declared.reading.Next.{Next}
+use Rattle.lj_run.specs.declared.reading.Next.TheVariants as nexts
 use Rattle.lj_run.specs.inner.Reading.{PieceRead, IsNext, LineRead, IsMiss, IfOutOfRoom, LineMissed, IsPieceOf, PieceMissed, with_handed, with_missed}
 use Rattle.lj_run.specs.Reading.{IsRightLine, IsRoomRefused, FailsAt, AreWhole}
 use Rattle.lj_run.proofs.GivenLemmas.{given_none, given_on}
@@ -82,16 +84,6 @@ right_of_text max text handed n at right =
 pub right_at_end : (max : ℕ) (text : List ℕ) (handed n : ℕ) → IsSaidAt (slice_get (all_said max text) handed) n → IsSaidRight (slice_get (all_said max text) handed)
     → IsRightLine max text handed n
 right_at_end max text handed n at right = let r = right_line (slice_get (all_said max text) handed) n at right in record { line = r.0; next = r.1 }
-
-pub last_of_text : (max : ℕ) (text : List ℕ) (handed at last : ℕ) (line : Option Line)
-    → Ok line ≡ line_answer (slice_get (all_said max text) handed) → at ≡ line_number_of (slice_get (all_said max text) handed) last → IsNext (all_said max text) handed at line
-last_of_text max text handed at last None e n = none_answered (slice_get (all_said max text) handed) e
-last_of_text max text handed at last (Some line) e n = answered (slice_get (all_said max text) handed) line at last e n
-
--- how many lines are handed out, as it is counted
-pub with_handed-is : (handed : ℕ) (line : Option Line) (new : LinesRead) (fed : List ℕ) → LineReaderStandsAt new fed (handed + handed_out (Ok line)) → LineReaderStandsAt new fed (with_handed handed line)
-with_handed-is handed None new fed h = subst (λ n. LineReaderStandsAt new fed n) (add-zero handed) h
-with_handed-is handed (Some line) new fed h = h
 
 same_end : {X : Type 0} (xs ys : List X) → slice_get ys 0 ≡ None → length xs ≡ length (xs ++ ys)
 same_end xs [] none = ap length (sym (append-nil xs))
@@ -188,33 +180,35 @@ fed_none max fed handed reader s stands = record {
   stands = subst (λ t. LineReaderStandsAt reader t handed) (sym (append-nil fed)) stands;
 }
 
--- the reader passed silent lines, and a piece was fed
-pub fed_on : (max : ℕ) (fed : List ℕ) (handed : ℕ) (old mid new : LinesRead) (start before after : SourceState) → mid.max ≡ max → mid.finished ≡ false → (f : FedSince max fed handed old start before)
-    → LineReaderStandsAt mid (fed ++ f.piece) (handed + 0) → ((text : List ℕ) (n : ℕ) → LineReaderStandsAt mid text n → PieceRead text n new before after) → FedSince max fed handed new start after
-fed_on max fed handed old mid new start before after max_is goes f passed onward =
-    let here = subst (λ n. LineReaderStandsAt mid (fed ++ f.piece) n) (add-zero handed) passed in
-    let p = onward (fed ++ f.piece) handed here in
-    let on = subst (λ m. take handed (all_said m ((fed ++ f.piece) ++ p.piece)) ≡ take handed (all_said m (fed ++ f.piece))) max_is (same_handed mid (fed ++ f.piece) p.piece handed goes here) in
-    record {
-      piece = f.piece ++ p.piece;
-      gave = given_on start before after f.piece p.piece f.gave p.gave;
-      same = ap (λ t. take handed (all_said max t)) (sym (append_assoc fed f.piece p.piece)) ∙ on ∙ f.same;
-      stands = subst (λ t. LineReaderStandsAt new t handed) (append_assoc fed f.piece p.piece) p.stands;
-    }
-
--- the next line of what was fed since
-pub line_read : (max : ℕ) (fed : List ℕ) (handed : ℕ) (old new : LinesRead) (start after : SourceState) (line : Option Line) (f : FedSince max fed handed old start after)
-    → IsNext (all_said max (fed ++ f.piece)) handed new.at line → LineReaderStandsAt new (fed ++ f.piece) (handed + handed_out (Ok line)) → (line ≡ None → HasEnded after) → AreWhole max (fed ++ f.piece) after (with_handed handed line)
-    → LineRead max fed handed new start after line
-line_read max fed handed old new start after line f next stands ended whole = record {
+-- what a call for the next line says of what was fed since
+pub line_read : (max : ℕ) (fed : List ℕ) (handed : ℕ) (old new : LinesRead) (start after : SourceState) (next : Next) (f : FedSince max fed handed old start after)
+    → IsNext (all_said max (fed ++ f.piece)) handed new.at next → LineReaderStandsAt new (fed ++ f.piece) (with_handed handed next) → (next ≡ nexts.End → HasEnded after) → AreWhole max (fed ++ f.piece) after (with_handed handed next)
+    → LineRead max fed handed new start after next
+line_read max fed handed old new start after next f is stands ended whole = record {
   piece = f.piece;
   gave = f.gave;
   same = f.same;
-  next = next;
-  stands = with_handed-is handed line new (fed ++ f.piece) stands;
+  is = is;
+  stands = stands;
   ended = ended;
   whole = whole;
 }
+
+-- a reader passed silent lines, and a piece was fed
+pub more_read : (max : ℕ) (fed : List ℕ) (handed : ℕ) (mid new : LinesRead) (before after : SourceState) → mid.max ≡ max → mid.finished ≡ false → LineReaderStandsAt mid fed (handed + 0)
+    → ((text : List ℕ) (n : ℕ) → LineReaderStandsAt mid text n → PieceRead text n new before after) → LineRead max fed handed new before after nexts.More
+more_read max fed handed mid new before after max_is goes passed onward =
+    let here = subst (λ n. LineReaderStandsAt mid fed n) (add-zero handed) passed in
+    let p = onward fed handed here in
+    record {
+      piece = p.piece;
+      gave = p.gave;
+      same = subst (λ m. take handed (all_said m (fed ++ p.piece)) ≡ take handed (all_said m fed)) max_is (same_handed mid fed p.piece handed goes here);
+      is = tt;
+      stands = p.stands;
+      ended = λ e. cc;
+      whole = inl (subst (λ m. handed ≤ length (whole_said m (fed ++ p.piece))) max_is (handed_whole mid fed p.piece handed goes here));
+    }
 
 -- its fault, or the want of memory in a line that is right
 pub line_faulty : (max : ℕ) (fed : List ℕ) (handed at : ℕ) (old : LinesRead) (start after : SourceState) (fault : LineFault) (f : FedSince max fed handed old start after)
@@ -278,21 +272,3 @@ piece_missed max fed handed old mid new start before after miss max_is goes mid_
       stops = subst (λ n. FailsAt max (fed ++ f.piece) handed n) (sym (is.1 ∙ line_at)) stops;
       goes_on = is.2;
     })
-
--- what was read by a reader that passed silent lines alone is what its caller's reader would have read
-pub read_behind : (old mid new : LinesRead) (before after : SourceState) (r : Result (Option Line) Miss) → mid.max ≡ old.max
-    → ((fed : List ℕ) (handed : ℕ) → LineReaderStandsAt old fed handed → LineReaderStandsAt mid fed (handed + 0))
-    → IfOk r (λ line. (fed : List ℕ) (handed : ℕ) → LineReaderStandsAt mid fed handed → LineRead mid.max fed handed new before after line)
-    → IfOk r (λ line. (fed : List ℕ) (handed : ℕ) → LineReaderStandsAt old fed handed → LineRead old.max fed handed new before after line)
-read_behind old mid new before after (Ok line) e on read = λ fed handed was.
-    subst (λ m. LineRead m fed handed new before after line) e (read fed handed (subst (λ n. LineReaderStandsAt mid fed n) (add-zero handed) (on fed handed was)))
-read_behind old mid new before after (Err miss) e on read = tt
-
--- and so is a miss
-pub missed_behind : (old mid : LinesRead) (at : ℕ) (before after : SourceState) (r : Result (Option Line) Miss) → mid.max ≡ old.max
-    → ((fed : List ℕ) (handed : ℕ) → LineReaderStandsAt old fed handed → LineReaderStandsAt mid fed (handed + 0))
-    → IfErr r (λ miss. (fed : List ℕ) (handed : ℕ) → LineReaderStandsAt mid fed handed → LineMissed mid.max fed handed at before after miss)
-    → IfErr r (λ miss. (fed : List ℕ) (handed : ℕ) → LineReaderStandsAt old fed handed → LineMissed old.max fed handed at before after miss)
-missed_behind old mid at before after (Ok line) e on missed = tt
-missed_behind old mid at before after (Err miss) e on missed = λ fed handed was.
-    subst (λ m. LineMissed m fed handed at before after miss) e (missed fed handed (subst (λ n. LineReaderStandsAt mid fed n) (add-zero handed) (on fed handed was)))

@@ -1,12 +1,13 @@
 -- How the program ends on the arguments that the system gave.
-use Rattle.std.proofs.Common.{◌≡◌, ◌≢◌, ◌<◌, ◌≤◌, ℕ, suc, List, [], ◌∷◌, ◌-◌, length, min, take, drop, Option, refl, sym, ap, ◌∙◌, subst, inl, inr, arith}
+use Rattle.std.proofs.Common.{◌≡◌, ◌≢◌, ◌<◌, ◌≤◌, ℕ, suc, false, List, [], ◌∷◌, ◌-◌, length, min, take, drop, Option, refl, sym, ap, ◌∙◌, subst, inl, inr, arith}
 use Rattle.std.specs.Prelude.{◌⊎◌, IfSome}
 use Rattle.std.proofs.lemmas.List.{take_all}
 use Rattle.lj_text.specs.Streams.{SourceState}
 use Rattle.lj_run.specs.Program.{CreatesAtMost, IfRun, IsFaultTold, IsOther, IsProofLost, IsRunAnswered, IsRunCut, MayEnd, SpellsUnsatisfiable}
 use Rattle.lj_run.specs.Proof.{SinkState}
 use Rattle.lj_run.specs.Starting.{ProgramEnds}
-use Rattle.lj_run.specs.CommandLine.{asked_by}
+use Rattle.lj_run.specs.CommandLine.{asked_by, asks_why}
+use Rattle.lj_run.specs.Explanation.{IsExplained}
 use Rattle.lj_run.specs.Tried.{Tried}
 
 -- a list without its first, which it may lack
@@ -24,13 +25,15 @@ pub program_ends : {I W : Type 0} (seen : I → SourceState) (sink : W → SinkS
     → MayEnd (asked_by given) status
     → (status < 2 → IfRun (asked_by given) (λ run. IsRunAnswered seen sink before run out_old out_new status))
     → (status ≡ 0 → IfRun (asked_by given) (λ run. IfSome (before run.formula) SpellsUnsatisfiable))
-    → (status < 2 → failures ≡ 0) → (status < 2 → err_new ≡ err_old) → (2 ≤ status → failures ≡ 0 → (out_new ≡ out_old) ⊎ IsProofLost seen sink before (asked_by given) out_old out_new)
+    → (status < 2 → failures ≡ 0) → (status < 2 → asks_why (asked_by given) ≡ false → err_new ≡ err_old)
+    → (status < 2 → errors ≡ 0 → IfRun (asked_by given) (λ run. IsExplained I run.explains out_old out_new err_old err_new))
+    → (2 ≤ status → failures ≡ 0 → (out_new ≡ out_old) ⊎ IsProofLost seen sink before (asked_by given) out_old out_new)
     → (failures ≢ 0 → IfRun (asked_by given) (λ run. IsRunCut seen before run out_old out_new))
     → (2 ≤ status → errors ≡ 0 → IsFaultTold seen sink (asked_by given) before tried_old tried_new failures err_old err_new status)
     → ((path : List ℕ) → IsOther (asked_by given) path → after path ≡ before path)
     → CreatesAtMost (asked_by given) tried_old tried_new
     → ProgramEnds seen sink before after tried_old tried_new (asked_by words) out_old out_new failures err_old err_new errors code
-program_ends seen sink before after tried_old tried_new given words out_old out_new failures err_old err_new errors status code same code_is may_end printed refuted told quiet untouched cut fault files created =
+program_ends seen sink before after tried_old tried_new given words out_old out_new failures err_old err_new errors status code same code_is may_end printed refuted told quiet explained untouched cut fault files created =
     subst (λ ws. ProgramEnds seen sink before after tried_old tried_new (asked_by ws) out_old out_new failures err_old err_new errors code) same
     (subst (λ n. ProgramEnds seen sink before after tried_old tried_new (asked_by given) out_old out_new failures err_old err_new errors n) (sym code_is) (record {
       may_end = may_end;
@@ -38,6 +41,7 @@ program_ends seen sink before after tried_old tried_new given words out_old out_
       refuted = refuted;
       told = told;
       quiet = quiet;
+      explained = explained;
       untouched = untouched;
       cut = cut;
       fault = fault;

@@ -20,9 +20,10 @@ use Rattle.lj_run.specs.declared.outcome.End.TheVariants.{Ended, Stopped, Line a
 use Rattle.lj_run.specs.declared.outcome.LineEnd.TheVariants.{Fault, Refused, ReadFailed}
 use Rattle.lj_run.specs.declared.reading.Miss.{Miss}
 use Rattle.lj_run.specs.declared.reading.Miss.TheVariants.{Failed, AtFault}
+use Rattle.lj_run.specs.declared.reading.Next.TheVariants as nexts
 use Rattle.lj_run.specs.declared.stream.Tally.{Tally}
 use Rattle.lj_run.specs.Reading.{IsRoomRefused, FailsAt, AreWhole}
-use Rattle.lj_run.specs.Run.{says_addition, says_deletion, says_import, how_many, AreCountsOf, MeetsFault, IfReadFailed, IfRoomRefused, failed_reads, judged_count, StreamEnds, IsStreamRun}
+use Rattle.lj_run.specs.Run.{says_addition, says_deletion, says_import, how_many, AreCountsOf, MeetsFault, IfReadFailed, IfRoomRefused, failed_reads, judged_count, KeepsRefused, StreamEnds, IsStreamRun}
 use Rattle.lj_run.specs.inner.Block.{said_in_block, AreNext, BlockRead, EndsInBlock, BlockEntered}
 use Rattle.lj_run.specs.inner.Joint.{report_of}
 use Rattle.lj_run.specs.inner.Reading.{LineRead, LineMissed, IsMiss, IfOutOfRoom, reads_failed, with_missed}
@@ -132,7 +133,7 @@ pub record EnteredBefore (entered : List Said → Type 0) (before after : Source
   pub ahead : IfSome fault (λ told. LineMissed MAX_VARIABLE so_far.text so_far.handed told.line after after (AtFault told))
 
 pub entered_begin : (entered : List Said → Type 0) (before : SourceState) (end : End) (reader : LinesRead) → entered [] → LineReaderStandsAt reader [] 0
-    → EnteredBefore entered before before (record { added = 0; deleted = 0; imported = 0; end = end }) reader None
+    → EnteredBefore entered before before (record { added = 0; deleted = 0; imported = 0; end = end; refused = None }) reader None
 entered_begin entered before end reader none stands = record {
   so_far = record {
     text = [];
@@ -183,6 +184,22 @@ module _ {E : Type 0} (entered : E → List Said → E → Type 0) (further : (f
         ahead = b.ahead;
       }
 
+-- no line was read, but a piece
+pub entered_more : (entered : List Said → Type 0) (before mid after : SourceState) (tally : Tally) (reader new : LinesRead) (r : EnteredTo entered before mid tally reader) → LineRead MAX_VARIABLE r.text r.handed new mid after nexts.More
+    → EnteredBefore entered before after tally new None
+entered_more entered before mid after tally reader new r read = record {
+  so_far = record {
+    text = r.text ++ read.piece;
+    gave = given_on before mid after r.text read.piece r.gave read.gave;
+    handed = r.handed;
+    stands = read.stands;
+    enters = subst entered (sym read.same) r.enters;
+    counts = subst (λ ls. AreCountsOf ls tally.added tally.deleted tally.imported) (sym read.same) r.counts;
+    whole = read.whole;
+  };
+  ahead = tt;
+}
+
 -- ---- how it ends
 
 meets_fault : (kind : LineFaultKind) (n : ℕ) (lines : List Said) (given : ℕ) → (is_line_no_memory kind ≡ false → slice_get lines given ≡ Some (record { line = n; says = Err kind })) → MeetsFault n kind (drop given lines)
@@ -220,13 +237,18 @@ no_end_missed : (at : ℕ) (miss : Miss) → missed_at at miss ≡ Ended → ⊥
 no_end_missed at Failed e = cc
 no_end_missed at (AtFault fault) e = cc
 
+-- no line is kept that was missed
+none_kept : (at : ℕ) (miss : Miss) (rest : List Said) → KeepsRefused (missed_at at miss) None rest
+none_kept at Failed rest = refl
+none_kept at (AtFault fault) rest = refl
+
 reads_missed : (at : ℕ) (miss : Miss) → failed_reads (missed_at at miss) ≡ reads_failed miss
 reads_missed at Failed = refl
 reads_missed at (AtFault fault) = refl
 
 module _ {S : Type 0} (seen : S → SourceState) (entered : List Said → Type 0) (refused : Line → Refusal → Type 0) (stopped goes_on : Type 0) where
   pub run_stopped : (stream source : S) (tally : Tally) (reader : LinesRead) → EnteredTo entered (seen stream) (seen source) tally reader → (seen source).failures ≡ 0 → stopped
-      → IsStreamRun entered refused stopped goes_on seen stream (report_of (with_end tally Stopped) source)
+      → IsStreamRun entered refused stopped goes_on seen stream (report_of (with_end tally Stopped None) source)
   run_stopped stream source tally reader r unfailed told = record {
     text = r.text;
     gave = r.gave;
@@ -234,6 +256,7 @@ module _ {S : Type 0} (seen : S → SourceState) (entered : List Said → Type 0
     enters = r.enters;
     counts = r.counts;
     ends = told;
+    kept = refl;
     failed_read = tt;
     no_room = tt;
     ended = λ e. cc;
@@ -241,15 +264,16 @@ module _ {S : Type 0} (seen : S → SourceState) (entered : List Said → Type 0
     whole = r.whole;
   }
 
-  pub run_ended : (stream source next : S) (tally : Tally) (reader new : LinesRead) (r : EnteredTo entered (seen stream) (seen source) tally reader) → LineRead MAX_VARIABLE r.text r.handed new (seen source) (seen next) None → (seen next).failures ≡ 0 → goes_on
-      → IsStreamRun entered refused stopped goes_on seen stream (report_of (with_end tally Ended) next)
+  pub run_ended : (stream source next : S) (tally : Tally) (reader new : LinesRead) (r : EnteredTo entered (seen stream) (seen source) tally reader) → LineRead MAX_VARIABLE r.text r.handed new (seen source) (seen next) nexts.End → (seen next).failures ≡ 0 → goes_on
+      → IsStreamRun entered refused stopped goes_on seen stream (report_of (with_end tally Ended None) next)
   run_ended stream source next tally reader new r read unfailed on = record {
     text = r.text ++ read.piece;
     gave = given_on (seen stream) (seen source) (seen next) r.text read.piece r.gave read.gave;
     count = r.handed;
     enters = subst entered (sym read.same) r.enters;
     counts = subst (λ ls. AreCountsOf ls tally.added tally.deleted tally.imported) (sym read.same) r.counts;
-    ends = (none_left (all_said MAX_VARIABLE (r.text ++ read.piece)) r.handed read.next, on);
+    ends = (none_left (all_said MAX_VARIABLE (r.text ++ read.piece)) r.handed read.is, on);
+    kept = refl;
     failed_read = tt;
     no_room = tt;
     ended = λ e. read.ended refl;
@@ -266,7 +290,7 @@ module _ {S : Type 0} (seen : S → SourceState) (entered : List Said → Type 0
   fails_missed at text handed (AtFault fault) is = tt
 
   pub run_missed : (stream source next : S) (tally : Tally) (reader : LinesRead) (r : EnteredTo entered (seen stream) (seen source) tally reader) (at : ℕ) (miss : Miss) → LineMissed MAX_VARIABLE r.text r.handed at (seen source) (seen next) miss
-      → (seen next).failures ≡ reads_failed miss → goes_on → IsStreamRun entered refused stopped goes_on seen stream (report_of (with_end tally (missed_at at miss)) next)
+      → (seen next).failures ≡ reads_failed miss → goes_on → IsStreamRun entered refused stopped goes_on seen stream (report_of (with_end tally (missed_at at miss) None) next)
   run_missed stream source next tally reader r at miss m failures on = record {
     text = r.text ++ m.piece;
     gave = given_on (seen stream) (seen source) (seen next) r.text m.piece r.gave m.gave;
@@ -274,6 +298,7 @@ module _ {S : Type 0} (seen : S → SourceState) (entered : List Said → Type 0
     enters = subst entered (sym m.same) r.enters;
     counts = subst (λ ls. AreCountsOf ls tally.added tally.deleted tally.imported) (sym m.same) r.counts;
     ends = ends_missed at (r.text ++ m.piece) r.handed miss m.is on;
+    kept = none_kept at miss (drop r.handed (all_said MAX_VARIABLE (r.text ++ m.piece)));
     failed_read = fails_missed at (r.text ++ m.piece) r.handed miss m.is;
     no_room = room_missed at miss (IsRoomRefused MAX_VARIABLE (r.text ++ m.piece) (seen next).ended r.handed) m.no_room;
     ended = λ e. absurd (no_end_missed at miss e);
@@ -283,7 +308,7 @@ module _ {S : Type 0} (seen : S → SourceState) (entered : List Said → Type 0
 
   -- the next line was known to be missed by a fault
   pub run_missed_ahead : (stream source : S) (tally : Tally) (reader : LinesRead) (fault : LineFault) (at : ℕ) → EnteredBefore entered (seen stream) (seen source) tally reader (Some fault) → (seen source).failures ≡ 0 → goes_on
-      → IsStreamRun entered refused stopped goes_on seen stream (report_of (with_end tally (missed_at at (AtFault fault))) source)
+      → IsStreamRun entered refused stopped goes_on seen stream (report_of (with_end tally (missed_at at (AtFault fault)) None) source)
   run_missed_ahead stream source tally reader fault at r unfailed on =
       let m = r.ahead in
       let missed : LineMissed MAX_VARIABLE r.so_far.text r.so_far.handed at (seen source) (seen source) (AtFault fault) = record {
@@ -298,37 +323,40 @@ module _ {S : Type 0} (seen : S → SourceState) (entered : List Said → Type 0
 
   -- there was no memory for the next line
   pub run_without_room : (stream source next : S) (tally : Tally) (reader new : LinesRead) (r : EnteredTo entered (seen stream) (seen source) tally reader) (line : Line) (e : NoMemory) (at : ℕ) → at ≡ new.at
-      → LineRead MAX_VARIABLE r.text r.handed new (seen source) (seen next) (Some line) → (seen next).failures ≡ 0 → goes_on
-      → IsStreamRun entered refused stopped goes_on seen stream (report_of (with_end tally (AtLine at (Fault (kinds.NoMemory e)))) next)
+      → LineRead MAX_VARIABLE r.text r.handed new (seen source) (seen next) (nexts.Line line) → (seen next).failures ≡ 0 → goes_on
+      → IsStreamRun entered refused stopped goes_on seen stream (report_of (with_end tally (AtLine at (Fault (kinds.NoMemory e))) None) next)
   run_without_room stream source next tally reader new r line e at at_is read unfailed on =
-      subst (λ n. IsStreamRun entered refused stopped goes_on seen stream (report_of (with_end tally (AtLine n (Fault (kinds.NoMemory e)))) next)) (sym at_is)
+      subst (λ n. IsStreamRun entered refused stopped goes_on seen stream (report_of (with_end tally (AtLine n (Fault (kinds.NoMemory e))) None) next)) (sym at_is)
       (run_missed stream source next tally reader r new.at (AtFault (record { kind = kinds.NoMemory e; line = new.at })) (line_without_room MAX_VARIABLE r.text r.handed new (seen source) (seen next) line e read) unfailed on)
 
   -- it ended within a block
   pub run_ended_within : (was : List Said → Type 0) (stream source next : S) (tally more : Tally) (reader new : LinesRead) (r : EnteredTo was (seen stream) (seen source) tally reader) (lines : List Numbered) (fault : Option LineFault) (b : BlockRead MAX_VARIABLE r.text r.handed new (seen source) (seen next) lines fault)
-      (count : ℕ) → count ≤ length lines → entered (take (r.handed + count) (all_said MAX_VARIABLE (r.text ++ b.piece))) → more ≡ with_lines tally (take count lines) → (seen next).failures ≡ 0 → (end : End) → EndsInBlock refused stopped goes_on (drop count lines) end
-      → IsStreamRun entered refused stopped goes_on seen stream (report_of (with_end more end) next)
-  run_ended_within was stream source next tally more reader new r lines fault b count below enters counted unfailed Ended h = absurd h
-  run_ended_within was stream source next tally more reader new r lines fault b count below enters counted unfailed (AtLine n (Fault kind)) h = absurd h
-  run_ended_within was stream source next tally more reader new r lines fault b count below enters counted unfailed (AtLine n ReadFailed) h = absurd h
-  run_ended_within was stream source next tally more reader new r lines fault b count below enters counted unfailed Stopped h = record {
+      (count : ℕ) → count ≤ length lines → entered (take (r.handed + count) (all_said MAX_VARIABLE (r.text ++ b.piece))) → more ≡ with_lines tally (take count lines) → (seen next).failures ≡ 0 → (end : End) (line : Option Line) → EndsInBlock refused stopped goes_on (drop count lines) end line
+      → IsStreamRun entered refused stopped goes_on seen stream (report_of (with_end more end line) next)
+  run_ended_within was stream source next tally more reader new r lines fault b count below enters counted unfailed Ended kept h = absurd h
+  run_ended_within was stream source next tally more reader new r lines fault b count below enters counted unfailed (AtLine n (Fault kind)) kept h = absurd h
+  run_ended_within was stream source next tally more reader new r lines fault b count below enters counted unfailed (AtLine n ReadFailed) kept h = absurd h
+  run_ended_within was stream source next tally more reader new r lines fault b count below enters counted unfailed Stopped kept h = record {
     text = r.text ++ b.piece;
     gave = given_on (seen stream) (seen source) (seen next) r.text b.piece r.gave b.gave;
     count = r.handed + count;
     enters = enters;
     counts = lines_counted was (seen stream) (seen source) (seen next) tally more reader new r lines fault b count below counted;
-    ends = h;
+    ends = h.0;
+    kept = h.1;
     failed_read = tt;
     no_room = tt;
     ended = λ e. cc;
     failures = unfailed;
     whole = whole_before MAX_VARIABLE (r.text ++ b.piece) (seen next) (r.handed + count) (r.handed + length lines) (omega (arith, below)) b.whole;
   }
-  run_ended_within was stream source next tally more reader new r lines fault b count below enters counted unfailed (AtLine n (Refused refusal)) h =
+  run_ended_within was stream source next tally more reader new r lines fault b count below enters counted unfailed (AtLine n (Refused refusal)) kept h =
       let said = all_said MAX_VARIABLE (r.text ++ b.piece) in
       let line = h.0 in
       let is : slice_get lines count ≡ Some line = sym (first_left lines count) ∙ h.1 in
       let place = at_below lines count line is in
+      let first : slice_get (drop (r.handed + count) said) 0 ≡ Some (record { line = n; says = Ok line.line }) =
+      first_left said (r.handed + count) ∙ next_at said r.handed lines count line b.next is ∙ ap (λ k. Some (record { line = k; says = Ok line.line })) (sym h.2) in
       record {
         text = r.text ++ b.piece;
         gave = given_on (seen stream) (seen source) (seen next) r.text b.piece r.gave b.gave;
@@ -338,11 +366,12 @@ module _ {S : Type 0} (seen : S → SourceState) (entered : List Said → Type 0
         ends = (
           record {
             line = line.line;
-            first = first_left said (r.handed + count) ∙ next_at said r.handed lines count line b.next is ∙ ap (λ k. Some (record { line = k; says = Ok line.line })) (sym h.2);
+            first = first;
             is = h.3;
           },
           h.4,
         );
+        kept = (line.line, h.5, first);
         failed_read = tt;
         no_room = tt;
         ended = λ e. cc;

@@ -46,18 +46,23 @@ abbrev pub paths_app : App
 paths_app = with_rule (with_rule bare_app (path_rule (codes "FORMULA")))
     (paths_rule (codes "PROOF"))
 
--- FORMULA, each PROOF and the options
-abbrev pub program_app : App
-program_app = with_rule
+-- FORMULA, each PROOF and the options of a run
+abbrev pub run_app : App
+run_app = with_rule
     (with_rule
     (with_rule
     (with_rule (with_rule paths_app (option_rule (codes "close"))) (flag_rule (codes "in-turn")))
     (option_rule (codes "proof"))) (flag_rule (codes "trim"))) (option_rule (codes "max-steps"))
 
+-- those, and the option that is about what is told beside the run's report
+abbrev pub program_app : App
+program_app = with_rule run_app (flag_rule (codes "explain"))
+
 -- ---- what words ask for
 
 -- What a run is asked for: the paths of the formula, of the streams in their order, and of the closing stream, the most
--- additions that it accepts, the way in which the streams are run, the path that the proof is written to, and whether it is trimmed.
+-- additions that it accepts, the way in which the streams are run, the path that the proof is written to, whether it is trimmed, and
+-- whether it is told why streams end at a line.
 pub record AskedRun : Type 0 where
   pub formula : List ℕ
   pub proofs : List (List ℕ)
@@ -66,6 +71,7 @@ pub record AskedRun : Type 0 where
   pub way : Way
   pub proof : Option (List ℕ)
   pub trims : Bool
+  pub explains : Bool
 
 -- What words ask for: a run, or to be told the help, the version, or what is wrong with them, by the program's own rules or by those
 -- of `clap`.
@@ -116,6 +122,7 @@ run_within formula proofs closing (Some max_steps) way =
       way = way;
       proof = None;
       trims = false;
+      explains = false;
     })
 run_within formula proofs closing None way = the_usage NoLimit
 
@@ -147,6 +154,22 @@ with_proof the_version proof trims = the_version
 with_proof (the_usage misuse) proof trims = the_usage misuse
 with_proof misread proof trims = misread
 
+-- what is asked for with --explain, or without it
+abbrev pub with_explain : Asked → Bool → Asked
+with_explain (a_run run) explains = a_run (record run { explains = explains })
+with_explain the_help explains = the_help
+with_explain the_version explains = the_version
+with_explain (the_usage misuse) explains = the_usage misuse
+with_explain misread explains = misread
+
+-- whether it is to be told why streams end at a line
+abbrev pub asks_why : Asked → Bool
+asks_why (a_run run) = run.explains
+asks_why the_help = false
+asks_why the_version = false
+asks_why (the_usage misuse) = false
+asks_why misread = false
+
 -- whether the flag of this name is given, by its value
 abbrev pub is_given : List ℕ → List Row → Bool
 is_given name rows = option_eq bytes_eq (first_of name rows) (Some (codes "true"))
@@ -161,8 +184,8 @@ run_by_rows rows = run_asked (first_of (codes "FORMULA") rows)
 
 -- what is asked for by what the words give
 abbrev pub asked_by_rows : List Row → Asked
-asked_by_rows rows = with_proof (run_by_rows rows) (first_of (codes "proof") rows)
-    (is_given (codes "trim") rows)
+asked_by_rows rows = with_explain (with_proof (run_by_rows rows) (first_of (codes "proof") rows)
+    (is_given (codes "trim") rows)) (is_given (codes "explain") rows)
 
 -- what words ask for that `clap` doesn't read, by this kind
 abbrev pub kind_asked : ErrorKind → Asked

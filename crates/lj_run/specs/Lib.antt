@@ -7,6 +7,7 @@ pub mod InTurn
 pub mod Joint
 pub mod Ways
 pub mod OutcomeText
+pub mod Explanation
 pub mod Checking
 pub mod Tried
 pub mod Files

@@ -66,6 +66,14 @@ pub record MeetsRefusal (refused : Line → Refusal → Type 0) (n : ℕ) (refus
   pub first : slice_get rest 0 ≡ Some (record { line = n; says = Ok line })
   pub is : refused line refusal
 
+-- the line that is kept is the first of these where it was refused, and else none is
+abbrev pub KeepsRefused : End → Option Line → List Said → Type 0
+KeepsRefused Ended kept rest = kept ≡ None
+KeepsRefused Stopped kept rest = kept ≡ None
+KeepsRefused (AtLine n (Refused refusal)) kept rest = (line : Line) × (kept ≡ Some line)
+    × (slice_get rest 0 ≡ Some (record { line = n; says = Ok line }))
+KeepsRefused (AtLine n end) kept rest = kept ≡ None
+
 -- what holds where a stream ended at a read that failed
 abbrev pub IfReadFailed : End → (ℕ → Type 0) → Type 0
 IfReadFailed Ended P = Unit {0}
@@ -136,7 +144,7 @@ StreamEnds refused stopped goes_on rest (AtLine n ReadFailed) = goes_on
 -- The report is right of this stream. What its source gave meanwhile are its lines: all of them where it ended, as the source has
 -- then, and the first ones else. The first of them were entered, in this way, and the counts are theirs; the next one was not. No line
 -- is entered or judged that isn't whole, unless the source has ended. A read failed exactly where that is how it ended. Where memory was
--- refused to the reading of a line see IsRoomRefused.
+-- refused to the reading of a line see IsRoomRefused. The line that was refused is kept.
 pub record IsStreamRun {S : Type 0} (entered : List Said → Type 0)
     (refused : Line → Refusal → Type 0) (stopped goes_on : Type 0) (seen : S → SourceState)
     (stream : S) (report : Report S) : Type 0 where
@@ -147,6 +155,7 @@ pub record IsStreamRun {S : Type 0} (entered : List Said → Type 0)
   pub counts : AreCountsOf (take count (all_said MAX_VARIABLE text)) report.added report.deleted
       report.imported
   pub ends : StreamEnds refused stopped goes_on (drop count (all_said MAX_VARIABLE text)) report.end
+  pub kept : KeepsRefused report.end report.refused (drop count (all_said MAX_VARIABLE text))
   pub failed_read : IfReadFailed report.end (FailsAt MAX_VARIABLE text count)
   pub no_room : IfRoomRefused report.end
       (IsRoomRefused MAX_VARIABLE text (seen report.source).ended count)

@@ -1,11 +1,12 @@
 -- How the program ends on the arguments that the system gave.
-use Rattle.std.specs.Prelude.{◌≡◌, ◌≢◌, ◌⊎◌, ◌<◌, ◌≤◌, ℕ, List, Option, IfSome, codes}
+use Rattle.std.specs.Prelude.{◌≡◌, ◌≢◌, ◌⊎◌, ◌<◌, ◌≤◌, ℕ, false, List, Option, IfSome, codes}
 use Rattle.std.specs.declared.io.ErrorKind.{ErrorKind}
 use Rattle.std.specs.declared.io.ErrorKind.TheVariants.{OutOfMemory}
 use Rattle.lj_text.specs.Streams.{SourceState}
 use Rattle.lj_run.specs.Program.{CreatesAtMost, IfRun, IsFaultTold, IsOther, IsProofLost, IsRunAnswered, IsRunCut, MayEnd, SpellsUnsatisfiable}
 use Rattle.lj_run.specs.Proof.{SinkState}
-use Rattle.lj_run.specs.CommandLine.{Asked}
+use Rattle.lj_run.specs.CommandLine.{Asked, asks_why}
+use Rattle.lj_run.specs.Explanation.{IsExplained}
 use Rattle.lj_run.specs.Tried.{Tried}
 
 -- The program ended with this status where this was asked for: what standard output and standard error took is right of what is told
@@ -19,7 +20,9 @@ pub record ProgramEnds {I W : Type 0} (seen : I → SourceState) (sink : W → S
       → IfRun asked (λ run. IsRunAnswered seen sink before run out_old out_new status)
   pub refuted : status ≡ 0 → IfRun asked (λ run. IfSome (before run.formula) SpellsUnsatisfiable)
   pub told : status < 2 → failures ≡ 0
-  pub quiet : status < 2 → err_new ≡ err_old
+  pub quiet : status < 2 → asks_why asked ≡ false → err_new ≡ err_old
+  pub explained : status < 2 → errors ≡ 0 → IfRun asked (λ run. IsExplained I run.explains
+      out_old out_new err_old err_new)
   pub untouched : 2 ≤ status → failures ≡ 0
       → (out_new ≡ out_old) ⊎ IsProofLost seen sink before asked out_old out_new
   pub cut : failures ≢ 0 → IfRun asked (λ run. IsRunCut seen before run out_old out_new)

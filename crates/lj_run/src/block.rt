@@ -2,6 +2,7 @@
 ghost use Rattle.std.specs.Prelude.{◌≡◌, ℕ, List, [], None, Some, Ok, IfOk, OnErr};
 ghost use Rattle.lj_text.specs.Streams.{SourceState};
 ghost use Rattle.lj_run.specs.inner.Block.{BlockRead, ends_block};
+ghost use Rattle.lj_run.specs.declared.reading.Next.TheVariants as nexts;
 ghost use Rattle.lj_run.specs.inner.Reading.{LineRead};
 
 use lj_clause::NoMemory;
@@ -23,7 +24,7 @@ pub(crate) fn fill(
     requires empty { lines.old.items ≡ [] }
     requires no_fault { reader.old.fault ≡ None }
     ensures read { IfOk result (λ fault. (fed : List ℕ) (handed : ℕ) (before after : SourceState)
-        → LineRead reader.old.max fed handed reader.old before after (Some line)
+        → LineRead reader.old.max fed handed reader.old before after (nexts.Line line)
         → BlockRead reader.old.max fed handed reader.new before after lines.new.items fault) }
     ensures kept { OnErr result (reader.new ≡ reader.old) }
     ensures no_fault { result ≡ Ok None → reader.new.fault ≡ None }

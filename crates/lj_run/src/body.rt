@@ -1,7 +1,8 @@
 //! The body of the program.
-ghost use Rattle.std.specs.Prelude.{◌≡◌, ◌≢◌, ◌⊎◌, ◌<◌, ◌≤◌, ℕ, List, map, true, false, option_map, IfOk, IfErr, IfSome, OnOk};
+ghost use Rattle.std.specs.Prelude.{◌≡◌, ◌≢◌, ◌⊎◌, ◌<◌, ◌≤◌, ◌++◌, ℕ, List, map, true, false, option_map, IfOk, IfErr, IfSome, OnOk, OnErr};
 ghost use Rattle.lj_text.specs.Streams.{source_state};
-ghost use Rattle.lj_run.specs.CommandLine.{a_run, asked_by};
+ghost use Rattle.lj_run.specs.CommandLine.{a_run, asked_by, asks_why};
+ghost use Rattle.lj_run.specs.Explanation.{IsExplained};
 ghost use Rattle.lj_run.specs.inner.CommandLine.{line_asked};
 ghost use Rattle.lj_run.specs.Program.{CreatesAtMost, IfRun, IsFaultOf, IsFaultTold, IsOther, IsProofLost, IsRunAnswered, IsRunCut, MayEnd, SpellsUnsatisfiable, checked_status, failed_outputs, status_code};
 ghost use Rattle.lj_run.specs.inner.Program.{IsAnswerTo, IsAskedFor, IsLostAt, is_lost, is_told_late};
@@ -46,7 +47,11 @@ pub fn program<R: Threads + Wait + Sync, S: AsStr, F: Files, O: Sink, E: Sink>(
     ensures refuted { result ≡ 0 → IfRun (asked_by (map S.text words.now)) (λ run.
         IfSome (F.content files.old run.formula) SpellsUnsatisfiable) }
     ensures told { result < 2 → O.failures out.new ≡ 0 }
-    ensures quiet { result < 2 → err.new ≡ err.old }
+    ensures quiet { result < 2 → asks_why (asked_by (map S.text words.now)) ≡ false
+        → err.new ≡ err.old }
+    ensures explained { result < 2 → E.failures err.new ≡ 0
+        → IfRun (asked_by (map S.text words.now)) (λ run. IsExplained F.Input run.explains
+        (O.taken out.old) (O.taken out.new) (E.taken err.old) (E.taken err.new)) }
 
     ensures untouched { 2 ≤ result → O.failures out.new ≡ 0 → (out.new ≡ out.old) ⊎ IsProofLost
         (source_state F.Input.given F.Input.ended F.Input.rest F.Input.failures)
@@ -66,7 +71,7 @@ pub fn program<R: Threads + Wait + Sync, S: AsStr, F: Files, O: Sink, E: Sink>(
     ensures created { CreatesAtMost (asked_by (map S.text words.now)) (F.tried files.old)
         (F.tried files.new) }
 {
-    match answer(rt, alloc, words, files, out) {
+    match answer(rt, alloc, words, files, out, err) {
         Ok(status) => status.code(),
         Err(fault) => {
             // That standard error fails changes nothing.
@@ -77,14 +82,21 @@ pub fn program<R: Threads + Wait + Sync, S: AsStr, F: Files, O: Sink, E: Sink>(
 }
 
 /// Answers what the words ask for.
-fn answer<'a, R: Threads + Wait + Sync, S: AsStr, F: Files, O: Sink>(
+fn answer<'a, R: Threads + Wait + Sync, S: AsStr, F: Files, O: Sink, E: Sink>(
     rt: &R,
     alloc: Global,
     words: &'a [S],
     files: &mut F,
     out: &mut O,
+    err: &mut E,
 ) -> Result<Status, Fault<'a>>
-    requires { O.failures out.old ≡ 0 }
+    requires out { O.failures out.old ≡ 0 }
+    requires err { E.failures err.old ≡ 0 }
+    ensures quiet { asks_why (asked_by (map S.text words.entry.now)) ≡ false → err.new ≡ err.old }
+    ensures explained { OnOk result (E.failures err.new ≡ 0
+        → IfRun (asked_by (map S.text words.entry.now)) (λ run. IsExplained F.Input run.explains
+        (O.taken out.old) (O.taken out.new) (E.taken err.old) (E.taken err.new))) }
+    ensures unsaid { OnErr result (err.new ≡ err.old) }
     ensures answered { IfOk result (IsAnswerTo
         (source_state F.Input.given F.Input.ended F.Input.rest F.Input.failures)
         (sink_state F.Output.taken F.Output.failures) (λ path. F.content files.old path)
@@ -111,7 +123,7 @@ fn answer<'a, R: Threads + Wait + Sync, S: AsStr, F: Files, O: Sink>(
         (F.tried files.new) }
 {
     match read_words(alloc, words)? {
-        Request::Run(line) => run(rt, alloc, &line, files, out),
+        Request::Run(line) => run(rt, alloc, &line, files, out, err),
         Request::Help(text) | Request::Version(text) => print(text.as_str(), out),
         Request::Usage(misuse) => Err(Fault::Usage(misuse)),
         Request::Misread(text) => Err(Fault::Misread(text)),
@@ -132,15 +144,21 @@ fn print<'a, O: Sink>(text: &str, out: &mut O) -> Result<Status, Fault<'a>>
     }
 }
 
-/// Runs the streams, and prints what came of them.
-fn run<'a, R: Threads + Wait + Sync, F: Files, O: Sink>(
+/// Runs the streams, and prints what came of them. Then tells why streams ended at a line, where that is asked for.
+fn run<'a, R: Threads + Wait + Sync, F: Files, O: Sink, E: Sink>(
     rt: &R,
     alloc: Global,
     line: &CommandLine<'a>,
     files: &mut F,
     out: &mut O,
+    err: &mut E,
 ) -> Result<Status, Fault<'a>>
-    requires { O.failures out.old ≡ 0 }
+    requires out { O.failures out.old ≡ 0 }
+    requires err { E.failures err.old ≡ 0 }
+    ensures quiet { line.now.explain ≡ false → err.new ≡ err.old }
+    ensures explained { OnOk result (E.failures err.new ≡ 0 → IsExplained F.Input line.now.explain
+        (O.taken out.old) (O.taken out.new) (E.taken err.old) (E.taken err.new)) }
+    ensures unsaid { OnErr result (err.new ≡ err.old) }
     ensures answered { IfOk result (IsAnswerTo
         (source_state F.Input.given F.Input.ended F.Input.rest F.Input.failures)
         (sink_state F.Output.taken F.Output.failures) (λ path. F.content files.old path)
@@ -173,6 +191,7 @@ fn run<'a, R: Threads + Wait + Sync, F: Files, O: Sink>(
     let options = Options {
         max_steps: line.max_steps,
         trim: line.trim,
+        explain: line.explain,
     };
     match check_with_steps(
         rt,
@@ -185,13 +204,35 @@ fn run<'a, R: Threads + Wait + Sync, F: Files, O: Sink>(
         &mut proof,
         out,
     ) {
-        Ok((checked, steps)) => {
+        Ok((checked, steps, explanation)) => {
             // Nothing is left to do: the system takes the memory as a whole, and needs no time for each step.
             mem::forget(steps);
-            ended(checked, line.proof)
+            let answer = ended(checked, line.proof);
+            tell_why(line.explain, &answer, explanation.as_str(), err);
+            answer
         }
         Err(fault) => Err(fault_of(line.formula, fault)),
     }
+}
+
+/// Tells why streams ended at a line, where that is asked for and nothing else is told.
+fn tell_why<'a, E: Sink>(
+    explain: bool,
+    answer: &Result<Status, Fault<'a>>,
+    explanation: &str,
+    err: &mut E,
+)
+    requires { E.failures err.old ≡ 0 }
+    ensures quiet { explain ≡ false → err.new ≡ err.old }
+    ensures unsaid { OnErr answer.now (err.new ≡ err.old) }
+    ensures told { explain ≡ true → OnOk answer.now (E.failures err.new ≡ 0
+        → E.taken err.new ≡ E.taken err.old ++ explanation.now) }
+{
+    if !explain || answer.is_err() {
+        return;
+    }
+    // That standard error fails changes nothing.
+    let _ = write_all(err, explanation.as_bytes());
 }
 
 /// How a run ends whose check answers this, and whose proof was asked for at this path.

@@ -1,11 +1,12 @@
 //! A check: a run whose outcome is printed.
-ghost use Rattle.std.specs.Prelude.{◌≡◌, IfOk, IfErr};
+ghost use Rattle.std.specs.Prelude.{◌≡◌, [], IfOk, IfErr, string_bytes};
 ghost use Rattle.lj_clause.specs.ClauseMap.{FormulaValue};
 ghost use Rattle.lj_clause.specs.Memory.{no_memory};
 ghost use Rattle.lj_text.specs.Streams.{source_state};
 ghost use Rattle.lj_clause.specs.Truth.{IsUnsatisfiable};
 ghost use Rattle.lj_run.specs.FormulaReading.{GaveFormula};
 ghost use Rattle.lj_run.specs.InTurn.{streams_by_seat};
+ghost use Rattle.lj_run.specs.Explanation.{IsExplained};
 ghost use Rattle.lj_run.specs.Checking.{LeavesAnswer, LeavesFault, verdict_of};
 ghost use Rattle.lj_run.specs.Premise.{MayRun};
 ghost use Rattle.lj_run.specs.Proof.{sink_state};
@@ -109,13 +110,14 @@ pub fn check<R: Threads + Wait + Sync, F: Source, S: Source + Drop + Send, P: Si
         options.now.max_steps options.now.trim (streams_by_seat streams.items closing)
         proof.old proof.new (sink_state O.taken O.failures) out.old out.new) }
 {
-    let (checked, _) = check_with_steps(
+    let (checked, _, _) = check_with_steps(
         rt, alloc, formula, streams, closing, options, way, proof, out,
     )?;
     Ok(checked)
 }
 
-/// As [`check`], and hands out the steps of the run, so that its caller says when they are let go of.
+/// As [`check`], and hands out the steps of the run, so that its caller says when they are let go of, and its sentences on the
+/// streams that ended at a line.
 pub(crate) fn check_with_steps<
     R: Threads + Wait + Sync,
     F: Source,
@@ -132,7 +134,7 @@ pub(crate) fn check_with_steps<
     way: Way,
     proof: &mut Option<P>,
     out: &mut O,
-) -> Result<(Checked, Steps), CheckFault>
+) -> Result<(Checked, Steps, String), CheckFault>
     requires run { MayRun (source_state F.given F.ended F.rest F.failures formula.old)
         (source_state S.given S.ended S.rest S.failures) (sink_state P.taken P.failures)
         (streams_by_seat streams.items closing) proof.old }
@@ -144,6 +146,8 @@ pub(crate) fn check_with_steps<
         (source_state S.given S.ended S.rest S.failures) (sink_state P.taken P.failures)
         options.now.max_steps options.now.trim (streams_by_seat streams.items closing)
         proof.old proof.new (sink_state O.taken O.failures) out.old out.new told.0) }
+    ensures explained { IfOk result (λ told. IsExplained S options.now.explain (O.taken out.old)
+        (O.taken out.new) [] (string_bytes told.2)) }
     ensures fault { IfErr result (LeavesFault way
         (source_state F.given F.ended F.rest F.failures formula.old)
         (source_state F.given F.ended F.rest F.failures formula.new)
@@ -159,7 +163,7 @@ pub(crate) fn check_with_steps<
                 verdict: verdict_on(&outcome),
                 proof: outcome.proof,
             };
-            Ok((checked, outcome.steps))
+            Ok((checked, outcome.steps, outcome.explanation))
         }
         Err(_) => Err(CheckFault::CannotWrite),
     }

@@ -39,6 +39,8 @@ pub(crate) struct CommandLine<'a> {
     pub proof: Option<&'a str>,
     /// Whether the proof is to hold only what the empty clause needs.
     pub trim: bool,
+    /// Whether it is told why streams end at a line.
+    pub explain: bool,
     ghost some: { 0 < vec_len proofs },
     ghost at_most: { vec_len proofs ≤ 64 },
 }

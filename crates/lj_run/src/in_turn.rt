@@ -1,14 +1,16 @@
 //! The run of streams one after the other, on one book.
-ghost use Rattle.std.specs.Prelude.{◌≡◌, ◌≤◌, length, All, IfOk, IfErr, OnErr};
+ghost use Rattle.std.specs.Prelude.{◌≡◌, ◌≤◌, length, All, IfOk, IfErr, OnErr, string_bytes};
 ghost use Rattle.lj_text.specs.Streams.{source_state};
 ghost use Rattle.lj_run.specs.FormulaReading.{IsFormulaFault};
 ghost use Rattle.lj_run.specs.InTurn.{IsReport, RunInTurn, streams_by_seat};
+ghost use Rattle.lj_run.specs.Explanation.{IsExplanation};
 ghost use Rattle.lj_run.specs.Premise.{MayRun};
 ghost use Rattle.lj_run.specs.Proof.{sink_state};
 ghost use Rattle.lj_run.specs.Ways.{IsAnswerBy};
 ghost use Rattle.lj_run.specs.declared.outcome.Way.TheVariants.{InTurn};
 
 use crate::book_seat::BookSeat;
+use crate::explaining::explanation_of;
 use crate::outcome::{Options, Outcome, Report, RunFault};
 use crate::proving::prove;
 use crate::reading::read_formula;
@@ -46,6 +48,8 @@ pub fn run_in_turn<R: Wait, F: Source, S: Source + Drop, W: Sink>(
         (source_state S.given S.ended S.rest S.failures)
         (sink_state W.taken W.failures) options.now.max_steps options.now.trim
         (streams_by_seat streams.items closing) out.old out.new) }
+    ensures explained { IfOk result (λ outcome. IsExplanation options.now.explain
+        outcome.reports.items (string_bytes outcome.explanation)) }
     ensures fault { IfErr result
         (IsFormulaFault (source_state F.given F.ended F.rest F.failures formula.old)
         (source_state F.given F.ended F.rest F.failures formula.new)) }
@@ -61,6 +65,7 @@ pub fn run_in_turn<R: Wait, F: Source, S: Source + Drop, W: Sink>(
     history_is_legal(&book);
     live_is_the_replay(&book);
     let verified = book.verified()?;
+    let explanation = explanation_of(alloc, options, &book, &reports);
     let steps = book.into_steps();
     let proof = prove(alloc, clauses, &verified, options.trim, &steps, out);
     Ok(Outcome {
@@ -68,6 +73,7 @@ pub fn run_in_turn<R: Wait, F: Source, S: Source + Drop, W: Sink>(
         verified,
         steps,
         proof,
+        explanation,
     })
 }
 

@@ -1,8 +1,9 @@
 //! The run of streams beside one another, on one shared book.
-ghost use Rattle.std.specs.Prelude.{◌≡◌, IfOk, IfErr, OnErr};
+ghost use Rattle.std.specs.Prelude.{◌≡◌, IfOk, IfErr, OnErr, string_bytes};
 ghost use Rattle.lj_text.specs.Streams.{source_state};
 ghost use Rattle.lj_run.specs.InTurn.{streams_by_seat};
 ghost use Rattle.lj_run.specs.Joint.{IsJointFault};
+ghost use Rattle.lj_run.specs.Explanation.{IsExplanation};
 ghost use Rattle.lj_run.specs.Premise.{MayRun};
 ghost use Rattle.lj_run.specs.Proof.{sink_state};
 ghost use Rattle.lj_run.specs.Ways.{IsAnswerBy};
@@ -11,6 +12,7 @@ ghost use Rattle.lj_run.specs.declared.outcome.Way.TheVariants.{OnThreads};
 mod opened;
 mod worker;
 
+use crate::explaining::explanation_of;
 use crate::joint::opened::run_opened;
 use crate::outcome::{Options, Outcome, RunFault};
 use crate::proving::prove;
@@ -61,6 +63,8 @@ pub fn run_joint<
         (source_state S.given S.ended S.rest S.failures)
         (sink_state W.taken W.failures) options.now.max_steps options.now.trim
         (streams_by_seat streams.items closing) out.old out.new) }
+    ensures explained { IfOk result (λ outcome. IsExplanation options.now.explain
+        outcome.reports.items (string_bytes outcome.explanation)) }
     ensures fault { IfErr result (IsJointFault
         (source_state F.given F.ended F.rest F.failures formula.old)
         (source_state F.given F.ended F.rest F.failures formula.new)
@@ -85,6 +89,7 @@ pub fn run_joint<
     history_is_legal(&book);
     live_is_the_replay(&book);
     let verified = book.verified()?;
+    let explanation = explanation_of(alloc, options, &book, &reports);
     let steps = book.into_steps();
     let proof = prove(alloc, clauses, &verified, options.trim, &steps, out);
     Ok(Outcome {
@@ -92,5 +97,6 @@ pub fn run_joint<
         verified,
         steps,
         proof,
+        explanation,
     })
 }

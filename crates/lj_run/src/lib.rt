@@ -3,16 +3,20 @@
 //! A call takes constant time where neither it nor its type tells a cost.
 #![tactic(auto)]
 
+mod assigned;
 mod block;
 mod body;
 mod book_seat;
 mod checking;
 mod command_line;
+mod cut_list;
 mod entering;
+mod explaining;
 mod fault;
 pub mod files;
 mod in_turn;
 mod joint;
+mod line_text;
 mod misuse;
 mod opening;
 pub mod outcome;
@@ -20,6 +24,7 @@ mod paths_so_far;
 mod printing;
 mod proving;
 mod reading;
+mod reasons;
 mod running;
 mod starting;
 mod status;

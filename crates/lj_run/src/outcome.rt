@@ -5,7 +5,7 @@ ghost use Rattle.lj_run.specs.declared.outcome.RunFault.TheVariants as run_fault
 
 use lj_book::{Refusal, Steps, Verified};
 use lj_clause::NoMemory;
-use lj_text::{CnfFault, LineFaultKind};
+use lj_text::{CnfFault, Line, LineFaultKind};
 use std::alloc::{AllocError, AllocFailed};
 use std::error::Error;
 use std::fmt;
@@ -17,6 +17,8 @@ pub struct Options {
     pub max_steps: u32,
     /// Whether the written proof is to hold only what the empty clause needs.
     pub trim: bool,
+    /// Whether the outcome is to have sentences on the streams that end at a line.
+    pub explain: bool,
 }
 
 /// The way in which the streams of a run are run.
@@ -39,6 +41,9 @@ pub struct Outcome<S> {
     pub steps: Steps,
     /// What became of the proof.
     pub proof: ProofEnd,
+    /// A sentence on each stream that ended at a line, where the options ask for it. One for which there was no memory is left
+    /// out.
+    pub explanation: String,
 }
 
 /// What came of one stream. The counts are of accepted lines.
@@ -49,6 +54,8 @@ pub struct Report<S> {
     pub imported: u64,
     /// How the stream ended.
     pub end: End,
+    /// The line that the book refused, where the stream ended so.
+    pub refused: Option<Line>,
     /// The stream, given back.
     pub source: S,
 }

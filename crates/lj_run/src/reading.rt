@@ -96,25 +96,34 @@ pub(crate) enum Miss {
     AtFault(LineFault),
 }
 
-/// The next line of a stream, `None` at its end, with pieces pulled into the room as they are needed. `ended` says
-/// that the source came to its end.
-pub(crate) fn next_line<R: Wait, S: Source>(
-    rt: &R,
+/// What a call for the next line of a stream comes to.
+#[derive(Debug, Drop)]
+pub(crate) enum Next {
+    /// The next line.
+    Line(Line),
+    /// A piece was read, or the source has ended since: the call is made again.
+    More,
+    /// No line is left, and the source has ended.
+    End,
+}
+
+/// The next line of a stream, with at most one piece pulled into the room. `ended` says that the source came to its end.
+pub(crate) fn next_line<S: Source>(
     source: &mut S,
     reader: &mut LineReader,
     ended: &mut bool,
     room: &mut [u8],
-) -> Result<Option<Line>, Miss>
+) -> Result<Next, Miss>
     requires room { 0 < length room.old }
     requires unfailed { S.failures source.old ≡ 0 }
     requires may_read { MayRead reader.old ended.old }
     requires ended { ended.old ≡ true
         → HasEnded (source_state S.given S.ended S.rest S.failures source.old) }
 
-    ensures line { IfOk result (λ line. (fed : List ℕ) (handed : ℕ)
+    ensures next { IfOk result (λ next. (fed : List ℕ) (handed : ℕ)
         → LineReaderStandsAt reader.old fed handed → LineRead reader.old.max fed handed reader.new
         (source_state S.given S.ended S.rest S.failures source.old)
-        (source_state S.given S.ended S.rest S.failures source.new) line) }
+        (source_state S.given S.ended S.rest S.failures source.new) next) }
     ensures miss { IfErr result (λ miss. (fed : List ℕ) (handed : ℕ)
         → LineReaderStandsAt reader.old fed handed → LineMissed reader.old.max fed handed
         reader.new.at (source_state S.given S.ended S.rest S.failures source.old)
@@ -128,64 +137,24 @@ pub(crate) fn next_line<R: Wait, S: Source>(
     ensures max { reader.new.max ≡ reader.old.max }
 {
     if *ended {
-        return read_on(rt, source, reader, ended, room);
+        return match reader.finish() {
+            Ok(Some(line)) => Ok(Next::Line(line)),
+            Ok(None) => Ok(Next::End),
+            Err(fault) => Err(Miss::AtFault(fault)),
+        };
     }
     match reader.next() {
-        Ok(Some(line)) => Ok(Some(line)),
-        Ok(None) => read_on(rt, source, reader, ended, room),
+        Ok(Some(line)) => Ok(Next::Line(line)),
+        Ok(None) => {
+            pull_piece(source, reader, ended, room)?;
+            Ok(Next::More)
+        }
         Err(fault) => Err(Miss::AtFault(fault)),
     }
 }
 
-/// The same, where a piece may have to be pulled first.
-#[cold]
-fn read_on<R: Wait, S: Source>(
-    rt: &R,
-    source: &mut S,
-    reader: &mut LineReader,
-    ended: &mut bool,
-    room: &mut [u8],
-) -> Result<Option<Line>, Miss>
-    requires room { 0 < length room.old }
-    requires unfailed { S.failures source.old ≡ 0 }
-    requires may_read { MayRead reader.old ended.old }
-    requires ended { ended.old ≡ true
-        → HasEnded (source_state S.given S.ended S.rest S.failures source.old) }
-
-    ensures line { IfOk result (λ line. (fed : List ℕ) (handed : ℕ)
-        → LineReaderStandsAt reader.old fed handed → LineRead reader.old.max fed handed reader.new
-        (source_state S.given S.ended S.rest S.failures source.old)
-        (source_state S.given S.ended S.rest S.failures source.new) line) }
-    ensures miss { IfErr result (λ miss. (fed : List ℕ) (handed : ℕ)
-        → LineReaderStandsAt reader.old fed handed → LineMissed reader.old.max fed handed
-        reader.new.at (source_state S.given S.ended S.rest S.failures source.old)
-        (source_state S.given S.ended S.rest S.failures source.new) miss) }
-
-    ensures may_read { OnOk result (MayRead reader.new ended.new) }
-    ensures ended { OnOk result (ended.new ≡ true
-        → HasEnded (source_state S.given S.ended S.rest S.failures source.new)) }
-    ensures unfailed { OnOk result (S.failures source.new ≡ 0) }
-    ensures failures { IfErr result (λ miss. S.failures source.new ≡ reads_failed miss) }
-    ensures max { reader.new.max ≡ reader.old.max }
-{
-    for _ in rt.forever() {
-        if *ended {
-            match reader.finish() {
-                Ok(line) => return Ok(line),
-                Err(fault) => return Err(Miss::AtFault(fault)),
-            }
-        }
-        match reader.next() {
-            Ok(Some(line)) => return Ok(Some(line)),
-            Ok(None) => {}
-            Err(fault) => return Err(Miss::AtFault(fault)),
-        }
-        pull_piece(source, reader, ended, room)?;
-    }
-    unreachable!()
-}
-
 /// Pulls a piece and feeds it on, or sees that the source has ended.
+#[cold]
 fn pull_piece<S: Source>(
     source: &mut S,
     reader: &mut LineReader,

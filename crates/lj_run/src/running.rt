@@ -1,7 +1,8 @@
 //! The run of streams in the way that is asked.
-ghost use Rattle.std.specs.Prelude.{◌≡◌, IfOk, IfErr, OnErr};
+ghost use Rattle.std.specs.Prelude.{◌≡◌, IfOk, IfErr, OnErr, string_bytes};
 ghost use Rattle.lj_text.specs.Streams.{source_state};
 ghost use Rattle.lj_run.specs.InTurn.{streams_by_seat};
+ghost use Rattle.lj_run.specs.Explanation.{IsExplanation};
 ghost use Rattle.lj_run.specs.Premise.{MayRun};
 ghost use Rattle.lj_run.specs.Proof.{sink_state};
 ghost use Rattle.lj_run.specs.Ways.{IsAnswerBy, IsFaultBy};
@@ -36,6 +37,8 @@ pub(crate) fn run_by<R: Threads + Wait + Sync, F: Source, S: Source + Drop + Sen
         (source_state S.given S.ended S.rest S.failures)
         (sink_state W.taken W.failures) options.now.max_steps options.now.trim
         (streams_by_seat streams.items closing) out.old out.new) }
+    ensures explained { IfOk result (λ outcome. IsExplanation options.now.explain
+        outcome.reports.items (string_bytes outcome.explanation)) }
     ensures fault { IfErr result (IsFaultBy way
         (source_state F.given F.ended F.rest F.failures formula.old)
         (source_state F.given F.ended F.rest F.failures formula.new)

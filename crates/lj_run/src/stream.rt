@@ -1,5 +1,5 @@
 //! The run of one stream.
-ghost use Rattle.std.specs.Prelude.{◌≡◌, ◌+◌, ◌<◌, ◌≤◌, length};
+ghost use Rattle.std.specs.Prelude.{◌≡◌, ◌+◌, ◌<◌, ◌≤◌, None, length};
 ghost use Rattle.lj_text.specs.Streams.{source_state};
 ghost use Rattle.lj_run.specs.Run.{IsStreamRun};
 ghost use Rattle.lj_run.specs.inner.Block.{BlockEntered};
@@ -12,20 +12,22 @@ ghost use Rattle.lj_run.specs.declared.outcome.LineEnd.TheVariants.{Fault};
 use crate::block::{fill, take_back};
 use crate::entering::Entering;
 use crate::outcome::{End, LineEnd, Report};
-use crate::reading::{Miss, PIECE, next_line};
+use crate::reading::{Miss, Next, PIECE, next_line};
 use lj_clause::{MAX_VARIABLE, NoMemory};
 use lj_share::Numbered;
 use lj_text::{Line, LineFaultKind, LineReader, Source};
 use std::alloc::Global;
 use std::sync::Wait;
 
-/// What came of a stream: how many of its additions, deletions and imports were accepted, and how it ended.
-#[derive(Clone, Copy, Debug)]
+/// What came of a stream: how many of its additions, deletions and imports were accepted, how it ended, and the line that was
+/// refused, where it ended so.
+#[derive(Debug, Drop)]
 pub(crate) struct Tally {
     pub added: u64,
     pub deleted: u64,
     pub imported: u64,
     pub end: End,
+    pub refused: Option<Line>,
 }
 
 /// Runs a stream through a seat, and reports of it.
@@ -47,12 +49,14 @@ pub(crate) fn run_stream<E: Entering, R: Wait, S: Source>(
         deleted: tally.deleted,
         imported: tally.imported,
         end: tally.end,
+        refused: tally.refused,
         source,
     }
 }
 
-/// Enters the lines of a source, block after block, until the verdict stands, the source ends or a line isn't accepted. Takes the
-/// time of the source's pulls, of the reader and of the seat's calls for the lines.
+/// Enters the lines of a source, block after block, until the verdict stands, the source ends or a line isn't accepted. Looks
+/// for the verdict before each block and each pull, and once more at the end. Takes the time of the source's pulls, of the reader
+/// and of the seat's calls for the lines.
 fn run_lines<E: Entering, R: Wait, S: Source>(
     rt: &R,
     alloc: Global,
@@ -76,6 +80,7 @@ fn run_lines<E: Entering, R: Wait, S: Source>(
         deleted: 0,
         imported: 0,
         end: End::Stopped,
+        refused: None,
     };
     for _ in rt.forever() {
         if seat.is_stopped() {
@@ -84,42 +89,47 @@ fn run_lines<E: Entering, R: Wait, S: Source>(
         if let Some(behind) = fault {
             return tally.ending(missed(Miss::AtFault(behind), reader.at()));
         }
-        let line = match next_line(rt, source, &mut reader, &mut ended, &mut room) {
-            Ok(Some(line)) => line,
-            Ok(None) => return tally.ending(End::Ended),
+        let line = match next_line(source, &mut reader, &mut ended, &mut room) {
+            Ok(Next::Line(line)) => line,
+            Ok(Next::More) => continue,
+            Ok(Next::End) => return tally.ending(End::Ended),
             Err(miss) => return tally.ending(missed(miss, reader.at())),
         };
         match fill(&mut lines, &mut reader, line, E::BLOCK) {
             Ok(behind) => fault = behind,
             Err(e) => return tally.ending(out_of_memory(reader.at(), e)),
         }
-        if let Some(end) = enter_block(rt, seat, &lines, &mut tally) {
-            return tally.ending(end);
+        if let Some(ending) = enter_block(rt, seat, &mut lines, &mut tally) {
+            return tally.ending_at(ending.0, ending.1);
         }
         take_back(&mut lines, &mut reader);
     }
     unreachable!()
 }
 
-/// Enters the lines of a block and counts those that were entered; gives the stream's end, where it ends among them.
+/// Enters the lines of a block and counts those that were entered; gives the stream's end, where it ends among them, and the
+/// line that was refused, which is taken out of the block.
 fn enter_block<E: Entering, R: Wait>(
     rt: &R,
     seat: &mut E,
-    lines: &[Numbered],
+    lines: &mut Vec<Numbered>,
     tally: &mut Tally,
-) -> Option<End>
+) -> Option<(End, Option<Line>)>
     requires { tally.old.added + tally.old.deleted + tally.old.imported ≤ E.known seat.old }
     ensures entered { BlockEntered (λ lines. E.entered seat.old lines seat.new)
-        (E.refused seat.new) (E.stopped seat.new) (E.goes_on seat.new) lines.now tally.old
+        (E.refused seat.new) (E.stopped seat.new) (E.goes_on seat.new) lines.old.items tally.old
         tally.new result }
     ensures known { tally.new.added + tally.new.deleted + tally.new.imported
         ≤ E.known seat.new }
 {
-    let (count, refusal) = seat.enter_lines(rt, lines);
+    let (count, refusal) = seat.enter_lines(rt, lines.as_slice());
     count_lines(tally, &lines[..count], seat.entries());
     match refusal {
-        Some(refusal) => Some(End::Line(lines[count].at, LineEnd::Refused(refusal))),
-        None if count < lines.len() => Some(End::Stopped),
+        Some(refusal) => {
+            let Numbered { at, line } = lines.swap_remove(count);
+            Some((End::Line(at, LineEnd::Refused(refusal)), Some(line)))
+        }
+        None if count < lines.len() => Some((End::Stopped, None)),
         None => None,
     }
 }
@@ -154,9 +164,22 @@ impl Tally {
 
     /// The tally of a stream that ended so.
     fn ending(self, end: End) -> Tally
-        ensures { result ≡ with_end self end }
+        ensures { result ≡ with_end self end None }
     {
-        Tally { end, ..self }
+        self.ending_at(end, None)
+    }
+
+    /// The tally of a stream that ended so, with the line that was refused.
+    fn ending_at(self, end: End, refused: Option<Line>) -> Tally
+        ensures { result ≡ with_end self end refused }
+    {
+        Tally {
+            added: self.added,
+            deleted: self.deleted,
+            imported: self.imported,
+            end,
+            refused,
+        }
     }
 }
 

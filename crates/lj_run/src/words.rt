@@ -8,7 +8,7 @@ ghost use Rattle.clap.specs.Walk.{rows_of};
 ghost use Rattle.clap.specs.Matches.{found_of};
 ghost use Rattle.clap.specs.declared.error.kind.ErrorKind.TheVariants.{OutOfMemory};
 ghost use Rattle.lj_run.specs.inner.CommandLine.{HasRule, line_asked, request_asked};
-ghost use Rattle.lj_run.specs.CommandLine.{asked_by, asked_by_rows, bare_app, flag_rule, is_given, is_input, is_run_of, kind_asked, limit_of, option_rule, path_rule, paths_rule, program_app, run_asked, run_with_proof, steps_of_value, way_of, with_proof};
+ghost use Rattle.lj_run.specs.CommandLine.{asked_by, asked_by_rows, bare_app, flag_rule, is_given, is_input, is_run_of, kind_asked, limit_of, option_rule, path_rule, paths_rule, program_app, run_asked, run_with_proof, steps_of_value, way_of, with_explain, with_proof};
 ghost use Rattle.lj_run.specs.declared.words.WordsFault.TheVariants as words_faults;
 
 use crate::command_line::{CommandLine, MAX_PROOFS, Request};
@@ -84,13 +84,19 @@ fn command<'a>(alloc: Global) -> Result<Command<'a>, AllocError>
         "Write only the steps that the empty clause needs",
     );
     let max_steps = option(alloc, "max-steps", "N", "Accept at most N additions");
+    let explain = flag(
+        alloc,
+        "explain",
+        "Say on standard error why a stream ended at a line",
+    );
     let command = without_arguments(alloc).arg(formula)?.arg(proofs)?;
     command
         .arg(close)?
         .arg(in_turn)?
         .arg(proof)?
         .arg(trim)?
-        .arg(max_steps)
+        .arg(max_steps)?
+        .arg(explain)
 }
 
 /// The version that `--version` tells.
@@ -163,7 +169,9 @@ fn run_of<'a>(alloc: Global, matches: &ArgMatches<'a>) -> Result<Request<'a>, Al
         way_of(in_turn, proofs.len()),
     )?;
     let trim = is_given(matches, "trim");
-    Ok(with_proof(request, matches.get_str("proof"), trim))
+    let request = with_proof(request, matches.get_str("proof"), trim);
+    let explain = is_given(matches, "explain");
+    Ok(with_explain(request, explain))
 }
 
 /// Whether the flag of this name is given.
@@ -215,6 +223,7 @@ fn request_of<'a>(
         way,
         proof: None,
         trim: false,
+        explain: false,
     }))
 }
 
@@ -240,6 +249,19 @@ fn run_with_proof<'a>(mut line: CommandLine<'a>, path: &'a str, trim: bool) -> R
     line.proof = Some(path);
     line.trim = trim;
     Request::Run(line)
+}
+
+/// The request, and whether it is told why streams end at a line.
+fn with_explain<'a>(request: Request<'a>, explain: bool) -> Request<'a>
+    ensures { request_asked result ≡ with_explain (request_asked request.entry) explain }
+{
+    match request {
+        Request::Run(mut line) => {
+            line.explain = explain;
+            Request::Run(line)
+        }
+        request => request,
+    }
 }
 
 /// Whether the run reads the file at this path.

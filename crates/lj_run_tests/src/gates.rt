@@ -58,6 +58,7 @@ fn outcome_of<R: Threads + Wait + Abort + Sync, G: Gate + Sync>(
     let options = Options {
         max_steps: u32::MAX,
         trim: false,
+        explain: false,
     };
     let mut out = Some(MemorySink::new(alloc));
     match run_joint(

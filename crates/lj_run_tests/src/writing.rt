@@ -84,6 +84,7 @@ fn proof_into(
     let options = Options {
         max_steps: u32::MAX,
         trim: false,
+        explain: false,
     };
     let mut out = Some(sink);
     let outcome = run_in_turn(rt, alloc, &mut formula, streams, None, &options, &mut out)?;

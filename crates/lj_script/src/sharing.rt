@@ -228,7 +228,7 @@ fn call_once<L: Opening, R: Wait>(
     match word {
         "submit" => submit(rt, shared, seat, &line_of(callers.alloc, rest)?),
         "enter" => enter(rt, shared, seat, &line_of(callers.alloc, rest)?),
-        "take" => take(rt, shared, seat, callers, rest),
+        "take" => take(shared, seat, callers, rest),
         "test" => Ok(Answer::Reply(callers.test(seat.number() as usize))),
         "commit" => Ok(commit(rt, shared, seat, callers)),
         "adopt" => adopt(rt, shared, seat, rest),
@@ -306,15 +306,14 @@ fn is_addition(line: &Line) -> bool {
     }
 }
 
-fn take<L: Opening, R: Wait>(
-    rt: &R,
+fn take<L: Opening>(
     shared: &Shared<L>,
     seat: &mut Seat<L>,
     callers: &mut Callers,
     rest: &str,
 ) -> Result<Answer, Stop> {
     let addition = addition_of(callers.alloc, rest)?;
-    let (reply, pending) = match shared.take(rt, seat, &addition) {
+    let (reply, pending) = match shared.take(seat, &addition) {
         Ok(case) => (Reply::Taken, Pending::Case(case)),
         Err(refusal) => (Reply::Refused(refusal), Pending::Nothing),
     };

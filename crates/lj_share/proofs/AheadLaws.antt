@@ -1,9 +1,9 @@
 -- Lines that are tested ahead and then entered, one after the other.
-use Rattle.std.proofs.Common.{◌≡◌, ap, inr, refl, sym, ◌∙◌, subst, ℕ, zero, suc, ◌+◌, ◌-◌, ◌<◌, ◌≤◌, Bool, true, false, arith}
-use Rattle.std.specs.Prelude.{nat_lt, Result, Ok, Err, IfOk, IfErr, IfSome, IsSome, is_some, Option, None, List, [], ◌∷◌, ◌++◌, length, map, take, drop, Some, slice_get, slice_set}
+use Rattle.std.proofs.Common.{◌≡◌, ap, refl, sym, ◌∙◌, subst, ℕ, zero, suc, ◌+◌, ◌-◌, ◌<◌, ◌≤◌, Bool, true, false, arith}
+use Rattle.std.specs.Prelude.{nat_lt, Result, Ok, Err, IfOk, IfErr, is_some, Option, None, List, [], ◌∷◌, ◌++◌, length, take, drop, Some, slice_get, slice_set}
 use Rattle.std.proofs.lemmas.Bool.{false≢true, ltb-true, ltb-false}
 use Rattle.std.proofs.lemmas.List.{length-drop, take_all}
-use Rattle.lj_clause.specs.ClauseMap.{ClauseMap, FormulaValue}
+use Rattle.lj_clause.specs.ClauseMap.{ClauseMap}
 use Rattle.lj_text.specs.declared.line.Addition.{Addition}
 use Rattle.lj_text.specs.declared.line.Line.{Line}
 use Rattle.lj_text.specs.declared.line.Line.TheVariants as lines
@@ -12,12 +12,10 @@ use Rattle.lj_book.specs.Solo.{View}
 use Rattle.lj_book.specs.Views.{IsClosedAlone, decided_refusal}
 use Rattle.lj_share.specs.declared.seat.Alone.{Alone}
 use Rattle.lj_share.specs.declared.seat.Alone.TheVariants.{Closed, Open}
-use Rattle.lj_share.specs.Refusals.{IsDecided, IsLineRefused, line_refusal}
-use Rattle.lj_share.specs.Seats.{SeatValue}
-use Rattle.lj_share.specs.inner.Seats.{IfClosed, IsOwnOf, IsTestedAs, OwnValue, clauses_seen}
+use Rattle.lj_share.specs.Refusals.{IsDecided}
+use Rattle.lj_share.specs.inner.Seats.{IfClosed, IsTestedAs}
 use Rattle.lj_share.specs.declared.numbered.Numbered.{Numbered}
-use Rattle.lj_share.specs.inner.Ahead.{AreKept, AreSeen, AreTested, IsClosedBy, IsNextRefused, IsRefusedAhead, IsRefusedBy, IsTestedLine, clauses_after_line, clauses_behind}
-use Rattle.lj_share.proofs.AloneLaws.{get-seen}
+use Rattle.lj_share.specs.inner.Ahead.{AreSeen, AreTested, IsClosedBy, IsRefusedBy, IsTestedLine, clauses_after_line, clauses_behind}
 use Rattle.lj_share.proofs.Confirming.{some_same}
 use Rattle.lj_share.proofs.OwnLaws.{set_at, set_apart}
 
@@ -101,35 +99,6 @@ pub tested_as : (m : ClauseMap) (view : View) (seat : ℕ) (line : Line) (read :
 tested_as m view seat (lines.Add a) read seen by = by view seat seen
 tested_as m view seat (lines.Delete numbers) read seen by = tt
 tested_as m view seat (lines.Import own clause) read seen by = tt
-
--- a line that the clauses refuse is refused by what the seat sees
-pub decided_ahead : (m : ClauseMap) (seat : SeatValue) (line : Line) (e : Refusal) → AreSeen m seat.view → IsRefusedAhead m line e → IsDecided (line_refusal seat line) e
-decided_ahead m seat (lines.Add a) e seen by = by seat.view seat.number seen
-decided_ahead m seat (lines.Delete numbers) e seen by = absurd by
-decided_ahead m seat (lines.Import own clause) e seen by = absurd by
-
--- the next line is refused so by what the seat sees that entered all before it
-pub next_refused : (f : FormulaValue) (seats max : ℕ) (m : ClauseMap) (ls : List Numbered) (count n : ℕ) (r : Option Refusal) (seat : SeatValue) (there : Type 0) → n ≡ count → IfSome r (λ e. IsNextRefused m ls count e × there) → (there → AreSeen (clauses_behind m (take count ls)) seat.view) → IfSome r (λ e. (l : Numbered) × (slice_get ls n ≡ Some l) × IsLineRefused f seats max seat l.line e)
-next_refused f seats max m ls count n None seat there is next seen = tt
-next_refused f seats max m ls count n (Some e) seat there is next seen =
-    (next.0.0, ap (slice_get ls) is ∙ next.0.1.0, inr (decided_ahead (clauses_behind m (take count ls)) seat next.0.0.line e (seen next.1) next.0.1.1))
-
--- what is kept before any line
-pub kept_init : (f : FormulaValue) (o : Option OwnValue) (v : View) → IsOwnOf f o v → AreKept f o v (clauses_seen v)
-kept_init f None v are = tt
-kept_init f (Some o) v are = (are.0, λ n. are.1 n ∙ sym (get-seen v n))
-
--- who keeps clauses is there
-pub kept_here : (f : FormulaValue) (o : Option OwnValue) (p : OwnValue) (v : View) (m : ClauseMap) → o ≡ Some p → AreKept f o v m → IsSome v
-kept_here f o p v m is are = go (subst (λ (x : Option OwnValue). AreKept f x v m) is are)
-  where
-    go : AreKept f (Some p) v m → IsSome v
-    go kept = kept.0
-
--- what is kept where no line was tested
-pub kept_none : (f : FormulaValue) (o : Option OwnValue) (v : View) → AreKept f o v (clauses_seen v) → IsOwnOf f o v
-kept_none f None v are = tt
-kept_none f (Some o) v are = (are.0, λ n. are.1 n ∙ get-seen v n)
 
 -- ---- turns
 

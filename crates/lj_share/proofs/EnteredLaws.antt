@@ -1,8 +1,7 @@
 -- Lines that are entered, one after the other.
 use Rattle.std.proofs.Common.{◌≡◌, ap, refl, sym, ◌∙◌, subst, ℕ, ◌+◌}
-use Rattle.std.specs.Prelude.{List, [], ◌∷◌, ◌++◌, map, take, drop, Some, None, slice_get}
+use Rattle.std.specs.Prelude.{List, [], ◌∷◌, ◌++◌, map, take, drop, Some, slice_get}
 use Rattle.std.proofs.lemmas.List.{append_assoc, append-nil}
-use Rattle.lj_book.specs.declared.entry.Call.{Call}
 use Rattle.lj_share.specs.declared.numbered.Numbered.{Numbered}
 use Rattle.lj_share.specs.Entered.{AreEntered, IsEntering}
 use Rattle.lj_share.specs.Entries.{call_of}

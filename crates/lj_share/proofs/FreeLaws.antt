@@ -1,6 +1,6 @@
 -- Where the book accepts a call, what the seat sees refuses none.
 use Rattle.std.proofs.Common.{◌≡◌, ap, inl, inr, refl, sym, ◌∙◌, subst, ℕ, Bool, nat_lt, true, false}
-use Rattle.std.specs.Prelude.{Option, Some, None, Result, Ok, Err, IfErr, OnOk, is_ok, is_some, unwrap_or, if◌then◌else◌}
+use Rattle.std.specs.Prelude.{Option, Some, None, Result, Ok, Err, IfErr, OnOk, is_ok, is_some, length, unwrap_or, if◌then◌else◌}
 use Rattle.std.proofs.lemmas.Bool.{false≢true}
 use Rattle.std.specs.FinMap as fin
 use Rattle.lj_clause.specs.ClauseMap.{FormulaValue}
@@ -13,7 +13,7 @@ use Rattle.lj_book.specs.declared.refusal.Refusal.TheVariants.{SeatGone, NumberT
 use Rattle.lj_book.specs.State.{State, live, addition_count}
 use Rattle.lj_book.specs.History.{IsReached}
 use Rattle.lj_book.specs.Tables.{is_here, is_bound}
-use Rattle.lj_book.specs.Calls.{IsRefusal, commit_reply, commit_told, drop_reply, import_reply, first_stale, free_refusal, if_free, stale_or, unless_refused}
+use Rattle.lj_book.specs.Calls.{IsRefusal, adopt_reply, commit_reply, commit_told, drop_reply, import_reply, first_stale, free_refusal, if_free, stale_or, unless_refused}
 use Rattle.lj_book.specs.Inside.{inside_reply}
 use Rattle.lj_book.specs.Solo.{View, solo_refusal, view_of}
 use Rattle.lj_book.specs.Views.{DecidedAlone, FreeAlone, decided_refusal}
@@ -125,3 +125,8 @@ told_if_decided decided free f seats max seat line {A} r accepted refused = by (
     by (Some e) (Ok y) at ok err = absurd (false≢true (ap is_some (sym ok ∙ at)))
     by (Some e) (Err told) at ok (inl h) = line_replied decided free h.state seat line e told h.legal h.seat_is at h.holds_there
     by (Some e) (Err told) at ok (inr h) = subst (λ (o : Option Refusal). IsDecided o told) at h
+
+-- an adoption under a free number of a clause that doesn't live
+pub adopted_dead : FreeAlone → (s : State) (seat own joint : ℕ) (v : SeatValue) → seat_of_book s v.number ≡ v → seat ≡ v.number → solo_refusal v.view own ≡ None → fin.get (live s) joint ≡ None → adopt_reply s seat own joint ≡ Err NoSuchClause
+adopted_dead laws s seat own joint v is same free none =
+    (λ i. if_free ((laws s seat own ∙ ap (λ (n : ℕ). solo_refusal (view_of s n) own) same ∙ ap (λ (x : SeatValue). solo_refusal x.view own) is ∙ free) i) (if is_some (none i) then Ok (length s.history) else Err NoSuchClause))

@@ -9,5 +9,9 @@ mod FreeLaws
 mod OpenLaws
 mod Leaving
 mod Adopting
+mod BindingLaws
 mod OwnLaws
+mod KeptLaws
+mod CaseLaws
 mod NewSeats
+mod RunLaws

@@ -1,23 +1,32 @@
 -- What an entry leaves of an opening.
 use Rattle.std.proofs.Common.{◌≡◌, ℕ, zero, suc, Bool, cond, List, [], ◌∷◌, ◌++◌, ◌+◌, length, length-append, Option, None, Some, refl, sym, ap, ◌∙◌, subst, inl, inr, map, slice_get, slice_set, arith}
-use Rattle.std.specs.Prelude.{◌==◌, ◌⊎◌, if◌then◌else◌, option_and_then}
-use Rattle.std.proofs.lemmas.Bool.{eq-eqb}
+use Rattle.std.specs.Prelude.{◌==◌, ◌⊎◌, if◌then◌else◌, option_and_then, option_map, Result, Ok, Err, is_ok}
+use Rattle.std.proofs.lemmas.Bool.{eq-eqb, false≢true}
 use Rattle.std.proofs.lemmas.List.{append-nil, length-replicate, map-append}
 use Rattle.std.proofs.lemmas.List.Elements.{filter-append}
+use Rattle.lj_clause.specs.LiteralSet.{LiteralSet}
+use Rattle.lj_clause.specs.Lemma.{LemmaValue}
 use Rattle.lj_clause.specs.ClauseMap.{FormulaValue}
+use Rattle.lj_text.specs.declared.line.Addition.{Addition}
+use Rattle.lj_hint.specs.Case.{CaseValue}
+use Rattle.lj_hint.specs.Receipt.{ReceiptValue}
+use Rattle.lj_book.specs.declared.refusal.Refusal.{Refusal}
+use Rattle.lj_book.specs.declared.entry.Added.{Added}
+use Rattle.lj_book.specs.declared.entry.Imported.{Imported}
+use Rattle.lj_book.specs.Calls.{take_reply, commit_refusal, commit_reply, commit_told, free_refusal, if_free, import_reply, imported_at, unless_refused}
+use Rattle.lj_book.specs.Inside.{inside_after, inside_reply, joint_addition, test_refusal}
 use Rattle.lj_book.specs.declared.entry.Call.{Call}
 use Rattle.lj_book.specs.declared.entry.Call.TheVariants as calls
 use Rattle.lj_book.specs.declared.entry.Entry.{Entry}
 use Rattle.lj_book.specs.Lookup.{least_number}
 use Rattle.lj_book.specs.State.{State, live, next, opening}
 use Rattle.lj_book.specs.History.{IsReached, after_entry, tables_after, with_found}
-use Rattle.lj_book.specs.Solo.{View, view_of, with_clause}
+use Rattle.lj_book.specs.Solo.{View, view_of, with_clause, without_holdings}
 use Rattle.lj_book.specs.Views.{ViewsFollowEntries, view_after_call, with_found_holding}
 use Rattle.lj_book.specs.Tables.{Table, Tables, with_table, without_seat}
 use Rattle.lj_share.specs.Entries.{entries_of, calls_of}
-use Rattle.lj_share.specs.Seats.{IsMaking, IsOpenedAs, IsViewAfter, SeatValue, seat_of_book}
-use Rattle.lj_share.specs.inner.Seats.{AreShown, IsDesk}
-use Rattle.lj_share.specs.inner.Telling.{Finds}
+use Rattle.lj_share.specs.Seats.{IsMaking, IsOpenedAs, IsViewAfter, SeatValue, seat_of_book, with_bound}
+use Rattle.lj_share.specs.inner.Seats.{AreShown, IsDesk, IsSeatOf}
 use Rattle.lj_share.proofs.Confirming.{is_other, some_same}
 
 length-with_table : (change : Table → Table) (ts : Tables) (seat : ℕ) → length (with_table change ts seat) ≡ length ts
@@ -54,6 +63,16 @@ newly_opened f g n seats m max s is formula many limit = record {
   formula_is = ap (λ (u : State). u.formula) is ∙ formula;
   seats_are = ap (λ (u : State). length u.tables) is ∙ length-replicate n _ ∙ many;
   limit_is = ap (λ (u : State). u.max_steps) is ∙ limit;
+}
+
+-- what the book has of a seat is that seat in its state
+pub seat_of_state : (f : FormulaValue) (seats max : ℕ) (s : State) (v : SeatValue) (n : ℕ) → IsOpenedAs f seats max s → IsReached s → v ≡ seat_of_book s n → IsSeatOf f seats max v
+seat_of_state f seats max s v n opened reached is = record {
+  state = s;
+  opened = opened;
+  legal = reached;
+  seat_is = ap (λ (w : SeatValue). seat_of_book s w.number) is ∙ sym is;
+  holds_there = tt;
 }
 
 -- ---- lists of calls
@@ -126,7 +145,7 @@ abbrev pub HasFound : State → Call → Type 0
 HasFound s (calls.Add own lemma) = Unit {0}
 HasFound s (calls.Drop numbers) = Unit {0}
 HasFound s (calls.Adopt own joint) = Unit {0}
-HasFound s (calls.Import own clause) = Finds s clause
+HasFound s (calls.Import own clause) = (joint : ℕ) × (least_number (live s) clause ≡ Some joint)
 HasFound s calls.Leave = Unit {0}
 
 view_made : (s : State) (call : Call) (view : View) → HasFound s call → IsViewAfter call view (option_and_then (view_after_call s call) view)
@@ -169,3 +188,85 @@ pub desk_in : ViewsFollowEntries → (f : FormulaValue) (seats max : ℕ) (s t :
     → IsDesk f seats max s shown before parts amount → IsDesk f seats max t after total parts amount
 desk_in views f seats max s t e seat shown again after before total parts amount reached next same is counted kept set d =
     desk_on views f seats max s t e seat shown after before total parts amount reached next same is counted (set ∙ ap (λ (vs : List SeatValue). slice_set vs seat (seat_of_book t seat)) kept) d
+
+-- ---- what the seat sees then
+
+view_in : ViewsFollowEntries → (s t : State) (e : Entry) (call : Call) (v u w : SeatValue) → IsReached s → IsReached t → e.seat ≡ u.number → t ≡ after_entry s e → seat_of_book s v.number ≡ v → u ≡ v → w ≡ seat_of_book t u.number → e.call ≡ call → w.view ≡ option_and_then (view_after_call s call) v.view
+view_in views s t e call v u w reached next same is before kept after named =
+    let mine : e.seat ≡ v.number = same ∙ ap (λ (x : SeatValue). x.number) kept in
+    let there : w ≡ seat_of_book (after_entry s e) e.seat = after ∙ ap (seat_of_book t) (sym same) ∙ ap (λ (x : State). seat_of_book x e.seat) is in
+    let here : seat_of_book s e.seat ≡ v = ap (seat_of_book s) mine ∙ before in
+    ap (λ (x : SeatValue). x.view) there
+    ∙ views s e e.seat reached (subst IsReached is next)
+    ∙ ap (λ (b : Bool). if b then option_and_then (view_after_call s e.call) (view_of s e.seat) else view_of s e.seat) (eq-eqb e.seat e.seat refl)
+    ∙ ap (λ (x : Call). option_and_then (view_after_call s x) (view_of s e.seat)) named
+    ∙ ap (λ (x : SeatValue). option_and_then (view_after_call s call) x.view) here
+
+-- behind an addition, under the next joint number
+pub added_in : ViewsFollowEntries → (s t : State) (e : Entry) (own : ℕ) (lemma : LemmaValue) (joint : ℕ) (v u w : SeatValue) → IsReached s → IsReached t → e.seat ≡ u.number → t ≡ after_entry s e → seat_of_book s v.number ≡ v → u ≡ v → w ≡ seat_of_book t u.number → e.call ≡ calls.Add own lemma → joint ≡ next s → w.view ≡ with_bound own joint lemma.clause v.view
+added_in views s t e own lemma joint v u w reached onward same is before kept after named joint_is =
+    view_in views s t e (calls.Add own lemma) v u w reached onward same is before kept after named ∙ by v.view ∙ ap (λ (j : ℕ). with_bound own j lemma.clause v.view) (sym joint_is)
+  where
+    by : (x : View) → option_and_then (view_after_call s (calls.Add own lemma)) x ≡ with_bound own (next s) lemma.clause x
+    by None = refl
+    by (Some h) = refl
+
+-- behind an import, under the joint number that was found
+pub imported_in : ViewsFollowEntries → (s t : State) (e : Entry) (own : ℕ) (clause : LiteralSet) (joint : ℕ) (v u w : SeatValue) → IsReached s → IsReached t → e.seat ≡ u.number → t ≡ after_entry s e → seat_of_book s v.number ≡ v → u ≡ v → w ≡ seat_of_book t u.number → e.call ≡ calls.Import own clause → least_number (live s) clause ≡ Some joint → w.view ≡ with_bound own joint clause v.view
+imported_in views s t e own clause joint v u w reached onward same is before kept after named found =
+    view_in views s t e (calls.Import own clause) v u w reached onward same is before kept after named ∙ by v.view
+  where
+    by : (x : View) → option_and_then (view_after_call s (calls.Import own clause)) x ≡ with_bound own joint clause x
+    by None = refl
+    by (Some h) = ap (λ (o : Option ℕ). Some (with_found_holding h own o clause)) found
+
+-- behind a deletion
+pub dropped_in : ViewsFollowEntries → (s t : State) (e : Entry) (numbers : List ℕ) (v u w : SeatValue) → IsReached s → IsReached t → e.seat ≡ u.number → t ≡ after_entry s e → seat_of_book s v.number ≡ v → u ≡ v → w ≡ seat_of_book t u.number → e.call ≡ calls.Drop numbers → w.view ≡ option_map (without_holdings numbers) v.view
+dropped_in views s t e numbers v u w reached onward same is before kept after named =
+    view_in views s t e (calls.Drop numbers) v u w reached onward same is before kept after named ∙ by v.view
+  where
+    by : (x : View) → option_and_then (view_after_call s (calls.Drop numbers)) x ≡ option_map (without_holdings numbers) x
+    by None = refl
+    by (Some h) = refl
+
+-- ---- replies
+
+-- the joint number of an addition that was accepted is the next one
+pub added_next : (s : State) (seat : ℕ) (a : Addition) (added : Added) → inside_reply s seat a ≡ Ok added → added.joint ≡ next s
+added_next s seat a added is = go (take_reply s seat a) is
+  where
+    told : Result Added Refusal → ℕ
+    told (Ok x) = x.joint
+    told (Err e) = 0
+
+    by : (o : Option Refusal) → unless_refused o (commit_told s) ≡ Ok added → added.joint ≡ next s
+    by None at = sym (ap told at)
+    by (Some e) at = absurd (false≢true (ap is_ok at))
+
+    go : (r : Result CaseValue Refusal) → inside_after s r ≡ Ok added → added.joint ≡ next s
+    go (Err e) at = absurd (false≢true (ap is_ok at))
+    go (Ok c) at = by (test_refusal s (joint_addition (next s) c)) at
+
+pub committed_next : (s : State) (r : ReceiptValue) (added : Added) → commit_reply s r ≡ Ok added → added.joint ≡ next s
+committed_next s r added is = by (commit_refusal s r) is
+  where
+    told : Result Added Refusal → ℕ
+    told (Ok x) = x.joint
+    told (Err e) = 0
+
+    by : (o : Option Refusal) → unless_refused o (commit_told s) ≡ Ok added → added.joint ≡ next s
+    by None at = sym (ap told at)
+    by (Some e) at = absurd (false≢true (ap is_ok at))
+
+-- an import that was accepted found its joint number
+pub imported_found : (s : State) (seat own : ℕ) (clause : LiteralSet) (imported : Imported) → import_reply s seat own clause ≡ Ok imported → least_number (live s) clause ≡ Some imported.joint
+imported_found s seat own clause imported is = go (free_refusal s seat own) (least_number (live s) clause) refl is
+  where
+    told : Result Imported Refusal → ℕ
+    told (Ok x) = x.joint
+    told (Err e) = 0
+
+    go : (f : Option Refusal) (o : Option ℕ) → least_number (live s) clause ≡ o → if_free f (imported_at (length s.history) o) ≡ Ok imported → least_number (live s) clause ≡ Some imported.joint
+    go (Some e) o at is = absurd (false≢true (ap is_ok is))
+    go None None at is = absurd (false≢true (ap is_ok is))
+    go None (Some joint) at is = at ∙ ap Some (ap told is)

@@ -1,34 +1,33 @@
 //! What lies under the lock.
-ghost use Rattle.std.specs.Prelude.{◌≡◌, ◌≤◌, length, take, slice_get, None, Some, IfOk, IfErr, IfSome, IsSome, OnOk, OnErr};
-ghost use Rattle.lj_book.specs.Calls.{IsReply, take_reply, commit_reply, adopt_reply, leave_reply};
+ghost use Rattle.std.specs.Prelude.{◌≡◌, ◌≤◌, None, Some, IfOk, IfErr, IfSome, IsSome, OnOk, OnErr, length, slice_get, take};
+ghost use Rattle.lj_book.specs.Calls.{commit_reply, adopt_reply, leave_reply};
 ghost use Rattle.lj_book.specs.declared.entry.Call.TheVariants as calls;
 ghost use Rattle.lj_text.specs.declared.line.Line.TheVariants as lines;
-ghost use Rattle.lj_share.specs.Entered.{AreEntered};
 ghost use Rattle.lj_share.specs.Entries.{IsEntryOf, call_of};
 ghost use Rattle.lj_book.specs.Solo.{solo_refusal};
 ghost use Rattle.lj_book.specs.Views.{IsClosedAlone, decided_refusal};
-ghost use Rattle.lj_share.specs.Refusals.{HoldsInAState, IsRefusedAt, IsRefusedLine, gone_refusal, line_refusal};
-ghost use Rattle.lj_share.specs.Seats.{IsMaking};
-ghost use Rattle.lj_share.specs.inner.Seats.{IfClosed, IsBoundIf, IsDesk, IsOwnOf, IsTestedAs, clauses_seen};
-ghost use Rattle.lj_share.specs.inner.Ahead.{AreSeen, AreTested, clauses_behind};
+ghost use Rattle.lj_share.specs.Refusals.{HoldsInAState, IsBindingRefused, IsRefusedAt, IsRefusedLine, gone_refusal, line_refusal};
+ghost use Rattle.lj_share.specs.Seats.{IsMaking, with_bound};
 ghost use Rattle.lj_share.specs.declared.numbered.Numbered.{Numbered};
-ghost use Rattle.lj_share.specs.declared.seat.Alone.TheVariants.{Closed};
-ghost use Rattle.std.specs.FinMap as fin;
-ghost use Rattle.lj_book.specs.State.{live};
+ghost use Rattle.lj_share.specs.Entered.{AreEntered};
+ghost use Rattle.lj_share.specs.inner.Ahead.{AreTested};
+ghost use Rattle.lj_share.specs.inner.Runs.{views_behind};
+ghost use Rattle.lj_share.specs.inner.Seats.{clauses_seen, IfClosed, IsDesk, IsOwnOf, IsTestedAs, view_behind};
 ghost use Rattle.lj_share.specs.inner.Telling.{IsTokenOf};
 
+use crate::kept::{bind_ahead, settle, unbind};
 use crate::lists::Lists;
 use crate::numbered::Numbered;
 use crate::opening::Opening;
-use crate::own_clauses::{OwnClauses, bind};
+use crate::own_clauses::OwnClauses;
 use crate::place::Place;
 use crate::seat::Alone;
 use crate::telling;
 use crate::told::Told;
 use crate::verdict::Verdict;
 use lj_book::{Book, Entry, Refusal};
-use lj_clause::{Clause, NoMemory};
-use lj_hint::{Case, Marks, Receipt};
+use lj_clause::{Clause, Formula};
+use lj_hint::{Marks, Receipt};
 use lj_text::{Addition, Line, Numbers};
 use std::alloc::Global;
 use std::marker::Model;
@@ -78,24 +77,6 @@ impl<L: Opening> Desk<L> {
         }
     }
 
-    /// An addition of the seat as a case in joint numbers.
-    pub(crate) fn take(
-        &mut self,
-        place: &mut Place<L>,
-        addition: &Addition,
-    ) -> Result<Case, Refusal>
-        ensures answer { HoldsInAState L.formula L.seats L.max_steps place.old
-            (λ s. IsReply result (take_reply s place.old.number addition.now)) }
-        ensures seat { IfOk result (λ case. case.seat ≡ place.old.number) }
-        ensures own { IfOk result (λ case. case.own ≡ addition.now.number) }
-        ensures lemma { IfOk result (λ case. case.lemma ≡ addition.now.lemma) }
-        ensures kept { place.new ≡ place.old }
-    {
-        let Desk { book, lists, .. } = self;
-        place.agree(lists, book);
-        book.take(place.number(), addition)
-    }
-
     /// The verdict, if the history adds the empty clause; none where a growth was refused to it.
     pub(crate) fn verdict(&self, alloc: Global) -> Option<Box<Verdict<L>>> {
         let place = self.book.verdict()?;
@@ -120,15 +101,17 @@ impl<L: Opening> Desk<L> {
         (book, entries, lists, rest)
     }
 
-    /// Commits a receipt of the seat, and tells its token.
+    /// Commits a receipt of the seat; gives its token, and the joint number of its lemma.
     pub(crate) fn commit(
         &mut self,
         place: &mut Place<L>,
         receipt: Receipt,
-    ) -> Result<Told, (Refusal, Receipt)>
+    ) -> Result<(Told, u64), (Refusal, Receipt)>
         requires { receipt.seat ≡ place.old.number }
         ensures told { IfOk result
-            (IsEntryOf place.old.number (calls.Add receipt.own receipt.lemma)) }
+            (λ done. IsEntryOf place.old.number (calls.Add receipt.own receipt.lemma) done.0) }
+        ensures view { IfOk result (λ done. place.new.view
+            ≡ with_bound receipt.own done.1 receipt.lemma.clause place.old.view) }
         ensures made { OnOk result
             (IsMaking (calls.Add receipt.own receipt.lemma) place.old place.new) }
         ensures free { OnOk result (solo_refusal place.old.view receipt.own ≡ None) }
@@ -145,24 +128,28 @@ impl<L: Opening> Desk<L> {
         } = self;
         place.agree(lists, book);
         match book.commit_telling(receipt) {
-            Ok((_, entry)) => {
+            Ok((added, entry)) => {
                 place.count_one(entries, lists, book);
-                Ok(Told { entry })
+                Ok((Told { entry }, added.joint))
             }
             Err(refused) => Err(refused),
         }
     }
 
-    /// Enters a line of the seat. An addition is tested here, unless what the seat sees decided it.
+    /// Enters a line of the seat; gives its token where one is asked for, and the joint number that a number of the line is bound to.
+    /// An addition is tested here, unless what the seat sees decided it.
     pub(crate) fn enter(
         &mut self,
         place: &mut Place<L>,
         line: &Line,
         alone: Alone,
         telling: bool,
-    ) -> Result<Option<Told>, Refusal>
+    ) -> Result<(Option<Told>, u64), Refusal>
         requires { IsTestedAs place.old.view place.old.number line.now alone }
-        ensures told { IfOk result (IsTokenOf telling place.old.number (call_of line.now)) }
+        ensures told { IfOk result
+            (λ done. IsTokenOf telling place.old.number (call_of line.now) done.0) }
+        ensures view { IfOk result
+            (λ done. place.new.view ≡ view_behind line.now done.1 place.old.view) }
         ensures made { OnOk result (IsMaking (call_of line.now) place.old place.new) }
         ensures free { OnOk result (line_refusal place.old line.now ≡ None) }
         ensures kept { OnErr result (place.new ≡ place.old) }
@@ -176,22 +163,25 @@ impl<L: Opening> Desk<L> {
         }
     }
 
-    /// Enters lines of the seat that were tested ahead, in order, up to the first that is refused.
-    pub(crate) fn enter_tested(
+    /// Enters the first so many of these lines, which were tested, in order up to the first that is refused; gives how many were
+    /// entered, and the refusal. Their joint numbers are put into the list.
+    pub(crate) fn enter_run(
         &mut self,
         place: &mut Place<L>,
         lines: &[Numbered],
         reads: &[usize],
+        joints: &mut [u64],
         count: usize,
     ) -> (usize, Option<Refusal>)
         requires tested { AreTested (clauses_seen place.old.view) lines.now reads.now count }
         requires here { IsSome place.old.view }
         requires lines { count ≤ length lines.now }
         requires reads { count ≤ length reads.now }
+        requires joints { count ≤ length joints.old }
         ensures entered { AreEntered place.old (take result.0 lines.now) place.new }
-        ensures seen { AreSeen
-            (clauses_behind (clauses_seen place.old.view) (take result.0 lines.now))
-            place.new.view }
+        ensures view { place.new.view
+            ≡ views_behind place.old.view lines.now joints.new result.0 }
+        ensures joints { length joints.new ≡ length joints.old }
         ensures within { result.0 ≤ count }
         ensures all { result.1 ≡ None → result.0 ≡ count }
         ensures refused { IfSome result.1 (λ e. (l : Numbered)
@@ -200,24 +190,13 @@ impl<L: Opening> Desk<L> {
             (IsRefusedLine place.new.number l.line e)) }
     {
         for k in 0..count {
-            if let Err(refusal) = self.enter_read(place, &lines[k].line, reads[k]) {
-                return (k, Some(refusal));
+            let alone = Alone::Closed(reads[k]);
+            match self.enter(place, &lines[k].line, alone, false) {
+                Ok((_, joint)) => joints[k] = joint,
+                Err(refusal) => return (k, Some(refusal)),
             }
         }
         (count, None)
-    }
-
-    /// Enters a line of the seat that was tested, after so many of its hints.
-    fn enter_read(&mut self, place: &mut Place<L>, line: &Line, read: usize) -> Result<(), Refusal>
-        requires { IsTestedAs place.old.view place.old.number line.now (Closed read) }
-        ensures made { OnOk result (IsMaking (call_of line.now) place.old place.new) }
-        ensures free { OnOk result (line_refusal place.old line.now ≡ None) }
-        ensures kept { OnErr result (place.new ≡ place.old) }
-        ensures refusal { IfErr result (λ e. HoldsInAState L.formula L.seats L.max_steps place.old
-            (IsRefusedLine place.old.number line.now e)) }
-    {
-        self.enter(place, line, Alone::Closed(read), false)?;
-        Ok(())
     }
 
     /// Enters an addition of the seat, which is tested here unless what the seat sees decided it.
@@ -227,11 +206,13 @@ impl<L: Opening> Desk<L> {
         addition: &Addition,
         alone: Alone,
         telling: bool,
-    ) -> Result<Option<Told>, Refusal>
+    ) -> Result<(Option<Told>, u64), Refusal>
         requires { IfClosed alone
             (IsClosedAlone place.old.view place.old.number addition.now) }
-        ensures told { IfOk result (IsTokenOf telling place.old.number
-            (calls.Add addition.now.number addition.now.lemma)) }
+        ensures told { IfOk result (λ done. IsTokenOf telling place.old.number
+            (calls.Add addition.now.number addition.now.lemma) done.0) }
+        ensures view { IfOk result (λ done. place.new.view
+            ≡ view_behind (lines.Add addition.now) done.1 place.old.view) }
         ensures made { OnOk result
             (IsMaking (calls.Add addition.now.number addition.now.lemma) place.old place.new) }
         ensures free { OnOk result
@@ -253,10 +234,12 @@ impl<L: Opening> Desk<L> {
         addition: &Addition,
         read: usize,
         telling: bool,
-    ) -> Result<Option<Told>, Refusal>
+    ) -> Result<(Option<Told>, u64), Refusal>
         requires { IsClosedAlone place.old.view place.old.number addition.now read }
-        ensures told { IfOk result (IsTokenOf telling place.old.number
-            (calls.Add addition.now.number addition.now.lemma)) }
+        ensures told { IfOk result (λ done. IsTokenOf telling place.old.number
+            (calls.Add addition.now.number addition.now.lemma) done.0) }
+        ensures view { IfOk result (λ done. place.new.view
+            ≡ view_behind (lines.Add addition.now) done.1 place.old.view) }
         ensures made { OnOk result
             (IsMaking (calls.Add addition.now.number addition.now.lemma) place.old place.new) }
         ensures free { OnOk result
@@ -273,9 +256,9 @@ impl<L: Opening> Desk<L> {
         } = self;
         place.agree(lists, book);
         match telling::add_closed(book, place.number(), addition, read, telling) {
-            Ok(entry) => {
+            Ok((entry, joint)) => {
                 place.count_one(entries, lists, book);
-                Ok(token(entry))
+                Ok((token(entry), joint))
             }
             Err(refusal) => Err(refusal),
         }
@@ -287,9 +270,11 @@ impl<L: Opening> Desk<L> {
         place: &mut Place<L>,
         addition: &Addition,
         telling: bool,
-    ) -> Result<Option<Told>, Refusal>
-        ensures told { IfOk result (IsTokenOf telling place.old.number
-            (calls.Add addition.now.number addition.now.lemma)) }
+    ) -> Result<(Option<Told>, u64), Refusal>
+        ensures told { IfOk result (λ done. IsTokenOf telling place.old.number
+            (calls.Add addition.now.number addition.now.lemma) done.0) }
+        ensures view { IfOk result (λ done. place.new.view
+            ≡ view_behind (lines.Add addition.now) done.1 place.old.view) }
         ensures made { OnOk result
             (IsMaking (calls.Add addition.now.number addition.now.lemma) place.old place.new) }
         ensures free { OnOk result
@@ -307,9 +292,9 @@ impl<L: Opening> Desk<L> {
         } = self;
         place.agree(lists, book);
         match telling::add_inside(book, place.number(), addition, marks, telling) {
-            Ok(entry) => {
+            Ok((entry, joint)) => {
                 place.count_one(entries, lists, book);
-                Ok(token(entry))
+                Ok((token(entry), joint))
             }
             Err(refusal) => Err(refusal),
         }
@@ -321,8 +306,11 @@ impl<L: Opening> Desk<L> {
         place: &mut Place<L>,
         numbers: &Numbers,
         telling: bool,
-    ) -> Result<Option<Told>, Refusal>
-        ensures told { IfOk result (IsTokenOf telling place.old.number (calls.Drop numbers.now)) }
+    ) -> Result<(Option<Told>, u64), Refusal>
+        ensures told { IfOk result
+            (λ done. IsTokenOf telling place.old.number (calls.Drop numbers.now) done.0) }
+        ensures view { IfOk result (λ done. place.new.view
+            ≡ view_behind (lines.Delete numbers.now) done.1 place.old.view) }
         ensures made { OnOk result (IsMaking (calls.Drop numbers.now) place.old place.new) }
         ensures free { OnOk result (gone_refusal place.old.view ≡ None) }
         ensures kept { OnErr result (place.new ≡ place.old) }
@@ -339,7 +327,7 @@ impl<L: Opening> Desk<L> {
         match telling::drop_numbers(book, place.number(), numbers, telling) {
             Ok(entry) => {
                 place.count_one(entries, lists, book);
-                Ok(token(entry))
+                Ok((token(entry), 0))
             }
             Err(refusal) => Err(refusal),
         }
@@ -352,9 +340,11 @@ impl<L: Opening> Desk<L> {
         own: u64,
         clause: &Clause,
         telling: bool,
-    ) -> Result<Option<Told>, Refusal>
+    ) -> Result<(Option<Told>, u64), Refusal>
         ensures told { IfOk result
-            (IsTokenOf telling place.old.number (calls.Import own clause.now)) }
+            (λ done. IsTokenOf telling place.old.number (calls.Import own clause.now) done.0) }
+        ensures view { IfOk result (λ done. place.new.view
+            ≡ view_behind (lines.Import own clause.now) done.1 place.old.view) }
         ensures made { OnOk result (IsMaking (calls.Import own clause.now) place.old place.new) }
         ensures free { OnOk result (solo_refusal place.old.view own ≡ None) }
         ensures kept { OnErr result (place.new ≡ place.old) }
@@ -369,30 +359,32 @@ impl<L: Opening> Desk<L> {
         } = self;
         place.agree(lists, book);
         match telling::import(book, place.number(), own, clause, telling) {
-            Ok(entry) => {
+            Ok((entry, joint)) => {
                 place.count_one(entries, lists, book);
-                Ok(token(entry))
+                Ok((token(entry), joint))
             }
             Err(refusal) => Err(refusal),
         }
     }
 
-    /// Binds the seat's own number to a joint number that lives. What the seat keeps of its clauses follows.
+    /// Binds the seat's own number, which is free, to a joint number that lives. What the seat keeps follows.
     pub(crate) fn adopt(
         &mut self,
         alloc: Global,
+        formula: &Formula,
         place: &mut Place<L>,
         kept: &mut Option<OwnClauses>,
         own: u64,
         joint: u64,
     ) -> Result<Told, Refusal>
-        requires { IsOwnOf L.formula kept.old place.old.view }
+        requires formula { formula.now ≡ L.formula }
+        requires own { IsOwnOf L.formula kept.old place.old.view }
+        requires free { solo_refusal place.old.view own ≡ None }
         ensures told { IfOk result (IsEntryOf place.old.number (calls.Adopt own joint)) }
         ensures made { OnOk result (IsMaking (calls.Adopt own joint) place.old place.new) }
-        ensures free { OnOk result (solo_refusal place.old.view own ≡ None) }
         ensures kept { OnErr result (place.new ≡ place.old) }
         ensures own { IsOwnOf L.formula kept.new place.new.view }
-        ensures refusal { IfErr result (IsRefusedAt L.formula L.seats L.max_steps place.old
+        ensures refusal { IfErr result (IsBindingRefused L.formula L.seats L.max_steps place.old own
             (λ s. adopt_reply s place.old.number own joint)) }
     {
         let Desk {
@@ -402,15 +394,21 @@ impl<L: Opening> Desk<L> {
             ..
         } = self;
         place.agree(lists, book);
-        let clause = clause_of(alloc, book, joint)?;
+        let Some(clause) = book.clause(joint) else {
+            return Err(Refusal::NoSuchClause);
+        };
+        let clause = clause.to_clause(alloc)?;
+        if let Err(refusal) = bind_ahead(kept, formula, own, &clause) {
+            return Err(refusal);
+        }
         match book.adopt_telling(place.number(), own, joint) {
             Ok((_, entry)) => {
                 place.count_one(entries, lists, book);
-                bind_if(kept, own, clause);
+                settle(kept, own, joint);
                 Ok(Told { entry })
             }
             Err(refusal) => {
-                drop(clause);
+                unbind(kept, own);
                 Err(refusal)
             }
         }
@@ -439,29 +437,6 @@ impl<L: Opening> Desk<L> {
             }
             Err(refusal) => Err(refusal),
         }
-    }
-}
-
-/// The clause of a joint number, if it lives.
-///
-/// # Errors
-/// [`NoMemory`] where a growth was refused.
-fn clause_of(alloc: Global, book: &Book, joint: u64) -> Result<Option<Clause>, NoMemory>
-    ensures { IfOk result (λ clause. clause ≡ fin.get (live book.now) joint) }
-{
-    match book.clause(joint) {
-        Some(clause) => Ok(Some(clause.to_clause(alloc)?)),
-        None => Ok(None),
-    }
-}
-
-/// Binds an own number to this clause, if there is one; else nothing is kept any more.
-fn bind_if(kept: &mut Option<OwnClauses>, own: u64, clause: Option<Clause>)
-    ensures { IsBoundIf kept.old own clause kept.new }
-{
-    match clause {
-        Some(clause) => bind(kept, own, &clause),
-        None => *kept = None,
     }
 }
 

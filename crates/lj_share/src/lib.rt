@@ -3,20 +3,23 @@
 //! A call takes constant time where neither it nor its type tells a cost.
 #![tactic(auto)]
 
-mod ahead;
+mod bindings;
 mod blank;
 mod closed;
 mod copies;
 mod desk;
 mod gate;
+mod kept;
 pub mod laws;
 mod lists;
 mod numbered;
 mod opening;
 mod own_clauses;
 mod place;
+mod runs;
 mod seat;
 mod shared;
+mod taking;
 mod telling;
 mod told;
 mod verdict;

@@ -1,27 +1,27 @@
-//! The clauses of a seat's own numbers.
+//! What a seat's own numbers are bound to.
 ghost use Rattle.std.specs.Prelude.{◌≡◌, ℕ, Some, None, IfOk, OnOk, OnErr, option_copied};
-ghost use Rattle.std.specs.FinMap as fin;
-ghost use Rattle.lj_clause.specs.ClauseMap.{formula_map};
-ghost use Rattle.lj_share.specs.inner.Seats.{own_clause, AreDropped, AreGivenUp, IsBound, IsFollowed, IsUpdated};
+ghost use Rattle.lj_hint.specs.declared.pair.Pair.{Pair};
+ghost use Rattle.lj_share.specs.inner.Seats.{first_pair, own_clause, own_pair, AreGivenUp, AreSamePairs, IsJointSet, IsUpdated};
 
-use lj_book::OwnMap;
+use crate::bindings::Bindings;
 use lj_clause::{Clause, ClauseView, Formula, NoMemory};
-use lj_text::{Line, Numbers};
+use lj_hint::Pair;
+use lj_text::Numbers;
 use std::alloc::Global;
 use std::marker::Model;
 
-/// The clauses that a seat's own numbers are bound to. Those of the formula are read there, and literals are shared with the lines that
-/// brought them.
+/// The clauses that a seat's own numbers are bound to, with their joint numbers. Those of the formula are read there, and literals
+/// are shared with the lines that brought them.
 ///
 /// A call takes constant time for a number up to a bound that follows how many there are, and O(log n) time for others.
 #[derive(Drop)]
 pub(crate) struct OwnClauses {
     /// Whether each number of the opening was given up.
     given_up: Vec<bool>,
-    /// The clauses of numbers of the opening that were bound anew.
-    rebound: OwnMap<Clause>,
-    /// The clauses of the numbers behind those of the opening, counted from there.
-    late: OwnMap<Clause>,
+    /// Numbers of the opening that were bound anew.
+    rebound: Bindings,
+    /// The numbers behind those of the opening, counted from there.
+    late: Bindings,
 }
 
 impl Model for OwnClauses {
@@ -37,44 +37,77 @@ impl Model for OwnClauses {
 }
 
 impl OwnClauses {
-    /// Those of the formula, under their numbers. Takes a byte for each of them, and time linear in these.
+    /// Those of the formula, under their numbers, which are their joint numbers too. Takes a byte for each of them, and time
+    /// linear in these.
     ///
     /// # Errors
     /// [`NoMemory`] where a growth was refused.
     pub(crate) fn new(alloc: Global, formula: &Formula) -> Result<OwnClauses, NoMemory>
-        ensures { IfOk result (λ own. (number : ℕ) → own_clause formula.now own number
-            ≡ fin.get (formula_map formula.now) number) }
+        ensures { IfOk result (λ own. (number : ℕ) → own_pair formula.now own number
+            ≡ first_pair formula.now number) }
     {
         Ok(OwnClauses {
             given_up: Vec::from_elem(alloc, false, formula.len() + 1)?,
-            rebound: OwnMap::new(alloc),
-            late: OwnMap::new(alloc),
+            rebound: Bindings::new(alloc),
+            late: Bindings::new(alloc),
         })
     }
 
     /// The clause of an own number, where the opening's formula is this one.
     #[inline]
-    pub(crate) fn get<'a>(&'a self, formula: &'a Formula, own: u64) -> Option<ClauseView<'a>>
-        ensures { result ≡ own_clause formula.now self.now own }
+    pub(crate) fn clause<'a>(&'a self, formula: &'a Formula, own: u64) -> Option<&'a Clause>
+        ensures { option_copied result ≡ own_clause formula.now self.now own }
     {
         let end = self.given_up.len() as u64;
         if own >= end {
-            return lent(self.late.get(own - end));
+            return self.late.clause(own - end);
         }
-        match self.rebound.get(own) {
-            Some(clause) => Some(clause.view()),
+        match self.rebound.clause(own) {
+            Some(clause) => Some(clause),
             None if self.given_up[own as usize] => None,
-            None => lent(formula.clause(own)),
+            None => formula.clause(own),
         }
     }
 
-    /// Binds an own number to a clause, whose literals are shared.
+    /// The same, as a view.
+    #[inline]
+    pub(crate) fn get<'a>(&'a self, formula: &'a Formula, own: u64) -> Option<ClauseView<'a>>
+        ensures { result ≡ own_clause formula.now self.now own }
+    {
+        match self.clause(formula, own) {
+            Some(clause) => Some(clause.view()),
+            None => None,
+        }
+    }
+
+    /// What an own number is bound to, where the opening's formula is this one.
+    ///
+    /// # Errors
+    /// [`NoMemory`] where a growth was refused.
+    pub(crate) fn pair(&self, formula: &Formula, own: u64) -> Result<Option<Pair>, NoMemory>
+        ensures { IfOk result (λ pair. pair ≡ own_pair formula.now self.now own) }
+    {
+        let end = self.given_up.len() as u64;
+        if own >= end {
+            return self.late.pair(own - end);
+        }
+        if let Some(pair) = self.rebound.pair(own)? {
+            return Ok(Some(pair));
+        }
+        if self.given_up[own as usize] {
+            return Ok(None);
+        }
+        first_pair(formula, own)
+    }
+
+    /// Binds an own number to a clause, whose literals are shared, under the joint number 0 so far.
     ///
     /// # Errors
     /// [`NoMemory`] where a growth was refused.
     pub(crate) fn insert(&mut self, own: u64, clause: &Clause) -> Result<(), NoMemory>
-        ensures ok { OnOk result (IsUpdated self.old own (Some clause.now) self.new) }
-        ensures err { OnErr result (self.new ≡ self.old) }
+        ensures ok { OnOk result (IsUpdated self.old own
+            (Some (record { joint = 0; clause = clause.now })) self.new) }
+        ensures err { OnErr result (AreSamePairs self.old self.new) }
     {
         let clause = clause.copy()?;
         let end = self.given_up.len() as u64;
@@ -84,16 +117,28 @@ impl OwnClauses {
         self.rebound.insert(own, clause)
     }
 
+    /// Sets the joint number of an own number that was bound under the joint number 0.
+    pub(crate) fn set_joint(&mut self, own: u64, joint: u64)
+        ensures { IsJointSet self.old own joint self.new }
+    {
+        let end = self.given_up.len() as u64;
+        if own >= end {
+            self.late.set_joint(own - end, joint);
+            return;
+        }
+        self.rebound.set_joint(own, joint)
+    }
+
     /// Gives an own number up.
     pub(crate) fn remove(&mut self, own: u64)
         ensures { IsUpdated self.old own None self.new }
     {
         let end = self.given_up.len() as u64;
         if own >= end {
-            let _ = self.late.remove(own - end);
+            self.late.remove(own - end);
             return;
         }
-        let _ = self.rebound.remove(own);
+        self.rebound.remove(own);
         self.given_up[own as usize] = true;
     }
 
@@ -107,45 +152,18 @@ impl OwnClauses {
     }
 }
 
-/// What is kept follows a line that was entered.
-pub(crate) fn follow(kept: &mut Option<OwnClauses>, line: &Line)
-    ensures { IsFollowed line.now kept.old kept.new }
+/// What an own number of the opening is bound to there: the clause of the formula, which has that joint number.
+///
+/// # Errors
+/// [`NoMemory`] where a growth was refused.
+fn first_pair(formula: &Formula, own: u64) -> Result<Option<Pair>, NoMemory>
+    ensures { IfOk result (λ pair. pair ≡ first_pair formula.now own) }
 {
-    match line {
-        Line::Add(addition) => bind(kept, addition.number, addition.lemma.clause()),
-        Line::Delete(numbers) => give_up(kept, numbers),
-        Line::Import { number, clause } => bind(kept, *number, clause),
-    }
-}
-
-/// Binds an own number to a clause, whose literals are shared. Where a growth is refused, nothing is kept any more.
-pub(crate) fn bind(kept: &mut Option<OwnClauses>, own: u64, clause: &Clause)
-    ensures { IsBound kept.old own clause.now kept.new }
-{
-    let Some(clauses) = kept else {
-        return;
-    };
-    if clauses.insert(own, clause).is_err() {
-        *kept = None;
-    }
-}
-
-/// Gives these own numbers up.
-fn give_up(kept: &mut Option<OwnClauses>, numbers: &Numbers)
-    ensures { AreDropped numbers.now kept.old kept.new }
-{
-    if let Some(clauses) = kept {
-        clauses.remove_all(numbers);
-    }
-}
-
-/// The clause, lent.
-#[inline]
-fn lent(clause: Option<&Clause>) -> Option<ClauseView<'_>>
-    ensures { result ≡ option_copied clause.entry }
-{
-    match clause {
-        Some(clause) => Some(clause.view()),
-        None => None,
+    match formula.clause(own) {
+        Some(clause) => Ok(Some(Pair {
+            joint: own,
+            clause: clause.copy()?,
+        })),
+        None => Ok(None),
     }
 }

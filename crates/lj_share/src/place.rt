@@ -3,8 +3,8 @@ ghost use Rattle.std.specs.Prelude.{◌≡◌, ◌+◌, ◌<◌, [], length, Som
 ghost use Rattle.lj_book.specs.History.{IsReached};
 ghost use Rattle.lj_book.specs.Views.{ViewsFollowEntries, DecidedAlone, FreeAlone};
 ghost use Rattle.lj_share.specs.Entries.{calls_of};
-ghost use Rattle.lj_share.specs.Seats.{seat_of_book};
-ghost use Rattle.lj_share.specs.inner.Seats.{AreShown};
+ghost use Rattle.lj_share.specs.Seats.{seat_of_book, IsOpenedAs};
+ghost use Rattle.lj_share.specs.inner.Seats.{AreShown, IsSeatOf};
 
 use crate::copies::SeatCopy;
 use crate::lists::Lists;
@@ -28,6 +28,7 @@ impl<L: Opening> Model for Place<L> {
     ghost use Rattle.std.specs.Prelude.{◌≡◌, Some, length, slice_get};
     ghost use Rattle.lj_share.specs.Seats.{SeatValue};
     ghost use Rattle.lj_share.specs.inner.Codes.{seat_code};
+    ghost use Rattle.lj_share.specs.inner.Seats.{IsSeatOf};
 
     ghost Value = { SeatValue };
 
@@ -37,7 +38,8 @@ impl<L: Opening> Model for Place<L> {
 
     ghost invariant = { λ p. (p.share.parts ≡ 1) × (p.share.amount ≡ p.count)
         × (p.count ≡ length p.copy.seat.calls) × (slice_get L.lists p.number ≡ Some p.copy.name)
-        × (p.copy.seat.number ≡ p.number) };
+        × (p.copy.seat.number ≡ p.number)
+        × IsSeatOf L.formula L.seats L.max_steps p.copy.seat };
 }
 
 impl<L: Opening> Place<L> {
@@ -48,6 +50,7 @@ impl<L: Opening> Place<L> {
         requires none { copy.seat.calls ≡ [] }
         requires number { copy.seat.number ≡ number }
         requires named { slice_get L.lists number ≡ Some copy.name }
+        requires state { IsSeatOf L.formula L.seats L.max_steps copy.seat }
         ensures { result ≡ copy.seat }
     {
         Place {
@@ -65,6 +68,13 @@ impl<L: Opening> Place<L> {
         self.number
     }
 
+    /// There is a state of the opening's book in which the seat is this one.
+    pub(crate) fn has_state(&self)
+        ensures { IsSeatOf L.formula L.seats L.max_steps self.now }
+    {
+        let _ = &self.count;
+    }
+
     /// How many entries were made through the seat.
     pub(crate) fn count(&self) -> u64
         ensures { result ≡ length self.now.calls }
@@ -77,6 +87,7 @@ impl<L: Opening> Place<L> {
         requires made { entries.old.total + 1 ≡ length book.now.history }
         requires one { length (calls_of self.old.number book.now.history)
             ≡ length self.old.calls + 1 }
+        requires opened { IsOpenedAs L.formula L.seats L.max_steps book.now }
         ensures seat { self.new ≡ seat_of_book book.now self.old.number }
         ensures entries { entries.new.total ≡ length book.now.history }
         ensures lists { lists.new ≡ slice_set lists.old self.old.number

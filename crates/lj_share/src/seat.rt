@@ -1,19 +1,22 @@
 //! Seats.
-ghost use Rattle.std.specs.Prelude.{◌≡◌, length, drop, Some, IfOk, IfErr, slice_get};
+ghost use Rattle.std.specs.Prelude.{◌≡◌, length, drop, Some, Err, IfOk, IfErr, IfSome, slice_get};
+ghost use Rattle.lj_book.specs.Calls.{IsReply};
+ghost use Rattle.lj_book.specs.Solo.{solo_refusal, solo_take};
 ghost use Rattle.lj_book.specs.Views.{IsClosedAlone, decided_refusal};
 ghost use Rattle.lj_share.specs.Refusals.{IsDecided, line_refusal};
 ghost use Rattle.lj_hint.specs.declared.walk.Ending.TheVariants.{ClosedAfter, StuckAt};
-ghost use Rattle.lj_share.specs.inner.Ahead.{IsClosedBy, IsRefusedAhead, IsRefusedBy, IsTestedLine, IsWalkedTo, first_unseen};
-ghost use Rattle.lj_share.specs.inner.Seats.{IfClosed, IsOwnOf, IsTestedAs};
+ghost use Rattle.lj_share.specs.inner.Ahead.{IsClosedBy, IsRefusedBy, IsWalkedTo, first_unseen};
+ghost use Rattle.lj_share.specs.inner.Seats.{IfClosed, IsOwnOf, IsSeatOf, IsTestedAs};
 
 use crate::copies::SeatCopy;
 use crate::numbered::Numbered;
 use crate::opening::Opening;
 use crate::own_clauses::OwnClauses;
 use crate::place::Place;
+use crate::taking::case_of;
 use lj_book::Refusal;
 use lj_clause::{ClauseView, Formula};
-use lj_hint::{Clauses, Ending, Marks, walk_first, walks_go_by_clauses};
+use lj_hint::{Case, Clauses, Ending, Marks, Tested, walk_first, walks_go_by_clauses};
 use lj_text::{Addition, Line, Numbers};
 use std::alloc::Global;
 use std::marker::Model;
@@ -24,7 +27,7 @@ use std::sync::ledger::Share;
 #[derive(Drop)]
 pub struct Seat<L: Opening> {
     pub(crate) place: Place<L>,
-    /// The clauses that its own numbers are bound to; none once it has left, or memory for them was refused.
+    /// What its own numbers are bound to; nothing once it has left.
     pub(crate) own: Option<OwnClauses>,
     pub(crate) marks: Marks,
 }
@@ -82,9 +85,14 @@ impl<L: Opening> Seat<L> {
     /// The test of a line by what the seat sees. Only an addition is tested.
     ///
     /// # Errors
-    /// [`Refusal::NumberTaken`], [`Refusal::UnknownNumber`], [`Refusal::HintNotUnit`], and [`Refusal::NoMemory`] where a growth
-    /// was refused.
-    pub(crate) fn test(&mut self, formula: &Formula, line: &Line) -> Result<Alone, Refusal>
+    /// [`Refusal::SeatGone`], [`Refusal::NumberTaken`], [`Refusal::UnknownNumber`], [`Refusal::GroupRepeated`],
+    /// [`Refusal::HintNotUnit`], and [`Refusal::NoMemory`] where a growth was refused.
+    pub(crate) fn test(
+        &mut self,
+        alloc: Global,
+        formula: &Formula,
+        line: &Line,
+    ) -> Result<Alone, Refusal>
         requires { formula.now ≡ L.formula }
         ensures tested { IfOk result (λ alone.
             IsTestedAs self.old.view self.old.number line.now alone) }
@@ -92,7 +100,10 @@ impl<L: Opening> Seat<L> {
         ensures kept { self.new ≡ self.old }
     {
         match line {
-            Line::Add(addition) => self.test_addition(formula, addition),
+            Line::Add(addition) if addition.groups.is_empty() => {
+                self.test_addition(formula, addition)
+            }
+            Line::Add(addition) => self.test_case(alloc, formula, addition),
             Line::Delete(_) | Line::Import { .. } => Ok(Alone::Open),
         }
     }
@@ -110,7 +121,7 @@ impl<L: Opening> Seat<L> {
         ensures kept { self.new ≡ self.old }
     {
         let Some(own) = &self.own else {
-            return Ok(Alone::Open);
+            return Err(Refusal::SeatGone);
         };
         let seen = SeenClauses {
             place: &self.place,
@@ -119,6 +130,63 @@ impl<L: Opening> Seat<L> {
             formula,
         };
         seen.test(addition, &mut self.marks)
+    }
+
+    /// The test of an addition as a case, which looks its groups up too.
+    ///
+    /// # Errors
+    /// As [`Seat::test`].
+    fn test_case(
+        &mut self,
+        alloc: Global,
+        formula: &Formula,
+        addition: &Addition,
+    ) -> Result<Alone, Refusal>
+        requires { formula.now ≡ L.formula }
+        ensures closed { IfOk result (λ alone. IfClosed alone
+            (IsClosedAlone self.old.view self.old.number addition.now)) }
+        ensures refusal { IfErr result
+            (IsDecided (decided_refusal self.old.view self.old.number addition.now)) }
+        ensures kept { self.new ≡ self.old }
+    {
+        let case = match self.take(alloc, formula, addition) {
+            Ok(case) => case,
+            Err(refusal) => return Err(refusal),
+        };
+        match case.test(&mut self.marks) {
+            Tested::Closed(receipt) => Ok(Alone::Closed(receipt.listed().len())),
+            Tested::Open(_) => Ok(Alone::Open),
+            Tested::Stuck(place) => Err(Refusal::HintNotUnit(place)),
+            Tested::NoMemory(_, refused) => Err(Refusal::NoMemory(refused)),
+        }
+    }
+
+    /// An addition of the seat as a case in joint numbers.
+    ///
+    /// # Errors
+    /// [`Refusal::SeatGone`], [`Refusal::NumberTaken`], [`Refusal::UnknownNumber`], [`Refusal::GroupRepeated`], and
+    /// [`Refusal::NoMemory`] where a growth was refused.
+    pub(crate) fn take(
+        &self,
+        alloc: Global,
+        formula: &Formula,
+        addition: &Addition,
+    ) -> Result<Case, Refusal>
+        requires { formula.now ≡ L.formula }
+        ensures alone { IsReply result
+            (solo_take self.now.view self.now.number addition.now) }
+        ensures refused { IfSome (solo_refusal self.now.view addition.now.number)
+            (λ e. result ≡ Err e) }
+        ensures state { IsSeatOf L.formula L.seats L.max_steps self.now }
+    {
+        self.place.has_state();
+        let Some(own) = &self.own else {
+            return Err(Refusal::SeatGone);
+        };
+        if own.get(formula, addition.number).is_some() {
+            return Err(Refusal::NumberTaken);
+        }
+        case_of(alloc, own, formula, self.place.number(), addition)
     }
 
     /// The seat's number, its share of the ledger, and its copy of itself.
@@ -170,26 +238,11 @@ impl<L: Opening> Clauses for SeenClauses<'_, L> {
 }
 
 impl<L: Opening> SeenClauses<'_, L> {
-    /// The test of a line. A deletion closes, and reads no hint; an import stays open.
-    ///
-    /// # Errors
-    /// As [`Seat::test`].
-    pub(crate) fn test_line(&self, line: &Line, marks: &mut Marks) -> Result<Alone, Refusal>
-        ensures closed { IfOk result (λ alone. IfClosed alone (IsTestedLine self.now line.now)) }
-        ensures refusal { IfErr result (IsRefusedAhead self.now line.now) }
-    {
-        match line {
-            Line::Add(addition) => self.test(addition, marks),
-            Line::Delete(_) => Ok(Alone::Closed(0)),
-            Line::Import { .. } => Ok(Alone::Open),
-        }
-    }
-
     /// The test of an addition. Each hint is looked up once.
     ///
     /// # Errors
     /// As [`Seat::test`].
-    fn test(&self, addition: &Addition, marks: &mut Marks) -> Result<Alone, Refusal>
+    pub(crate) fn test(&self, addition: &Addition, marks: &mut Marks) -> Result<Alone, Refusal>
         ensures closed { IfOk result (λ alone. IfClosed alone
             (IsClosedBy self.now addition.now)) }
         ensures refusal { IfErr result (IsRefusedBy self.now addition.now) }

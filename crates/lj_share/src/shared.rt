@@ -1,5 +1,5 @@
 //! The shared book.
-ghost use Rattle.std.specs.Prelude.{◌≡◌, ◌==◌, ◌+◌, ◌<◌, ◌≤◌, ◌++◌, [], length, map, take, slice_get, is_ok, OnOk, OnErr, OnSome, IfOk, IfErr, IfSome, None, Some};
+ghost use Rattle.std.specs.Prelude.{◌≡◌, ◌==◌, ◌+◌, ◌<◌, ◌≤◌, ◌++◌, [], length, map, take, slice_get, is_ok, OnOk, OnErr, OnSome, IfOk, IfErr, IfSome, Err, None, Some};
 ghost use Rattle.lj_clause.specs.Truth.{IsUnsatisfiable};
 ghost use Rattle.lj_book.specs.declared.entry.Call.TheVariants as calls;
 ghost use Rattle.lj_book.specs.History.{IsReached};
@@ -7,30 +7,34 @@ ghost use Rattle.lj_book.specs.State.{opening};
 ghost use Rattle.lj_book.specs.Calls.{IsReply, take_reply, commit_reply, adopt_reply, leave_reply};
 ghost use Rattle.lj_share.specs.Entered.{AreEntered};
 ghost use Rattle.lj_share.specs.Entries.{call_of, IsEntryOf};
-ghost use Rattle.lj_book.specs.Solo.{solo_refusal};
-ghost use Rattle.lj_share.specs.Refusals.{HoldsInAState, IsLineRefused, IsBindingRefused, IsOpenRefusal, IsRefusedAt, IsRefusedLine, IsToldIfDecided, gone_refusal, line_refusal};
-ghost use Rattle.lj_share.specs.Seats.{AreSeatsIn, IsMaking, IsSeen, entries_made, new_seats};
+ghost use Rattle.lj_book.specs.Solo.{solo_refusal, solo_take};
+ghost use Rattle.lj_share.specs.Refusals.{HoldsInAState, IsLineRefused, IsBindingRefused, IsOpenRefusal, IsRefusedAt, IsToldIfDecided, gone_refusal, line_refusal};
+ghost use Rattle.lj_share.specs.Seats.{AreSeatsIn, IsMaking, IsOpenedAs, IsSeen, entries_made, new_seats};
 ghost use Rattle.lj_share.specs.inner.Seats.{AreShown, IsTestedAs};
 ghost use Rattle.lj_share.specs.declared.numbered.Numbered.{Numbered};
 ghost use Rattle.lj_share.specs.inner.Telling.{IsTokenOf};
 
-use crate::ahead::test_ahead;
 use crate::blank::Blank;
 use crate::closed::Closed;
 use crate::copies::SeatCopy;
 use crate::desk::Desk;
 use crate::gate::{Gate, NoGate};
+use crate::kept::{begin, bind_ahead, finish, free, settle, take_back, unbind};
 use crate::lists::Lists;
 use crate::numbered::Numbered;
 use crate::opening::Opening;
-use crate::own_clauses::{OwnClauses, bind, follow};
+use crate::own_clauses::OwnClauses;
 use crate::place::Place;
+use crate::runs::{begin_run, finish_run, take_back_run};
 use crate::seat::{Alone, Seat};
 use crate::told::Told;
 use crate::verdict::{Note, Verdict};
 use lj_book::laws::history_is_legal;
-use lj_book::{Book, Entry, Refusal, Verified, decided_alone, free_alone, seats_hold_the_formula};
-use lj_clause::{Clause, Formula, NoMemory};
+use lj_book::{
+    Book, Entry, Refusal, Verified, decided_alone, free_alone, seats_hold_the_formula,
+    takes_are_alone,
+};
+use lj_clause::{Formula, NoMemory};
 use lj_hint::{Case, Receipt};
 use lj_text::{Addition, Line};
 use once_cell::race::OnceBox;
@@ -118,9 +122,8 @@ impl<L: Opening> Shared<L> {
         Ok((shared, out))
     }
 
-    /// Hands a line of the seat's prover to the book, and gives the token of its entry. An addition without groups is tested outside
-    /// the lock, by what the seat sees, and then entered; another, and one whose walk stays open, is tested and entered under the
-    /// lock. Takes constant time for each number of the line and each literal of its hints, amortized, or O(log n) for numbers
+    /// Hands a line of the seat's prover to the book, and gives the token of its entry. An addition is tested outside the lock, by
+    /// what the seat sees, and then entered; one whose walk over its first list stays open is tested and entered under the lock. Takes constant time for each number of the line and each literal of its hints, amortized, or O(log n) for numbers
     /// beyond the slots; under the lock, the time of [`Book::add_closed`], [`Book::add_inside`], [`Book::import`] or
     /// [`Book::drop_numbers`].
     ///
@@ -196,8 +199,8 @@ impl<L: Opening> Shared<L> {
     }
 
     /// Hands in lines of the seat's prover, in order, each as [`Shared::enter_at`] does, up to the first that is refused; gives how
-    /// many were entered, and the refusal of the next one. Lines that what the seat sees decides are tested outside the lock, and
-    /// then entered in one hold of it. Takes the time of [`Shared::enter_at`] for each of them, and a number more.
+    /// many were entered, and the refusal of the next one. Additions that close by what the seat sees, and deletions behind them,
+    /// are entered in one hold of the lock. Takes the time of [`Shared::enter_at`] for each line.
     pub fn enter_lines<R: Wait, G: Gate>(
         &self,
         rt: &R,
@@ -214,10 +217,11 @@ impl<L: Opening> Shared<L> {
             × (slice_get lines.now result.0 ≡ Some line)
             × IsLineRefused L.formula L.seats L.max_steps seat.new line.line e) }
     {
-        let mut reads = self.reads(lines.len());
+        let (mut reads, mut joints) = self.room(lines.len());
         let mut done = 0;
         for _ in 0..lines.len() {
-            let (entered, refusal) = self.enter_some(rt, seat, &lines[done..], &mut reads, gate);
+            let rest = &lines[done..];
+            let (entered, refusal) = self.enter_some(rt, seat, rest, &mut reads, &mut joints, gate);
             done += entered;
             if refusal.is_some() {
                 return (done, refusal);
@@ -229,72 +233,69 @@ impl<L: Opening> Shared<L> {
         (done, None)
     }
 
-    /// Room for how many hints each of so many lines reads; none where memory for it was refused.
-    fn reads(&self, lines: usize) -> Vec<usize> {
-        match Vec::from_elem(self.alloc, 0, lines) {
-            Ok(reads) => reads,
-            Err(_) => Vec::new(self.alloc),
+    /// Room for how many hints each of so many lines reads, and for their joint numbers; none where memory for it was refused.
+    fn room(&self, lines: usize) -> (Vec<usize>, Vec<u64>)
+        ensures { length result.0.items ≡ length result.1.items }
+    {
+        let reads = Vec::from_elem(self.alloc, 0, lines);
+        let joints = Vec::from_elem(self.alloc, 0, lines);
+        match (reads, joints) {
+            (Ok(reads), Ok(joints)) => (reads, joints),
+            _ => (Vec::new(self.alloc), Vec::new(self.alloc)),
         }
     }
 
-    /// Enters the first of these lines: those that what the seat sees closes, and one line more, which the book tests.
+    /// Enters the run that these lines start with, or the first of them where it is in no run.
     fn enter_some<R: Wait, G: Gate>(
         &self,
         rt: &R,
         seat: &mut Seat<L>,
         lines: &[Numbered],
         reads: &mut [usize],
+        joints: &mut [u64],
         gate: &G,
     ) -> (usize, Option<Refusal>)
+        requires { length reads.old ≡ length joints.old }
         ensures entered { AreEntered seat.old (take result.0 lines.now) seat.new }
+        ensures reads { length reads.new ≡ length reads.old }
+        ensures joints { length joints.new ≡ length joints.old }
         ensures within { result.0 ≤ length lines.now }
         ensures some { result.1 ≡ None → 0 < length lines.now → 0 < result.0 }
         ensures refused { IfSome result.1 (λ e. (line : Numbered)
             × (slice_get lines.now result.0 ≡ Some line)
             × IsLineRefused L.formula L.seats L.max_steps seat.new line.line e) }
     {
-        let (entered, refusal) = self.enter_tested(rt, seat, lines, reads, gate);
+        let (entered, refusal) = self.enter_run(rt, seat, lines, reads, joints, gate);
         if refusal.is_some() {
             return (entered, refusal);
         }
-        let Some(next) = lines.get(entered) else {
+        if entered > 0 {
+            return (entered, None);
+        }
+        let Some(first) = lines.get(entered) else {
             return (entered, None);
         };
-        match self.enter_open(rt, seat, next, gate) {
+        match self.enter_at(rt, seat, &first.line, first.at, gate) {
             Ok(()) => (entered + 1, None),
             Err(refusal) => (entered, Some(refusal)),
         }
     }
 
-    /// Enters a line that the book tests.
-    fn enter_open<R: Wait, G: Gate>(
-        &self,
-        rt: &R,
-        seat: &mut Seat<L>,
-        line: &Numbered,
-        gate: &G,
-    ) -> Result<(), Refusal>
-        ensures made { OnOk result (IsMaking (call_of line.now.line) seat.old seat.new) }
-        ensures free { OnOk result (line_refusal seat.old line.now.line ≡ None) }
-        ensures kept { OnErr result (seat.new ≡ seat.old) }
-        ensures refusal { IfErr result (λ e. HoldsInAState L.formula L.seats L.max_steps seat.old
-            (IsRefusedLine seat.old.number line.now.line e)) }
-    {
-        self.hand_over(rt, seat, &line.line, line.at, gate, Alone::Open, false)?;
-        Ok(())
-    }
-
-    /// Enters the first of these lines, as far as what the seat sees closes them, in one hold of the lock; gives the refusal of
-    /// the next one too, where what the seat sees refuses it. Where the book refuses one, the seat keeps its clauses no longer.
-    fn enter_tested<R: Wait, G: Gate>(
+    /// Enters the run that these lines start with in one hold of the lock, up to the first line that the book refuses; gives how many
+    /// lines were entered, and the refusal.
+    fn enter_run<R: Wait, G: Gate>(
         &self,
         rt: &R,
         seat: &mut Seat<L>,
         lines: &[Numbered],
         reads: &mut [usize],
+        joints: &mut [u64],
         gate: &G,
     ) -> (usize, Option<Refusal>)
+        requires { length reads.old ≡ length joints.old }
         ensures entered { AreEntered seat.old (take result.0 lines.now) seat.new }
+        ensures reads { length reads.new ≡ length reads.old }
+        ensures joints { length joints.new ≡ length joints.old }
         ensures within { result.0 ≤ length lines.now }
         ensures refused { IfSome result.1 (λ e. (line : Numbered)
             × (slice_get lines.now result.0 ≡ Some line)
@@ -302,19 +303,19 @@ impl<L: Opening> Shared<L> {
     {
         let number = seat.number();
         let Seat { place, own, marks } = seat;
-        let (count, refusal) = test_ahead(place, own, &self.formula, marks, lines, reads);
+        let count = begin_run(place, own, &self.formula, marks, lines, reads);
         if count == 0 {
-            return (0, refusal);
+            return (0, None);
         }
-        pass_all(gate, number, &lines[..count]);
+        let run = &lines[..count];
+        pass_all(gate, number, run);
         let mut desk = self.desk(rt);
-        let (entered, inside) = desk.enter_tested(place, lines, reads, count);
+        held_all(gate, number, run);
+        let (entered, refusal) = desk.enter_run(place, lines, reads, joints, count);
         self.release(desk);
-        answered_all(gate, number, &lines[..count]);
-        keep_unless(own, &inside);
-        if inside.is_some() {
-            return (entered, inside);
-        }
+        answered_all(gate, number, run);
+        finish_run(own, run, joints, entered);
+        take_back_run(own, run, entered);
         (entered, refusal)
     }
 
@@ -360,7 +361,7 @@ impl<L: Opening> Shared<L> {
         ensures refusal { IfErr result (IsLineRefused L.formula L.seats L.max_steps seat.old
             line.now) }
     {
-        let alone = seat.test(&self.formula, line)?;
+        let alone = seat.test(self.alloc, &self.formula, line)?;
         self.hand_over(rt, seat, line, at, gate, alone, telling)
     }
 
@@ -380,36 +381,47 @@ impl<L: Opening> Shared<L> {
         ensures made { OnOk result (IsMaking (call_of line.now) seat.old seat.new) }
         ensures free { OnOk result (line_refusal seat.old line.now ≡ None) }
         ensures kept { OnErr result (seat.new ≡ seat.old) }
-        ensures refusal { IfErr result (λ e. HoldsInAState L.formula L.seats L.max_steps seat.old
-            (IsRefusedLine seat.old.number line.now e)) }
+        ensures refusal { IfErr result (IsLineRefused L.formula L.seats L.max_steps seat.old
+            line.now) }
     {
         let number = seat.number();
-        gate.pass(number, at);
         let Seat {
             place,
             own,
             marks: _,
         } = seat;
+        if let Err(refusal) = begin(own, &self.formula, line) {
+            return Err(refusal);
+        }
+        gate.pass(number, at);
         let mut desk = self.desk(rt);
+        gate.held(number, at);
         let answer = desk.enter(place, line, alone, telling);
         self.release(desk);
         gate.answered(number, at);
-        let told = answer?;
-        follow(own, line);
-        Ok(told)
+        match answer {
+            Ok((told, joint)) => {
+                finish(own, line, joint);
+                Ok(told)
+            }
+            Err(refusal) => {
+                take_back(own, line);
+                Err(refusal)
+            }
+        }
     }
 
-    /// An addition under the seat's numbers as a case in joint numbers, which can be tested without the book. Takes time
-    /// linear in the literals of its hints' clauses, which are copied.
+    /// An addition under the seat's numbers as a case in joint numbers, which can be tested without the book. The seat's own
+    /// table decides it, so it waits for nobody. Takes constant time for each number of the addition, or O(log n) for numbers
+    /// beyond the slots and for each group; the literals of the clauses are shared.
     ///
     /// # Errors
     /// As [`Book::take`].
-    pub fn take<R: Wait>(
-        &self,
-        rt: &R,
-        seat: &mut Seat<L>,
-        addition: &Addition,
-    ) -> Result<Case, Refusal>
+    pub fn take(&self, seat: &mut Seat<L>, addition: &Addition) -> Result<Case, Refusal>
+        ensures alone { IsReply result
+            (solo_take seat.old.view seat.old.number addition.now) }
+        ensures refused { IfSome (solo_refusal seat.old.view addition.now.number)
+            (λ e. result ≡ Err e) }
         ensures answer { HoldsInAState L.formula L.seats L.max_steps seat.old
             (λ s. IsReply result (take_reply s seat.old.number addition.now)) }
         ensures seat { IfOk result (λ case. case.seat ≡ seat.old.number) }
@@ -417,7 +429,8 @@ impl<L: Opening> Shared<L> {
         ensures lemma { IfOk result (λ case. case.lemma ≡ addition.now.lemma) }
         ensures kept { seat.new ≡ seat.old }
     {
-        self.desk.lock(rt).take(&mut seat.place, addition)
+        takes_are_alone();
+        seat.take(self.alloc, &self.formula, addition)
     }
 
     /// Enters the lemma of a receipt of this seat, while the clauses that it lists still live. Takes O(log n) time for each of
@@ -443,21 +456,27 @@ impl<L: Opening> Shared<L> {
             receipt.own (λ s. commit_reply s receipt) e.0) }
     {
         let own = receipt.own();
-        let clause = match receipt.lemma().clause().copy() {
-            Ok(clause) => clause,
-            Err(refused) => return Err((Refusal::NoMemory(refused), receipt)),
-        };
         let Seat {
             place,
             own: kept,
             marks: _,
         } = seat;
+        if let Err(refusal) = bind_ahead(kept, &self.formula, own, receipt.lemma().clause()) {
+            return Err((refusal, receipt));
+        }
         let mut desk = self.desk.lock(rt);
         let answer = desk.commit(place, receipt);
         self.release(desk);
-        let told = answer?;
-        bind(kept, own, &clause);
-        Ok(told)
+        match answer {
+            Ok((told, joint)) => {
+                settle(kept, own, joint);
+                Ok(told)
+            }
+            Err(refused) => {
+                unbind(kept, own);
+                Err(refused)
+            }
+        }
     }
 
     /// Binds the seat's own number to a joint number that lives. Takes the time of [`Book::adopt`], and time linear in the
@@ -484,8 +503,11 @@ impl<L: Opening> Shared<L> {
             own: kept,
             marks: _,
         } = seat;
+        if let Err(refusal) = free(kept, &self.formula, own) {
+            return Err(refusal);
+        }
         let mut desk = self.desk.lock(rt);
-        let told = desk.adopt(self.alloc, place, kept, own, joint);
+        let told = desk.adopt(self.alloc, &self.formula, place, kept, own, joint);
         self.release(desk);
         told
     }
@@ -617,27 +639,24 @@ impl<L: Opening> Shared<L> {
     }
 }
 
-/// What is called before lines are handed to the book.
+/// Calls the gate for lines that are about to be handed to the book.
 fn pass_all<G: Gate>(gate: &G, seat: u32, lines: &[Numbered]) {
     for line in lines {
         gate.pass(seat, line.at);
     }
 }
 
-/// What is called once the answers to lines stand.
-fn answered_all<G: Gate>(gate: &G, seat: u32, lines: &[Numbered]) {
+/// Calls the gate for lines that the lock is held for.
+fn held_all<G: Gate>(gate: &G, seat: u32, lines: &[Numbered]) {
     for line in lines {
-        gate.answered(seat, line.at);
+        gate.held(seat, line.at);
     }
 }
 
-/// Where a line was refused, nothing is kept any more.
-fn keep_unless(kept: &mut Option<OwnClauses>, refusal: &Option<Refusal>)
-    ensures all { refusal.now ≡ None → kept.new ≡ kept.old }
-    ensures refused { OnSome refusal.now (kept.new ≡ None) }
-{
-    if refusal.is_some() {
-        *kept = None;
+/// Calls the gate for lines whose answers stand.
+fn answered_all<G: Gate>(gate: &G, seat: u32, lines: &[Numbered]) {
+    for line in lines {
+        gate.answered(seat, line.at);
     }
 }
 
@@ -661,12 +680,14 @@ fn seats_of<L: Opening>(
     requires formula { formula.now ≡ L.formula }
     requires opened { book.now
         ≡ opening formula.now (length copies.items) book.now.max_steps }
+    requires state { IsOpenedAs L.formula L.seats L.max_steps book.now }
     ensures seats { IfOk result (λ out. out.items ≡ new_seats formula.now (length copies.items)) }
     ensures shown { OnOk result (AreShown book.now lists.new) }
     ensures parts { OnOk result (rest.new.parts ≡ 0) }
     ensures amount { OnOk result (rest.new.amount ≡ 0) }
 {
     seats_hold_the_formula();
+    history_is_legal(book);
     let mut out = Vec::new(alloc);
     let mut number = 0;
     for copy in copies {

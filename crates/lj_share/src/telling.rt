@@ -1,11 +1,13 @@
-//! Calls on the book that tell a copy of their entry where it is asked for.
-ghost use Rattle.std.specs.Prelude.{◌≡◌, IfOk, IfErr, OnOk, OnErr, is_ok, true};
+//! Calls on the book that tell a copy of their entry where it is asked for, and the joint number that an own number is bound to.
+ghost use Rattle.std.specs.Prelude.{◌≡◌, IfOk, IfErr, OnOk, OnErr, Some, is_ok, true};
 ghost use Rattle.lj_book.specs.Calls.{IsRefusal, drop_entry, drop_reply, import_entry, import_reply};
 ghost use Rattle.lj_book.specs.History.{after_entry};
 ghost use Rattle.lj_book.specs.Inside.{inside_entry, inside_reply};
 ghost use Rattle.lj_book.specs.Solo.{view_of};
 ghost use Rattle.lj_book.specs.Views.{IsClosedAlone};
-ghost use Rattle.lj_share.specs.inner.Telling.{Finds, IsAsked};
+ghost use Rattle.lj_book.specs.Lookup.{least_number};
+ghost use Rattle.lj_book.specs.State.{live, next};
+ghost use Rattle.lj_share.specs.inner.Telling.{IsAsked};
 
 use lj_book::{Book, Entry, Refusal};
 use lj_clause::Clause;
@@ -22,20 +24,22 @@ pub(crate) fn add_inside(
     addition: &Addition,
     marks: &mut Marks,
     telling: bool,
-) -> Result<Option<Entry>, Refusal>
+) -> Result<(Option<Entry>, u64), Refusal>
     ensures ok { OnOk result
         (book.new ≡ after_entry book.old (inside_entry book.old seat addition.now)) }
-    ensures told { IfOk result (IsAsked telling (inside_entry book.old seat addition.now)) }
+    ensures told { IfOk result (λ told. IsAsked telling (inside_entry book.old seat addition.now)
+        told.0) }
+    ensures joint { IfOk result (λ told. told.1 ≡ next book.old) }
     ensures err { OnErr result (book.new ≡ book.old) }
     ensures accepted { OnOk result (is_ok (inside_reply book.old seat addition.now) ≡ true) }
     ensures refusal { IfErr result (λ e. IsRefusal e (inside_reply book.old seat addition.now)) }
 {
     if telling {
-        let (_, entry) = book.add_inside_telling(seat, addition, marks)?;
-        return Ok(Some(entry));
+        let (added, entry) = book.add_inside_telling(seat, addition, marks)?;
+        return Ok((Some(entry), added.joint));
     }
-    book.add_inside(seat, addition, marks)?;
-    Ok(None)
+    let added = book.add_inside(seat, addition, marks)?;
+    Ok((None, added.joint))
 }
 
 /// Enters a seat's addition that closes by what the seat sees, after so many of its hints.
@@ -48,21 +52,23 @@ pub(crate) fn add_closed(
     addition: &Addition,
     read: usize,
     telling: bool,
-) -> Result<Option<Entry>, Refusal>
+) -> Result<(Option<Entry>, u64), Refusal>
     requires { IsClosedAlone (view_of book.old seat) seat addition.now read }
     ensures ok { OnOk result
         (book.new ≡ after_entry book.old (inside_entry book.old seat addition.now)) }
-    ensures told { IfOk result (IsAsked telling (inside_entry book.old seat addition.now)) }
+    ensures told { IfOk result (λ told. IsAsked telling (inside_entry book.old seat addition.now)
+        told.0) }
+    ensures joint { IfOk result (λ told. told.1 ≡ next book.old) }
     ensures err { OnErr result (book.new ≡ book.old) }
     ensures accepted { OnOk result (is_ok (inside_reply book.old seat addition.now) ≡ true) }
     ensures refusal { IfErr result (λ e. IsRefusal e (inside_reply book.old seat addition.now)) }
 {
     if telling {
-        let (_, entry) = book.add_closed_telling(seat, addition, read)?;
-        return Ok(Some(entry));
+        let (added, entry) = book.add_closed_telling(seat, addition, read)?;
+        return Ok((Some(entry), added.joint));
     }
-    book.add_closed(seat, addition, read)?;
-    Ok(None)
+    let added = book.add_closed(seat, addition, read)?;
+    Ok((None, added.joint))
 }
 
 /// Gives own numbers of a seat up.
@@ -100,19 +106,20 @@ pub(crate) fn import(
     own: u64,
     clause: &Clause,
     telling: bool,
-) -> Result<Option<Entry>, Refusal>
+) -> Result<(Option<Entry>, u64), Refusal>
     ensures ok { OnOk result
         (book.new ≡ after_entry book.old (import_entry seat own clause.now)) }
-    ensures told { IfOk result (IsAsked telling (import_entry seat own clause.now)) }
-    ensures found { OnOk result (Finds book.old clause.now) }
+    ensures told { IfOk result (λ told. IsAsked telling (import_entry seat own clause.now) told.0) }
+    ensures found { IfOk result
+        (λ told. least_number (live book.old) clause.now ≡ Some told.1) }
     ensures err { OnErr result (book.new ≡ book.old) }
     ensures accepted { OnOk result (is_ok (import_reply book.old seat own clause.now) ≡ true) }
     ensures refusal { IfErr result (λ e. IsRefusal e (import_reply book.old seat own clause.now)) }
 {
     if telling {
-        let (_, entry) = book.import_telling(seat, own, clause)?;
-        return Ok(Some(entry));
+        let (imported, entry) = book.import_telling(seat, own, clause)?;
+        return Ok((Some(entry), imported.joint));
     }
-    book.import(seat, own, clause)?;
-    Ok(None)
+    let imported = book.import(seat, own, clause)?;
+    Ok((None, imported.joint))
 }

@@ -1,6 +1,6 @@
 -- Occurrence lists: under the place of each literal the numbers of the clauses that hold it, and under 1,
 -- which is no literal's place, those of the empty clauses.
-use Rattle.std.specs.Prelude.{◌≡◌, ℕ, ℤ, ◌+◌, ◌<◌, ◌≤◌, ◌==◌, Bool, true, false, List, [], ◌∷◌, ◌++◌, length, map, Option, Some, None, IfSome, if◌then◌else◌}
+use Rattle.std.specs.Prelude.{◌≡◌, ℕ, ◌+◌, ◌<◌, ◌≤◌, ◌==◌, Bool, true, false, List, [], ◌∷◌, ◌++◌, length, map, Option, Some, None, IfSome, if◌then◌else◌}
 use Rattle.std.specs.List.Sorted.{IsStrictlySortedBy}
 use Rattle.std.specs.Ordering.{nat_cmp}
 use Rattle.std.specs.FinMap as fin
@@ -29,11 +29,6 @@ list_at m k = list_or_empty (fin.get m k)
 abbrev pub put_if : Bool → List ℕ → ℕ → List ℕ
 put_if true numbers n = numbers ++ n ∷ []
 put_if false numbers n = numbers
-
--- the list under a place with the number at its end, once for each of these literals that has this place
-abbrev pub put_each : List ℕ → List ℤ → ℕ → ℕ → List ℕ
-put_each numbers [] k n = numbers
-put_each numbers (l ∷ ls) k n = put_each (put_if (place_of l == k) numbers n) ls k n
 
 -- the lists with the number at the end of that under a place
 abbrev pub with_number : Lists → ℕ → ℕ → Lists

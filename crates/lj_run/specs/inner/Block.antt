@@ -1,5 +1,5 @@
 -- How the lines of a block are read, which are handed in together.
-use Rattle.std.specs.Prelude.{◌≡◌, ℕ, ◌+◌, ◌≤◌, Bool, false, true, List, [], ◌∷◌, ◌++◌, length, map, take, drop, Option, Some, Ok, IfSome, MatchOption, is_none, slice_get}
+use Rattle.std.specs.Prelude.{◌≡◌, ℕ, ◌+◌, ◌≤◌, Bool, false, true, List, [], ◌∷◌, ◌++◌, length, map, take, drop, Option, None, Some, Ok, IfSome, MatchOption, is_none, slice_get}
 use Rattle.lj_text.specs.declared.line.Line.{Line}
 use Rattle.lj_text.specs.declared.line.Line.TheVariants.{Add, Delete, Import}
 use Rattle.lj_text.specs.declared.lines.fault.LineFault.{LineFault}
@@ -46,21 +46,23 @@ pub record BlockRead (max : ℕ) (fed : List ℕ) (handed : ℕ) (reader : Lines
   pub ahead : IfSome fault (λ told. LineMissed max (fed ++ piece) (handed + length lines) told.line
       after after (AtFault told))
 
--- a stream ends so at the next of these lines, or before it
-abbrev pub EndsInBlock : (Line → Refusal → Type 0) → Type 0 → Type 0 → List Numbered → End → Type 0
-EndsInBlock refused stopped goes_on rest Ended = ⊥
-EndsInBlock refused stopped goes_on rest Stopped = stopped
-EndsInBlock refused stopped goes_on rest (AtLine n (Refused refusal)) = (line : Numbered)
+-- a stream ends so at the next of these lines, or before it, and the line is kept where it was refused
+abbrev pub EndsInBlock : (Line → Refusal → Type 0) → Type 0 → Type 0 → List Numbered → End
+    → Option Line → Type 0
+EndsInBlock refused stopped goes_on rest Ended kept = ⊥
+EndsInBlock refused stopped goes_on rest Stopped kept = stopped × (kept ≡ None)
+EndsInBlock refused stopped goes_on rest (AtLine n (Refused refusal)) kept = (line : Numbered)
     × (slice_get rest 0 ≡ Some line) × (n ≡ line.at) × refused line.line refusal × goes_on
-EndsInBlock refused stopped goes_on rest (AtLine n end) = ⊥
+    × (kept ≡ Some line.line)
+EndsInBlock refused stopped goes_on rest (AtLine n end) kept = ⊥
 
 -- The first of a block's lines were entered, so many, and counted: all of them, or the stream ends so at the next one.
 pub record BlockEntered (entered : List Said → Type 0) (refused : Line → Refusal → Type 0)
     (stopped goes_on : Type 0) (lines : List Numbered) (before after : Tally)
-    (end : Option End) : Type 0 where
+    (ending : Option (End × Option Line)) : Type 0 where
   pub count : ℕ
   pub within : count ≤ length lines
   pub enters : entered (map said_in_block (take count lines))
   pub counted : after ≡ with_lines before (take count lines)
-  pub ends : MatchOption end (count ≡ length lines)
-      (EndsInBlock refused stopped goes_on (drop count lines))
+  pub ends : MatchOption ending (count ≡ length lines)
+      (λ e. EndsInBlock refused stopped goes_on (drop count lines) e.0 e.1)

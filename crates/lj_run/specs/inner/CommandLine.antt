@@ -19,6 +19,7 @@ line_asked line = record {
   way = line.way;
   proof = option_map (λ path. path.now) line.proof;
   trims = line.trim;
+  explains = line.explain;
 }
 
 -- what a request asks for; of its texts nothing is said

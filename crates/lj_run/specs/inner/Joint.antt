@@ -27,6 +27,7 @@ report_of tally source = record {
   imported =
       tally.imported;
   end = tally.end;
+  refused = tally.refused;
   source = source;
 }
 

@@ -1,10 +1,12 @@
 -- How the lines of a stream are read from its source.
-use Rattle.std.specs.Prelude.{◌≡◌, ℕ, ◌+◌, Bool, true, false, List, [], ◌++◌, take, Option, None, Some, Ok, Err, slice_get, if◌then◌else◌}
+use Rattle.std.specs.Prelude.{◌≡◌, ℕ, ◌+◌, Bool, true, false, List, [], ◌++◌, take, None, Some, Ok, Err, slice_get, if◌then◌else◌}
 use Rattle.lj_text.specs.declared.line.Line.{Line}
 use Rattle.lj_text.specs.Lines.{Said, all_said}
 use Rattle.lj_text.specs.LinesRead.{LinesRead, LineReaderStandsAt, is_line_no_memory}
 use Rattle.lj_text.specs.Streams.{SourceState, HasGiven, HasEnded}
 use Rattle.lj_run.specs.declared.reading.Miss.{Miss}
+use Rattle.lj_run.specs.declared.reading.Next.{Next}
+use Rattle.lj_run.specs.declared.reading.Next.TheVariants as nexts
 use Rattle.lj_run.specs.declared.reading.Miss.TheVariants.{Failed, AtFault}
 use Rattle.lj_run.specs.Reading.{FailsAt, IsRoomRefused, AreWhole}
 
@@ -20,28 +22,30 @@ pub record PieceRead (fed : List ℕ) (handed : ℕ) (reader : LinesRead)
   pub gave : HasGiven before after piece
   pub stands : LineReaderStandsAt reader (fed ++ piece) handed
 
--- the next of these lines is this one, of this number; none where there are no more
-abbrev pub IsNext : List Said → ℕ → ℕ → Option Line → Type 0
-IsNext lines handed at None = slice_get lines handed ≡ None
-IsNext lines handed at (Some line) = slice_get lines handed
+-- the next of these lines is this one, of this number; at the end there are no more; nothing is told yet where a piece was read
+abbrev pub IsNext : List Said → ℕ → ℕ → Next → Type 0
+IsNext lines handed at (nexts.Line line) = slice_get lines handed
     ≡ Some (record { line = at; says = Ok line })
+IsNext lines handed at nexts.More = Unit {0}
+IsNext lines handed at nexts.End = slice_get lines handed ≡ None
 
 -- how many lines were handed out, with this one
-abbrev pub with_handed : ℕ → Option Line → ℕ
-with_handed handed None = handed
-with_handed handed (Some line) = handed + 1
+abbrev pub with_handed : ℕ → Next → ℕ
+with_handed handed (nexts.Line line) = handed + 1
+with_handed handed nexts.More = handed
+with_handed handed nexts.End = handed
 
--- The source gave a piece behind what the reader was fed. In all of that the lines handed out before are the same, and this one
--- is the next, and whole unless the source has ended; where there is none, it has.
+-- The source gave a piece behind what the reader was fed. In all of that the lines handed out before are the same. A line that is
+-- told is the next one, and whole unless the source has ended; where the end is told, the source has ended.
 pub record LineRead (max : ℕ) (fed : List ℕ) (handed : ℕ) (reader : LinesRead)
-    (before after : SourceState) (line : Option Line) : Type 0 where
+    (before after : SourceState) (next : Next) : Type 0 where
   pub piece : List ℕ
   pub gave : HasGiven before after piece
   pub same : take handed (all_said max (fed ++ piece)) ≡ take handed (all_said max fed)
-  pub next : IsNext (all_said max (fed ++ piece)) handed reader.at line
-  pub stands : LineReaderStandsAt reader (fed ++ piece) (with_handed handed line)
-  pub ended : line ≡ None → HasEnded after
-  pub whole : AreWhole max (fed ++ piece) after (with_handed handed line)
+  pub is : IsNext (all_said max (fed ++ piece)) handed reader.at next
+  pub stands : LineReaderStandsAt reader (fed ++ piece) (with_handed handed next)
+  pub ended : next ≡ nexts.End → HasEnded after
+  pub whole : AreWhole max (fed ++ piece) after (with_handed handed next)
 
 -- the next line of a text is at fault, or a read failed; of the want of memory see IsRoomRefused
 abbrev pub IsMiss : ℕ → List ℕ → ℕ → ℕ → Miss → Type 0

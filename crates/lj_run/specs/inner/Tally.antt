@@ -1,5 +1,5 @@
 -- What is counted of a stream.
-use Rattle.std.specs.Prelude.{ℕ, ◌+◌, List, [], ◌∷◌}
+use Rattle.std.specs.Prelude.{ℕ, ◌+◌, List, [], ◌∷◌, Option}
 use Rattle.lj_text.specs.declared.line.Line as line
 use Rattle.lj_text.specs.declared.line.Line.TheVariants as lines
 use Rattle.lj_run.specs.declared.stream.Tally.{Tally}
@@ -21,8 +21,9 @@ abbrev pub with_lines : Tally → List Numbered → Tally
 with_lines tally [] = tally
 with_lines tally (one ∷ more) = with_lines (with_count tally one.line) more
 
-abbrev pub with_end : Tally → End → Tally
-with_end tally end = record tally { end = end }
+-- the tally of a stream that ended so, with the line that was refused, where there is one
+abbrev pub with_end : Tally → End → Option line.Line → Tally
+with_end tally end refused = record tally { end = end; refused = refused }
 
 -- the end of a stream whose next line is missed, where this line is being read
 abbrev pub missed_at : ℕ → Miss → End

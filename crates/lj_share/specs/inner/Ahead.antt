@@ -51,12 +51,6 @@ abbrev pub clauses_behind : ClauseMap → List Numbered → ClauseMap
 clauses_behind m [] = m
 clauses_behind m (l ∷ ls) = clauses_behind (clauses_after_line m l.line) ls
 
--- These clauses refuse the line so, where it is an addition; other lines aren't refused ahead.
-abbrev pub IsRefusedAhead : ClauseMap → Line → Refusal → Type 0
-IsRefusedAhead m (lines.Add a) e = IsRefusedBy m a e
-IsRefusedAhead m (lines.Delete numbers) e = ⊥
-IsRefusedAhead m (lines.Import own clause) e = ⊥
-
 -- the addition has no groups, its number is bound to none of these clauses, and the walk over its hints ends so
 pub record IsWalkedTo (m : ClauseMap) (a : Addition) (end : Ending) : Type 0 where
   pub free : is_some (fin.get m a.number) ≡ false
@@ -74,8 +68,3 @@ abbrev pub AreTested : ClauseMap → List Numbered → List ℕ → ℕ → Type
 AreTested m ls reads count = (k : ℕ) (l : Numbered) (read : ℕ) → k < count
     → slice_get ls k ≡ Some l → slice_get reads k ≡ Some read
     → IsTestedLine (clauses_behind m (take k ls)) l.line read
-
--- The line of this number is refused so by the clauses behind those before it.
-abbrev pub IsNextRefused : ClauseMap → List Numbered → ℕ → Refusal → Type 0
-IsNextRefused m ls count e = (l : Numbered) × ((slice_get ls count ≡ Some l)
-    × IsRefusedAhead (clauses_behind m (take count ls)) l.line e)

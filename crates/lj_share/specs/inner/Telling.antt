@@ -2,9 +2,6 @@
 use Rattle.std.specs.Prelude.{◌≡◌, ℕ, Bool, Option, None, Some, MatchBool, IsSomeAnd}
 use Rattle.lj_book.specs.declared.entry.Call.{Call}
 use Rattle.lj_book.specs.declared.entry.Entry.{Entry}
-use Rattle.lj_clause.specs.LiteralSet.{LiteralSet}
-use Rattle.lj_book.specs.Lookup.{least_number}
-use Rattle.lj_book.specs.State.{State, live}
 use Rattle.lj_share.specs.Entries.{IsEntryOf}
 
 -- This entry is told if it is asked for, and else none.
@@ -14,7 +11,3 @@ IsAsked telling e told = MatchBool telling (told ≡ Some e) (told ≡ None)
 -- A token of this seat and this call is told if it is asked for.
 abbrev pub IsTokenOf : Bool → ℕ → Call → Option Entry → Type 0
 IsTokenOf telling seat call told = MatchBool telling (IsSomeAnd told (IsEntryOf seat call)) (told ≡ None)
-
--- Some live clause is this one.
-abbrev pub Finds : State → LiteralSet → Type 0
-Finds s clause = (joint : ℕ) × (least_number (live s) clause ≡ Some joint)

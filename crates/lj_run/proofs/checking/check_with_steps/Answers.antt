@@ -1,4 +1,4 @@
-use Rattle.std.proofs.Common.{◌+◌, ◌∙◌, ap, refl, inr}
+use Rattle.std.proofs.Common.{◌+◌, ◌++◌, ◌∙◌, ap, refl, inr, string_bytes}
 use Rattle.lj_run.specs.Checking.{verdict_of}
 use Rattle.lj_run.proofs.CheckLemmas.{checked_of, text_printed, text_refused}
 use Rattle.lj_run.proofs.checking.check_with_steps.Goals as goal
@@ -30,3 +30,12 @@ returns-in-Err-clause-fault g c = record {
 
 pub returns-in_err-text-clause-fault : goal.returns-in_err-text-clause-fault
 returns-in_err-text-clause-fault g c = text_refused _ _ _ _ _ _ _ _ _ _ _ _ _ c.from_residual-in_err-text.result c.in_ok-outcome.outcome c.from_residual-in_err-text.ensures.1 c.in_ok-outcome.ensures.outcome refl
+
+pub returns-in-Ok-clause-explained : goal.returns-in-Ok-clause-explained
+returns-in-Ok-clause-explained g c = record {
+  outcome = c.in_ok-outcome.outcome;
+  printed = c.in-Ok.ensures.taken ∙ ap (λ t. g.O.Sink.taken c.args.out.now ++ t) (c.as_bytes.ensures.value ∙ c.in_ok-text.ensures);
+  said = string_bytes c.in_ok-outcome.outcome.explanation;
+  explanation = c.in_ok-outcome.ensures.explained;
+  told = refl;
+}

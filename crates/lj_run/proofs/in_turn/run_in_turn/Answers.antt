@@ -29,7 +29,7 @@ returns-clause-outcome g c =
     let seats : c.len.result ≡ length streams = search rules in
     let opened = c.new-seat.ensures ∙ c.in_ok-book.ensures ∙ ap (λ n. opening f n max) seats in
     let same : c.run_all.new.seat.book.formula ≡ f = c.in_ok-reports.ensures.formula ∙ ap (λ (s : State). s.formula) opened in
-    let outcome : Outcome g.row.S.Denot = record { reports = c.in_ok-reports.reports; verified = c.in_ok-verified.verified; steps = c.into_steps-steps.result; proof = c.prove-proof.result } in
+    let outcome : Outcome g.row.S.Denot = record { reports = c.in_ok-reports.reports; verified = c.in_ok-verified.verified; steps = c.into_steps-steps.result; proof = c.prove-proof.result; explanation = c.explanation_of-explanation.result } in
     let is = outcome_is seen f max streams c.new-seat.result.book c.run_all.new.seat.book outcome opened c.in_ok-reports.ensures.formula c.in_ok-reports.ensures.reports
     c.history_is_legal.ensures c.into_steps-steps.ensures c.live_is_the_replay.ensures c.in_ok-verified.ensures.refuted c.in_ok-verified.ensures.formula in
     let formula : IfSome c.in_ok-verified.verified (λ g. g ≡ f) = subst (λ (h : FormulaValue). IfSome c.in_ok-verified.verified (λ g. g ≡ h)) same c.in_ok-verified.ensures.formula in

@@ -19,7 +19,7 @@ returns-clause-outcome g c =
     let max = c.args.options.now.max_steps in
     let trims = c.args.options.now.trim in
     let streams = streams_by_seat c.args.streams.items c.args.closing in
-    let outcome : Outcome g.row.S.Denot = record { reports = c.in_ok-reports.reports; verified = c.in_ok-verified.verified; steps = c.into_steps-steps.result; proof = c.prove-proof.result } in
+    let outcome : Outcome g.row.S.Denot = record { reports = c.in_ok-reports.reports; verified = c.in_ok-verified.verified; steps = c.into_steps-steps.result; proof = c.prove-proof.result; explanation = c.explanation_of-explanation.result } in
     let is = joint_outcome_is seen f max streams c.in_ok-reports.book outcome c.in_ok-reports.ensures.ran c.into_steps-steps.ensures c.live_is_the_replay.ensures c.in_ok-verified.ensures.some c.in_ok-verified.ensures.refuted c.in_ok-verified.ensures.formula in
     let formula : IfSome c.in_ok-verified.verified (λ h. h ≡ f) = subst (λ (h : FormulaValue). IfSome c.in_ok-verified.verified (λ k. k ≡ h)) c.in_ok-reports.ensures.ran.opened.formula_is c.in_ok-verified.ensures.formula in
     answer_by OnThreads _ _ seen sink f max trims streams _ _ outcome c.in_ok-reports.book c.in_ok-formula.ensures.formula is

@@ -10,4 +10,5 @@ returns c =
     let in_turn = with_argument _ _ _ _ _ close c.flag-in_turn.ensures c.in_ok-arg-3.ensures in
     let proof = with_argument _ _ _ _ _ in_turn c.option-proof.ensures c.in_ok-arg-4.ensures in
     let trim = with_argument _ _ _ _ _ proof c.flag-trim.ensures c.in_ok-arg-5.ensures in
-    IfOk-weaker c.arg-7.result _ _ (λ d added. with_argument _ _ _ _ _ trim c.option-max_steps.ensures added) c.arg-7.ensures
+    let max_steps = with_argument _ _ _ _ _ trim c.option-max_steps.ensures c.in_ok-arg-6.ensures in
+    IfOk-weaker c.arg-8.result _ _ (λ d added. with_argument _ _ _ _ _ max_steps c.flag-explain.ensures added) c.arg-8.ensures

@@ -5,7 +5,8 @@ use Rattle.lj_share.specs.inner.Seats.{IsOwnOf}
 use Rattle.lj_share.specs.declared.copies.SeatCopy.{SeatCopy}
 use Rattle.lj_share.proofs.ListLaws.{front_at, front_passed}
 use Rattle.lj_share.proofs.NewSeats.{all_shown, more_shown, set_as_long, opened_seat, opened_view}
-use Rattle.lj_share.proofs.OwnLaws.{own_opened}
+use Rattle.lj_share.proofs.KeptLaws.{own_opened}
+use Rattle.lj_share.proofs.Opened.{seat_of_state}
 use Rattle.lj_share.proofs.shared.seats_of.Goals as goal
 
 pub follow-requires : goal.follow-requires
@@ -16,6 +17,9 @@ pub new-place-requires-clause-named : goal.new-place-requires-clause-named
 new-place-requires-clause-named g c =
     front_at g.L.Opening.lists c.loop-copy.number c.in-Some.copy.name (map (λ (c : SeatCopy). c.name) c.next.new.self.rest.items) (ap (map (λ (c : SeatCopy). c.name)) (sym c.in-Some.ensures.steps.0) ∙ c.loop-copy.invariant.named)
     ∙ ap Some (sym c.follow.ensures.name)
+
+pub new-place-requires-clause-state : goal.new-place-requires-clause-state
+new-place-requires-clause-state g c = seat_of_state _ _ _ c.args.book.now c.follow.new.copy.seat c.loop-copy.number c.requires.state c.history_is_legal.ensures c.follow.ensures.seat
 
 pub new-requires-in-loop-copy : goal.new-requires-in-loop-copy
 new-requires-in-loop-copy g c =

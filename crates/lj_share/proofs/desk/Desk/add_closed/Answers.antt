@@ -1,6 +1,6 @@
-use Rattle.std.proofs.Common.{ap, ◌∙◌}
+use Rattle.std.proofs.Common.{ap, refl, ◌∙◌}
 use Rattle.lj_share.specs.Seats.{SeatValue}
-use Rattle.lj_share.proofs.Opened.{desk_in, desk_agreed, made_in}
+use Rattle.lj_share.proofs.Opened.{desk_in, desk_agreed, made_in, opened_on, added_in}
 use Rattle.lj_share.proofs.FreeLaws.{free_added}
 use Rattle.lj_share.proofs.desk.Desk.add_closed.Goals.{in-Ok, in-Err}
 use Rattle.lj_share.proofs.desk.Desk.add_closed.Goals as goal
@@ -25,3 +25,13 @@ returns-clause-free g c =
       | in-Ok w ↦ rw w.result-is (free_added c.agree.ensures.decided c.self.inside.book c.number.result c.args.addition.now c.args.place.now c.agree.ensures.legal (c.number.ensures ∙ ap (λ (s : SeatValue). s.number) c.agree.ensures.kept) c.agree.ensures.seat w.in-Ok.ensures.accepted)
       | in-Err w ↦ rw w.result-is tt
     ]
+
+pub returns-clause-view : goal.returns-clause-view
+returns-clause-view g c =
+    elim c.match-add_closed.branch [
+      | in-Ok w ↦ rw (w.result-is, w.place-is) (added_in c.agree.ensures.views _ _ _ c.args.addition.now.number c.args.addition.now.lemma _ _ _ _ c.agree.ensures.legal w.count_one.ensures.legal c.number.ensures w.in-Ok.ensures.ok c.agree.ensures.seat c.agree.ensures.kept w.count_one.ensures.seat refl w.in-Ok.ensures.joint)
+      | in-Err w ↦ rw w.result-is tt
+    ]
+
+pub count_one-requires-clause-opened : goal.count_one-requires-clause-opened
+count_one-requires-clause-opened g c = opened_on _ _ _ _ _ _ c.in-Ok.ensures.ok c.self.invariant.opened

@@ -1,7 +1,7 @@
-use Rattle.std.proofs.Common.{sym, ap, ◌∙◌}
+use Rattle.std.proofs.Common.{sym, ap, refl, ◌∙◌}
 use Rattle.std.specs.Prelude.{is_ok}
 use Rattle.lj_share.specs.Seats.{SeatValue}
-use Rattle.lj_share.proofs.Opened.{desk_in, desk_agreed, made_in}
+use Rattle.lj_share.proofs.Opened.{desk_in, desk_agreed, made_in, opened_on, added_in, committed_next}
 use Rattle.lj_share.proofs.FreeLaws.{free_committed}
 use Rattle.lj_share.proofs.desk.Desk.commit.Goals.{in-Ok, in-Err}
 use Rattle.lj_share.proofs.desk.Desk.commit.Goals as goal
@@ -26,3 +26,13 @@ returns-clause-free g c =
       | in-Ok w ↦ rw w.result-is (free_committed c.agree.ensures.free c.self.inside.book c.args.receipt c.args.place.now c.requires c.agree.ensures.seat (ap is_ok w.in-Ok.ensures.reply))
       | in-Err w ↦ rw w.result-is tt
     ]
+
+pub returns-clause-view : goal.returns-clause-view
+returns-clause-view g c =
+    elim c.match-commit_telling.branch [
+      | in-Ok w ↦ rw (w.result-is, w.place-is) (added_in c.agree.ensures.views _ _ _ c.args.receipt.own c.args.receipt.lemma _ _ _ _ c.agree.ensures.legal w.count_one.ensures.legal (c.requires ∙ sym (ap (λ (s : SeatValue). s.number) c.agree.ensures.kept)) w.in-Ok.ensures.ok c.agree.ensures.seat c.agree.ensures.kept w.count_one.ensures.seat refl (committed_next c.self.inside.book c.args.receipt _ w.in-Ok.ensures.reply))
+      | in-Err w ↦ rw w.result-is tt
+    ]
+
+pub count_one-requires-clause-opened : goal.count_one-requires-clause-opened
+count_one-requires-clause-opened g c = opened_on _ _ _ _ _ _ c.in-Ok.ensures.ok c.self.invariant.opened

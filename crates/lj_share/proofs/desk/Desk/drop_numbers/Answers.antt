@@ -1,6 +1,6 @@
-use Rattle.std.proofs.Common.{ap, ◌∙◌}
+use Rattle.std.proofs.Common.{ap, refl, ◌∙◌}
 use Rattle.lj_share.specs.Seats.{SeatValue}
-use Rattle.lj_share.proofs.Opened.{desk_in, desk_agreed, made_in}
+use Rattle.lj_share.proofs.Opened.{desk_in, desk_agreed, made_in, opened_on, dropped_in}
 use Rattle.lj_share.proofs.FreeLaws.{free_here}
 use Rattle.lj_share.proofs.desk.Desk.drop_numbers.Goals.{in-Ok, in-Err}
 use Rattle.lj_share.proofs.desk.Desk.drop_numbers.Goals as goal
@@ -25,3 +25,13 @@ returns-clause-free g c =
       | in-Ok w ↦ rw w.result-is (free_here c.agree.ensures.free _ c.self.inside.book c.number.result c.args.place.now (c.number.ensures ∙ ap (λ (s : SeatValue). s.number) c.agree.ensures.kept) c.agree.ensures.seat w.in-Ok.ensures.accepted)
       | in-Err w ↦ rw w.result-is tt
     ]
+
+pub returns-clause-view : goal.returns-clause-view
+returns-clause-view g c =
+    elim c.match-drop_numbers.branch [
+      | in-Ok w ↦ rw (w.result-is, w.place-is) (dropped_in c.agree.ensures.views _ _ _ c.args.numbers.now _ _ _ c.agree.ensures.legal w.count_one.ensures.legal c.number.ensures w.in-Ok.ensures.ok c.agree.ensures.seat c.agree.ensures.kept w.count_one.ensures.seat refl)
+      | in-Err w ↦ rw w.result-is tt
+    ]
+
+pub count_one-requires-clause-opened : goal.count_one-requires-clause-opened
+count_one-requires-clause-opened g c = opened_on _ _ _ _ _ _ c.in-Ok.ensures.ok c.self.invariant.opened

@@ -1,6 +1,6 @@
-use Rattle.std.proofs.Common.{ap, ◌∙◌}
+use Rattle.std.proofs.Common.{ap, refl, ◌∙◌}
 use Rattle.lj_share.specs.Seats.{SeatValue}
-use Rattle.lj_share.proofs.Opened.{desk_in, desk_agreed, made_in}
+use Rattle.lj_share.proofs.Opened.{desk_in, desk_agreed, made_in, opened_on, imported_in}
 use Rattle.lj_share.proofs.FreeLaws.{free_bound}
 use Rattle.lj_share.proofs.desk.Desk.import.Goals.{in-Ok, in-Err}
 use Rattle.lj_share.proofs.desk.Desk.import.Goals as goal
@@ -8,7 +8,7 @@ use Rattle.lj_share.proofs.desk.Desk.import.Goals as goal
 pub returns-clause-made : goal.returns-clause-made
 returns-clause-made g c =
     elim c.match-import.branch [
-      | in-Ok w ↦ rw (w.result-is, w.place-is) (made_in c.agree.ensures.views _ _ _ _ _ _ c.agree.ensures.legal w.count_one.ensures.legal c.number.ensures w.in-Ok.ensures.ok c.agree.ensures.seat c.agree.ensures.kept w.count_one.ensures.seat w.in-Ok.ensures.found)
+      | in-Ok w ↦ rw (w.result-is, w.place-is) (made_in c.agree.ensures.views _ _ _ _ _ _ c.agree.ensures.legal w.count_one.ensures.legal c.number.ensures w.in-Ok.ensures.ok c.agree.ensures.seat c.agree.ensures.kept w.count_one.ensures.seat (_, w.in-Ok.ensures.found))
       | in-Err w ↦ rw w.result-is tt
     ]
 
@@ -25,3 +25,13 @@ returns-clause-free g c =
       | in-Ok w ↦ rw w.result-is (free_bound c.agree.ensures.free _ c.self.inside.book c.number.result c.args.own c.args.place.now (c.number.ensures ∙ ap (λ (s : SeatValue). s.number) c.agree.ensures.kept) c.agree.ensures.seat w.in-Ok.ensures.accepted)
       | in-Err w ↦ rw w.result-is tt
     ]
+
+pub returns-clause-view : goal.returns-clause-view
+returns-clause-view g c =
+    elim c.match-import.branch [
+      | in-Ok w ↦ rw (w.result-is, w.place-is) (imported_in c.agree.ensures.views _ _ _ c.args.own c.args.clause.now _ _ _ _ c.agree.ensures.legal w.count_one.ensures.legal c.number.ensures w.in-Ok.ensures.ok c.agree.ensures.seat c.agree.ensures.kept w.count_one.ensures.seat refl w.in-Ok.ensures.found)
+      | in-Err w ↦ rw w.result-is tt
+    ]
+
+pub count_one-requires-clause-opened : goal.count_one-requires-clause-opened
+count_one-requires-clause-opened g c = opened_on _ _ _ _ _ _ c.in-Ok.ensures.ok c.self.invariant.opened

@@ -1,7 +1,7 @@
 use Rattle.std.proofs.Common.{ap, ◌∙◌}
 use Rattle.std.specs.Prelude.{is_ok}
 use Rattle.lj_share.specs.Seats.{SeatValue}
-use Rattle.lj_share.proofs.Opened.{desk_in, desk_agreed, made_in}
+use Rattle.lj_share.proofs.Opened.{desk_in, desk_agreed, made_in, opened_on}
 use Rattle.lj_share.proofs.FreeLaws.{free_here}
 use Rattle.lj_share.proofs.desk.Desk.leave.Goals.{in-Ok, in-Err}
 use Rattle.lj_share.proofs.desk.Desk.leave.Goals as goal
@@ -26,3 +26,6 @@ returns-clause-free g c =
       | in-Ok w ↦ rw w.result-is (free_here c.agree.ensures.free _ c.self.inside.book c.number.result c.args.place.now (c.number.ensures ∙ ap (λ (s : SeatValue). s.number) c.agree.ensures.kept) c.agree.ensures.seat (ap is_ok w.in-Ok.ensures.reply))
       | in-Err w ↦ rw w.result-is tt
     ]
+
+pub count_one-requires-clause-opened : goal.count_one-requires-clause-opened
+count_one-requires-clause-opened g c = opened_on _ _ _ _ _ _ c.in-Ok.ensures.ok c.self.invariant.opened

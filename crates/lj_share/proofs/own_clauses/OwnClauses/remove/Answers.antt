@@ -1,8 +1,8 @@
-use Rattle.std.proofs.Common.{◌≡◌, ap, refl, ◌∙◌, subst, ◌-◌, ◌≤◌, ◌<◌, length, ℕ, None, true}
+use Rattle.std.proofs.Common.{◌≡◌, refl, ◌∙◌, subst, ◌-◌, ◌≤◌, ◌<◌, length, ℕ, None, true}
 use Rattle.std.specs.Prelude.{slice_set}
-use Rattle.std.specs.FinMap as fin
+use Rattle.lj_share.specs.inner.Bindings.{IsSet}
 use Rattle.lj_share.specs.inner.Seats.{OwnValue, IsUpdated}
-use Rattle.lj_share.proofs.OwnLaws.{late_taken, early_taken}
+use Rattle.lj_share.proofs.OwnLaws.{late_set, early_taken}
 use Rattle.lj_share.proofs.own_clauses.OwnClauses.remove.Goals as goal
 
 pub returns-then-own-end : goal.returns-then-own-end
@@ -12,7 +12,7 @@ returns-then-own-end c =
     let end : c.len-end.result ≡ length o.given_up = c.len-end.ensures ∙ c.self.inside.given_up.ok.0 in
     let behind : length o.given_up ≤ c.args.own = subst (λ (n : ℕ). n ≤ c.args.own) end c.if-own-end.true in
     subst (λ (x : OwnValue). IsUpdated x c.args.own None p) c.self.view_is
-    (late_taken o p c.args.own behind refl refl (c.remove.ensures.removed ∙ ap (λ (n : ℕ). fin.remove o.late (c.args.own - n)) end))
+    (late_set o p c.args.own None behind refl refl (subst (λ (n : ℕ). IsSet o.late (c.args.own - n) None p.late) end c.remove.ensures))
 
 pub returns : goal.returns
 returns c =
@@ -21,4 +21,4 @@ returns c =
     let end : c.len-end.result ≡ length o.given_up = c.len-end.ensures ∙ c.self.inside.given_up.ok.0 in
     let within : c.args.own < length o.given_up = subst (λ (n : ℕ). c.args.own < n) end c.if-own-end.false in
     subst (λ (x : OwnValue). IsUpdated x c.args.own None p) c.self.view_is
-    (early_taken o p c.args.own within refl refl c.remove-2.ensures.removed)
+    (early_taken o p c.args.own within refl refl c.remove-2.ensures)

@@ -1,6 +1,7 @@
-use Rattle.std.proofs.Common.{Some, sym, ap, ◌∙◌}
+use Rattle.std.proofs.Common.{Some, sym, ap, subst, ◌∙◌}
 use Rattle.std.specs.Prelude.{length}
 use Rattle.lj_share.specs.Seats.{SeatValue, seat_of_book}
+use Rattle.lj_share.specs.inner.Seats.{IsSeatOf}
 use Rattle.lj_share.proofs.ListLaws.{shown_again}
 use Rattle.lj_share.proofs.place.Place.agree.Goals as goal
 
@@ -8,7 +9,7 @@ pub invariant_of-self : goal.invariant_of-self
 invariant_of-self g c =
     let i = c.self.invariant in
     let same = c.follow.ensures.seat ∙ sym (c.requires c.self.inside.number c.self.inside.copy.seat c.follow.ensures.agree) in
-    (i.0, i.1, i.2 ∙ ap (λ (s : SeatValue). length s.calls) (sym same), i.3 ∙ ap Some (sym c.follow.ensures.name), ap (λ (s : SeatValue). s.number) same ∙ i.4)
+    (i.0, i.1, i.2 ∙ ap (λ (s : SeatValue). length s.calls) (sym same), i.3 ∙ ap Some (sym c.follow.ensures.name), ap (λ (s : SeatValue). s.number) same ∙ i.4, subst (IsSeatOf g.L.Opening.formula g.L.Opening.seats g.L.Opening.max_steps) (sym same) i.5)
 
 pub returns-clause-kept : goal.returns-clause-kept
 returns-clause-kept g c =

@@ -1,7 +1,7 @@
 use Rattle.std.proofs.Common.{Some, sym, ap, ◌∙◌, arith}
 use Rattle.std.specs.Prelude.{length}
 use Rattle.lj_share.specs.Entries.{calls_of}
-use Rattle.lj_share.specs.Seats.{SeatValue}
+use Rattle.lj_share.specs.Seats.{SeatValue, seat_of_book}
 use Rattle.lj_share.proofs.place.Place.count_one.Goals as goal
 
 pub invariant_of-self : goal.invariant_of-self
@@ -15,4 +15,11 @@ invariant_of-self g c =
       (let d = i.2 in omega (arith, d, long, before)),
       i.3 ∙ ap Some (sym c.follow.ensures.name),
       ap (λ (s : SeatValue). s.number) c.follow.ensures.seat,
+      record {
+        state = c.args.book.now;
+        opened = c.requires.opened;
+        legal = c.history_is_legal.ensures;
+        seat_is = ap (λ (s : SeatValue). seat_of_book c.args.book.now s.number) c.follow.ensures.seat ∙ sym c.follow.ensures.seat;
+        holds_there = tt;
+      },
     )

@@ -1,6 +1,6 @@
 use Rattle.std.proofs.Common.{refl, sym, ◌∙◌, true, false}
 use Rattle.std.specs.Prelude.{is_some}
-use Rattle.lj_share.proofs.AloneLaws.{whether_bound, first_found, first_later, first_none}
+use Rattle.lj_share.proofs.AloneLaws.{whether_bound, first_found, first_later}
 use Rattle.lj_share.proofs.seat.SeenClauses.first_unseen.Goals as goal
 
 pub returns-then-is_none : goal.returns-then-is_none

@@ -1,5 +1,5 @@
-use Rattle.std.proofs.Common.{sym, ◌∙◌, true, false}
-use Rattle.lj_share.proofs.AloneLaws.{whether_bound, no_groups, taken_by}
+use Rattle.std.proofs.Common.{true}
+use Rattle.lj_share.proofs.AloneLaws.{whether_bound, taken_by}
 use Rattle.lj_share.proofs.seat.SeenClauses.test.Goals as goal
 
 pub returns-then-is_some-clause-refusal : goal.returns-then-is_some-clause-refusal

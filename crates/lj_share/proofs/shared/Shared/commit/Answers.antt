@@ -1,13 +1,36 @@
-use Rattle.std.proofs.Common.{ℕ, ap, subst, ◌∙◌}
-use Rattle.lj_clause.specs.LiteralSet.{LiteralSet}
-use Rattle.lj_share.specs.inner.Seats.{IsBound}
-use Rattle.lj_share.proofs.OwnLaws.{own_bound}
+use Rattle.std.proofs.Common.{◌≡◌, ℕ, ap, inr, subst, sym, ◌∙◌}
+use Rattle.lj_clause.specs.ClauseMap.{FormulaValue}
+use Rattle.lj_text.specs.declared.line.Line.{Line}
+use Rattle.lj_text.specs.declared.line.Line.TheVariants as lines
+use Rattle.lj_book.specs.Solo.{solo_refusal}
+use Rattle.lj_share.specs.Refusals.{IsDecided}
+use Rattle.lj_share.specs.Seats.{SeatValue}
+use Rattle.lj_share.specs.inner.Seats.{IsLineBegun, IsFinished, IsOwnOf, IsTakenBack}
+use Rattle.lj_share.proofs.KeptLaws.{own_decided, own_finished, own_taken_back}
+use Rattle.lj_share.proofs.shared.Shared.commit.Goals.{in-Ok, in-Err-answer}
 use Rattle.lj_share.proofs.shared.Shared.commit.Goals as goal
+
+pub returns-in-Err-clause-refusal : goal.returns-in-Err-clause-refusal
+returns-in-Err-clause-refusal g c =
+    let k = c.seat.inside.own in
+    let view = c.seat.inside.place.view in
+    let are = subst (λ (f : FormulaValue). IsOwnOf f k view) (sym c.self.invariant.1) c.seat.invariant in
+    let is = own_decided c.self.inside.formula k view c.own-own.result c.in-Err.refusal are c.in-Err.ensures.refusal in
+    inr (subst (λ (s : SeatValue). IsDecided (solo_refusal s.view c.args.receipt.own) c.in-Err.refusal) c.seat.view_is (subst (λ (n : ℕ). IsDecided (solo_refusal view n) c.in-Err.refusal) c.own-own.ensures is))
 
 pub invariant_of-seat-2 : goal.invariant_of-seat-2
 invariant_of-seat-2 g c =
-    let o = c.seat.inside.own in
-    let p = c.bind.new.kept in
-    let clause = c.in-Ok.ensures ∙ c.clause.ensures.clause ∙ ap (λ l. l.clause) c.lemma.ensures.lemma in
-    let kept = subst (λ (n : ℕ). IsBound o n c.args.receipt.lemma.clause p) c.own-own.ensures (subst (λ (x : LiteralSet). IsBound o c.own-own.result x p) clause c.bind.ensures) in
-    own_bound g.L.Opening.formula o p c.seat.inside.place.view c.commit-answer.new.place.view c.args.receipt.own c.in_ok-told.ensures.made.view_is.0 c.args.receipt.lemma.clause c.seat.invariant kept c.in_ok-told.ensures.made.view_is.1
+    let f = g.L.Opening.formula in
+    let k = c.seat.inside.own in
+    let l = c.bind_ahead.new.kept in
+    let view = c.seat.inside.place.view in
+    let clause = c.clause.result.now in
+    let first : Line = lines.Import c.own-own.result clause in
+    let line : Line = lines.Import c.args.receipt.own c.args.receipt.lemma.clause in
+    let clause_is = c.clause.ensures.clause ∙ ap (λ l. l.clause) c.lemma.ensures.lemma in
+    let same : first ≡ line = λ i. lines.Import (c.own-own.ensures i) (clause_is i) in
+    let begun = subst (λ (x : Line). IsLineBegun f x k l) same (subst (λ (x : FormulaValue). IsLineBegun x first k l) c.self.invariant.1 c.in_default.ensures.begun) in
+    elim c.match-answer.branch [
+      | in-Ok w ↦ rw w.seat-inside-is (own_finished f k l w.settle.new.kept view c.commit-answer.new.place.view line w.in-Ok.joint c.seat.invariant begun (subst (λ (x : Line). IsFinished x w.in-Ok.joint l w.settle.new.kept) same (w.settle.ensures clause)) w.in-Ok.ensures.view)
+      | in-Err-answer w ↦ rw w.seat-inside-is (subst (λ (s : SeatValue). IsOwnOf f w.unbind.new.kept s.view) (sym w.in-Err-answer.ensures.kept) (own_taken_back f k l w.unbind.new.kept view line c.seat.invariant begun (subst (λ (x : Line). IsTakenBack x l w.unbind.new.kept) same (w.unbind.ensures clause))))
+    ]

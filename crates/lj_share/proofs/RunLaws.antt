@@ -1,0 +1,357 @@
+-- Runs of lines: what was begun ahead of the lock is finished or taken back, line by line.
+use Rattle.std.proofs.Common.{◌≡◌, ap, refl, sym, ◌∙◌, subst, ℕ, zero, suc, ◌+◌, ◌-◌, ◌<◌, ◌≤◌, Bool, cond, true, false, arith}
+use Rattle.std.specs.Prelude.{◌==◌, nat_lt, not, List, [], ◌∷◌, ◌++◌, length, take, drop, Option, Some, None, is_some, option_map, IsSome, slice_get, slice_set}
+use Rattle.std.specs.Cmp.{nat_cmp_total, unsigned_tied}
+use Rattle.std.specs.FinMap as fin
+use Rattle.std.proofs.lemmas.Bool.{eqb-true, false≢true, ltb-true, ltb-false}
+use Rattle.lj_clause.specs.LiteralSet.{LiteralSet}
+use Rattle.lj_clause.specs.ClauseMap.{ClauseMap, FormulaValue}
+use Rattle.lj_text.specs.declared.line.Line.{Line}
+use Rattle.lj_text.specs.declared.line.Line.TheVariants as lines
+use Rattle.lj_hint.specs.declared.pair.Pair.{Pair}
+use Rattle.lj_book.specs.Tables.{is_among}
+use Rattle.lj_book.specs.Solo.{View}
+use Rattle.lj_share.specs.Seats.{with_bound}
+use Rattle.lj_share.specs.declared.numbered.Numbered.{Numbered}
+use Rattle.lj_share.specs.inner.Ahead.{AreKept, AreSeen, AreTested, IsTestedLine, clauses_after_line, clauses_behind}
+use Rattle.lj_share.specs.inner.Seats.{OwnValue, Pairs, AreEqual, IsLineBegun, IsBoundAhead, IsFinished, IsFresh, IsOwnOf, IsTakenBack, begun, clause_seen, clauses_seen, finished, own_pair, pairs_kept, pairs_seen, taken_back, view_behind, with_pair_at, without_pairs}
+use Rattle.lj_share.specs.inner.Runs.{AreAdditions, AreBegun, AreDeletions, AreDeletionsFrom, IsAddition, IsAheadOf, IsBefore, IsDeletion, view_behind_some, views_behind}
+use Rattle.lj_share.proofs.Confirming.{is_other, some_same}
+use Rattle.lj_share.proofs.OwnLaws.{set_apart, set_at}
+use Rattle.lj_share.proofs.AheadLaws.{take_next}
+use Rattle.lj_share.proofs.KeptLaws.{kept_init, pair_of, alike, bound_at_last, bound_seen, dropped_seen, finished_begun, seen_behind, taken_begun, there_behind}
+
+-- ---- one number is set ahead of a run
+
+-- where one number is bound and another is free, they differ
+apart_of : (p : Pairs) (own n : ℕ) → IsSome (p own) → p n ≡ None → n ≡ own → ⊥
+apart_of p own n has free same = false≢true (ap is_some (sym free ∙ ap p same) ∙ has)
+
+-- a number that is bound is set while one that was free is bound ahead
+swapped : (own num : ℕ) (y x : Option Pair) (p : Pairs) → (num ≡ own → ⊥) → (n : ℕ) → with_pair_at num x (with_pair_at own y p) n ≡ with_pair_at own y (with_pair_at num x p) n
+swapped own num y x p other n = by (n == num) refl
+  where
+    by : (b : Bool) → (n == num) ≡ b → cond (n == num) x (cond (n == own) y (p n)) ≡ cond (n == own) y (cond (n == num) x (p n))
+    by true e =
+        ap (λ b. cond b x (cond (n == own) y (p n))) e
+        ∙ sym (ap (λ b. cond b y (cond (n == num) x (p n))) (is_other n own (λ is. other (sym (eqb-true n num e) ∙ is)))
+        ∙ ap (λ b. cond b x (p n)) e)
+    by false e =
+        ap (λ b. cond b x (cond (n == own) y (p n))) e
+        ∙ sym (ap (λ b. cond (n == own) y (cond b x (p n))) e)
+
+still_bound : (own num : ℕ) (x : Pair) (p : Pairs) → IsSome (p own) → IsSome (with_pair_at num (Some x) p own)
+still_bound own num x p has = by (own == num)
+  where
+    by : (b : Bool) → is_some (cond b (Some x) (p own)) ≡ true
+    by true = refl
+    by false = has
+
+set_fresh : (own num : ℕ) (y : Option Pair) (p : Pairs) → IsSome (p own) → p num ≡ None → with_pair_at own y p num ≡ None
+set_fresh own num y p has free = ap (λ b. cond b y (p num)) (is_other num own (apart_of p own num has free)) ∙ free
+
+-- a number that was bound before a run is set
+set_ahead : (own : ℕ) (y : Option Pair) (p : Pairs) (ls : List Numbered) (q : Pairs) → IsSome (p own) → AreBegun p ls q → AreBegun (with_pair_at own y p) ls (with_pair_at own y q)
+set_ahead own y p [] q has are = λ n. ap (cond (n == own) y) (are n)
+set_ahead own y p (l ∷ ls) q has are = by l.line (λ r. set_ahead own y r ls q) are
+  where
+    by : (line : Line) → ((r : Pairs) → IsSome (r own) → AreBegun r ls q → AreBegun (with_pair_at own y r) ls (with_pair_at own y q)) → (IsBefore line ls × IsFresh line p × AreBegun (begun line p) ls q) → (IsBefore line ls × IsFresh line (with_pair_at own y p) × AreBegun (begun line (with_pair_at own y p)) ls (with_pair_at own y q))
+    by (lines.Add a) later of =
+        let x = pair_of 0 a.lemma.clause in
+        let same : with_pair_at own y (with_pair_at a.number (Some x) p) ≡ with_pair_at a.number (Some x) (with_pair_at own y p) = λ i n. sym (swapped own a.number y (Some x) p (apart_of p own a.number has of.1) n) i in (
+          tt,
+          set_fresh own a.number y p has of.1,
+          subst (λ (r : Pairs). AreBegun r ls (with_pair_at own y q)) same (later (with_pair_at a.number (Some x) p) (still_bound own a.number x p has) of.2),
+        )
+    by (lines.Delete numbers) later of = (of.0, tt, later p has of.2)
+    by (lines.Import num c) later of = absurd of.0
+
+-- ---- numbers are given up before deletions
+
+drop_ahead : (numbers : List ℕ) (p : Pairs) (ls : List Numbered) (q : Pairs) → AreDeletions ls → AreBegun p ls q → AreBegun (without_pairs numbers p) ls (without_pairs numbers q)
+drop_ahead numbers p [] q all are = λ n. ap (cond (is_among numbers n) None) (are n)
+drop_ahead numbers p (l ∷ ls) q all are = by l.line (drop_ahead numbers p ls q all.1) all.0 are
+  where
+    by : (line : Line) → (AreBegun p ls q → AreBegun (without_pairs numbers p) ls (without_pairs numbers q)) → IsDeletion line → (IsBefore line ls × IsFresh line p × AreBegun (begun line p) ls q) → (IsBefore line ls × IsFresh line (without_pairs numbers p) × AreBegun (begun line (without_pairs numbers p)) ls (without_pairs numbers q))
+    by (lines.Add a) later is of = absurd is
+    by (lines.Delete more) later is of = (of.0, tt, later of.2)
+    by (lines.Import num c) later is of = absurd is
+
+-- ---- the first line is finished, or taken back
+
+-- a number that was bound before a run is bound to the same behind it
+kept_ahead : (own : ℕ) (x : Pair) (p : Pairs) (ls : List Numbered) (q : Pairs) → p own ≡ Some x → AreBegun p ls q → q own ≡ Some x
+kept_ahead own x p [] q at are = are own ∙ at
+kept_ahead own x p (l ∷ ls) q at are = by l.line (λ r. kept_ahead own x r ls q) are
+  where
+    unmoved : (num : ℕ) (y : Option Pair) → p num ≡ None → with_pair_at num y p own ≡ Some x
+    unmoved num y free = ap (λ b. cond b y (p own)) (is_other own num (λ same. false≢true (ap is_some (sym free ∙ ap p (sym same) ∙ at)))) ∙ at
+
+    by : (line : Line) → ((r : Pairs) → r own ≡ Some x → AreBegun r ls q → q own ≡ Some x) → (IsBefore line ls × IsFresh line p × AreBegun (begun line p) ls q) → q own ≡ Some x
+    by (lines.Add a) later of = later (with_pair_at a.number (Some (pair_of 0 a.lemma.clause)) p) (unmoved a.number (Some (pair_of 0 a.lemma.clause)) of.1) of.2
+    by (lines.Delete numbers) later of = later p at of.2
+    by (lines.Import num c) later of = absurd of.0
+
+bound_now : (own : ℕ) (x : Pair) (p : Pairs) → with_pair_at own (Some x) p own ≡ Some x
+bound_now own x p = bound_at_last own (Some x) (p own)
+
+-- the first line of a run is bound ahead
+first_bound : (line : Line) (p : Pairs) (ls : List Numbered) (q : Pairs) → IsBefore line ls → AreBegun (begun line p) ls q → IsBoundAhead line q
+first_bound (lines.Add a) p ls q before are = kept_ahead a.number (pair_of 0 a.lemma.clause) (begun (lines.Add a) p) ls q (bound_now a.number (pair_of 0 a.lemma.clause) p) are
+first_bound (lines.Delete numbers) p ls q before are = tt
+first_bound (lines.Import own c) p ls q before are = absurd before
+
+-- the first line of a run is finished: the others are ahead of what it leaves
+finish_ahead : (line : Line) (joint : ℕ) (p : Pairs) (ls : List Numbered) (q : Pairs) → IsBefore line ls → AreBegun (begun line p) ls q → AreBegun (finished line joint p) ls (finished line joint q)
+finish_ahead (lines.Add a) joint p ls q before are =
+    let line : Line = lines.Add a in
+    let x = pair_of 0 a.lemma.clause in
+    let same : finished line joint (begun line p) ≡ finished line joint p = λ i n. finished_begun line joint p (begun line p) (λ m. refl) n i in
+    subst (λ (r : Pairs). AreBegun r ls (finished line joint q)) same (set_ahead a.number (Some (pair_of joint a.lemma.clause)) (begun line p) ls q (ap is_some (bound_now a.number x p)) are)
+finish_ahead (lines.Delete numbers) joint p ls q before are = drop_ahead numbers p ls q before are
+finish_ahead (lines.Import own c) joint p ls q before are = absurd before
+
+-- the first line of a run is taken back: the others are ahead of what was there before
+back_ahead : (line : Line) (p : Pairs) (ls : List Numbered) (q : Pairs) → IsBefore line ls → IsFresh line p → AreBegun (begun line p) ls q → AreBegun p ls (taken_back line q)
+back_ahead (lines.Add a) p ls q before fresh are =
+    let line : Line = lines.Add a in
+    let same : taken_back line (begun line p) ≡ p = λ i n. taken_begun line p (begun line p) fresh (λ m. refl) n i in
+    subst (λ (r : Pairs). AreBegun r ls (taken_back line q)) same (set_ahead a.number None (begun line p) ls q (ap is_some (bound_now a.number (pair_of 0 a.lemma.clause) p)) are)
+back_ahead (lines.Delete numbers) p ls q before fresh are = are
+back_ahead (lines.Import own c) p ls q before fresh are = absurd before
+
+-- ---- what is kept
+
+alike_ahead : (p : Pairs) (ls : List Numbered) (q r : Pairs) → AreEqual r q → AreBegun p ls q → AreBegun p ls r
+alike_ahead p ls q r same are = subst (λ (x : Pairs). AreBegun p ls x) (λ i n. sym (same n) i) are
+
+pub finish_first : (f : FormulaValue) (v : View) (l : Numbered) (ls : List Numbered) (joint : ℕ) (k m : Option OwnValue) → IsAheadOf f v (l ∷ ls) k → IsFinished l.line joint k m → IsAheadOf f (view_behind l.line joint v) ls m
+finish_first f v l ls joint k m are after =
+    let line = l.line in
+    let p = pairs_seen v in
+    let q = pairs_kept f k in
+    let last = after f (first_bound line p ls q are.2.0 are.2.2) in
+    let w = view_behind line joint v in
+    let same : finished line joint p ≡ pairs_seen w = λ i n. seen_behind line joint v are.1 n i in (
+      last.0 ∙ are.0,
+      sym (there_behind line joint v) ∙ are.1,
+      subst (λ (r : Pairs). AreBegun r ls (pairs_kept f m)) same (alike_ahead (finished line joint p) ls (finished line joint q) (pairs_kept f m) last.1 (finish_ahead line joint p ls q are.2.0 are.2.2)),
+    )
+
+pub back_first : (f : FormulaValue) (v : View) (l : Numbered) (ls : List Numbered) (k m : Option OwnValue) → IsAheadOf f v (l ∷ ls) k → IsTakenBack l.line k m → IsAheadOf f v ls m
+back_first f v l ls k m are after =
+    let line = l.line in
+    let p = pairs_seen v in
+    let q = pairs_kept f k in
+    let last = after f in (
+      last.0 ∙ are.0,
+      are.1,
+      alike_ahead p ls (taken_back line q) (pairs_kept f m) last.1 (back_ahead line p ls q are.2.0 are.2.1 are.2.2),
+    )
+
+-- ---- places in a run
+
+pub drop_next : {A : Type 0} (xs : List A) (k : ℕ) (x : A) → slice_get xs k ≡ Some x → drop k xs ≡ x ∷ drop (k + 1) xs
+drop_next [] k x at = absurd (false≢true (ap is_some at))
+drop_next (y ∷ xs) zero x at = ap (λ z. z ∷ xs) (some_same y x at)
+drop_next (y ∷ xs) (suc k) x at =
+    let on : suc (k + 1) ≡ suc k + 1 = omega arith in
+    drop_next xs k x at ∙ ap (λ n. x ∷ drop n (y ∷ xs)) on
+
+-- a joint number behind the lines changes nothing for them
+pub set_beyond : (v : View) (ls : List Numbered) (js : List ℕ) (i x k : ℕ) → k ≤ i → views_behind v ls (slice_set js i x) k ≡ views_behind v ls js k
+set_beyond v ls js i x zero within = refl
+set_beyond v ls js i x (suc k) within =
+    ap (λ (o : Option ℕ). view_behind_some (slice_get ls k) o (views_behind v ls (slice_set js i x) k)) (set_apart js i k x (λ is. let no : ⊥ = omega (arith, is, within) in no))
+    ∙ ap (view_behind_some (slice_get ls k) (slice_get js k)) (set_beyond v ls js i x k (omega (arith, within)))
+
+-- what a seat sees behind one line more
+pub view_next : (v : View) (ls : List Numbered) (js : List ℕ) (k : ℕ) (l : Numbered) (joint : ℕ) → slice_get ls k ≡ Some l → slice_get js k ≡ Some joint → views_behind v ls js (k + 1) ≡ view_behind l.line joint (views_behind v ls js k)
+view_next v ls js k l joint at j_at =
+    let on : k + 1 ≡ suc k = omega arith in
+    ap (views_behind v ls js) on
+    ∙ ap (λ (o : Option Numbered). view_behind_some o (slice_get js k) (views_behind v ls js k)) at
+    ∙ ap (λ (o : Option ℕ). view_behind_some (Some l) o (views_behind v ls js k)) j_at
+
+-- ---- a run grows
+
+and_deletion : (ls : List Numbered) (l : Numbered) → AreDeletions ls → IsDeletion l.line → AreDeletions (ls ++ l ∷ [])
+and_deletion [] l all is = (is, tt)
+and_deletion (x ∷ ls) l all is = (all.0, and_deletion ls l all.1 is)
+
+deletion_last : (p : Pairs) (ls : List Numbered) (q : Pairs) (l : Numbered) → IsDeletion l.line → AreBegun p ls q → AreBegun p (ls ++ l ∷ []) q
+deletion_last p [] q l is are = by l.line is
+  where
+    by : (line : Line) → IsDeletion line → IsBefore line [] × IsFresh line p × AreBegun (begun line p) [] q
+    by (lines.Add a) last = absurd last
+    by (lines.Delete numbers) last = (tt, tt, are)
+    by (lines.Import own c) last = absurd last
+deletion_last p (x ∷ ls) q l is are = (by x.line are.0, are.1, deletion_last (begun x.line p) ls q l is are.2)
+  where
+    by : (line : Line) → IsBefore line ls → IsBefore line (ls ++ l ∷ [])
+    by (lines.Add a) before = tt
+    by (lines.Delete numbers) before = and_deletion ls l before is
+    by (lines.Import own c) before = absurd before
+
+and_addition : (ls : List Numbered) (l : Numbered) → AreAdditions ls → IsAddition l.line → AreAdditions (ls ++ l ∷ [])
+and_addition [] l all is = (is, tt)
+and_addition (x ∷ ls) l all is = (all.0, and_addition ls l all.1 is)
+
+addition_last : (p : Pairs) (ls : List Numbered) (q r : Pairs) (l : Numbered) → AreAdditions ls → IsAddition l.line → AreBegun p ls q → IsFresh l.line q → AreEqual r (begun l.line q) → AreBegun p (ls ++ l ∷ []) r
+addition_last p [] q r l all is are fresh after = subst (λ (x : Pairs). AreBegun x (l ∷ []) r) (λ i n. are n i) (by l.line is fresh after)
+  where
+    by : (line : Line) → IsAddition line → IsFresh line q → AreEqual r (begun line q) → IsBefore line [] × IsFresh line q × AreBegun (begun line q) [] r
+    by (lines.Add a) one new last = (tt, new, last)
+    by (lines.Delete numbers) one new last = absurd one
+    by (lines.Import own c) one new last = absurd one
+addition_last p (x ∷ ls) q r l all is are fresh after = (by x.line all.0, are.1, addition_last (begun x.line p) ls q r l all.1 is are.2 fresh after)
+  where
+    by : (line : Line) → IsAddition line → IsBefore line (ls ++ l ∷ [])
+    by (lines.Add a) one = tt
+    by (lines.Delete numbers) one = absurd one
+    by (lines.Import own c) one = absurd one
+
+pub additions_next : (ls : List Numbered) (k : ℕ) (l : Numbered) → slice_get ls k ≡ Some l → AreAdditions (take k ls) → IsAddition l.line → AreAdditions (take (k + 1) ls)
+additions_next ls k l at all is = subst AreAdditions (sym (take_next ls k l at)) (and_addition (take k ls) l all is)
+
+pub begun_next : (f : FormulaValue) (p : Pairs) (ls : List Numbered) (n : ℕ) (l : Numbered) (k m : Option OwnValue) → slice_get ls n ≡ Some l → AreAdditions (take n ls) → IsAddition l.line → AreBegun p (take n ls) (pairs_kept f k) → IsLineBegun f l.line k m → AreBegun p (take (n + 1) ls) (pairs_kept f m)
+begun_next f p ls n l k m at all is are one =
+    subst (λ (xs : List Numbered). AreBegun p xs (pairs_kept f m)) (sym (take_next ls n l at))
+    (addition_last p (take n ls) (pairs_kept f k) (pairs_kept f m) l all is are one.1 one.2.1)
+
+past : {A : Type 0} (xs : List A) (k : ℕ) → k < length xs → slice_get xs k ≡ None → ⊥
+past [] k less is = omega (arith, less)
+past (x ∷ xs) zero less is = false≢true (sym (ap is_some is))
+past (x ∷ xs) (suc k) less is = past xs k (omega (arith, less)) is
+
+-- a deletion follows
+begun_deletion : (p : Pairs) (ls : List Numbered) (q : Pairs) (k : ℕ) → k < length ls → ((l : Numbered) → slice_get ls k ≡ Some l → IsDeletion l.line) → AreBegun p (take k ls) q → AreBegun p (take (k + 1) ls) q
+begun_deletion p ls q k within is are = by (slice_get ls k) refl
+  where
+    by : (o : Option Numbered) → slice_get ls k ≡ o → AreBegun p (take (k + 1) ls) q
+    by None at = absurd (past ls k within at)
+    by (Some l) at = subst (λ (xs : List Numbered). AreBegun p xs q) (sym (take_next ls k l at)) (deletion_last p (take k ls) q l (is l at) are)
+
+-- deletions follow
+deletions_plus : (p : Pairs) (ls : List Numbered) (q : Pairs) (from more : ℕ) → from + more ≤ length ls → AreDeletionsFrom ls from (from + more) → AreBegun p (take from ls) q → AreBegun p (take (from + more) ls) q
+deletions_plus p ls q from zero within all are = let on : from ≡ from + 0 = omega arith in subst (λ (n : ℕ). AreBegun p (take n ls) q) on are
+deletions_plus p ls q from (suc more) within all are =
+    let on : from + more + 1 ≡ from + suc more = omega arith in
+    subst (λ (n : ℕ). AreBegun p (take n ls) q) on
+    (begun_deletion p ls q (from + more) (omega (arith, within)) (λ l at. all (from + more) l (omega arith) (omega arith) at)
+    (deletions_plus p ls q from more (omega (arith, within)) (λ k l least below at. all k l least (omega (arith, below)) at) are))
+
+pub begun_deletions : (p : Pairs) (ls : List Numbered) (q : Pairs) (from end : ℕ) → from ≤ end → end ≤ length ls → AreDeletionsFrom ls from end → AreBegun p (take from ls) q → AreBegun p (take end ls) q
+begun_deletions p ls q from end least within all are =
+    let on : end ≡ from + (end - from) = omega (arith, least) in
+    subst (λ (n : ℕ). AreBegun p (take n ls) q) (sym on)
+    (deletions_plus p ls q from (end - from) (omega (arith, least, within)) (λ k l low below at. all k l low (omega (arith, least, below)) at) are)
+
+pub tested_deletions : (m : ClauseMap) (ls : List Numbered) (reads : List ℕ) (from end : ℕ) → AreTested m ls reads from → AreDeletionsFrom ls from end → AreTested m ls reads end
+tested_deletions m ls reads from end so_far all k l read below at r_at = by (nat_lt k from) refl
+  where
+    deleted : (line : Line) → IsDeletion line → IsTestedLine (clauses_behind m (take k ls)) line read
+    deleted (lines.Add a) is = absurd is
+    deleted (lines.Delete numbers) is = tt
+    deleted (lines.Import own c) is = absurd is
+
+    by : (b : Bool) → nat_lt k from ≡ b → IsTestedLine (clauses_behind m (take k ls)) l.line read
+    by true e = so_far k l read (ltb-true k from e) at r_at
+    by false e = deleted l.line (all k l (ltb-false k from e) below at)
+
+-- ---- clauses behind a line
+
+bound_in : (m : ClauseMap) (own : ℕ) (c : LiteralSet) (n : ℕ) → fin.get (fin.insert m own c) n ≡ cond (n == own) (Some c) (fin.get m n)
+bound_in m own c n = fin.get-insert nat_cmp_total m own c n ∙ ap (λ b. cond b (Some c) (fin.get m n)) (unsigned_tied n own)
+
+dropped_in : (m : ClauseMap) (numbers : List ℕ) (n : ℕ) → fin.get (fin.retain_keys m (λ own. not (is_among numbers own))) n ≡ cond (is_among numbers n) None (fin.get m n)
+dropped_in m numbers n = fin.get-retain_keys m (λ own. not (is_among numbers own)) n (alike numbers n) ∙ chosen (is_among numbers n) (fin.get m n)
+  where
+    chosen : (b : Bool) (o : Option LiteralSet) → cond (not b) o None ≡ cond b None o
+    chosen true o = refl
+    chosen false o = refl
+
+abbrev clause_in : Option Pair → Option LiteralSet
+clause_in o = option_map (λ (p : Pair). p.clause) o
+
+clause_of_seen : (v : View) (n : ℕ) → clause_in (pairs_seen v n) ≡ clause_seen v n
+clause_of_seen None n = refl
+clause_of_seen (Some h) n = refl
+
+clause_if : (b : Bool) (x : Pair) (o : Option Pair) → clause_in (cond b (Some x) o) ≡ cond b (Some x.clause) (clause_in o)
+clause_if true x o = refl
+clause_if false x o = refl
+
+clause_unless : (b : Bool) (o : Option Pair) → clause_in (cond b None o) ≡ cond b None (clause_in o)
+clause_unless true o = refl
+clause_unless false o = refl
+
+seen_bound : (m : ClauseMap) (v : View) (own joint : ℕ) (c : LiteralSet) → AreSeen m v → (n : ℕ) → fin.get (fin.insert m own c) n ≡ clause_seen (with_bound own joint c v) n
+seen_bound m v own joint c seen n =
+    bound_in m own c n
+    ∙ ap (cond (n == own) (Some c)) (seen.1 n ∙ sym (clause_of_seen v n))
+    ∙ sym (clause_if (n == own) (pair_of joint c) (pairs_seen v n))
+    ∙ sym (ap clause_in (bound_seen v own joint c seen.0 n))
+    ∙ clause_of_seen (with_bound own joint c v) n
+
+-- what a seat sees behind a line
+pub seen_after : (m : ClauseMap) (v : View) (line : Line) (joint : ℕ) → AreSeen m v → AreSeen (clauses_after_line m line) (view_behind line joint v)
+seen_after m v line joint seen = (sym (there_behind line joint v) ∙ seen.0, by line)
+  where
+    by : (x : Line) (n : ℕ) → fin.get (clauses_after_line m x) n ≡ clause_seen (view_behind x joint v) n
+    by (lines.Add a) n = seen_bound m v a.number joint a.lemma.clause seen n
+    by (lines.Delete numbers) n =
+        dropped_in m numbers n
+        ∙ ap (cond (is_among numbers n) None) (seen.1 n ∙ sym (clause_of_seen v n))
+        ∙ sym (clause_unless (is_among numbers n) (pairs_seen v n))
+        ∙ sym (ap clause_in (dropped_seen v numbers n))
+        ∙ clause_of_seen (view_behind (lines.Delete numbers) 0 v) n
+    by (lines.Import own c) n = seen_bound m v own joint c seen n
+
+-- what is kept behind an addition
+pub kept_after : (f : FormulaValue) (o p : Option OwnValue) (v : View) (m : ClauseMap) (line : Line) → IsAddition line → AreKept f o v m → IsLineBegun f line o p → AreKept f p v (clauses_after_line m line)
+kept_after f o None v m line is are one = tt
+kept_after f None (Some p) v m line is are one = absurd (false≢true one.0)
+kept_after f (Some o) (Some p) v m (lines.Add a) is are one = (
+  are.0,
+  λ n. ap clause_in (one.2.1 n)
+      ∙ clause_if (n == a.number) (pair_of 0 a.lemma.clause) (own_pair f o n)
+      ∙ ap (cond (n == a.number) (Some a.lemma.clause)) (are.1 n)
+      ∙ sym (bound_in m a.number a.lemma.clause n),
+)
+kept_after f (Some o) (Some p) v m (lines.Delete numbers) is are one = absurd is
+kept_after f (Some o) (Some p) v m (lines.Import own c) is are one = absurd is
+
+-- what is kept before any line
+pub kept_opening : (f : FormulaValue) (o : Option OwnValue) (v : View) → IsOwnOf f o v → AreKept f o v (clauses_seen v)
+kept_opening f None v are = tt
+kept_opening f (Some o) v are = kept_init f o v are
+
+-- what a seat sees behind one line more, whose joint number is noted
+pub view_set : (v : View) (ls : List Numbered) (js : List ℕ) (k : ℕ) (l : Numbered) (joint : ℕ) → slice_get ls k ≡ Some l → k < length js → views_behind v ls (slice_set js k joint) (k + 1) ≡ view_behind l.line joint (views_behind v ls js k)
+view_set v ls js k l joint at within =
+    view_next v ls (slice_set js k joint) k l joint at (set_at js k joint within)
+    ∙ ap (view_behind l.line joint) (set_beyond v ls js k joint k (omega arith))
+
+get_taken : {A : Type 0} (xs : List A) (n k : ℕ) → k < n → slice_get (take n xs) k ≡ slice_get xs k
+get_taken [] zero k less = refl
+get_taken [] (suc n) k less = refl
+get_taken (x ∷ xs) zero k less = absurd (omega (arith, less))
+get_taken (x ∷ xs) (suc n) zero less = refl
+get_taken (x ∷ xs) (suc n) (suc k) less = get_taken xs n k (omega (arith, less))
+
+-- what a seat sees behind the first lines of a run
+pub views_taken : (v : View) (ls : List Numbered) (js : List ℕ) (n k : ℕ) → k ≤ n → views_behind v (take n ls) js k ≡ views_behind v ls js k
+views_taken v ls js n zero within = refl
+views_taken v ls js n (suc k) within =
+    ap (λ (o : Option Numbered). view_behind_some o (slice_get js k) (views_behind v (take n ls) js k)) (get_taken ls n k (omega (arith, within)))
+    ∙ ap (view_behind_some (slice_get ls k) (slice_get js k)) (views_taken v ls js n k (omega (arith, within)))
+
+-- what is kept is what the seat sees once its run is finished, or taken back from the first line on that was refused
+pub run_done : (f : FormulaValue) (v w : View) (ls : List Numbered) (js : List ℕ) (count entered : ℕ) (k l m : Option OwnValue) → IsSome k → is_some k ≡ is_some v → AreBegun (pairs_seen v) (take count ls) (pairs_kept f k) → entered ≤ count → w ≡ views_behind v ls js entered → (IsAheadOf f v (take count ls) k → IsAheadOf f (views_behind v (take count ls) js entered) (drop entered (take count ls)) l) → ((view : View) → IsAheadOf f view (drop entered (take count ls)) l → IsAheadOf f view [] m) → IsOwnOf f m w
+run_done f v w ls js count entered k l m here there are within is finish back =
+    let same : views_behind v (take count ls) js entered ≡ w = views_taken v ls js count entered within ∙ sym is in
+    let last = back w (subst (λ (u : View). IsAheadOf f u (drop entered (take count ls)) l) same (finish (here, sym there ∙ here, are))) in (
+      last.0 ∙ sym last.1,
+      last.2,
+    )

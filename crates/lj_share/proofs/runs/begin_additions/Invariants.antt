@@ -1,0 +1,20 @@
+use Rattle.std.specs.Prelude.{◌≡◌, is_some, length, take}
+use Rattle.lj_share.specs.inner.Seats.{clauses_seen, pairs_kept, pairs_seen}
+use Rattle.lj_share.specs.inner.Ahead.{AreKept, AreTested, clauses_behind}
+use Rattle.lj_share.specs.inner.Runs.{AreAdditions, AreBegun}
+use Rattle.lj_share.proofs.runs.begin_additions.Given as goal
+
+-- the lines so far are additions, tested and begun, and the clauses behind them are kept
+abbrev pub invariant-loop-k : goal.invariant-loop-k
+invariant-loop-k g l =
+    let f = g.L.Opening.formula in
+    let view = l.fn.place.view in
+    let m = clauses_seen view in
+    record {
+      tested : AreTested m l.fn.lines l.reads l.k;
+      begun : AreBegun (pairs_seen view) (take l.k l.fn.lines) (pairs_kept f l.kept);
+      there : is_some l.kept ≡ is_some view;
+      additions : AreAdditions (take l.k l.fn.lines);
+      kept : AreKept f l.kept view (clauses_behind m (take l.k l.fn.lines));
+      many : length l.reads ≡ length l.fn.reads;
+    }
