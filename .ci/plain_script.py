@@ -3,6 +3,7 @@ walks, of texts and of faults aren't played here."""
 from plain_book import Book, Refused, hints_and_groups, in_order, trimmed, words
 
 NO_MEMORY = "Refused(NoMemory)"
+NOT_PLAYED = "NoMemory"
 ACCEPTED = {"drop": "Dropped", "bind": "Imported", "adopt": "Adopted", "leave": "Left"}
 
 
@@ -21,13 +22,14 @@ def call_of(word, tokens):
 
 
 class Player:
-    """A script that is being played. The call of the number `refused` is refused memory. Where `is_unpublished`, the shared
-    books' verdicts weren't published by the calls that made them."""
+    """A script that is being played. The call of the number `refused` is refused memory, and so is the call of `play` of the number
+    `unplayed`, whose events the next one plays. Where `is_unpublished`, the shared books' verdicts weren't published by the calls that
+    made them."""
 
-    def __init__(self, refused=None, is_unpublished=False):
-        self.refused, self.is_unpublished = refused, is_unpublished
+    def __init__(self, refused=None, unplayed=None, is_unpublished=False):
+        self.refused, self.unplayed, self.is_unpublished = refused, unplayed, is_unpublished
         self.variables, self.clauses, self.book, self.way = 0, [], None, None
-        self.out, self.replies, self.calls, self.is_new_verdict = [], [], 0, False
+        self.out, self.waiting, self.calls, self.plays, self.is_new_verdict = [], [], 0, 0, False
 
     def play(self, text):
         for line in text.splitlines():
@@ -42,12 +44,14 @@ class Player:
                 self.open(word, *map(int, tokens))
             elif hasattr(self, f"ask_{word}"):
                 self.out += getattr(self, f"ask_{word}")(*map(int, tokens))
+            elif self.way == "events":
+                self.waiting.append((word, int(tokens[0]), tokens[1:]))
             else:
-                (self.replies if self.way == "events" else self.out).append(self.call(word, int(tokens[0]), tokens[1:]))
+                self.out.append(self.call(word, int(tokens[0]), tokens[1:]))
         return self.out
 
     def open(self, way, seats, limit):
-        self.way, self.book, self.replies = way, Book(self.clauses, seats, limit), []
+        self.way, self.book, self.waiting = way, Book(self.clauses, seats, limit), []
         self.told, self.made = ([[] for _ in range(seats)] for _ in range(2))
         self.is_new_verdict = False
 
@@ -83,9 +87,16 @@ class Player:
         return [f"{self.variables}: {words(*(word for clause in self.clauses for word in (*in_order(clause), 0)))}"]
 
     def ask_show(self):
-        replies, self.replies = self.replies, []
-        self.way = "open" if self.way == "events" else self.way
-        return replies + self.book.show()
+        return (self.play_events() if self.way == "events" else []) + self.book.show()
+
+    def play_events(self):
+        """The replies to the events that wait, or what a call of `play` that is refused memory prints."""
+        is_refused, self.plays = self.plays == self.unplayed, self.plays + 1
+        if is_refused:
+            return [NOT_PLAYED]
+        replies, self.waiting = [self.call(*event) for event in self.waiting], []
+        self.way = "open"
+        return replies
 
     def ask_candidates(self, literal):
         return [words("candidates", self.book.candidates(literal))]
@@ -127,3 +138,10 @@ def refused_outputs(text):
     right = player.play(text)
     others = [Player(number).play(text) for number in range(player.calls)]
     return right, {tuple(out) for out in [*others, Player(is_unpublished=True).play(text)]}
+
+
+def unplayed_outputs(text):
+    """What a script may print where one of its calls of `play` is refused memory, if it has any."""
+    player = Player()
+    player.play(text)
+    return {tuple(Player(unplayed=number).play(text)) for number in range(player.plays)}

@@ -13,7 +13,8 @@ accepted, though the memory for its verdict was refused, and the next call makes
 text is refused the program ends with status 1 and prints nothing.
 
 Some scripts are played as lists of events too, each by one call of `play`. There a refused event isn't played once more, so a
-request that is refused once shows what two do elsewhere."""
+request that is refused once shows what two do elsewhere. A call of `play` that is refused itself has run no event: the program
+prints `NoMemory` and the book as it was. Each `show` stands there twice, and the second one plays the events again."""
 import pathlib
 import re
 import subprocess
@@ -21,7 +22,7 @@ import sys
 import tempfile
 import threading
 
-from plain_script import NO_MEMORY, refused_outputs
+from plain_script import NO_MEMORY, NOT_PLAYED, refused_outputs, unplayed_outputs
 from refusing import ALL, SECONDS, refuse_each, run_refused
 
 SCRIPTS = pathlib.Path(__file__).resolve().parent.parent / "crates" / "lj_script" / "scripts"
@@ -40,11 +41,12 @@ NO_START = "Error: Kind(OutOfMemory)\n"
 
 class Script:
     """A stored script: its text, its output, after each line of the script how many lines of the output there are, and the
-    outputs with a call refused for good, where a plain book plays it, with the way that shows them."""
+    outputs with a call refused for good, where a plain book plays it, with the way that shows them; and those with a call of `play`
+    refused."""
 
-    def __init__(self, name, text, wanted, counts, refused=(), way="twice"):
+    def __init__(self, name, text, wanted, counts, refused=(), way="twice", unplayed=()):
         self.name, self.text, self.wanted, self.counts = name, text, wanted.splitlines(), counts
-        self.refused, self.way = refused, way
+        self.refused, self.way, self.unplayed = refused, way, unplayed
         before = re.finditer(r"^(submit|enter) \d+ \d+ 0 .*\n(?=verdict$)", text, flags=re.M)
         self.verdicts = {counts[text.count("\n", 0, found.end())] for found in before}
 
@@ -59,24 +61,26 @@ class Script:
 def stored(program, name, by_events):
     """The script of this name, whose counts the program tells by its output of each beginning."""
     text, wanted = ((SCRIPTS / f"{name}.{ending}").read_text() for ending in ("txt", "out"))
-    if by_events:
-        text = re.sub("^open ", "events ", text, flags=re.M)
     right, refused = (wanted.splitlines(), set()) if name in UNPLAYED else refused_outputs(text)
     if right != wanted.splitlines():
         raise SystemExit(f"a plain book doesn't print what the script {name} has to")
+    if by_events:
+        text = re.sub("^open ", "events ", re.sub("^show$", "show\nshow", text, flags=re.M), flags=re.M)
+        right, refused = refused_outputs(text)
+        wanted = "".join(f"{line}\n" for line in right)
     lines, counts = text.splitlines(), [0]
     for number in range(1, len(lines) + 1):
         beginning = "".join(line + "\n" for line in lines[:number])
         ran = subprocess.run([program], input=beginning, capture_output=True, text=True, timeout=SECONDS)
         counts.append(sum(not line.startswith("line ") for line in ran.stdout.splitlines()))
     if by_events:
-        return Script(f"{name}, by events", text, wanted, counts, refused, "once")
+        return Script(f"{name}, by events", text, wanted, counts, refused, "once", unplayed_outputs(text))
     return Script(name, text, wanted, counts, refused)
 
 
 def judge(script, way, status, out, err):
     """What is wrong with how a script ended where a request was refused in a way, and what it told: "NoMemory", a "call" that was
-    refused for good, a "start" that failed, or "nothing"."""
+    refused for good, a "play" that was refused, a "start" that failed, or "nothing"."""
     if (status, out, err) == (1, "", NO_START):
         return None, "start"
     lines = out.splitlines()
@@ -86,8 +90,11 @@ def judge(script, way, status, out, err):
         return None, "nothing"
     if status == 0 and way == script.way and tuple(lines) in script.refused:
         return None, "call"
-    if way == "on" and NO_MEMORY in lines:
-        front = lines[: lines.index(NO_MEMORY)]
+    if status == 0 and way == "once" and tuple(lines) in script.unplayed:
+        return None, "play"
+    refusals = [at for at, line in enumerate(lines) if line in (NO_MEMORY, NOT_PLAYED)]
+    if way == "on" and refusals:
+        front = lines[: refusals[0]]
         return (None, "NoMemory") if script.begins_with(front) else (f"the lines {front[-3:]}", None)
     end = re.fullmatch(r"line ([1-9]\d*): NoMemory", lines[-1]) if lines else None
     if not end or status != 2 or not script.begins_with(lines[:-1]):
@@ -102,7 +109,8 @@ def check_judge():
     """Sees that wrong ends are told from right ones."""
     wanted = "Added(0, 2)\nlive 1 0\nno verdict\nverdict 0\n"
     refused = {("Refused(NoMemory)", "live 1 0", "no verdict", "verdict 0")}
-    script = Script("", "\n\nshow\nsubmit 0 1 0 0\nverdict\n", wanted, [0, 0, 0, 1, 3, 4], refused)
+    unplayed = {("NoMemory", "live 1 0", "no verdict", "verdict 0")}
+    script = Script("", "\n\nshow\nsubmit 0 1 0 0\nverdict\n", wanted, [0, 0, 0, 1, 3, 4], refused, unplayed=unplayed)
     right = [
         ("once", 1, "", NO_START),
         ("once", 0, wanted, ""),
@@ -111,6 +119,8 @@ def check_judge():
         ("once", 2, "line 2: NoMemory\n", ""),
         ("once", 2, "Added(0, 2)\nlive 1 0\nline 4: NoMemory\n", ""),
         ("twice", 0, "Refused(NoMemory)\nlive 1 0\nno verdict\nverdict 0\n", ""),
+        ("once", 0, "NoMemory\nlive 1 0\nno verdict\nverdict 0\n", ""),
+        ("on", 0, "Added(0, 2)\nNoMemory\nlive 1 0\n", ""),
         ("on", 2, "Added(0, 2)\nline 4: NoMemory\n", ""),
         ("on", 0, "Refused(NoMemory)\nno verdict\n", ""),
         ("on", 2, "Refused(NoMemory)\nline 4: NoMemory\n", ""),
@@ -134,6 +144,8 @@ def check_judge():
         ("once", 2, "Added(0, 2)\nlive 1 0\nline 5: NoMemory\n", ""),
         ("once", 2, "Added(0, 2)\nlive 1 0\nline 6: NoMemory\n", ""),
         ("once", 0, "Added(0, 2)\nlive 1 0\nline 4: NoMemory\n", ""),
+        ("once", 0, "NoMemory\nlive 2 0\nno verdict\nverdict 0\n", ""),
+        ("twice", 0, "NoMemory\nlive 1 0\nno verdict\nverdict 0\n", ""),
         ("on", 0, "Added(0, 3)\nRefused(NoMemory)\n", ""),
         ("on", 0, "Added(0, 2)\nlive 1 0\n", ""),
     ]
@@ -170,7 +182,7 @@ class Player:
 
 def refuse_all(program, library, room, pool):
     """Refuses each request of each script to a program. Answers whether all was well."""
-    player, kinds = Player(program, library, room), {"NoMemory": 0, "call": 0, "start": 0, "nothing": 0}
+    player, kinds = Player(program, library, room), {"NoMemory": 0, "call": 0, "play": 0, "start": 0, "nothing": 0}
     names = [*((name, False) for name in (*AGAIN, *UNPLAYED)), *((name, True) for name in BY_EVENTS)]
     for script in pool.map(lambda name: stored(program, *name), names):
         asked, refused, _, wrong = player.play(script, "once", ALL)
@@ -191,7 +203,10 @@ def refuse_all(program, library, room, pool):
     if kinds["call"] < LEAST_CALLS:
         print(f"{program.name}: {kinds['call']} runs show a call that was refused, and not {LEAST_CALLS}", file=sys.stderr)
         return False
-    told = f"{kinds['NoMemory']} told NoMemory, {kinds['call']} a call that was refused for good"
+    if kinds["play"] < len(BY_EVENTS):
+        print(f"{program.name}: {kinds['play']} runs show a call of play that was refused, and not {len(BY_EVENTS)}", file=sys.stderr)
+        return False
+    told = f"{kinds['NoMemory']} told NoMemory, {kinds['call']} a call that was refused for good, {kinds['play']} one of play"
     told += f", {kinds['start']} didn't start, {kinds['nothing']} did without"
     print(f"{program.name}: memory was refused in {sum(kinds.values())} runs, {told}")
     return True

@@ -10,7 +10,7 @@ use crate::table::Table;
 use crate::texts::{self, Grammar};
 use crate::words::{only_seat, split_seat, split_word};
 use crate::{asking, walks};
-use lj_book::{Event, Reply};
+use lj_book::Event;
 use lj_clause::{Formula, MAX_VARIABLE, NoMemory};
 use lj_hint::Marks;
 use lj_share::Blank;
@@ -192,8 +192,9 @@ impl Stage {
             (Some(event), Some(events)) => Ok(events.push(event)?),
             (Some(event), None) => Ok(out.reply(&table.reply(&event))?),
             (None, Some(events)) if word == "show" => {
-                play_events(table, events, out)?;
-                self.events = None;
+                if play_events(table, events, out)? {
+                    self.events = None;
+                }
                 self.ask(word, rest, out)
             }
             _ => self.ask(word, rest, out),
@@ -226,13 +227,17 @@ impl Stage {
     }
 }
 
-/// Plays events by one call, and prints their replies.
-fn play_events(table: &mut Table, events: &[Event], out: &mut Out) -> Result<(), NoMemory> {
-    let replies: Vec<Reply> = table.book.play(events)?;
+/// Plays events by one call, and prints their replies, or that the call itself was refused memory. Returns whether the events were
+/// played.
+fn play_events(table: &mut Table, events: &[Event], out: &mut Out) -> Result<bool, NoMemory> {
+    let Ok(replies) = table.book.play(events) else {
+        out.put("NoMemory\n")?;
+        return Ok(false);
+    };
     for reply in &replies {
         out.reply(reply)?;
     }
-    Ok(())
+    Ok(true)
 }
 
 fn feed_line(reader: &mut CnfReader, line: &str, at: u64) -> Result<(), Stop> {
