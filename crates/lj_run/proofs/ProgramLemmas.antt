@@ -8,7 +8,7 @@ use Rattle.std.proofs.lemmas.List.Elements.{All-cons, All-nil, Contains-append_l
 use Rattle.lj_text.specs.Streams.{SourceState}
 use Rattle.lj_run.specs.Checking.{IsCheckFault, IsCutText}
 use Rattle.lj_run.specs.FormulaReading.{GaveAll}
-use Rattle.lj_run.specs.Program.{HasInputs, IfRun, IsCreated, IsFaultOf, IsOpened, IsRunAnswered, IsRunPrinted, RunInputs, SpellsUnsatisfiable, failed_outputs, proof_status, status_code, verdict_status}
+use Rattle.lj_run.specs.Program.{HasInputs, IfRun, IsCreated, IsFaultOf, IsOpened, IsReportOfAll, IsRunAnswered, IsRunPrinted, RunInputs, SpellsUnsatisfiable, failed_outputs, proof_status, status_code, verdict_status}
 use Rattle.lj_run.specs.inner.Program.{IsAnOpenFault, IsAnswerTo, IsAskedFor, IsCreateFault, IsLostAt, IsOpenFault, fault_at, is_told_late}
 use Rattle.lj_run.specs.Proof.{SinkState, IsProof}
 use Rattle.lj_run.specs.Tried.{MayCreate, Tried, with_created, with_uncreated, with_unopened}
@@ -33,6 +33,41 @@ use Rattle.lj_run.proofs.WayLemmas.{formula_fault}
 use Rattle.lj_run.specs.inner.CommandLine.{line_asked}
 use Rattle.lj_run.specs.declared.command_line.CommandLine.{CommandLine}
 use Rattle.lj_clause.specs.declared.lit.TheConstants.{MAX_VARIABLE}
+
+-- ---- what is printed
+
+-- what is printed of a run doesn't depend on what is told beside it
+pub same_report : {I W : Type 0} (seen : I → SourceState) (sink : W → SinkState) (content : List ℕ → Option (List ℕ)) (run : AskedRun) (old new : List ℕ) (status : ℕ)
+    → IsRunAnswered seen sink content run old new status → IsReportOfAll seen sink content run old new status
+same_report seen sink content run old new status is explains tells_progress = record {
+  checked = is.checked;
+  text = is.text;
+  printed = record {
+    inputs = record {
+      opened = is.printed.inputs.opened;
+      after = is.printed.inputs.after;
+      streams = is.printed.inputs.streams;
+      formula_is = is.printed.inputs.formula_is;
+      streams_are = is.printed.inputs.streams_are;
+    };
+    created = is.printed.created;
+    written = is.printed.written;
+    created_is = is.printed.created_is;
+    printed = is.printed.printed;
+  };
+  took = is.took;
+  status_is = is.status_is;
+}
+
+-- and that of what words ask for
+pub same_report_asked : {I W : Type 0} (seen : I → SourceState) (sink : W → SinkState) (content : List ℕ → Option (List ℕ)) (asked : Asked) (old new : List ℕ) (status : Status) (code : ℕ)
+    → IsAnswerTo seen sink content asked old new status → code ≡ status_code status → IfRun asked (λ run. IsReportOfAll seen sink content run old new code)
+same_report_asked seen sink content (a_run run) old new status code is code_is =
+    subst (λ n. IsReportOfAll seen sink content run old new n) (sym code_is) (same_report seen sink content run old new (status_code status) is)
+same_report_asked seen sink content the_help old new status code is code_is = tt
+same_report_asked seen sink content the_version old new status code is code_is = tt
+same_report_asked seen sink content (the_usage misuse) old new status code is code_is = tt
+same_report_asked seen sink content misread old new status code is code_is = tt
 
 -- ---- files
 

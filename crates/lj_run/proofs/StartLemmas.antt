@@ -3,7 +3,7 @@ use Rattle.std.proofs.Common.{◌≡◌, ◌≢◌, ◌<◌, ◌≤◌, ℕ, suc
 use Rattle.std.specs.Prelude.{◌⊎◌, IfSome}
 use Rattle.std.proofs.lemmas.List.{take_all}
 use Rattle.lj_text.specs.Streams.{SourceState}
-use Rattle.lj_run.specs.Program.{CreatesAtMost, IfRun, IsFaultTold, IsOther, IsProofLost, IsRunAnswered, IsRunCut, MayEnd, SpellsUnsatisfiable}
+use Rattle.lj_run.specs.Program.{CreatesAtMost, IfRun, IsFaultTold, IsOther, IsProofLost, IsReportOfAll, IsRunAnswered, IsRunCut, MayEnd, SpellsUnsatisfiable}
 use Rattle.lj_run.specs.Proof.{SinkState}
 use Rattle.lj_run.specs.Starting.{ProgramEnds}
 use Rattle.lj_run.specs.CommandLine.{asked_by, asks_why}
@@ -24,6 +24,7 @@ pub program_ends : {I W : Type 0} (seen : I → SourceState) (sink : W → SinkS
     (err_old err_new : List ℕ) (errors status code : ℕ) → given ≡ words → code ≡ status
     → MayEnd (asked_by given) status
     → (status < 2 → IfRun (asked_by given) (λ run. IsRunAnswered seen sink before run out_old out_new status))
+    → (status < 2 → IfRun (asked_by given) (λ run. IsReportOfAll seen sink before run out_old out_new status))
     → (status ≡ 0 → IfRun (asked_by given) (λ run. IfSome (before run.formula) SpellsUnsatisfiable))
     → (status < 2 → failures ≡ 0) → (status < 2 → asks_why (asked_by given) ≡ false → err_new ≡ err_old)
     → (status < 2 → errors ≡ 0 → IfRun (asked_by given) (λ run. IsExplained I run.explains out_old out_new err_old err_new))
@@ -33,11 +34,12 @@ pub program_ends : {I W : Type 0} (seen : I → SourceState) (sink : W → SinkS
     → ((path : List ℕ) → IsOther (asked_by given) path → after path ≡ before path)
     → CreatesAtMost (asked_by given) tried_old tried_new
     → ProgramEnds seen sink before after tried_old tried_new (asked_by words) out_old out_new failures err_old err_new errors code
-program_ends seen sink before after tried_old tried_new given words out_old out_new failures err_old err_new errors status code same code_is may_end printed refuted told quiet explained untouched cut fault files created =
+program_ends seen sink before after tried_old tried_new given words out_old out_new failures err_old err_new errors status code same code_is may_end printed same_report refuted told quiet explained untouched cut fault files created =
     subst (λ ws. ProgramEnds seen sink before after tried_old tried_new (asked_by ws) out_old out_new failures err_old err_new errors code) same
     (subst (λ n. ProgramEnds seen sink before after tried_old tried_new (asked_by given) out_old out_new failures err_old err_new errors n) (sym code_is) (record {
       may_end = may_end;
       printed = printed;
+      same_report = same_report;
       refuted = refuted;
       told = told;
       quiet = quiet;

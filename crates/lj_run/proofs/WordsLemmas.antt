@@ -25,7 +25,7 @@ use Rattle.clap.specs.Simple.{App, app_of, HasMatchesOf, is_simple, matches_of, 
 use Rattle.clap.specs.Walk.{Rule, all_of, first_of, rows_of}
 use Rattle.clap.proofs.WalkLemmas.{first_value-rows, raw_values-rows}
 use Rattle.lj_text.specs.Bytes.{decimal_value}
-use Rattle.lj_run.specs.CommandLine.{Asked, a_run, asked_by_rows, is_given, is_run_of, limit_of, program_app, run_asked, run_by_rows, steps_of_value, the_usage, way_of, with_explain, with_proof}
+use Rattle.lj_run.specs.CommandLine.{Asked, a_run, asked_by_rows, is_given, is_run_of, limit_of, program_app, run_asked, run_by_rows, steps_of_value, the_usage, way_of, with_explain, with_progress, with_proof}
 use Rattle.lj_run.specs.declared.misuse.Misuse.TheVariants.{NoFormula, NoLimit, TooManyProofs}
 use Rattle.lj_run.specs.declared.outcome.Way.{Way}
 use Rattle.lj_run.specs.inner.CommandLine.{HasRule}
@@ -94,13 +94,13 @@ without_limit None path proofs closing steps way is t e = cc
 without_limit (Some formula) path proofs closing steps way is t e = rw (t, e) refl
 
 asks_run : (formula : List ℕ) (proofs : List (List ℕ)) (closing steps : Option (List ℕ)) (limit : ℕ) (way : Way) → is_run_of proofs ≡ true → steps_of_value steps ≡ Some limit
-    → a_run (record { formula = formula; proofs = proofs; closing = closing; max_steps = limit; way = way; proof = None; trims = false; explains = false }) ≡ run_asked (Some formula) proofs closing steps way
+    → a_run (record { formula = formula; proofs = proofs; closing = closing; max_steps = limit; way = way; proof = None; trims = false; explains = false; tells_progress = false }) ≡ run_asked (Some formula) proofs closing steps way
 asks_run formula proofs closing steps limit way t e = rw (t, e) refl
 
 -- and what they ask for else
 pub asks_given : (formula : Option (Bor (List ℕ))) (path : Bor (List ℕ)) (proofs items : List (Bor (List ℕ))) (closing steps : Option (Bor (List ℕ))) (limit : ℕ) (way : Way)
     → formula ≡ Some path → items ≡ proofs → is_run_of (map (λ p. p.now) proofs) ≡ true → steps_of_value (option_map (λ p. p.now) steps) ≡ Some limit
-    → a_run (record { formula = path.now; proofs = map (λ p. p.now) items; closing = option_map (λ p. p.now) closing; max_steps = limit; way = way; proof = None; trims = false; explains = false })
+    → a_run (record { formula = path.now; proofs = map (λ p. p.now) items; closing = option_map (λ p. p.now) closing; max_steps = limit; way = way; proof = None; trims = false; explains = false; tells_progress = false })
     ≡ run_asked (option_map (λ p. p.now) formula) (map (λ p. p.now) proofs) (option_map (λ p. p.now) closing) (option_map (λ p. p.now) steps) way
 asks_given formula path proofs items closing steps limit way is same t e =
     rw (is, same) (asks_run path.now (map (λ p. p.now) proofs) (option_map (λ p. p.now) closing) (option_map (λ p. p.now) steps) limit way t e)
@@ -128,12 +128,19 @@ asks_with_proof f asked request proof trims is_request is_proof is_trim h =
     h ∙ ap₂ (λ a b. with_proof a b trims) is_request (is_proof ∙ first_value-rows f (codes "proof"))
     ∙ ap (with_proof (run_by_rows (rows_of f)) (first_of (codes "proof") (rows_of f))) is_trim
 
--- and so asks for what the words give, with this of explaining
-pub asks_explained : (f : Found) (asked made request : Asked) (proof : Option (List ℕ)) (trims explains : Bool) → request ≡ run_by_rows (rows_of f) → proof ≡ first_value f (codes "proof")
+-- with this of explaining
+asks_explained : (f : Found) (asked made request : Asked) (proof : Option (List ℕ)) (trims explains : Bool) → request ≡ run_by_rows (rows_of f) → proof ≡ first_value f (codes "proof")
     → trims ≡ is_given (codes "trim") (rows_of f) → explains ≡ is_given (codes "explain") (rows_of f) → made ≡ with_proof request proof trims → asked ≡ with_explain made explains
-    → asked ≡ asked_by_rows (rows_of f)
+    → asked ≡ with_explain (with_proof (run_by_rows (rows_of f)) (first_of (codes "proof") (rows_of f)) (is_given (codes "trim") (rows_of f))) (is_given (codes "explain") (rows_of f))
 asks_explained f asked made request proof trims explains is_request is_proof is_trim is_explain is_made h =
     h ∙ ap₂ with_explain (asks_with_proof f made request proof trims is_request is_proof is_trim is_made) is_explain
+
+-- and so asks for what the words give, with this of progress
+pub asks_told : (f : Found) (asked told made request : Asked) (proof : Option (List ℕ)) (trims explains tells_progress : Bool) → request ≡ run_by_rows (rows_of f) → proof ≡ first_value f (codes "proof")
+    → trims ≡ is_given (codes "trim") (rows_of f) → explains ≡ is_given (codes "explain") (rows_of f) → made ≡ with_proof request proof trims → told ≡ with_explain made explains
+    → tells_progress ≡ is_given (codes "progress") (rows_of f) → asked ≡ with_progress told tells_progress → asked ≡ asked_by_rows (rows_of f)
+asks_told f asked told made request proof trims explains tells_progress is_request is_proof is_trim is_explain is_made is_told is_progress h =
+    h ∙ ap₂ with_progress (asks_explained f told made request proof trims explains is_request is_proof is_trim is_explain is_made is_told) is_progress
 
 -- what is found asks for what these values ask for, but for the proof
 pub asks_found : (f : Found) (formula closing steps : Option (List ℕ)) (proofs : List (List ℕ)) (way : Way) → formula ≡ first_value f (codes "FORMULA")

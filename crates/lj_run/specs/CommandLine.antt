@@ -54,15 +54,16 @@ run_app = with_rule
     (with_rule (with_rule paths_app (option_rule (codes "close"))) (flag_rule (codes "in-turn")))
     (option_rule (codes "proof"))) (flag_rule (codes "trim"))) (option_rule (codes "max-steps"))
 
--- those, and the option that is about what is told beside the run's report
+-- those, and the options that are about what is told beside the run's report
 abbrev pub program_app : App
-program_app = with_rule run_app (flag_rule (codes "explain"))
+program_app = with_rule (with_rule run_app (flag_rule (codes "explain")))
+    (flag_rule (codes "progress"))
 
 -- ---- what words ask for
 
 -- What a run is asked for: the paths of the formula, of the streams in their order, and of the closing stream, the most
--- additions that it accepts, the way in which the streams are run, the path that the proof is written to, whether it is trimmed, and
--- whether it is told why streams end at a line.
+-- additions that it accepts, the way in which the streams are run, the path that the proof is written to, whether it is trimmed, whether it is
+-- told why streams end at a line, and whether it is told how far they are while they run.
 pub record AskedRun : Type 0 where
   pub formula : List ℕ
   pub proofs : List (List ℕ)
@@ -72,6 +73,7 @@ pub record AskedRun : Type 0 where
   pub proof : Option (List ℕ)
   pub trims : Bool
   pub explains : Bool
+  pub tells_progress : Bool
 
 -- What words ask for: a run, or to be told the help, the version, or what is wrong with them, by the program's own rules or by those
 -- of `clap`.
@@ -123,6 +125,7 @@ run_within formula proofs closing (Some max_steps) way =
       proof = None;
       trims = false;
       explains = false;
+      tells_progress = false;
     })
 run_within formula proofs closing None way = the_usage NoLimit
 
@@ -162,6 +165,19 @@ with_explain the_version explains = the_version
 with_explain (the_usage misuse) explains = the_usage misuse
 with_explain misread explains = misread
 
+-- what is asked for with --progress, or without it
+abbrev pub with_progress : Asked → Bool → Asked
+with_progress (a_run run) tells_progress = a_run (record run { tells_progress = tells_progress })
+with_progress the_help tells_progress = the_help
+with_progress the_version tells_progress = the_version
+with_progress (the_usage misuse) tells_progress = the_usage misuse
+with_progress misread tells_progress = misread
+
+-- the run with --explain or without it, and with --progress or without it
+abbrev pub told_so : AskedRun → Bool → Bool → AskedRun
+told_so run explains tells_progress =
+    record run { explains = explains; tells_progress = tells_progress }
+
 -- whether it is to be told why streams end at a line
 abbrev pub asks_why : Asked → Bool
 asks_why (a_run run) = run.explains
@@ -184,8 +200,9 @@ run_by_rows rows = run_asked (first_of (codes "FORMULA") rows)
 
 -- what is asked for by what the words give
 abbrev pub asked_by_rows : List Row → Asked
-asked_by_rows rows = with_explain (with_proof (run_by_rows rows) (first_of (codes "proof") rows)
-    (is_given (codes "trim") rows)) (is_given (codes "explain") rows)
+asked_by_rows rows = with_progress (with_explain
+    (with_proof (run_by_rows rows) (first_of (codes "proof") rows) (is_given (codes "trim") rows))
+    (is_given (codes "explain") rows)) (is_given (codes "progress") rows)
 
 -- what words ask for that `clap` doesn't read, by this kind
 abbrev pub kind_asked : ErrorKind → Asked

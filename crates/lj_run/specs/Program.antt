@@ -1,5 +1,5 @@
 -- How the program ends, and what it tells.
-use Rattle.std.specs.Prelude.{◌≡◌, ◌≢◌, ◌⊎◌, ◌≤◌, Some, ℕ, List, [], ◌∷◌, ◌++◌, map, Option, None, Contains, IfSome, codes, decimal, string_bytes}
+use Rattle.std.specs.Prelude.{◌≡◌, ◌≢◌, ◌⊎◌, ◌≤◌, Bool, Some, ℕ, List, [], ◌∷◌, ◌++◌, map, Option, None, Contains, IfSome, codes, decimal, string_bytes}
 use Rattle.std.specs.Io.KnownBytes.{Keeps}
 use Rattle.lj_clause.specs.ClauseMap.{FormulaValue}
 use Rattle.lj_text.specs.declared.cnf.fault.CnfFault.{CnfFault}
@@ -16,7 +16,7 @@ use Rattle.lj_run.specs.declared.outcome.ProofEnd.{ProofEnd}
 use Rattle.lj_run.specs.declared.outcome.ProofEnd.TheVariants.{NotAsked, Written, Failed}
 use Rattle.lj_run.specs.declared.outcome.ProofFault.{ProofFault}
 use Rattle.lj_run.specs.declared.outcome.ProofFault.TheVariants.{Device, NoMemory}
-use Rattle.lj_run.specs.CommandLine.{Asked, AskedRun, a_run, misread, paths_by_seat, the_help, the_version, the_usage}
+use Rattle.lj_run.specs.CommandLine.{Asked, AskedRun, a_run, misread, paths_by_seat, the_help, the_version, the_usage, told_so}
 use Rattle.lj_run.specs.declared.checking.Verdict.{Verdict}
 use Rattle.lj_run.specs.declared.checking.Verdict.TheVariants.{Verified, NotVerified}
 use Rattle.lj_run.specs.declared.fault.Fault.{Fault}
@@ -162,6 +162,12 @@ pub record IsRunAnswered {I W : Type 0} (seen : I → SourceState) (sink : W →
   pub printed : IsRunPrinted seen sink content run checked text
   pub took : new ≡ old ++ text
   pub status_is : status ≡ status_code (checked_status checked)
+
+-- What was taken is right of the run with and without --explain, and with and without --progress.
+abbrev pub IsReportOfAll : {I W : Type 0} → (I → SourceState) → (W → SinkState)
+    → (List ℕ → Option (List ℕ)) → AskedRun → List ℕ → List ℕ → ℕ → Type 0
+IsReportOfAll seen sink content run old new status = (explains tells_progress : Bool)
+    → IsRunAnswered seen sink content (told_so run explains tells_progress) old new status
 
 -- The run that was asked for has no outcome for this reason, once all of its files that are read were opened.
 pub record HasNoOutcome {I : Type 0} (seen : I → SourceState) (content : List ℕ → Option (List ℕ))

@@ -3,7 +3,7 @@ use Rattle.std.specs.Prelude.{◌≡◌, ◌≢◌, ◌⊎◌, ◌<◌, ◌≤�
 use Rattle.std.specs.declared.io.ErrorKind.{ErrorKind}
 use Rattle.std.specs.declared.io.ErrorKind.TheVariants.{OutOfMemory}
 use Rattle.lj_text.specs.Streams.{SourceState}
-use Rattle.lj_run.specs.Program.{CreatesAtMost, IfRun, IsFaultTold, IsOther, IsProofLost, IsRunAnswered, IsRunCut, MayEnd, SpellsUnsatisfiable}
+use Rattle.lj_run.specs.Program.{CreatesAtMost, IfRun, IsFaultTold, IsOther, IsProofLost, IsReportOfAll, IsRunAnswered, IsRunCut, MayEnd, SpellsUnsatisfiable}
 use Rattle.lj_run.specs.Proof.{SinkState}
 use Rattle.lj_run.specs.CommandLine.{Asked, asks_why}
 use Rattle.lj_run.specs.Explanation.{IsExplained}
@@ -18,6 +18,8 @@ pub record ProgramEnds {I W : Type 0} (seen : I → SourceState) (sink : W → S
   pub may_end : MayEnd asked status
   pub printed : status < 2
       → IfRun asked (λ run. IsRunAnswered seen sink before run out_old out_new status)
+  pub same_report : status < 2
+      → IfRun asked (λ run. IsReportOfAll seen sink before run out_old out_new status)
   pub refuted : status ≡ 0 → IfRun asked (λ run. IfSome (before run.formula) SpellsUnsatisfiable)
   pub told : status < 2 → failures ≡ 0
   pub quiet : status < 2 → asks_why asked ≡ false → err_new ≡ err_old

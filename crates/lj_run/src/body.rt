@@ -4,7 +4,7 @@ ghost use Rattle.lj_text.specs.Streams.{source_state};
 ghost use Rattle.lj_run.specs.CommandLine.{a_run, asked_by, asks_why};
 ghost use Rattle.lj_run.specs.Explanation.{IsExplained};
 ghost use Rattle.lj_run.specs.inner.CommandLine.{line_asked};
-ghost use Rattle.lj_run.specs.Program.{CreatesAtMost, IfRun, IsFaultOf, IsFaultTold, IsOther, IsProofLost, IsRunAnswered, IsRunCut, MayEnd, SpellsUnsatisfiable, checked_status, failed_outputs, status_code};
+ghost use Rattle.lj_run.specs.Program.{CreatesAtMost, IfRun, IsFaultOf, IsFaultTold, IsOther, IsProofLost, IsReportOfAll, IsRunAnswered, IsRunCut, MayEnd, SpellsUnsatisfiable, checked_status, failed_outputs, status_code};
 ghost use Rattle.lj_run.specs.inner.Program.{IsAnswerTo, IsAskedFor, IsLostAt, is_lost, is_told_late};
 ghost use Rattle.lj_run.specs.Proof.{sink_state};
 ghost use Rattle.lj_run.specs.declared.fault.Fault.TheVariants as faults;
@@ -16,6 +16,7 @@ use crate::fault::{Fault, fault_of};
 use crate::files::Files;
 use crate::opening::{create, open, open_all, open_closing};
 use crate::outcome::{Options, ProofEnd};
+use crate::progress::Progress;
 use crate::status::Status;
 use crate::words::read_words;
 use lj_text::{Sink, Source, write_all};
@@ -24,11 +25,13 @@ use std::convert::AsStr;
 use std::mem;
 use std::sync::Wait;
 use std::thread::Threads;
+use std::time::Clock;
 
 /// Does what the words ask for, and answers the status that the program is to end with. The words are those after the program's
-/// own name. The memory of a run's steps is left to the system, which takes it back when the program ends. Takes the time of
+/// own name. With `--progress` it tells on the standard error of the runtime how far the streams are, at most once a second, and nothing
+/// of that goes to `err`. The memory of a run's steps is left to the system, which takes it back when the program ends. Takes the time of
 /// the run that they ask for.
-pub fn program<R: Threads + Wait + Sync, S: AsStr, F: Files, O: Sink, E: Sink>(
+pub fn program<R: Threads + Wait + Clock + Eprint + Sync, S: AsStr, F: Files, O: Sink, E: Sink>(
     rt: &R,
     alloc: Global,
     words: &[S],
@@ -42,6 +45,10 @@ pub fn program<R: Threads + Wait + Sync, S: AsStr, F: Files, O: Sink, E: Sink>(
     ensures status { MayEnd (asked_by (map S.text words.now)) result }
     ensures printed { result < 2 → IfRun (asked_by (map S.text words.now)) (λ run. IsRunAnswered
         (source_state F.Input.given F.Input.ended F.Input.rest F.Input.failures)
+        (sink_state F.Output.taken F.Output.failures) (λ path. F.content files.old path) run
+        (O.taken out.old) (O.taken out.new) result) }
+    ensures same_report { result < 2 → IfRun (asked_by (map S.text words.now)) (λ run.
+        IsReportOfAll (source_state F.Input.given F.Input.ended F.Input.rest F.Input.failures)
         (sink_state F.Output.taken F.Output.failures) (λ path. F.content files.old path) run
         (O.taken out.old) (O.taken out.new) result) }
     ensures refuted { result ≡ 0 → IfRun (asked_by (map S.text words.now)) (λ run.
@@ -82,7 +89,7 @@ pub fn program<R: Threads + Wait + Sync, S: AsStr, F: Files, O: Sink, E: Sink>(
 }
 
 /// Answers what the words ask for.
-fn answer<'a, R: Threads + Wait + Sync, S: AsStr, F: Files, O: Sink, E: Sink>(
+fn answer<'a, R: Threads + Wait + Clock + Eprint + Sync, S: AsStr, F: Files, O: Sink, E: Sink>(
     rt: &R,
     alloc: Global,
     words: &'a [S],
@@ -145,7 +152,7 @@ fn print<'a, O: Sink>(text: &str, out: &mut O) -> Result<Status, Fault<'a>>
 }
 
 /// Runs the streams, and prints what came of them. Then tells why streams ended at a line, where that is asked for.
-fn run<'a, R: Threads + Wait + Sync, F: Files, O: Sink, E: Sink>(
+fn run<'a, R: Threads + Wait + Clock + Eprint + Sync, F: Files, O: Sink, E: Sink>(
     rt: &R,
     alloc: Global,
     line: &CommandLine<'a>,
@@ -193,6 +200,7 @@ fn run<'a, R: Threads + Wait + Sync, F: Files, O: Sink, E: Sink>(
         trim: line.trim,
         explain: line.explain,
     };
+    let progress = progress_of(rt, alloc, line);
     match check_with_steps(
         rt,
         alloc,
@@ -201,6 +209,7 @@ fn run<'a, R: Threads + Wait + Sync, F: Files, O: Sink, E: Sink>(
         closing,
         &options,
         line.way,
+        &progress,
         &mut proof,
         out,
     ) {
@@ -213,6 +222,19 @@ fn run<'a, R: Threads + Wait + Sync, F: Files, O: Sink, E: Sink>(
         }
         Err(fault) => Err(fault_of(line.formula, fault)),
     }
+}
+
+/// The progress of the streams of a run, where it is asked for.
+fn progress_of<'a, R: Clock + Eprint>(
+    rt: &'a R,
+    alloc: Global,
+    line: &CommandLine<'_>,
+) -> Option<Progress<'a, R>> {
+    if !line.progress {
+        return None;
+    }
+    let streams = line.proofs.len() + usize::from(line.closing.is_some());
+    Progress::new(rt, alloc, streams)
 }
 
 /// Tells why streams ended at a line, where that is asked for and nothing else is told.

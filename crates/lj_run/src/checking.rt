@@ -17,6 +17,7 @@ ghost use Rattle.lj_run.specs.declared.outcome.RunFault.TheVariants as run_fault
 use crate::outcome::{Options, Outcome, ProofEnd, RunFault, Way};
 use crate::printing::text_of;
 use crate::running::run_by;
+use crate::watch::Watch;
 use lj_book::Steps;
 use lj_text::{Sink, Source, write_all};
 use std::alloc::{AllocError, Global};
@@ -77,7 +78,14 @@ impl From<AllocError> for CheckFault {
 /// # Errors
 /// The fault of the formula's text, a read of it that failed, want of memory outside the streams, on threads
 /// [`RunFault::Unconfirmed`], or an output that failed.
-pub fn check<R: Threads + Wait + Sync, F: Source, S: Source + Drop + Send, P: Sink, O: Sink>(
+pub fn check<
+    R: Threads + Wait + Sync,
+    F: Source,
+    S: Source + Drop + Send,
+    V: Watch + Sync,
+    P: Sink,
+    O: Sink,
+>(
     rt: &R,
     alloc: Global,
     formula: &mut F,
@@ -85,6 +93,7 @@ pub fn check<R: Threads + Wait + Sync, F: Source, S: Source + Drop + Send, P: Si
     closing: Option<S>,
     options: &Options,
     way: Way,
+    watch: &V,
     proof: &mut Option<P>,
     out: &mut O,
 ) -> Result<Checked, CheckFault>
@@ -111,7 +120,7 @@ pub fn check<R: Threads + Wait + Sync, F: Source, S: Source + Drop + Send, P: Si
         proof.old proof.new (sink_state O.taken O.failures) out.old out.new) }
 {
     let (checked, _, _) = check_with_steps(
-        rt, alloc, formula, streams, closing, options, way, proof, out,
+        rt, alloc, formula, streams, closing, options, way, watch, proof, out,
     )?;
     Ok(checked)
 }
@@ -122,6 +131,7 @@ pub(crate) fn check_with_steps<
     R: Threads + Wait + Sync,
     F: Source,
     S: Source + Drop + Send,
+    V: Watch + Sync,
     P: Sink,
     O: Sink,
 >(
@@ -132,6 +142,7 @@ pub(crate) fn check_with_steps<
     closing: Option<S>,
     options: &Options,
     way: Way,
+    watch: &V,
     proof: &mut Option<P>,
     out: &mut O,
 ) -> Result<(Checked, Steps, String), CheckFault>
@@ -155,7 +166,9 @@ pub(crate) fn check_with_steps<
         options.now.max_steps options.now.trim (streams_by_seat streams.items closing)
         proof.old proof.new (sink_state O.taken O.failures) out.old out.new) }
 {
-    let outcome = run_by(rt, alloc, formula, streams, closing, options, way, proof)?;
+    let outcome = run_by(
+        rt, alloc, formula, streams, closing, options, way, watch, proof,
+    )?;
     let text = text_of(alloc, &outcome)?;
     match write_all(out, text.as_bytes()) {
         Ok(()) => {

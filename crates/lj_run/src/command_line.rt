@@ -41,6 +41,8 @@ pub(crate) struct CommandLine<'a> {
     pub trim: bool,
     /// Whether it is told why streams end at a line.
     pub explain: bool,
+    /// Whether it is told how far the streams are.
+    pub progress: bool,
     ghost some: { 0 < vec_len proofs },
     ghost at_most: { vec_len proofs ≤ 64 },
 }

@@ -15,6 +15,7 @@ use crate::outcome::{Options, Outcome, Report, RunFault};
 use crate::proving::prove;
 use crate::reading::read_formula;
 use crate::stream::run_stream;
+use crate::watch::{StreamWatch, Watch};
 use lj_book::Book;
 use lj_book::laws::{history_is_legal, live_is_the_replay};
 use lj_clause::MAX_VARIABLE;
@@ -29,13 +30,14 @@ use std::sync::Wait;
 ///
 /// # Errors
 /// The fault of the formula's text, a read of it that failed, or want of memory outside the streams.
-pub fn run_in_turn<R: Wait, F: Source, S: Source + Drop, W: Sink>(
+pub fn run_in_turn<R: Wait, F: Source, S: Source + Drop, V: Watch, W: Sink>(
     rt: &R,
     alloc: Global,
     formula: &mut F,
     streams: Vec<S>,
     closing: Option<S>,
     options: &Options,
+    watch: &V,
     out: &mut Option<W>,
 ) -> Result<Outcome<S>, RunFault>
     requires { MayRun (source_state F.given F.ended F.rest F.failures formula.old)
@@ -60,7 +62,7 @@ pub fn run_in_turn<R: Wait, F: Source, S: Source + Drop, W: Sink>(
     let streams = by_seat(streams, closing)?;
     let book = Book::open(alloc, formula, streams.len() as u32, options.max_steps)?;
     let mut seat = BookSeat::new(alloc, book);
-    let reports = run_all(rt, alloc, &mut seat, streams)?;
+    let reports = run_all(rt, alloc, watch, &mut seat, streams)?;
     let book = seat.book;
     history_is_legal(&book);
     live_is_the_replay(&book);
@@ -89,9 +91,10 @@ fn by_seat<S: Drop>(streams: Vec<S>, closing: Option<S>) -> Result<Vec<S>, Alloc
 }
 
 /// Runs the streams in turn, the first under seat 0, and reports of each.
-fn run_all<R: Wait, S: Source + Drop>(
+fn run_all<R: Wait, S: Source + Drop, V: Watch>(
     rt: &R,
     alloc: Global,
+    watch: &V,
     seat: &mut BookSeat,
     streams: Vec<S>,
 ) -> Result<Vec<Report<S>>, AllocFailed<Report<S>>>
@@ -105,16 +108,17 @@ fn run_all<R: Wait, S: Source + Drop>(
     let mut reports = Vec::new(alloc);
     let mut number = 0;
     for stream in streams {
-        reports.push(run_of(rt, alloc, seat, number, stream))?;
+        reports.push(run_of(rt, alloc, watch, seat, number, stream))?;
         number += 1;
     }
     Ok(reports)
 }
 
 /// Runs a stream under the seat of this number, and reports of it.
-fn run_of<R: Wait, S: Source>(
+fn run_of<R: Wait, S: Source, V: Watch>(
     rt: &R,
     alloc: Global,
+    watch: &V,
     seat: &mut BookSeat,
     number: u32,
     stream: S,
@@ -125,5 +129,9 @@ fn run_of<R: Wait, S: Source>(
     ensures formula { seat.new.book.formula ≡ seat.old.book.formula }
 {
     seat.number = number;
-    run_stream(rt, alloc, seat, stream)
+    let watch = StreamWatch {
+        watch,
+        stream: number,
+    };
+    run_stream(rt, alloc, &watch, seat, stream)
 }

@@ -17,6 +17,7 @@ use crate::joint::opened::run_opened;
 use crate::outcome::{Options, Outcome, RunFault};
 use crate::proving::prove;
 use crate::reading::read_formula;
+use crate::watch::Watch;
 use lj_book::laws::{history_is_legal, live_is_the_replay};
 use lj_share::{Blank, Gate};
 use lj_text::{Sink, Source};
@@ -42,6 +43,7 @@ pub fn run_joint<
     F: Source,
     S: Source + Drop + Send,
     G: Gate + Sync,
+    V: Watch + Sync,
     W: Sink,
 >(
     rt: &R,
@@ -51,6 +53,7 @@ pub fn run_joint<
     closing: Option<S>,
     options: &Options,
     gate: &G,
+    watch: &V,
     out: &mut Option<W>,
 ) -> Result<Outcome<S>, RunFault>
     requires { MayRun (source_state F.given F.ended F.rest F.failures formula.old)
@@ -76,7 +79,7 @@ pub fn run_joint<
     let clauses = formula.len() as u64;
     let seats = streams.len() + usize::from(closing.is_some());
     let blank = Blank::new(alloc, seats as u32)?;
-    let (reports, book) = run_opened::<Brand, _, _, _>(
+    let (reports, book) = run_opened::<Brand, _, _, _, _>(
         rt,
         alloc,
         blank,
@@ -85,6 +88,7 @@ pub fn run_joint<
         closing,
         options.max_steps,
         gate,
+        watch,
     )?;
     history_is_legal(&book);
     live_is_the_replay(&book);

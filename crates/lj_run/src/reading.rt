@@ -9,6 +9,7 @@ ghost use Rattle.lj_run.specs.FormulaReading.{GaveFormula, IsFormulaFault};
 ghost use Rattle.lj_run.specs.inner.Reading.{MayRead, PieceRead, LineRead, LineMissed, PieceMissed, reads_failed};
 
 use crate::outcome::RunFault;
+use crate::watch::{StreamWatch, Watch};
 use lj_clause::{Formula, MAX_VARIABLE};
 use lj_text::{CnfFaultKind, CnfReader, Line, LineFault, LineReader, Source, SourceFault};
 use std::alloc::Global;
@@ -108,7 +109,8 @@ pub(crate) enum Next {
 }
 
 /// The next line of a stream, with at most one piece pulled into the room. `ended` says that the source came to its end.
-pub(crate) fn next_line<S: Source>(
+pub(crate) fn next_line<S: Source, V: Watch>(
+    watch: &StreamWatch<'_, V>,
     source: &mut S,
     reader: &mut LineReader,
     ended: &mut bool,
@@ -146,7 +148,7 @@ pub(crate) fn next_line<S: Source>(
     match reader.next() {
         Ok(Some(line)) => Ok(Next::Line(line)),
         Ok(None) => {
-            pull_piece(source, reader, ended, room)?;
+            pull_piece(watch, source, reader, ended, room)?;
             Ok(Next::More)
         }
         Err(fault) => Err(Miss::AtFault(fault)),
@@ -155,7 +157,8 @@ pub(crate) fn next_line<S: Source>(
 
 /// Pulls a piece and feeds it on, or sees that the source has ended.
 #[cold]
-fn pull_piece<S: Source>(
+fn pull_piece<S: Source, V: Watch>(
+    watch: &StreamWatch<'_, V>,
     source: &mut S,
     reader: &mut LineReader,
     ended: &mut bool,
@@ -187,10 +190,13 @@ fn pull_piece<S: Source>(
             *ended = true;
             Ok(())
         }
-        Ok(count) => match reader.feed(&room[..count]) {
-            Ok(()) => Ok(()),
-            Err(fault) => Err(Miss::AtFault(fault)),
-        },
+        Ok(count) => {
+            watch.read(count);
+            match reader.feed(&room[..count]) {
+                Ok(()) => Ok(()),
+                Err(fault) => Err(Miss::AtFault(fault)),
+            }
+        }
         Err(_) => Err(Miss::Failed),
     }
 }

@@ -10,6 +10,7 @@ ghost use Rattle.lj_run.specs.Ways.{IsAnswerBy, IsFaultBy};
 use crate::in_turn::run_in_turn;
 use crate::joint::run_joint;
 use crate::outcome::{Options, Outcome, RunFault, Way};
+use crate::watch::Watch;
 use lj_share::NoGate;
 use lj_text::{Sink, Source};
 use std::alloc::Global;
@@ -17,7 +18,13 @@ use std::sync::Wait;
 use std::thread::Threads;
 
 /// Reads a formula, and runs the streams on it in this way.
-pub(crate) fn run_by<R: Threads + Wait + Sync, F: Source, S: Source + Drop + Send, W: Sink>(
+pub(crate) fn run_by<
+    R: Threads + Wait + Sync,
+    F: Source,
+    S: Source + Drop + Send,
+    V: Watch + Sync,
+    W: Sink,
+>(
     rt: &R,
     alloc: Global,
     formula: &mut F,
@@ -25,6 +32,7 @@ pub(crate) fn run_by<R: Threads + Wait + Sync, F: Source, S: Source + Drop + Sen
     closing: Option<S>,
     options: &Options,
     way: Way,
+    watch: &V,
     out: &mut Option<W>,
 ) -> Result<Outcome<S>, RunFault>
     requires { MayRun (source_state F.given F.ended F.rest F.failures formula.old)
@@ -47,7 +55,9 @@ pub(crate) fn run_by<R: Threads + Wait + Sync, F: Source, S: Source + Drop + Sen
     ensures untouched { OnErr result (out.new ≡ out.old) }
 {
     match way {
-        Way::OnThreads => run_joint(rt, alloc, formula, streams, closing, options, &NoGate, out),
-        Way::InTurn => run_in_turn(rt, alloc, formula, streams, closing, options, out),
+        Way::OnThreads => run_joint(
+            rt, alloc, formula, streams, closing, options, &NoGate, watch, out,
+        ),
+        Way::InTurn => run_in_turn(rt, alloc, formula, streams, closing, options, watch, out),
     }
 }

@@ -15,10 +15,11 @@ use std::io::{self, ErrorKind};
 use std::process::ExitCode;
 use std::sync::Wait;
 use std::thread::Threads;
+use std::time::Clock;
 
 /// Does what the arguments ask for that the system gave, of which the first is the program's own name, as [`program`] does, and
 /// answers how the program is to end. Arguments that aren't text are told as usage. Takes the time of [`program`].
-pub fn start<R: Threads + Wait + Sync, F: Files, O: Sink, E: Sink>(
+pub fn start<R: Threads + Wait + Clock + Eprint + Sync, F: Files, O: Sink, E: Sink>(
     rt: &R,
     alloc: Global,
     arguments: io::Result<Vec<String>>,

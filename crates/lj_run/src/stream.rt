@@ -13,6 +13,7 @@ use crate::block::{fill, take_back};
 use crate::entering::Entering;
 use crate::outcome::{End, LineEnd, Report};
 use crate::reading::{Miss, Next, PIECE, next_line};
+use crate::watch::{StreamWatch, Watch};
 use lj_clause::{MAX_VARIABLE, NoMemory};
 use lj_share::Numbered;
 use lj_text::{Line, LineFaultKind, LineReader, Source};
@@ -31,9 +32,10 @@ pub(crate) struct Tally {
 }
 
 /// Runs a stream through a seat, and reports of it.
-pub(crate) fn run_stream<E: Entering, R: Wait, S: Source>(
+pub(crate) fn run_stream<E: Entering, R: Wait, S: Source, V: Watch>(
     rt: &R,
     alloc: Global,
+    watch: &StreamWatch<'_, V>,
     seat: &mut E,
     stream: S,
 ) -> Report<S>
@@ -43,7 +45,7 @@ pub(crate) fn run_stream<E: Entering, R: Wait, S: Source>(
         (source_state S.given S.ended S.rest S.failures) stream result }
 {
     let mut source = stream;
-    let tally = run_lines(rt, alloc, seat, &mut source);
+    let tally = run_lines(rt, alloc, watch, seat, &mut source);
     Report {
         added: tally.added,
         deleted: tally.deleted,
@@ -57,9 +59,10 @@ pub(crate) fn run_stream<E: Entering, R: Wait, S: Source>(
 /// Enters the lines of a source, block after block, until the verdict stands, the source ends or a line isn't accepted. Looks
 /// for the verdict before each block and each pull, and once more at the end. Takes the time of the source's pulls, of the reader
 /// and of the seat's calls for the lines.
-fn run_lines<E: Entering, R: Wait, S: Source>(
+fn run_lines<E: Entering, R: Wait, S: Source, V: Watch>(
     rt: &R,
     alloc: Global,
+    watch: &StreamWatch<'_, V>,
     seat: &mut E,
     source: &mut S,
 ) -> Tally
@@ -89,7 +92,7 @@ fn run_lines<E: Entering, R: Wait, S: Source>(
         if let Some(behind) = fault {
             return tally.ending(missed(Miss::AtFault(behind), reader.at()));
         }
-        let line = match next_line(source, &mut reader, &mut ended, &mut room) {
+        let line = match next_line(watch, source, &mut reader, &mut ended, &mut room) {
             Ok(Next::Line(line)) => line,
             Ok(Next::More) => continue,
             Ok(Next::End) => return tally.ending(End::Ended),
@@ -99,7 +102,7 @@ fn run_lines<E: Entering, R: Wait, S: Source>(
             Ok(behind) => fault = behind,
             Err(e) => return tally.ending(out_of_memory(reader.at(), e)),
         }
-        if let Some(ending) = enter_block(rt, seat, &mut lines, &mut tally) {
+        if let Some(ending) = enter_block(rt, watch, seat, &mut lines, &mut tally) {
             return tally.ending_at(ending.0, ending.1);
         }
         take_back(&mut lines, &mut reader);
@@ -109,8 +112,9 @@ fn run_lines<E: Entering, R: Wait, S: Source>(
 
 /// Enters the lines of a block and counts those that were entered; gives the stream's end, where it ends among them, and the
 /// line that was refused, which is taken out of the block.
-fn enter_block<E: Entering, R: Wait>(
+fn enter_block<E: Entering, R: Wait, V: Watch>(
     rt: &R,
+    watch: &StreamWatch<'_, V>,
     seat: &mut E,
     lines: &mut Vec<Numbered>,
     tally: &mut Tally,
@@ -124,6 +128,7 @@ fn enter_block<E: Entering, R: Wait>(
 {
     let (count, refusal) = seat.enter_lines(rt, lines.as_slice());
     count_lines(tally, &lines[..count], seat.entries());
+    watch.entered(count);
     match refusal {
         Some(refusal) => {
             let Numbered { at, line } = lines.swap_remove(count);

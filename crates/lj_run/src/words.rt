@@ -8,7 +8,7 @@ ghost use Rattle.clap.specs.Walk.{rows_of};
 ghost use Rattle.clap.specs.Matches.{found_of};
 ghost use Rattle.clap.specs.declared.error.kind.ErrorKind.TheVariants.{OutOfMemory};
 ghost use Rattle.lj_run.specs.inner.CommandLine.{HasRule, line_asked, request_asked};
-ghost use Rattle.lj_run.specs.CommandLine.{asked_by, asked_by_rows, bare_app, flag_rule, is_given, is_input, is_run_of, kind_asked, limit_of, option_rule, path_rule, paths_rule, program_app, run_asked, run_with_proof, steps_of_value, way_of, with_explain, with_proof};
+ghost use Rattle.lj_run.specs.CommandLine.{asked_by, asked_by_rows, bare_app, flag_rule, is_given, is_input, is_run_of, kind_asked, limit_of, option_rule, path_rule, paths_rule, program_app, run_asked, run_with_proof, run_app, steps_of_value, way_of, with_explain, with_progress, with_proof};
 ghost use Rattle.lj_run.specs.declared.words.WordsFault.TheVariants as words_faults;
 
 use crate::command_line::{CommandLine, MAX_PROOFS, Request};
@@ -84,19 +84,28 @@ fn command<'a>(alloc: Global) -> Result<Command<'a>, AllocError>
         "Write only the steps that the empty clause needs",
     );
     let max_steps = option(alloc, "max-steps", "N", "Accept at most N additions");
+    let command = without_arguments(alloc).arg(formula)?.arg(proofs)?;
+    let command = command.arg(close)?.arg(in_turn)?.arg(proof)?;
+    let command = command.arg(trim)?.arg(max_steps)?;
+    with_error_flags(alloc, command)
+}
+
+/// The command with the options that are about standard error.
+fn with_error_flags<'a>(alloc: Global, command: Command<'a>) -> Result<Command<'a>, AllocError>
+    requires { app_of command ≡ run_app }
+    ensures { IfOk result (λ c. app_of c ≡ program_app) }
+{
     let explain = flag(
         alloc,
         "explain",
         "Say on standard error why a stream ended at a line",
     );
-    let command = without_arguments(alloc).arg(formula)?.arg(proofs)?;
-    command
-        .arg(close)?
-        .arg(in_turn)?
-        .arg(proof)?
-        .arg(trim)?
-        .arg(max_steps)?
-        .arg(explain)
+    let progress = flag(
+        alloc,
+        "progress",
+        "Say on standard error how far the streams are",
+    );
+    command.arg(explain)?.arg(progress)
 }
 
 /// The version that `--version` tells.
@@ -171,7 +180,9 @@ fn run_of<'a>(alloc: Global, matches: &ArgMatches<'a>) -> Result<Request<'a>, Al
     let trim = is_given(matches, "trim");
     let request = with_proof(request, matches.get_str("proof"), trim);
     let explain = is_given(matches, "explain");
-    Ok(with_explain(request, explain))
+    let request = with_explain(request, explain);
+    let progress = is_given(matches, "progress");
+    Ok(with_progress(request, progress))
 }
 
 /// Whether the flag of this name is given.
@@ -224,6 +235,7 @@ fn request_of<'a>(
         proof: None,
         trim: false,
         explain: false,
+        progress: false,
     }))
 }
 
@@ -258,6 +270,19 @@ fn with_explain<'a>(request: Request<'a>, explain: bool) -> Request<'a>
     match request {
         Request::Run(mut line) => {
             line.explain = explain;
+            Request::Run(line)
+        }
+        request => request,
+    }
+}
+
+/// The request, and whether it is told how far the streams are.
+fn with_progress<'a>(request: Request<'a>, progress: bool) -> Request<'a>
+    ensures { request_asked result ≡ with_progress (request_asked request.entry) progress }
+{
+    match request {
+        Request::Run(mut line) => {
+            line.progress = progress;
             Request::Run(line)
         }
         request => request,

@@ -1,6 +1,6 @@
 //! Gates round the lines of streams that run beside one another, so that a run shows what goes on beside what.
 use crate::steps::BINARY_TEXT;
-use lj_run::{Options, Outcome, run_joint};
+use lj_run::{NoWatch, Options, Outcome, run_joint};
 use lj_share::Gate;
 use lj_text::{MemorySink, MemorySource};
 use std::alloc::{AllocError, Global};
@@ -69,6 +69,7 @@ fn outcome_of<R: Threads + Wait + Abort + Sync, G: Gate + Sync>(
         closing,
         &options,
         gate,
+        &NoWatch,
         &mut out,
     ) {
         Ok(outcome) => Ok((outcome, out.ok_or("no sink")?)),

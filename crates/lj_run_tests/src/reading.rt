@@ -10,6 +10,7 @@ use std::process::Abort;
 use std::sync::Wait;
 use std::test::Fail;
 use std::thread::Threads;
+use std::time::Clock;
 
 /// Files in memory, of which `fails` fails once its bytes were pulled.
 #[derive(Drop)]
@@ -50,7 +51,7 @@ fn portfolio_of(alloc: Global, first: &str) -> Result<FailingFiles, Fail> {
 }
 
 /// Asserts what the words tell on standard output and on standard error, and the status.
-fn assert_told<R: Abort + Threads + Wait + Sync>(
+fn assert_told<R: Abort + Threads + Wait + Clock + Eprint + Sync>(
     rt: &R,
     alloc: Global,
     words: &[&str],

@@ -3,7 +3,7 @@ ghost use Rattle.std.specs.Prelude.{◌≡◌, [], false};
 
 use crate::fakes::FailingSink;
 use crate::steps::{BINARY_TEXT, steps_of};
-use lj_run::{Options, ProofEnd, ProofFault, run_in_turn};
+use lj_run::{NoWatch, Options, ProofEnd, ProofFault, run_in_turn};
 use lj_text::{MemorySink, MemorySource, ProofWriter, Sink, SinkFault, Step, WriteFault};
 use std::alloc::Global;
 use std::process::Abort;
@@ -87,7 +87,16 @@ fn proof_into(
         explain: false,
     };
     let mut out = Some(sink);
-    let outcome = run_in_turn(rt, alloc, &mut formula, streams, None, &options, &mut out)?;
+    let outcome = run_in_turn(
+        rt,
+        alloc,
+        &mut formula,
+        streams,
+        None,
+        &options,
+        &NoWatch,
+        &mut out,
+    )?;
     let sink = out.ok_or("the sink")?;
     let bytes = sink.sink.sink.into_bytes();
     Ok((outcome.verified.is_some(), outcome.proof, bytes))

@@ -11,6 +11,7 @@ use std::process::ExitCode;
 use std::rt::Files;
 use std::sync::Wait;
 use std::thread::Threads;
+use std::time::Clock;
 use std::{env, io};
 
 fn main(rt: HostRuntime) -> ExitCode {
@@ -21,7 +22,7 @@ fn main(rt: HostRuntime) -> ExitCode {
 
 /// Does what the arguments ask for, over the files of the machine. It stands apart from `main`, so that few facts are known
 /// where the prover sees that a file may go to another thread.
-fn start_on<R: Files + Threads + Wait + Sync, O: Sink, E: Sink>(
+fn start_on<R: Files + Threads + Wait + Clock + Eprint + Sync, O: Sink, E: Sink>(
     rt: &R,
     alloc: Global,
     arguments: io::Result<Vec<String>>,

@@ -20,6 +20,7 @@ line_asked line = record {
   proof = option_map (λ path. path.now) line.proof;
   trims = line.trim;
   explains = line.explain;
+  tells_progress = line.progress;
 }
 
 -- what a request asks for; of its texts nothing is said

@@ -10,6 +10,7 @@ ghost use Rattle.lj_run.specs.Run.{has_verdict};
 
 use crate::joint::worker::{Ran, run_worker};
 use crate::outcome::{End, Report, RunFault};
+use crate::watch::Watch;
 use lj_book::Book;
 use lj_clause::{Formula, NoMemory};
 use lj_share::{Blank, Gate, Opening, Seat, Shared};
@@ -28,6 +29,7 @@ pub(crate) fn run_opened<
     R: Threads + Wait + Sync,
     S: Source + Drop + Send,
     G: Gate + Sync,
+    V: Watch + Sync,
 >(
     rt: &R,
     alloc: Global,
@@ -37,6 +39,7 @@ pub(crate) fn run_opened<
     closing: Option<S>,
     max_steps: u32,
     gate: &G,
+    watch: &V,
 ) -> Result<(Vec<Report<S>>, Book), RunFault>
     requires name { blank.name ≡ L.name }
     requires parts { (blank.parts ≡ L.parts)
@@ -55,7 +58,7 @@ pub(crate) fn run_opened<
 {
     let count = streams.len() + usize::from(closing.is_some());
     let (shared, seats) = Shared::<L>::open(alloc, blank, formula, count as u32, max_steps)?;
-    let ran = run_all(rt, alloc, &shared, gate, seats, streams, closing)?;
+    let ran = run_all(rt, alloc, &shared, gate, watch, seats, streams, closing)?;
     let (seats, reports) = parted(alloc, ran)?;
     let Ok(closed) = shared.close(seats) else {
         unreachable!()
@@ -72,11 +75,13 @@ fn run_all<
     R: Threads + Wait + Sync,
     S: Source + Drop + Send,
     G: Gate + Sync,
+    V: Watch + Sync,
 >(
     rt: &R,
     alloc: Global,
     shared: &Shared<L>,
     gate: &G,
+    watch: &V,
     seats: Vec<Seat<L>>,
     streams: Vec<S>,
     closing: Option<S>,
@@ -92,13 +97,27 @@ fn run_all<
 {
     let mut seats = seats;
     match closing {
-        None => run_beside(rt, shared, alloc, gate, jobs_of(alloc, seats, streams)?),
+        None => run_beside(
+            rt,
+            shared,
+            alloc,
+            gate,
+            watch,
+            jobs_of(alloc, seats, streams)?,
+        ),
         Some(stream) => {
             let Some(seat) = seats.pop() else {
                 unreachable!()
             };
-            let mut ran = run_beside(rt, shared, alloc, gate, jobs_of(alloc, seats, streams)?)?;
-            ran.push(run_worker(rt, alloc, shared, gate, (seat, stream)))?;
+            let mut ran = run_beside(
+                rt,
+                shared,
+                alloc,
+                gate,
+                watch,
+                jobs_of(alloc, seats, streams)?,
+            )?;
+            ran.push(run_worker(rt, alloc, shared, gate, watch, (seat, stream)))?;
             Ok(ran)
         }
     }
@@ -135,11 +154,13 @@ fn run_beside<
     R: Threads + Wait + Sync,
     S: Source + Drop + Send,
     G: Gate + Sync,
+    V: Watch + Sync,
 >(
     rt: &R,
     shared: &Shared<L>,
     alloc: Global,
     gate: &G,
+    watch: &V,
     jobs: Vec<(Seat<L>, S)>,
 ) -> Result<Vec<Ran<L, S>>, NoMemory>
     requires fresh { All (λ job. job.0.calls ≡ []) jobs.items }
@@ -163,7 +184,7 @@ fn run_beside<
             let mut workers = Vec::with_capacity(alloc, jobs.len())?;
             for job in jobs {
                 let promise = RunsBeside(Snapshot::of(&job));
-                let work = move || run_worker(rt, alloc, shared, gate, job);
+                let work = move || run_worker(rt, alloc, shared, gate, watch, job);
                 workers.push(scope.spawn_with(promise, work)?)?;
             }
             Ok(thread::join_promised(rt, workers)?)

@@ -6,6 +6,7 @@ ghost use Rattle.lj_run.specs.inner.Joint.{HasRun};
 use crate::entering::Entering;
 use crate::outcome::Report;
 use crate::stream::run_stream;
+use crate::watch::{StreamWatch, Watch};
 use lj_book::Refusal;
 use lj_share::{Gate, Numbered, Opening, Seat, Shared};
 use lj_text::Source;
@@ -64,11 +65,12 @@ pub(crate) struct Ran<L: Opening, S> {
 }
 
 /// Runs a stream under its seat, and reports of it.
-pub(crate) fn run_worker<L: Opening, R: Wait, S: Source, G: Gate>(
+pub(crate) fn run_worker<L: Opening, R: Wait, S: Source, G: Gate, V: Watch>(
     rt: &R,
     alloc: Global,
     shared: &Shared<L>,
     gate: &G,
+    watch: &V,
     job: (Seat<L>, S),
 ) -> Ran<L, S>
     requires unfailed { S.failures job.1 ≡ 0 }
@@ -77,8 +79,12 @@ pub(crate) fn run_worker<L: Opening, R: Wait, S: Source, G: Gate>(
         L.max_steps job result.seat result.report }
 {
     let (seat, source) = job;
+    let watch = StreamWatch {
+        watch,
+        stream: seat.number(),
+    };
     let mut entering = SharedSeat { shared, gate, seat };
-    let report = run_stream(rt, alloc, &mut entering, source);
+    let report = run_stream(rt, alloc, &watch, &mut entering, source);
     Ran {
         seat: entering.seat,
         report,
