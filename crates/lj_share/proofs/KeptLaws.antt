@@ -21,6 +21,7 @@ use Rattle.lj_book.specs.Solo.{View, without_holdings, solo_case, solo_refusal, 
 use Rattle.lj_book.specs.Views.{HoldsTheFormula, decided_by, formula_holdings}
 use Rattle.lj_share.specs.Refusals.{IsDecided, line_refusal}
 use Rattle.lj_share.specs.Seats.{SeatValue, with_bound}
+use Rattle.lj_share.specs.inner.Dead.{AreNone, DeadValue}
 use Rattle.lj_share.specs.inner.Ahead.{AreKept}
 use Rattle.lj_share.specs.inner.Seats.{OwnValue, Pairs, AreEqual, IsOwnOf, IsKeptAs, IsLineBegun, IsBoundAhead, IsFinished, IsFresh, IsTakenBack, begun, case_by, clauses_seen, finished, first_pair, kept_refusal, number_refusal, own_clause, own_pair, pairs_kept, pairs_seen, taken_back, view_behind}
 use Rattle.lj_share.proofs.AloneLaws.{get-seen}
@@ -263,6 +264,6 @@ ok_by (Err e) p = tt
 -- ---- clauses
 
 -- what a seat keeps is the clauses that it sees
-pub kept_init : (f : FormulaValue) (o : OwnValue) (v : View) → IsOwnOf f (Some o) v → AreKept f (Some o) v (clauses_seen v)
-kept_init f o None are = absurd (false≢true (sym are.0))
-kept_init f o (Some h) are = (refl, λ n. ap (option_map (λ (p : Pair). p.clause)) (are.1 n) ∙ sym (get-seen (Some h) n))
+pub kept_init : (f : FormulaValue) (o : OwnValue) (d : DeadValue) (v : View) → AreNone d → IsOwnOf f (Some o) v → AreKept f (Some o) d v (clauses_seen v)
+kept_init f o d None none are = absurd (false≢true (sym are.0))
+kept_init f o d (Some h) none are = (refl, λ n. ap (λ b. cond b None (own_clause f o n)) (none n) ∙ ap (option_map (λ (p : Pair). p.clause)) (are.1 n) ∙ sym (get-seen (Some h) n))

@@ -15,3 +15,4 @@ mod KeptLaws
 mod CaseLaws
 mod NewSeats
 mod RunLaws
+mod DeadLaws

@@ -1,9 +1,9 @@
 -- Runs of lines: what was begun ahead of the lock is finished or taken back, line by line.
-use Rattle.std.proofs.Common.{◌≡◌, ap, refl, sym, ◌∙◌, subst, ℕ, zero, suc, ◌+◌, ◌-◌, ◌<◌, ◌≤◌, Bool, cond, true, false, arith}
-use Rattle.std.specs.Prelude.{◌==◌, nat_lt, not, List, [], ◌∷◌, ◌++◌, length, take, drop, Option, Some, None, is_some, option_map, IsSome, slice_get, slice_set}
+use Rattle.std.proofs.Common.{◌≡◌, ap, refl, sym, ◌∙◌, subst, ℕ, zero, suc, ◌+◌, ◌<◌, ◌≤◌, Bool, cond, true, false, arith}
+use Rattle.std.specs.Prelude.{◌==◌, ◌||◌, not, List, [], ◌∷◌, ◌++◌, length, take, drop, Option, Some, None, is_some, option_map, IsSome, slice_get, slice_set}
 use Rattle.std.specs.Cmp.{nat_cmp_total, unsigned_tied}
 use Rattle.std.specs.FinMap as fin
-use Rattle.std.proofs.lemmas.Bool.{eqb-true, false≢true, ltb-true, ltb-false}
+use Rattle.std.proofs.lemmas.Bool.{eqb-true, false≢true}
 use Rattle.lj_clause.specs.LiteralSet.{LiteralSet}
 use Rattle.lj_clause.specs.ClauseMap.{ClauseMap, FormulaValue}
 use Rattle.lj_text.specs.declared.line.Line.{Line}
@@ -13,9 +13,10 @@ use Rattle.lj_book.specs.Tables.{is_among}
 use Rattle.lj_book.specs.Solo.{View}
 use Rattle.lj_share.specs.Seats.{with_bound}
 use Rattle.lj_share.specs.declared.numbered.Numbered.{Numbered}
-use Rattle.lj_share.specs.inner.Ahead.{AreKept, AreSeen, AreTested, IsTestedLine, clauses_after_line, clauses_behind}
+use Rattle.lj_share.specs.inner.Ahead.{AreKept, AreSeen, clauses_after_line}
 use Rattle.lj_share.specs.inner.Seats.{OwnValue, Pairs, AreEqual, IsLineBegun, IsBoundAhead, IsFinished, IsFresh, IsOwnOf, IsTakenBack, begun, clause_seen, clauses_seen, finished, own_pair, pairs_kept, pairs_seen, taken_back, view_behind, with_pair_at, without_pairs}
-use Rattle.lj_share.specs.inner.Runs.{AreAdditions, AreBegun, AreDeletions, AreDeletionsFrom, IsAddition, IsAheadOf, IsBefore, IsDeletion, view_behind_some, views_behind}
+use Rattle.lj_share.specs.inner.Dead.{AreDead, AreDeadBehind, AreNone, DeadValue, is_deleted, deletes}
+use Rattle.lj_share.specs.inner.Runs.{BindNone, AreBegun, IsAheadOf, BindsNone, IsBefore, IsBehind, view_behind_some, views_behind}
 use Rattle.lj_share.proofs.Confirming.{is_other, some_same}
 use Rattle.lj_share.proofs.OwnLaws.{set_apart, set_at}
 use Rattle.lj_share.proofs.AheadLaws.{take_next}
@@ -66,16 +67,39 @@ set_ahead own y p (l ∷ ls) q has are = by l.line (λ r. set_ahead own y r ls q
     by (lines.Delete numbers) later of = (of.0, tt, later p has of.2)
     by (lines.Import num c) later of = absurd of.0
 
--- ---- numbers are given up before deletions
+-- ---- numbers are given up before lines that bind none of them
 
-drop_ahead : (numbers : List ℕ) (p : Pairs) (ls : List Numbered) (q : Pairs) → AreDeletions ls → AreBegun p ls q → AreBegun (without_pairs numbers p) ls (without_pairs numbers q)
-drop_ahead numbers p [] q all are = λ n. ap (cond (is_among numbers n) None) (are n)
-drop_ahead numbers p (l ∷ ls) q all are = by l.line (drop_ahead numbers p ls q all.1) all.0 are
+drop_twice : (b : Bool) (o : Option Pair) → o ≡ None → cond b None o ≡ None
+drop_twice true o is = refl
+drop_twice false o is = is
+
+-- a number that isn't given up is bound behind, as well as before
+dropped_apart : (numbers : List ℕ) (num : ℕ) (x : Option Pair) (p : Pairs) → is_among numbers num ≡ false → (n : ℕ) → with_pair_at num x (without_pairs numbers p) n ≡ without_pairs numbers (with_pair_at num x p) n
+dropped_apart numbers num x p apart n = by (n == num) refl
   where
-    by : (line : Line) → (AreBegun p ls q → AreBegun (without_pairs numbers p) ls (without_pairs numbers q)) → IsDeletion line → (IsBefore line ls × IsFresh line p × AreBegun (begun line p) ls q) → (IsBefore line ls × IsFresh line (without_pairs numbers p) × AreBegun (begun line (without_pairs numbers p)) ls (without_pairs numbers q))
-    by (lines.Add a) later is of = absurd is
-    by (lines.Delete more) later is of = (of.0, tt, later of.2)
-    by (lines.Import num c) later is of = absurd is
+    by : (b : Bool) → (n == num) ≡ b → cond (n == num) x (cond (is_among numbers n) None (p n)) ≡ cond (is_among numbers n) None (cond (n == num) x (p n))
+    by true e =
+        ap (λ b. cond b x (cond (is_among numbers n) None (p n))) e
+        ∙ sym (ap (λ b. cond (is_among numbers n) None (cond b x (p n))) e
+        ∙ ap (λ b. cond b None x) (ap (is_among numbers) (eqb-true n num e) ∙ apart))
+    by false e =
+        ap (λ b. cond b x (cond (is_among numbers n) None (p n))) e
+        ∙ sym (ap (λ b. cond (is_among numbers n) None (cond b x (p n))) e)
+
+drop_ahead : (numbers : List ℕ) (p : Pairs) (ls : List Numbered) (q : Pairs) → BindNone numbers ls → AreBegun p ls q → AreBegun (without_pairs numbers p) ls (without_pairs numbers q)
+drop_ahead numbers p [] q apart are = λ n. ap (cond (is_among numbers n) None) (are n)
+drop_ahead numbers p (l ∷ ls) q apart are = by l.line (λ r. drop_ahead numbers r ls q apart.1) apart.0 are
+  where
+    by : (line : Line) → ((r : Pairs) → AreBegun r ls q → AreBegun (without_pairs numbers r) ls (without_pairs numbers q)) → BindsNone numbers line → (IsBefore line ls × IsFresh line p × AreBegun (begun line p) ls q) → (IsBefore line ls × IsFresh line (without_pairs numbers p) × AreBegun (begun line (without_pairs numbers p)) ls (without_pairs numbers q))
+    by (lines.Add a) later is of =
+        let x = pair_of 0 a.lemma.clause in
+        let same : without_pairs numbers (with_pair_at a.number (Some x) p) ≡ with_pair_at a.number (Some x) (without_pairs numbers p) = λ i n. sym (dropped_apart numbers a.number (Some x) p is n) i in (
+          tt,
+          drop_twice (is_among numbers a.number) (p a.number) of.1,
+          subst (λ (r : Pairs). AreBegun r ls (without_pairs numbers q)) same (later (with_pair_at a.number (Some x) p) of.2),
+        )
+    by (lines.Delete more) later is of = (of.0, tt, later p of.2)
+    by (lines.Import num c) later is of = absurd of.0
 
 -- ---- the first line is finished, or taken back
 
@@ -175,89 +199,67 @@ view_next v ls js k l joint at j_at =
 
 -- ---- a run grows
 
-and_deletion : (ls : List Numbered) (l : Numbered) → AreDeletions ls → IsDeletion l.line → AreDeletions (ls ++ l ∷ [])
-and_deletion [] l all is = (is, tt)
-and_deletion (x ∷ ls) l all is = (all.0, and_deletion ls l all.1 is)
+named_more : (ls : List Numbered) (l : Numbered) (n : ℕ) → is_deleted (ls ++ l ∷ []) n ≡ (deletes l.line n || is_deleted ls n)
+named_more [] l n = refl
+named_more (x ∷ ls) l n = ap (λ b. deletes x.line n || b) (named_more ls l n) ∙ turned (deletes x.line n) (deletes l.line n) (is_deleted ls n)
+  where
+    turned : (a b c : Bool) → (a || (b || c)) ≡ (b || (a || c))
+    turned true true c = refl
+    turned true false c = refl
+    turned false b c = refl
 
-deletion_last : (p : Pairs) (ls : List Numbered) (q : Pairs) (l : Numbered) → IsDeletion l.line → AreBegun p ls q → AreBegun p (ls ++ l ∷ []) q
-deletion_last p [] q l is are = by l.line is
-  where
-    by : (line : Line) → IsDeletion line → IsBefore line [] × IsFresh line p × AreBegun (begun line p) [] q
-    by (lines.Add a) last = absurd last
-    by (lines.Delete numbers) last = (tt, tt, are)
-    by (lines.Import own c) last = absurd last
-deletion_last p (x ∷ ls) q l is are = (by x.line are.0, are.1, deletion_last (begun x.line p) ls q l is are.2)
-  where
-    by : (line : Line) → IsBefore line ls → IsBefore line (ls ++ l ∷ [])
-    by (lines.Add a) before = tt
-    by (lines.Delete numbers) before = and_deletion ls l before is
-    by (lines.Import own c) before = absurd before
+-- what is dead behind one line more
+pub dead_next : (ls : List Numbered) (k : ℕ) (l : Numbered) (d e : DeadValue) → slice_get ls k ≡ Some l → AreDead (take k ls) d → AreDeadBehind l.line d e → AreDead (take (k + 1) ls) e
+dead_next ls k l d e at are after n =
+    after n
+    ∙ ap (λ b. deletes l.line n || b) (are n)
+    ∙ sym (ap (λ (xs : List Numbered). is_deleted xs n) (take_next ls k l at) ∙ named_more (take k ls) l n)
 
-and_addition : (ls : List Numbered) (l : Numbered) → AreAdditions ls → IsAddition l.line → AreAdditions (ls ++ l ∷ [])
-and_addition [] l all is = (is, tt)
-and_addition (x ∷ ls) l all is = (all.0, and_addition ls l all.1 is)
+neither : (a b : Bool) → (a || b) ≡ false → (a ≡ false) × (b ≡ false)
+neither true b is = absurd (false≢true (sym is))
+neither false b is = (refl, is)
 
-addition_last : (p : Pairs) (ls : List Numbered) (q r : Pairs) (l : Numbered) → AreAdditions ls → IsAddition l.line → AreBegun p ls q → IsFresh l.line q → AreEqual r (begun l.line q) → AreBegun p (ls ++ l ∷ []) r
-addition_last p [] q r l all is are fresh after = subst (λ (x : Pairs). AreBegun x (l ∷ []) r) (λ i n. are n i) (by l.line is fresh after)
+and_apart : (numbers : List ℕ) (ls : List Numbered) (l : Numbered) → BindNone numbers ls → BindsNone numbers l.line → BindNone numbers (ls ++ l ∷ [])
+and_apart numbers [] l all is = (is, tt)
+and_apart numbers (x ∷ ls) l all is = (all.0, and_apart numbers ls l all.1 is)
+
+-- a line that comes behind some comes behind the later ones of them
+behind_later : (x : Numbered) (ls : List Numbered) (line : Line) → IsBehind (x ∷ ls) line → IsBehind ls line
+behind_later x ls (lines.Add a) is = (neither (deletes x.line a.number) (is_deleted ls a.number) is).1
+behind_later x ls (lines.Delete numbers) is = tt
+behind_later x ls (lines.Import own c) is = absurd is
+
+-- and the first of them may come before it
+before_more : (x : Numbered) (ls : List Numbered) (l : Numbered) → IsBefore x.line ls → IsBehind (x ∷ ls) l.line → IsBefore x.line (ls ++ l ∷ [])
+before_more x ls l before is = by x.line before (λ (numbers : List ℕ) named. apart numbers named l.line is)
   where
-    by : (line : Line) → IsAddition line → IsFresh line q → AreEqual r (begun line q) → IsBefore line [] × IsFresh line q × AreBegun (begun line q) [] r
-    by (lines.Add a) one new last = (tt, new, last)
-    by (lines.Delete numbers) one new last = absurd one
-    by (lines.Import own c) one new last = absurd one
-addition_last p (x ∷ ls) q r l all is are fresh after = (by x.line all.0, are.1, addition_last (begun x.line p) ls q r l all.1 is are.2 fresh after)
+    apart : (numbers : List ℕ) → ((n : ℕ) → deletes x.line n ≡ is_among numbers n) → (line : Line) → IsBehind (x ∷ ls) line → BindsNone numbers line
+    apart numbers named (lines.Add a) behind = sym (named a.number) ∙ (neither (deletes x.line a.number) (is_deleted ls a.number) behind).0
+    apart numbers named (lines.Delete more) behind = tt
+    apart numbers named (lines.Import own c) behind = absurd behind
+
+    by : (line : Line) → IsBefore line ls → ((numbers : List ℕ) → ((n : ℕ) → deletes line n ≡ is_among numbers n) → BindsNone numbers l.line) → IsBefore line (ls ++ l ∷ [])
+    by (lines.Add a) first each = tt
+    by (lines.Delete numbers) first each = and_apart numbers ls l first (each numbers (λ n. refl))
+    by (lines.Import own c) first each = absurd first
+
+line_last : (p : Pairs) (ls : List Numbered) (q r : Pairs) (l : Numbered) → IsBehind ls l.line → AreBegun p ls q → IsFresh l.line q → AreEqual r (begun l.line q) → AreBegun p (ls ++ l ∷ []) r
+line_last p [] q r l is are fresh after = subst (λ (x : Pairs). AreBegun x (l ∷ []) r) (λ i n. are n i) (by l.line is, fresh, after)
   where
-    by : (line : Line) → IsAddition line → IsBefore line (ls ++ l ∷ [])
+    by : (line : Line) → IsBehind [] line → IsBefore line []
     by (lines.Add a) one = tt
-    by (lines.Delete numbers) one = absurd one
+    by (lines.Delete numbers) one = tt
     by (lines.Import own c) one = absurd one
+line_last p (x ∷ ls) q r l is are fresh after = (
+  before_more x ls l are.0 is,
+  are.1,
+  line_last (begun x.line p) ls q r l (behind_later x ls l.line is) are.2 fresh after,
+)
 
-pub additions_next : (ls : List Numbered) (k : ℕ) (l : Numbered) → slice_get ls k ≡ Some l → AreAdditions (take k ls) → IsAddition l.line → AreAdditions (take (k + 1) ls)
-additions_next ls k l at all is = subst AreAdditions (sym (take_next ls k l at)) (and_addition (take k ls) l all is)
-
-pub begun_next : (f : FormulaValue) (p : Pairs) (ls : List Numbered) (n : ℕ) (l : Numbered) (k m : Option OwnValue) → slice_get ls n ≡ Some l → AreAdditions (take n ls) → IsAddition l.line → AreBegun p (take n ls) (pairs_kept f k) → IsLineBegun f l.line k m → AreBegun p (take (n + 1) ls) (pairs_kept f m)
-begun_next f p ls n l k m at all is are one =
+pub begun_next : (f : FormulaValue) (p : Pairs) (ls : List Numbered) (n : ℕ) (l : Numbered) (k m : Option OwnValue) → slice_get ls n ≡ Some l → IsBehind (take n ls) l.line → AreBegun p (take n ls) (pairs_kept f k) → IsLineBegun f l.line k m → AreBegun p (take (n + 1) ls) (pairs_kept f m)
+begun_next f p ls n l k m at is are one =
     subst (λ (xs : List Numbered). AreBegun p xs (pairs_kept f m)) (sym (take_next ls n l at))
-    (addition_last p (take n ls) (pairs_kept f k) (pairs_kept f m) l all is are one.1 one.2.1)
-
-past : {A : Type 0} (xs : List A) (k : ℕ) → k < length xs → slice_get xs k ≡ None → ⊥
-past [] k less is = omega (arith, less)
-past (x ∷ xs) zero less is = false≢true (sym (ap is_some is))
-past (x ∷ xs) (suc k) less is = past xs k (omega (arith, less)) is
-
--- a deletion follows
-begun_deletion : (p : Pairs) (ls : List Numbered) (q : Pairs) (k : ℕ) → k < length ls → ((l : Numbered) → slice_get ls k ≡ Some l → IsDeletion l.line) → AreBegun p (take k ls) q → AreBegun p (take (k + 1) ls) q
-begun_deletion p ls q k within is are = by (slice_get ls k) refl
-  where
-    by : (o : Option Numbered) → slice_get ls k ≡ o → AreBegun p (take (k + 1) ls) q
-    by None at = absurd (past ls k within at)
-    by (Some l) at = subst (λ (xs : List Numbered). AreBegun p xs q) (sym (take_next ls k l at)) (deletion_last p (take k ls) q l (is l at) are)
-
--- deletions follow
-deletions_plus : (p : Pairs) (ls : List Numbered) (q : Pairs) (from more : ℕ) → from + more ≤ length ls → AreDeletionsFrom ls from (from + more) → AreBegun p (take from ls) q → AreBegun p (take (from + more) ls) q
-deletions_plus p ls q from zero within all are = let on : from ≡ from + 0 = omega arith in subst (λ (n : ℕ). AreBegun p (take n ls) q) on are
-deletions_plus p ls q from (suc more) within all are =
-    let on : from + more + 1 ≡ from + suc more = omega arith in
-    subst (λ (n : ℕ). AreBegun p (take n ls) q) on
-    (begun_deletion p ls q (from + more) (omega (arith, within)) (λ l at. all (from + more) l (omega arith) (omega arith) at)
-    (deletions_plus p ls q from more (omega (arith, within)) (λ k l least below at. all k l least (omega (arith, below)) at) are))
-
-pub begun_deletions : (p : Pairs) (ls : List Numbered) (q : Pairs) (from end : ℕ) → from ≤ end → end ≤ length ls → AreDeletionsFrom ls from end → AreBegun p (take from ls) q → AreBegun p (take end ls) q
-begun_deletions p ls q from end least within all are =
-    let on : end ≡ from + (end - from) = omega (arith, least) in
-    subst (λ (n : ℕ). AreBegun p (take n ls) q) (sym on)
-    (deletions_plus p ls q from (end - from) (omega (arith, least, within)) (λ k l low below at. all k l low (omega (arith, least, below)) at) are)
-
-pub tested_deletions : (m : ClauseMap) (ls : List Numbered) (reads : List ℕ) (from end : ℕ) → AreTested m ls reads from → AreDeletionsFrom ls from end → AreTested m ls reads end
-tested_deletions m ls reads from end so_far all k l read below at r_at = by (nat_lt k from) refl
-  where
-    deleted : (line : Line) → IsDeletion line → IsTestedLine (clauses_behind m (take k ls)) line read
-    deleted (lines.Add a) is = absurd is
-    deleted (lines.Delete numbers) is = tt
-    deleted (lines.Import own c) is = absurd is
-
-    by : (b : Bool) → nat_lt k from ≡ b → IsTestedLine (clauses_behind m (take k ls)) l.line read
-    by true e = so_far k l read (ltb-true k from e) at r_at
-    by false e = deleted l.line (all k l (ltb-false k from e) below at)
+    (line_last p (take n ls) (pairs_kept f k) (pairs_kept f m) l is are one.1 one.2.1)
 
 -- ---- clauses behind a line
 
@@ -308,24 +310,41 @@ seen_after m v line joint seen = (sym (there_behind line joint v) ∙ seen.0, by
         ∙ clause_of_seen (view_behind (lines.Delete numbers) 0 v) n
     by (lines.Import own c) n = seen_bound m v own joint c seen n
 
--- what is kept behind an addition
-pub kept_after : (f : FormulaValue) (o p : Option OwnValue) (v : View) (m : ClauseMap) (line : Line) → IsAddition line → AreKept f o v m → IsLineBegun f line o p → AreKept f p v (clauses_after_line m line)
-kept_after f o None v m line is are one = tt
-kept_after f None (Some p) v m line is are one = absurd (false≢true one.0)
-kept_after f (Some o) (Some p) v m (lines.Add a) is are one = (
-  are.0,
-  λ n. ap clause_in (one.2.1 n)
-      ∙ clause_if (n == a.number) (pair_of 0 a.lemma.clause) (own_pair f o n)
-      ∙ ap (cond (n == a.number) (Some a.lemma.clause)) (are.1 n)
-      ∙ sym (bound_in m a.number a.lemma.clause n),
-)
-kept_after f (Some o) (Some p) v m (lines.Delete numbers) is are one = absurd is
-kept_after f (Some o) (Some p) v m (lines.Import own c) is are one = absurd is
+-- what is kept behind a line that no deletion ahead is in the way of
+pub kept_after : (f : FormulaValue) (o p : Option OwnValue) (d e : DeadValue) (v : View) (m : ClauseMap) (ls : List Numbered) (line : Line) → AreDead ls d → IsBehind ls line → AreDeadBehind line d e → AreKept f o d v m → IsLineBegun f line o p → AreKept f p e v (clauses_after_line m line)
+kept_after f o None d e v m ls line dead is gone are one = tt
+kept_after f None (Some p) d e v m ls line dead is gone are one = absurd (false≢true one.0)
+kept_after f (Some o) (Some p) d e v m ls (lines.Add a) dead is gone are one = (are.0, λ n. by n (n == a.number) refl ∙ sym (bound_in m a.number a.lemma.clause n))
+  where
+    by : (n : ℕ) (b : Bool) → (n == a.number) ≡ b → cond (fin.contains_key e n) None (clause_in (own_pair f p n)) ≡ cond (n == a.number) (Some a.lemma.clause) (fin.get m n)
+    by n true at =
+        let living : fin.contains_key e n ≡ false = gone n ∙ dead n ∙ ap (is_deleted ls) (eqb-true n a.number at) ∙ is in
+        ap (λ b. cond b None (clause_in (own_pair f p n))) living
+        ∙ ap clause_in (one.2.1 n ∙ ap (λ b. cond b (Some (pair_of 0 a.lemma.clause)) (own_pair f o n)) at)
+        ∙ sym (ap (λ b. cond b (Some a.lemma.clause) (fin.get m n)) at)
+    by n false at =
+        ap (λ b. cond b None (clause_in (own_pair f p n))) (gone n)
+        ∙ ap (λ (x : Option Pair). cond (fin.contains_key d n) None (clause_in x)) (one.2.1 n ∙ ap (λ b. cond b (Some (pair_of 0 a.lemma.clause)) (own_pair f o n)) at)
+        ∙ are.1 n
+        ∙ sym (ap (λ b. cond b (Some a.lemma.clause) (fin.get m n)) at)
+kept_after f (Some o) (Some p) d e v m ls (lines.Delete numbers) dead is gone are one = (are.0, λ n. by n ∙ sym (dropped_in m numbers n))
+  where
+    either : (a b : Bool) (x : Option LiteralSet) → cond (a || b) None x ≡ cond a None (cond b None x)
+    either true b x = refl
+    either false b x = refl
+
+    by : (n : ℕ) → cond (fin.contains_key e n) None (clause_in (own_pair f p n)) ≡ cond (is_among numbers n) None (fin.get m n)
+    by n =
+        ap (λ b. cond b None (clause_in (own_pair f p n))) (gone n)
+        ∙ either (is_among numbers n) (fin.contains_key d n) (clause_in (own_pair f p n))
+        ∙ ap (λ (x : Option Pair). cond (is_among numbers n) None (cond (fin.contains_key d n) None (clause_in x))) (one.2.1 n)
+        ∙ ap (cond (is_among numbers n) None) (are.1 n)
+kept_after f (Some o) (Some p) d e v m ls (lines.Import own c) dead is gone are one = absurd is
 
 -- what is kept before any line
-pub kept_opening : (f : FormulaValue) (o : Option OwnValue) (v : View) → IsOwnOf f o v → AreKept f o v (clauses_seen v)
-kept_opening f None v are = tt
-kept_opening f (Some o) v are = kept_init f o v are
+pub kept_opening : (f : FormulaValue) (o : Option OwnValue) (d : DeadValue) (v : View) → AreNone d → IsOwnOf f o v → AreKept f o d v (clauses_seen v)
+kept_opening f None d v none are = tt
+kept_opening f (Some o) d v none are = kept_init f o d v none are
 
 -- what a seat sees behind one line more, whose joint number is noted
 pub view_set : (v : View) (ls : List Numbered) (js : List ℕ) (k : ℕ) (l : Numbered) (joint : ℕ) → slice_get ls k ≡ Some l → k < length js → views_behind v ls (slice_set js k joint) (k + 1) ≡ view_behind l.line joint (views_behind v ls js k)

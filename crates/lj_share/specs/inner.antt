@@ -5,5 +5,6 @@ pub mod Codes
 pub mod OwnCode
 pub mod Copies
 pub mod Telling
+pub mod Dead
 pub mod Ahead
 pub mod Runs

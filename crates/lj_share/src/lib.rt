@@ -7,6 +7,7 @@ mod bindings;
 mod blank;
 mod closed;
 mod copies;
+mod dead;
 mod desk;
 mod gate;
 mod kept;

@@ -1,13 +1,16 @@
-//! Runs of lines: additions that close by what their seat sees, and deletions behind them. A run is begun without the lock and
+//! Runs of lines: additions that close by what their seat sees, and deletions, in any order. A run is begun without the lock and
 //! entered in one hold of it; then each line is finished or taken back.
-ghost use Rattle.std.specs.Prelude.{◌≡◌, ◌≤◌, ◌<◌, Err, IfSome, IsSome, None, OnSome, [], drop, is_some, length, take};
+ghost use Rattle.std.specs.Prelude.{◌≡◌, ◌≤◌, ◌<◌, IfSome, IsSome, None, OnSome, [], drop, false, is_some, length, take};
 ghost use Rattle.lj_clause.specs.ClauseMap.{FormulaValue};
+ghost use Rattle.lj_text.specs.declared.line.Line.TheVariants as lines;
 ghost use Rattle.lj_book.specs.Solo.{View};
 ghost use Rattle.lj_share.specs.inner.Seats.{IsLineBegun, IsKeptAs, IsOwnOf, clauses_seen, pairs_kept, pairs_seen};
-ghost use Rattle.lj_share.specs.inner.Ahead.{AreKept, AreTested, IsTestedLine, clauses_behind};
-ghost use Rattle.lj_share.specs.inner.Runs.{AreAdditions, AreBegun, AreDeletionsFrom, IsAddition, IsAheadOf, views_behind};
+ghost use Rattle.lj_share.specs.inner.Ahead.{AreKept, AreTested, IsClosedBy, IsTestedLine, clauses_behind};
+ghost use Rattle.lj_share.specs.inner.Dead.{AreDead, AreDeadBehind, AreDeleted, AreNone, is_deleted};
+ghost use Rattle.lj_share.specs.inner.Runs.{AreBegun, IsAheadOf, IsBehind, views_behind};
 
-use crate::kept::{begin, finish, take_back};
+use crate::dead::{Dead, Room};
+use crate::kept::{bind_ahead, finish, take_back};
 use crate::numbered::Numbered;
 use crate::opening::Opening;
 use crate::own_clauses::OwnClauses;
@@ -15,7 +18,7 @@ use crate::place::Place;
 use crate::seat::{Alone, SeenClauses};
 use lj_clause::Formula;
 use lj_hint::Marks;
-use lj_text::Line;
+use lj_text::{Addition, Line};
 
 /// Begins the run that these lines start with; gives how many lines are in it. How many hints each addition reads is put into the
 /// list.
@@ -23,7 +26,7 @@ pub(crate) fn begin_run<L: Opening>(
     place: &Place<L>,
     kept: &mut Option<OwnClauses>,
     formula: &Formula,
-    marks: &mut Marks,
+    room: &mut Room,
     lines: &[Numbered],
     reads: &mut [usize],
 ) -> usize
@@ -38,36 +41,50 @@ pub(crate) fn begin_run<L: Opening>(
     ensures reads { length reads.new ≡ length reads.old }
     ensures within { result ≤ length reads.new }
 {
-    let additions = begin_additions(place, kept, formula, marks, lines, reads);
     if kept.is_none() {
         return 0;
     }
-    deletions_end(lines, additions, lines.len().min(reads.len()))
+    let Room { marks, dead } = room;
+    let count = begin_lines(place, kept, formula, marks, dead, lines, reads);
+    dead.clear(&lines[..count]);
+    count
 }
 
-/// Begins the additions that these lines start with, each as far as what the seat sees behind those before it closes it; gives
-/// how many. How many hints each of them reads is put into the list.
-fn begin_additions<L: Opening>(
+/// Begins the lines of the run that these lines start with; gives how many they are. No number is dead before.
+fn begin_lines<L: Opening>(
     place: &Place<L>,
     kept: &mut Option<OwnClauses>,
     formula: &Formula,
     marks: &mut Marks,
+    dead: &mut Dead,
     lines: &[Numbered],
     reads: &mut [usize],
 ) -> usize
     requires formula { formula.now ≡ L.formula }
     requires own { IsOwnOf L.formula kept.old place.now.view }
+    requires here { IsSome kept.old }
+    requires none { AreNone dead.old }
     ensures tested { AreTested (clauses_seen place.now.view) lines.now reads.new result }
     ensures begun { AreBegun (pairs_seen place.now.view) (take result lines.now)
         (pairs_kept L.formula kept.new) }
+    ensures named { AreDeleted (take result lines.now) dead.new }
     ensures there { is_some kept.new ≡ is_some place.now.view }
+    ensures here { IsSome kept.new }
     ensures lines { result ≤ length lines.now }
     ensures reads { length reads.new ≡ length reads.old }
     ensures within { result ≤ length reads.new }
 {
     let end = lines.len().min(reads.len());
     for k in 0..end {
-        match begin_next(place, kept, formula, marks, &lines[..k], &lines[k].line) {
+        match begin_next(
+            place,
+            kept,
+            formula,
+            marks,
+            dead,
+            &lines[..k],
+            &lines[k].line,
+        ) {
             Some(read) => reads[k] = read,
             None => return k,
         }
@@ -75,61 +92,85 @@ fn begin_additions<L: Opening>(
     end
 }
 
-/// Begins the addition that comes next, if what the seat sees behind those before it closes it; gives how many hints it reads.
+/// Begins the line that comes next, if it is in the run; gives how many hints it reads.
 fn begin_next<L: Opening>(
     place: &Place<L>,
     kept: &mut Option<OwnClauses>,
     formula: &Formula,
     marks: &mut Marks,
+    dead: &mut Dead,
     ahead: &[Numbered],
     line: &Line,
 ) -> Option<usize>
     requires formula { formula.now ≡ L.formula }
-    requires kept { AreKept L.formula kept.old place.now.view
+    requires here { IsSome kept.old }
+    requires dead { AreDead ahead.now dead.old }
+    requires kept { AreKept L.formula kept.old dead.old place.now.view
         (clauses_behind (clauses_seen place.now.view) ahead.now) }
     ensures tested { IfSome result
         (IsTestedLine (clauses_behind (clauses_seen place.now.view) ahead.now) line.now) }
-    ensures addition { OnSome result (IsAddition line.now) }
+    ensures behind { OnSome result (IsBehind ahead.now line.now) }
     ensures begun { OnSome result (IsLineBegun L.formula line.now kept.old kept.new) }
+    ensures dead { OnSome result (AreDeadBehind line.now dead.old dead.new) }
+    ensures named { result ≡ None → AreDeleted ahead.now dead.new }
     ensures none { result ≡ None
         → IsKeptAs L.formula kept.old (pairs_kept L.formula kept.old) kept.new }
 {
-    let Line::Add(addition) = line else {
+    match line {
+        Line::Add(addition) => {
+            begin_addition(place, kept, formula, marks, dead, ahead, addition)
+        }
+        Line::Delete(numbers) => match dead.put(numbers) {
+            Ok(()) => Some(0),
+            Err(_) => None,
+        },
+        Line::Import { .. } => None,
+    }
+}
+
+/// Begins an addition, if no deletion of the run names its number, and what the seat sees behind the lines ahead closes it; gives how
+/// many hints it reads.
+fn begin_addition<L: Opening>(
+    place: &Place<L>,
+    kept: &mut Option<OwnClauses>,
+    formula: &Formula,
+    marks: &mut Marks,
+    dead: &Dead,
+    ahead: &[Numbered],
+    addition: &Addition,
+) -> Option<usize>
+    requires formula { formula.now ≡ L.formula }
+    requires dead { AreDead ahead.now dead.now }
+    requires kept { AreKept L.formula kept.old dead.now place.now.view
+        (clauses_behind (clauses_seen place.now.view) ahead.now) }
+    ensures tested { IfSome result
+        (IsClosedBy (clauses_behind (clauses_seen place.now.view) ahead.now) addition.now) }
+    ensures behind { OnSome result (is_deleted ahead.now addition.now.number ≡ false) }
+    ensures begun { OnSome result
+        (IsLineBegun L.formula (lines.Add addition.now) kept.old kept.new) }
+    ensures none { result ≡ None
+        → IsKeptAs L.formula kept.old (pairs_kept L.formula kept.old) kept.new }
+{
+    if dead.has(addition.number) {
         return None;
-    };
+    }
     let Some(own) = &*kept else {
         return None;
     };
     let seen = SeenClauses {
         place,
         ahead,
+        dead,
         own,
         formula,
     };
     let Ok(Alone::Closed(read)) = seen.test(addition, marks) else {
         return None;
     };
-    match begin(kept, formula, line) {
+    match bind_ahead(kept, formula, addition.number, addition.lemma.clause()) {
         Ok(()) => Some(read),
         Err(_) => None,
     }
-}
-
-/// Where the deletions end that start at this place.
-fn deletions_end(lines: &[Numbered], from: usize, end: usize) -> usize
-    requires from { from ≤ end }
-    requires end { end ≤ length lines.now }
-    ensures from { from ≤ result }
-    ensures end { result ≤ end }
-    ensures deletions { AreDeletionsFrom lines.now from result }
-{
-    for k in from..end {
-        match lines[k].line {
-            Line::Delete(_) => {}
-            Line::Add(_) | Line::Import { .. } => return k,
-        }
-    }
-    end
 }
 
 /// Finishes the first so many lines of a run, whose joint numbers stand in the list.

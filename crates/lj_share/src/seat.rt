@@ -6,9 +6,10 @@ ghost use Rattle.lj_book.specs.Views.{IsClosedAlone, decided_refusal};
 ghost use Rattle.lj_share.specs.Refusals.{IsDecided, line_refusal};
 ghost use Rattle.lj_hint.specs.declared.walk.Ending.TheVariants.{ClosedAfter, StuckAt};
 ghost use Rattle.lj_share.specs.inner.Ahead.{IsClosedBy, IsRefusedBy, IsWalkedTo, first_unseen};
-ghost use Rattle.lj_share.specs.inner.Seats.{IfClosed, IsOwnOf, IsSeatOf, IsTestedAs};
+ghost use Rattle.lj_share.specs.inner.Seats.{IfClosed, IsOwnOf, IsSeatOf, IsTestedAs, clauses_seen};
 
 use crate::copies::SeatCopy;
+use crate::dead::{Dead, Room};
 use crate::numbered::Numbered;
 use crate::opening::Opening;
 use crate::own_clauses::OwnClauses;
@@ -29,7 +30,7 @@ pub struct Seat<L: Opening> {
     pub(crate) place: Place<L>,
     /// What its own numbers are bound to; nothing once it has left.
     pub(crate) own: Option<OwnClauses>,
-    pub(crate) marks: Marks,
+    pub(crate) room: Room,
 }
 
 impl<L: Opening> Model for Seat<L> {
@@ -64,7 +65,7 @@ impl<L: Opening> Seat<L> {
         Seat {
             place,
             own: Some(own),
-            marks: Marks::new(alloc),
+            room: Room::new(alloc),
         }
     }
 
@@ -123,13 +124,7 @@ impl<L: Opening> Seat<L> {
         let Some(own) = &self.own else {
             return Err(Refusal::SeatGone);
         };
-        let seen = SeenClauses {
-            place: &self.place,
-            ahead: &[],
-            own,
-            formula,
-        };
-        seen.test(addition, &mut self.marks)
+        test_alone(&self.place, own, formula, &mut self.room, addition)
     }
 
     /// The test of an addition as a case, which looks its groups up too.
@@ -153,7 +148,7 @@ impl<L: Opening> Seat<L> {
             Ok(case) => case,
             Err(refusal) => return Err(refusal),
         };
-        match case.test(&mut self.marks) {
+        match case.test(&mut self.room.marks) {
             Tested::Closed(receipt) => Ok(Alone::Closed(receipt.listed().len())),
             Tested::Open(_) => Ok(Alone::Open),
             Tested::Stuck(place) => Err(Refusal::HintNotUnit(place)),
@@ -201,11 +196,39 @@ impl<L: Opening> Seat<L> {
     }
 }
 
+/// The test of an addition by what its seat sees, and keeps.
+///
+/// # Errors
+/// As [`Seat::test`].
+fn test_alone<L: Opening>(
+    place: &Place<L>,
+    own: &OwnClauses,
+    formula: &Formula,
+    room: &mut Room,
+    addition: &Addition,
+) -> Result<Alone, Refusal>
+    requires formula { formula.now ≡ L.formula }
+    requires own { IsOwnOf L.formula (Some own.now) place.now.view }
+    ensures closed { IfOk result (λ alone. IfClosed alone
+        (IsClosedBy (clauses_seen place.now.view) addition.now)) }
+    ensures refusal { IfErr result (IsRefusedBy (clauses_seen place.now.view) addition.now) }
+{
+    let seen = SeenClauses {
+        place,
+        ahead: &[],
+        dead: &room.dead,
+        own,
+        formula,
+    };
+    seen.test(addition, &mut room.marks)
+}
+
 /// The clauses that a seat sees behind lines that aren't entered yet, lent.
 #[derive(Drop)]
 pub(crate) struct SeenClauses<'a, L: Opening> {
     pub(crate) place: &'a Place<L>,
     pub(crate) ahead: &'a [Numbered],
+    pub(crate) dead: &'a Dead,
     pub(crate) own: &'a OwnClauses,
     pub(crate) formula: &'a Formula,
 }
@@ -224,7 +247,7 @@ impl<'a, L: Opening> Model for SeenClauses<'a, L> {
     ghost view = { λ s. clauses_behind (clauses_seen s.place.now.view) s.ahead.now };
 
     ghost invariant = { λ s. (s.formula.now ≡ L.formula)
-        × AreKept L.formula (Some s.own.now) s.place.now.view
+        × AreKept L.formula (Some s.own.now) s.dead.now s.place.now.view
         (clauses_behind (clauses_seen s.place.now.view) s.ahead.now) };
 }
 
@@ -233,6 +256,9 @@ impl<L: Opening> Clauses for SeenClauses<'_, L> {
 
     #[inline]
     fn clause(&self, own: u64) -> Option<ClauseView<'_>> {
+        if self.dead.has(own) {
+            return None;
+        }
         self.own.get(self.formula, own)
     }
 }

@@ -199,8 +199,8 @@ impl<L: Opening> Shared<L> {
     }
 
     /// Hands in lines of the seat's prover, in order, each as [`Shared::enter_at`] does, up to the first that is refused; gives how
-    /// many were entered, and the refusal of the next one. Additions that close by what the seat sees, and deletions behind them,
-    /// are entered in one hold of the lock. Takes the time of [`Shared::enter_at`] for each line.
+    /// many were entered, and the refusal of the next one. Additions that close by what the seat sees, and deletions, are entered in
+    /// one hold of the lock, as many as follow one another. An addition of a number that such a deletion names begins the next. Takes the time of [`Shared::enter_at`] for each line.
     pub fn enter_lines<R: Wait, G: Gate>(
         &self,
         rt: &R,
@@ -302,8 +302,8 @@ impl<L: Opening> Shared<L> {
             × IsLineRefused L.formula L.seats L.max_steps seat.new line.line e) }
     {
         let number = seat.number();
-        let Seat { place, own, marks } = seat;
-        let count = begin_run(place, own, &self.formula, marks, lines, reads);
+        let Seat { place, own, room } = seat;
+        let count = begin_run(place, own, &self.formula, room, lines, reads);
         if count == 0 {
             return (0, None);
         }
@@ -388,7 +388,7 @@ impl<L: Opening> Shared<L> {
         let Seat {
             place,
             own,
-            marks: _,
+            room: _,
         } = seat;
         if let Err(refusal) = begin(own, &self.formula, line) {
             return Err(refusal);
@@ -459,7 +459,7 @@ impl<L: Opening> Shared<L> {
         let Seat {
             place,
             own: kept,
-            marks: _,
+            room: _,
         } = seat;
         if let Err(refusal) = bind_ahead(kept, &self.formula, own, receipt.lemma().clause()) {
             return Err((refusal, receipt));
@@ -501,7 +501,7 @@ impl<L: Opening> Shared<L> {
         let Seat {
             place,
             own: kept,
-            marks: _,
+            room: _,
         } = seat;
         if let Err(refusal) = free(kept, &self.formula, own) {
             return Err(refusal);
@@ -528,7 +528,7 @@ impl<L: Opening> Shared<L> {
         let Seat {
             place,
             own,
-            marks: _,
+            room: _,
         } = seat;
         let mut desk = self.desk.lock(rt);
         let told = desk.leave(place);

@@ -15,16 +15,18 @@ use Rattle.lj_book.specs.Solo.{View}
 use Rattle.lj_book.specs.Views.{IsClosedAlone, decided_refusal}
 use Rattle.lj_share.specs.declared.numbered.Numbered.{Numbered}
 use Rattle.lj_share.specs.Refusals.{IsDecided}
+use Rattle.lj_share.specs.inner.Dead.{DeadValue}
 use Rattle.lj_share.specs.inner.Seats.{OwnValue, own_clause, clause_seen}
 
 -- A seat with this view is there, and sees these clauses.
 abbrev pub AreSeen : ClauseMap → View → Type 0
 AreSeen m view = (IsSome view) × ((own : ℕ) → fin.get m own ≡ clause_seen view own)
 
--- Where anything is kept of the clauses, the seat with this view is there, and it is these that are kept.
-abbrev pub AreKept : FormulaValue → Option OwnValue → View → ClauseMap → Type 0
-AreKept f None view m = Unit {0}
-AreKept f (Some o) view m = (IsSome view) × ((own : ℕ) → own_clause f o own ≡ fin.get m own)
+-- Where anything is kept of the clauses, the seat with this view is there, and it is these that are kept but for the dead ones.
+abbrev pub AreKept : FormulaValue → Option OwnValue → DeadValue → View → ClauseMap → Type 0
+AreKept f None dead view m = Unit {0}
+AreKept f (Some o) dead view m = (IsSome view) × ((own : ℕ)
+    → (if fin.contains_key dead own then None else own_clause f o own) ≡ fin.get m own)
 
 -- the first of these own numbers that is bound to no clause
 abbrev pub first_unseen : ClauseMap → List ℕ → Option ℕ

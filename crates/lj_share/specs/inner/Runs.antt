@@ -1,39 +1,36 @@
--- Runs of lines: additions, and deletions behind them. A run is begun ahead of the lock; then each line is finished or taken back.
-use Rattle.std.specs.Prelude.{◌≡◌, ◌<◌, ◌≤◌, ℕ, zero, suc, List, [], ◌∷◌, Option, Some, IsSome, slice_get}
+-- Runs of lines: additions and deletions. A run is begun ahead of the lock; then each line is finished or taken back.
+use Rattle.std.specs.Prelude.{◌≡◌, ℕ, zero, suc, false, List, [], ◌∷◌, Option, Some, IsSome, slice_get}
 use Rattle.lj_clause.specs.ClauseMap.{FormulaValue}
 use Rattle.lj_text.specs.declared.line.Line.{Line}
 use Rattle.lj_text.specs.declared.line.Line.TheVariants as lines
+use Rattle.lj_book.specs.Tables.{is_among}
 use Rattle.lj_book.specs.Solo.{View}
 use Rattle.lj_share.specs.declared.numbered.Numbered.{Numbered}
+use Rattle.lj_share.specs.inner.Dead.{is_deleted}
 use Rattle.lj_share.specs.inner.Seats.{OwnValue, Pairs, AreEqual, IsFresh, begun, pairs_kept, pairs_seen, view_behind}
 
--- The line is an addition.
-abbrev pub IsAddition : Line → Type 0
-IsAddition (lines.Add a) = Unit {0}
-IsAddition (lines.Delete numbers) = ⊥
-IsAddition (lines.Import own c) = ⊥
+-- The line binds none of these numbers.
+abbrev pub BindsNone : List ℕ → Line → Type 0
+BindsNone numbers (lines.Add a) = is_among numbers a.number ≡ false
+BindsNone numbers (lines.Delete more) = Unit {0}
+BindsNone numbers (lines.Import own c) = is_among numbers own ≡ false
 
--- The line is a deletion.
-abbrev pub IsDeletion : Line → Type 0
-IsDeletion (lines.Add a) = ⊥
-IsDeletion (lines.Delete numbers) = Unit {0}
-IsDeletion (lines.Import own c) = ⊥
+-- None of these lines binds one of these numbers.
+abbrev pub BindNone : List ℕ → List Numbered → Type 0
+BindNone numbers [] = Unit {0}
+BindNone numbers (l ∷ ls) = BindsNone numbers l.line × BindNone numbers ls
 
--- All these lines are additions.
-abbrev pub AreAdditions : List Numbered → Type 0
-AreAdditions [] = Unit {0}
-AreAdditions (l ∷ ls) = IsAddition l.line × AreAdditions ls
-
--- All these lines are deletions.
-abbrev pub AreDeletions : List Numbered → Type 0
-AreDeletions [] = Unit {0}
-AreDeletions (l ∷ ls) = IsDeletion l.line × AreDeletions ls
-
--- The line may come before these in a run: only deletions come behind a deletion, and no import is in a run.
+-- The line may come before these in a run: they bind no number that it deletes, and no import is in a run.
 abbrev pub IsBefore : Line → List Numbered → Type 0
 IsBefore (lines.Add a) ls = Unit {0}
-IsBefore (lines.Delete numbers) ls = AreDeletions ls
+IsBefore (lines.Delete numbers) ls = BindNone numbers ls
 IsBefore (lines.Import own c) ls = ⊥
+
+-- The line may come behind these in a run: no deletion among them names the number that it binds.
+abbrev pub IsBehind : List Numbered → Line → Type 0
+IsBehind ls (lines.Add a) = is_deleted ls a.number ≡ false
+IsBehind ls (lines.Delete numbers) = Unit {0}
+IsBehind ls (lines.Import own c) = ⊥
 
 -- These lines are a run, and beginning one after the other leads from the first bindings to the second.
 abbrev pub AreBegun : Pairs → List Numbered → Pairs → Type 0
@@ -54,8 +51,3 @@ abbrev pub views_behind : View → List Numbered → List ℕ → ℕ → View
 views_behind view ls joints zero = view
 views_behind view ls joints (suc k) =
     view_behind_some (slice_get ls k) (slice_get joints k) (views_behind view ls joints k)
-
--- From one place to another, these lines are deletions.
-abbrev pub AreDeletionsFrom : List Numbered → ℕ → ℕ → Type 0
-AreDeletionsFrom ls from end = (k : ℕ) (l : Numbered) → from ≤ k → k < end
-    → slice_get ls k ≡ Some l → IsDeletion l.line

@@ -4,26 +4,18 @@ use Rattle.lj_share.specs.inner.Ahead.{AreSeen}
 use Rattle.lj_share.specs.inner.Seats.{IsOwnOf, clauses_seen}
 use Rattle.lj_share.proofs.AloneLaws.{seen_itself}
 use Rattle.lj_share.proofs.AheadLaws.{closed_seen, refused_seen}
-use Rattle.lj_share.proofs.KeptLaws.{kept_init}
 use Rattle.lj_share.proofs.seat.Seat.test_addition.Goals as goal
-
-pub invariant_of-seen : goal.invariant_of-seen
-invariant_of-seen g c =
-    let f = g.L.Opening.formula in
-    let view = c.self.inside.place.view in
-    let are = subst (λ o. IsOwnOf f o view) c.in-Some.is c.self.invariant in
-    (c.requires, kept_init f c.in-Some.own view are)
 
 pub returns-clause-closed : goal.returns-clause-closed
 returns-clause-closed g c =
     let view = c.self.inside.place.view in
     let are = subst (λ o. IsOwnOf g.L.Opening.formula o view) c.in-Some.is c.self.invariant in
     let seen = subst (λ (s : SeatValue). AreSeen (clauses_seen view) s.view) c.self.view_is (seen_itself view (sym are.0)) in
-    closed_seen (clauses_seen view) c.args.self.now.view c.args.self.now.number c.args.addition.now c.test.result seen c.test.ensures.closed
+    closed_seen (clauses_seen view) c.args.self.now.view c.args.self.now.number c.args.addition.now c.test_alone.result seen c.test_alone.ensures.closed
 
 pub returns-clause-refusal : goal.returns-clause-refusal
 returns-clause-refusal g c =
     let view = c.self.inside.place.view in
     let are = subst (λ o. IsOwnOf g.L.Opening.formula o view) c.in-Some.is c.self.invariant in
     let seen = subst (λ (s : SeatValue). AreSeen (clauses_seen view) s.view) c.self.view_is (seen_itself view (sym are.0)) in
-    refused_seen (clauses_seen view) c.args.self.now.view c.args.self.now.number c.args.addition.now c.test.result seen c.test.ensures.refusal
+    refused_seen (clauses_seen view) c.args.self.now.view c.args.self.now.number c.args.addition.now c.test_alone.result seen c.test_alone.ensures.refusal

@@ -6,16 +6,17 @@ use Rattle.lj_clause.specs.ClauseMap.{ClauseMap}
 use Rattle.lj_share.specs.inner.Seats.{clauses_seen, pairs_seen}
 use Rattle.lj_share.specs.inner.Ahead.{AreKept, clauses_behind}
 use Rattle.lj_share.proofs.AheadLaws.{behind_next, tested_next}
-use Rattle.lj_share.proofs.RunLaws.{additions_next, begun_next, kept_after, kept_opening}
-use Rattle.lj_share.proofs.runs.begin_additions.Goals as goal
+use Rattle.lj_share.proofs.RunLaws.{begun_next, dead_next, kept_after, kept_opening}
+use Rattle.lj_share.proofs.runs.begin_lines.Goals as goal
 
 pub loop-k-init : goal.loop-k-init
 loop-k-init g c = record {
   tested = λ k l read below line_at read_at. absurd (let no : ⊥ = omega (arith, below) in no);
   begun = c.requires.own.1;
   there = c.requires.own.0;
-  additions = tt;
-  kept = kept_opening g.L.Opening.formula c.args.kept.now c.args.place.now.view c.requires.own;
+  here = c.requires.here;
+  dead = c.requires.none;
+  kept = kept_opening g.L.Opening.formula c.args.kept.now c.args.dead.now c.args.place.now.view c.requires.none c.requires.own;
   many = refl;
 }
 
@@ -36,14 +37,16 @@ loop-k-preserved g c =
     let l = slice_index_or ls k c.index-lines-k.result in
     let at = slice_get-get_or ls k c.index-lines-k.result in_lines in
     let read = c.in-Some.read in
-    let is = c.in-Some.ensures.addition in
+    let is = c.in-Some.ensures.behind in
+    let gone = c.in-Some.ensures.dead in
     let one = c.in-Some.ensures.begun in
     let after = c.begin_next.new.kept in
     record {
       tested = tested_next m ls reads (slice_set reads k read) k l read i.tested at in_reads c.in-Some.ensures.tested refl;
-      begun = begun_next f (pairs_seen view) ls k l c.loop-k.kept after at i.additions is i.begun one;
+      begun = begun_next f (pairs_seen view) ls k l c.loop-k.kept after at is i.begun one;
       there = one.2.0 ∙ i.there;
-      additions = additions_next ls k l at i.additions is;
-      kept = subst (λ (x : ClauseMap). AreKept f after view x) (sym (behind_next m ls k l at)) (kept_after f c.loop-k.kept after view (clauses_behind m (take k ls)) l.line is i.kept one);
+      here = one.2.0 ∙ i.here;
+      dead = dead_next ls k l c.loop-k.dead c.begin_next.new.dead at i.dead gone;
+      kept = subst (λ (x : ClauseMap). AreKept f after c.begin_next.new.dead view x) (sym (behind_next m ls k l at)) (kept_after f c.loop-k.kept after c.loop-k.dead c.begin_next.new.dead view (clauses_behind m (take k ls)) (take k ls) l.line i.dead is gone i.kept one);
       many = length-set reads k read ∙ many;
     }

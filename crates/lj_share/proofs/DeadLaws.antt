@@ -1,0 +1,61 @@
+-- Own numbers that deletions of a run name.
+use Rattle.std.proofs.Common.{◌≡◌, ap, refl, sym, ◌∙◌, ℕ, Bool, cond, true, false}
+use Rattle.std.specs.Prelude.{◌==◌, ◌||◌, List, [], ◌∷◌, ◌++◌, Some, None, is_some}
+use Rattle.std.specs.Ordering.{nat_cmp}
+use Rattle.std.specs.Cmp.{nat_cmp_total, unsigned_tied}
+use Rattle.std.specs.FinMap as fin
+use Rattle.lj_clause.proofs.Tests.{turned}
+use Rattle.lj_book.specs.Tables.{is_among}
+use Rattle.lj_share.specs.inner.Dead.{AreNone, AreWith, AreWithout, DeadValue}
+
+pub none_dead : (d : DeadValue) → d ≡ fin.empty → AreNone d
+none_dead d is n = ap (λ (k : DeadValue). fin.contains_key k n) is ∙ ap is_some (fin.get-empty nat_cmp n)
+
+-- ---- one number more, or less
+
+among_more : (ns : List ℕ) (own n : ℕ) → is_among (ns ++ own ∷ []) n ≡ ((n == own) || is_among ns n)
+among_more [] own n = ap (λ b. b || false) (sym (turned n own))
+among_more (m ∷ ns) own n = ap (λ b. (m == n) || b) (among_more ns own n) ∙ around (m == n) (n == own) (is_among ns n)
+  where
+    around : (a b c : Bool) → (a || (b || c)) ≡ (b || (a || c))
+    around true true c = refl
+    around true false c = refl
+    around false b c = refl
+
+put_at : (d : DeadValue) (own n : ℕ) → fin.contains_key (fin.insert d own tt) n ≡ ((n == own) || fin.contains_key d n)
+put_at d own n = ap is_some (fin.get-insert nat_cmp_total d own tt n ∙ ap (λ b. cond b (Some tt) (fin.get d n)) (unsigned_tied n own)) ∙ by (n == own)
+  where
+    by : (b : Bool) → is_some (cond b (Some tt) (fin.get d n)) ≡ (b || fin.contains_key d n)
+    by true = refl
+    by false = refl
+
+out_at : (d : DeadValue) (own n : ℕ) → fin.contains_key (fin.remove d own) n ≡ cond (n == own) false (fin.contains_key d n)
+out_at d own n = ap is_some (fin.get-remove nat_cmp_total d own n ∙ ap (λ b. cond b None (fin.get d n)) (unsigned_tied n own)) ∙ by (n == own)
+  where
+    by : (b : Bool) → is_some (cond b None (fin.get d n)) ≡ cond b false (fin.contains_key d n)
+    by true = refl
+    by false = refl
+
+pub with_more : (ns : List ℕ) (own : ℕ) (d e g : DeadValue) → AreWith ns d e → g ≡ fin.insert e own tt → AreWith (ns ++ own ∷ []) d g
+with_more ns own d e g are is n =
+    ap (λ (k : DeadValue). fin.contains_key k n) is
+    ∙ put_at e own n
+    ∙ ap (λ b. (n == own) || b) (are n)
+    ∙ around (n == own) (is_among ns n) (fin.contains_key d n)
+    ∙ sym (ap (λ b. b || fin.contains_key d n) (among_more ns own n))
+  where
+    around : (a b c : Bool) → (a || (b || c)) ≡ ((a || b) || c)
+    around true b c = refl
+    around false b c = refl
+
+pub without_more : (ns : List ℕ) (own : ℕ) (d e g : DeadValue) → AreWithout ns d e → g ≡ fin.remove e own → AreWithout (ns ++ own ∷ []) d g
+without_more ns own d e g are is n =
+    ap (λ (k : DeadValue). fin.contains_key k n) is
+    ∙ out_at e own n
+    ∙ ap (cond (n == own) false) (are n)
+    ∙ around (n == own) (is_among ns n) (fin.contains_key d n)
+    ∙ sym (ap (λ b. cond b false (fin.contains_key d n)) (among_more ns own n))
+  where
+    around : (a b c : Bool) → cond a false (cond b false c) ≡ cond (a || b) false c
+    around true b c = refl
+    around false b c = refl
