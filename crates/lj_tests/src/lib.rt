@@ -13,4 +13,6 @@ mod shared;
 #[cfg(test)]
 mod tables;
 #[cfg(test)]
+mod waiting;
+#[cfg(test)]
 mod walks;
