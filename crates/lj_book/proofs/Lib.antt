@@ -21,6 +21,10 @@ pub mod SoloSteps
 pub mod SoloRuns
 pub mod ViewLaws
 pub mod NamedTakes
+pub mod NamedCommits
+mod JointForms
+pub mod PrivateReplies
+mod OtherViews
 pub mod OwnHoldings
 pub mod DecidedBeneath
 pub mod Scans
@@ -36,6 +40,7 @@ pub mod PlayLaws
 mod Slots
 mod VariableTables
 mod TakenBack
+mod GivenBack
 mod GivingLaws
 mod WithinTop
 mod Shifts

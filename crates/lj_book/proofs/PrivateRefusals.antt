@@ -22,14 +22,14 @@ use Rattle.lj_book.proofs.DecidedBeneath.{with_lemma, own_names, later, joint_le
 use Rattle.lj_book.proofs.SeenClauses.{taken_hints_seen}
 use Rattle.lj_book.proofs.PrivateCandidates.{private_rat}
 
-same_numbers : (m : Renaming) (ps : List Pair) → numbers (map (pair_image m) ps) ≡ numbers ps
+pub same_numbers : (m : Renaming) (ps : List Pair) → numbers (map (pair_image m) ps) ≡ numbers ps
 same_numbers m [] = refl
 same_numbers m (p ∷ ps) = ap (λ ns. p.joint ∷ ns) (same_numbers m ps)
 
 abbrev joint_groups : List (Pair × List Pair) → List HintGroup
 joint_groups gs = map (λ (g : Pair × List Pair). record { candidate = g.0.joint; hints = numbers g.1 }) gs
 
-same_groups : (m : Renaming) (gs : List (Pair × List Pair)) → joint_groups (map (hinted_image m) gs) ≡ joint_groups gs
+pub same_groups : (m : Renaming) (gs : List (Pair × List Pair)) → joint_groups (map (hinted_image m) gs) ≡ joint_groups gs
 same_groups m [] = refl
 same_groups m (g ∷ gs) = λ i. record { candidate = g.0.joint; hints = same_numbers m g.1 i } ∷ same_groups m gs i
 

@@ -13,6 +13,9 @@ pub mod Solo
 pub mod Views
 pub mod NamedViews
 pub mod NamedReplies
+pub mod NamedEntries
+pub mod NamedWorlds
+pub mod PrivateAdditions
 pub mod RefusalText
 pub mod Telling
 pub mod inner

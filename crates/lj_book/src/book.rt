@@ -12,6 +12,7 @@ ghost use Rattle.lj_book.specs.Calls.{IsReply, drop_reply, drop_entry, commit_re
 
 mod adopting;
 mod closed;
+mod entering;
 mod inside;
 pub mod laws;
 mod leaving;

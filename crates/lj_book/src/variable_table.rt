@@ -7,6 +7,8 @@ ghost use Rattle.lj_clause.specs.Renaming.{is_named, inverse};
 ghost use Rattle.lj_book.specs.Variables.{renaming_of, no_variables, with_variable, given, is_own, IsVariables};
 ghost use Rattle.lj_book.specs.inner.VariableTables.{variables_at, variables_before, are_left, seat_names, as_joint, lemma_as_joint, as_own};
 
+mod forms;
+
 use crate::own_map::OwnMap;
 use lj_clause::{Clause, ClauseView, Lemma, MAX_VARIABLE, NoMemory, Renames};
 use std::alloc::Global;
