@@ -21,6 +21,7 @@ pub mod SoloSteps
 pub mod SoloRuns
 pub mod ViewLaws
 pub mod NamedTakes
+pub mod EnteringLaws
 pub mod OwnHoldings
 pub mod DecidedBeneath
 pub mod Scans
