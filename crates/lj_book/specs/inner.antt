@@ -17,3 +17,4 @@ pub mod Opened
 pub mod Occurrences
 pub mod Chains
 pub mod VariableTables
+pub mod Over
