@@ -32,7 +32,7 @@ use Rattle.lj_book.proofs.EnteringLaws.{legal_leads_on, taken_beneath_is_legal}
 -- ---- what is read
 
 pub under : (joint : State) (t : TopVariables) (s : NamedState) → IsOver joint t → named_over joint t.variables ≡ s → joint ≡ beneath s
-under joint t s over is = sym over.joint ∙ ap beneath is
+under joint t s over is = sym over.below ∙ ap beneath is
 
 pub got-over : (v : Variables) (es : List Entry) (k : ℕ) → slice_get (map (own_entry v) es) k ≡ option_map (own_entry v) (slice_get es k)
 got-over v [] k = refl
@@ -63,14 +63,14 @@ pub entered : (joint after : State) (t u : TopVariables) (e : Entry) → IsOver 
     → IsOver after u × (named_over after u.variables ≡ after_named (named_over joint t.variables) e)
 entered joint after t u e over reached names is top given =
     let s : NamedState = named_over joint t.variables in
-    let same : after ≡ after_entry (beneath s) (entry_beneath s e) = is ∙ ap (λ (j : State). after_entry j (entry_beneath s e)) (sym over.joint) in
+    let same : after ≡ after_entry (beneath s) (entry_beneath s e) = is ∙ ap (λ (j : State). after_entry j (entry_beneath s e)) (sym over.below) in
     let legal = taken_beneath_is_legal s e over.reached names (subst IsReached same reached) in
     let on = legal_leads_on s e over.reached legal in
     let whole : named_over after u.variables ≡ after_named s e = (λ i. named_over (same i) (given i)) ∙ on.over in (
       record {
         top = top ∙ over.top ∙ ap (λ (j : State). j.formula.variables) (sym is);
         reached = subst IsNamedReached (sym whole) on.reached;
-        joint = ap beneath whole ∙ on.joint ∙ sym same;
+        below = ap beneath whole ∙ on.joint ∙ sym same;
       },
       whole,
     )

@@ -8,4 +8,4 @@ use Rattle.lj_book.specs.inner.VariableTables.{TopVariables}
 pub record IsOver (joint : State) (t : TopVariables) : Type 0 where
   pub top : t.top ≡ joint.formula.variables
   pub reached : IsNamedReached (named_over joint t.variables)
-  pub joint : beneath (named_over joint t.variables) ≡ joint
+  pub below : beneath (named_over joint t.variables) ≡ joint
