@@ -25,6 +25,8 @@ pub mod NamedCommits
 mod JointForms
 pub mod PrivateReplies
 mod OtherViews
+pub mod EnteringLaws
+pub mod OverLaws
 pub mod OwnHoldings
 pub mod DecidedBeneath
 pub mod Scans

@@ -18,3 +18,4 @@ pub mod Occurrences
 pub mod Chains
 pub mod VariableTables
 pub mod JointForms
+pub mod Over
