@@ -22,7 +22,7 @@ pub mod SoloRuns
 pub mod ViewLaws
 pub mod NamedTakes
 pub mod NamedCommits
-mod JointForms
+mod ReceiptForms
 pub mod PrivateReplies
 mod OtherViews
 pub mod EnteringLaws

@@ -15,6 +15,7 @@ use Rattle.lj_clause.proofs.Renaming.{all_known}
 use Rattle.lj_text.specs.declared.line.Addition.{Addition}
 use Rattle.lj_text.specs.Steps.{first_walk}
 use Rattle.lj_hint.specs.Case.{CaseValue, walk_of}
+use Rattle.lj_hint.specs.Images.{hints_image}
 use Rattle.lj_book.specs.declared.entry.Added.{Added}
 use Rattle.lj_book.specs.declared.refusal.Refusal.{Refusal}
 use Rattle.lj_book.specs.declared.refusal.Refusal.TheVariants.{Full, NoVariableLeft, NoMemory}
@@ -29,7 +30,7 @@ use Rattle.lj_book.specs.Inside.{joint_addition, rat_refusal, open_refusal, walk
 use Rattle.lj_book.specs.Solo.{View, holdings_of, view_of, solo_take}
 use Rattle.lj_book.specs.Variables.{renaming_of}
 use Rattle.lj_book.specs.Named.{NamedState, top_of, beneath, given_in, has_variables_for, IsNamedReached}
-use Rattle.lj_book.specs.NamedViews.{hints_image, take_image, named_view, seen_clauses, names_with, addition_beneath, IsOpenAlone, IsPrivatePivot}
+use Rattle.lj_book.specs.NamedViews.{take_image, named_view, seen_clauses, names_with, addition_beneath, IsOpenAlone, IsPrivatePivot}
 use Rattle.lj_book.specs.NamedReplies.{named_test, if_variables_left, named_inside_after, named_inside}
 use Rattle.lj_book.specs.NamedEntries.{named_inside_entry}
 use Rattle.lj_book.specs.Worlds.{IsTried}

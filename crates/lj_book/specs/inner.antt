@@ -17,5 +17,5 @@ pub mod Opened
 pub mod Occurrences
 pub mod Chains
 pub mod VariableTables
-pub mod JointForms
+pub mod ReceiptForms
 pub mod Over

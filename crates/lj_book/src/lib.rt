@@ -42,7 +42,7 @@ mod words;
 pub use book::{Book, laws};
 pub use entry::{Added, Call, Dropped, Entry, Imported};
 pub use event::{Event, Reply};
-pub use named_book::NamedBook;
+pub use named_book::{NamedBook, laws as named_laws};
 pub use own_map::OwnMap;
 pub use private_laws::private_replies_are_alone;
 pub use refusal::Refusal;

@@ -11,7 +11,9 @@ ghost use Rattle.lj_book.specs.NamedViews.{named_take};
 ghost use Rattle.lj_book.specs.NamedReplies.{named_drop, named_leave};
 
 mod binding;
+mod committing;
 mod entries;
+pub mod laws;
 
 use crate::book::Book;
 use crate::book::laws::history_is_legal;

@@ -3,7 +3,7 @@ ghost use Rattle.std.specs.Prelude.{◌≡◌};
 ghost use Rattle.std.specs.List.{list_all};
 ghost use Rattle.lj_clause.specs.LiteralSet.{holds};
 ghost use Rattle.lj_clause.specs.Renaming.{literal_image};
-ghost use Rattle.lj_book.specs.inner.JointForms.{is_joint_form};
+ghost use Rattle.lj_book.specs.inner.ReceiptForms.{is_joint_form};
 
 use super::VariableTable;
 use lj_clause::{Clause, ClauseView, Lit, Renames};
@@ -24,10 +24,15 @@ impl VariableTable {
         if self.is_within(clause) {
             return joint.same(clause);
         }
-        self.is_named(seat, clause)
-            && self.is_own(seat, joint)
-            && all_held(joint, clause.lits(), &self.to_joint(seat))
-            && all_held(&clause.view(), joint.lits(), &self.to_own(seat))
+        if !self.is_named(seat, clause) {
+            return false;
+        }
+        if !self.is_own(seat, joint) {
+            return false;
+        }
+        let forth = all_held(joint, clause.lits(), &self.to_joint(seat));
+        let back = all_held(&clause.view(), joint.lits(), &self.to_own(seat));
+        forth && back
     }
 }
 

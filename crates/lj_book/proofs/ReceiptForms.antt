@@ -17,7 +17,7 @@ use Rattle.lj_clause.proofs.Renaming.{renaming_laws}
 use Rattle.lj_hint.specs.declared.pair.Pair.{Pair}
 use Rattle.lj_book.specs.Lookup.{is_same}
 use Rattle.lj_book.specs.Variables.{Variables, IsVariables, renaming_of, is_own}
-use Rattle.lj_book.specs.inner.JointForms.{is_joint_form}
+use Rattle.lj_book.specs.inner.ReceiptForms.{is_joint_form}
 use Rattle.lj_book.proofs.CommitLaws.{same_clauses, same_itself}
 use Rattle.lj_book.proofs.VariableLaws.{part_of_itself}
 use Rattle.lj_book.proofs.OwnHoldings.{pair_back}
@@ -76,6 +76,12 @@ module _ (top : ℕ) (m : Renaming) (one : IsOneToOne top m) (c d : LiteralSet) 
 
   pub forms_alike : tested_forms top m c d ≡ (is_named top m c && is_same (image m c) d)
   forms_alike = both_ways (tested_forms top m c d) (is_named top m c && is_same (image m c) d) forth back
+
+-- what the code finds by its tests
+pub forms_found : (top : ℕ) (v : Variables) (seat : ℕ) (c d : LiteralSet) → IsVariables top v → (n o p q : Bool) → is_named top (renaming_of v seat) c ≡ n → is_own top v seat d ≡ o
+    → list_all (λ l. holds d (literal_image (renaming_of v seat) l)) (literals c) ≡ p → list_all (λ k. holds c (literal_image (inverse (renaming_of v seat)) k)) (literals d) ≡ q
+    → (n && (o && (p && q))) ≡ is_joint_form top v seat c d
+forms_found top v seat c d rules n o p q e f g h = (λ i. sym e i && (sym f i && (sym g i && sym h i))) ∙ forms_alike top (renaming_of v seat) (rules.one_to_one seat) c d
 
 -- a clause without a variable above top is its own joint form
 pub within_form : (top : ℕ) (v : Variables) (seat : ℕ) (c d : LiteralSet) → IsVariables top v → names_up_to top c ≡ true → is_joint_form top v seat c d ≡ is_same c d
