@@ -1,6 +1,6 @@
 -- What the commit of a receipt in its seat's variables enters beneath.
 use Rattle.std.proofs.Common.{◌≡◌, ap, refl, sym, ◌∙◌, subst, ℕ, ◌+◌, Bool, cond, true, false, arith, ◌<◌}
-use Rattle.std.specs.Prelude.{List, [], ◌∷◌, map, length, nat_lt, nat_le, not, ◌&&◌, Option, Some, None, is_some, if◌then◌else◌, Ok, Err}
+use Rattle.std.specs.Prelude.{List, [], ◌∷◌, map, length, nat_lt, nat_le, not, ◌&&◌, Option, Some, None, is_some, if◌then◌else◌, Result, Ok, Err, OnErr}
 use Rattle.std.specs.List.{AllByRecursion, cons_option}
 use Rattle.std.proofs.lemmas.List.Elements.{All-from_recursion}
 use Rattle.std.proofs.lemmas.Bool.{false≢true, and_parts}
@@ -20,13 +20,14 @@ use Rattle.lj_hint.specs.Receipt.{ReceiptValue, IsReceipt}
 use Rattle.lj_hint.specs.Images.{pair_image, receipt_image, IsNamedReceipt}
 use Rattle.lj_hint.proofs.Images.{tests_commute}
 use Rattle.lj_book.specs.declared.refusal.Refusal.{Refusal}
+use Rattle.lj_book.specs.declared.refusal.Refusal.TheVariants as refusals
 use Rattle.lj_book.specs.declared.refusal.Refusal.TheVariants.{SeatGone, NumberTaken, Stale, Full, NoVariableLeft}
 use Rattle.lj_book.specs.declared.entry.Call.TheVariants as calls
 use Rattle.lj_book.specs.declared.entry.Entry.{Entry}
 use Rattle.lj_book.specs.Tables.{is_here, is_bound}
 use Rattle.lj_book.specs.State.{State, steps_of, addition_count, next, live, is_refutation, verdict_from}
 use Rattle.lj_book.specs.History.{after_entry, IsLegal, IsReached}
-use Rattle.lj_book.specs.Calls.{free_refusal, if_free, is_live_as, first_stale, stale_or, commit_told, commit_entry}
+use Rattle.lj_book.specs.Calls.{IsRefusal, free_refusal, if_free, is_live_as, first_stale, stale_or, commit_told, commit_entry}
 use Rattle.lj_book.specs.Variables.{Variables, IsVariables, renaming_of, given}
 use Rattle.lj_book.specs.Named.{NamedState, top_of, names_of, joint_entry, own_entry, beneath, named_over, given_in, has_variables_for, entry_beneath, after_named, IsNamedLegal, IsNamedReached}
 use Rattle.lj_book.specs.NamedViews.{names_with}
@@ -251,3 +252,24 @@ pub some_lemma : (top : ℕ) (v : Variables) (seat : ℕ) (l : LemmaValue) → i
 some_lemma top v seat l named is =
     let both : None ≡ Some (lemma_image (renaming_of v seat) l) = is ∙ ap (λ b. cond b (Some (lemma_image (renaming_of v seat) l)) None) named in
     cc
+
+pub refused_is : {A : Type 0} (e : Refusal) (reply : Result A Refusal) → reply ≡ Err e → IsRefusal e reply
+refused_is (refusals.NoMemory m) reply h = tt
+refused_is refusals.SeatGone reply h = h
+refused_is refusals.NumberTaken reply h = h
+refused_is (refusals.UnknownNumber n) reply h = h
+refused_is (refusals.GroupRepeated n) reply h = h
+refused_is (refusals.HintNotUnit n) reply h = h
+refused_is refusals.EmptyOpen reply h = h
+refused_is (refusals.MissingGroup n) reply h = h
+refused_is (refusals.GroupStuck n place) reply h = h
+refused_is (refusals.GroupOpen n) reply h = h
+refused_is (refusals.Stale n) reply h = h
+refused_is refusals.PrivateVariable reply h = h
+refused_is refusals.NoSuchClause reply h = h
+refused_is refusals.Full reply h = h
+refused_is refusals.NoVariableLeft reply h = h
+
+pub on_err : {A : Type 0} {P : Type 0} (r : Result A Refusal) → P → OnErr r P
+on_err (Ok x) p = tt
+on_err (Err e) p = p

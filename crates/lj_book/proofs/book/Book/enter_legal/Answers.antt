@@ -71,4 +71,4 @@ returns-clause-told c =
     let step : Addition = c.args.step.now in
     let legal : IsLegal s (line_entry c.args.seat c.args.own step) = subst (λ (t : State). IsLegal t (line_entry c.args.seat c.args.own step)) (sym c.self.view_is) c.requires in
     let place : c.len-place.result ≡ length s.history = c.len-place.ensures.len ∙ ap (λ h. length h.entries) c.history.ensures in
-    (λ i. record { place = place i; joint = legal.addition.0 i }) ∙ ap commit_told c.self.view_is
+    (λ i. record { place = place i; joint = (ap (λ (x : Addition). x.number) c.step.view_is ∙ legal.addition.0) i }) ∙ ap commit_told c.self.view_is

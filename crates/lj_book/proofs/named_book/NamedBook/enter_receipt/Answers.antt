@@ -13,11 +13,11 @@ use Rattle.lj_book.specs.NamedEntries.{named_commit_entry}
 use Rattle.lj_book.specs.inner.Over.{IsOver}
 use Rattle.lj_book.specs.inner.VariableTables.{TopVariables, variables_at, are_left}
 use Rattle.lj_book.proofs.GivenBack.{given_goes_on}
-use Rattle.lj_book.proofs.NamedCommits.{joint_line, seat_within, named_then, legal_then, entered_then, reply_left, reply_none_left, taken_back, refused_reply}
+use Rattle.lj_book.proofs.NamedCommits.{joint_line, seat_within, named_then, legal_then, entered_then, reply_left, reply_none_left, taken_back, refused_reply, refused_is, on_err}
 use Rattle.lj_book.proofs.named_book.NamedBook.enter_receipt.Goals as goal
 
 pub returns-in-Some-clause-reply : goal.returns-in-Some-clause-reply
-returns-in-Some-clause-reply c = refused_reply c.args.self.now c.args.receipt.now c.in-Some.refusal (sym c.commit_refusal.ensures ∙ c.in-Some.is)
+returns-in-Some-clause-reply c = refused_is c.in-Some.refusal (named_commit c.args.self.now c.args.receipt.now) (refused_reply c.args.self.now c.args.receipt.now c.in-Some.refusal (sym c.commit_refusal.ensures ∙ c.in-Some.is))
 
 pub give-requires : goal.give-requires
 give-requires c =
@@ -49,7 +49,7 @@ enter_joint-requires-clause-named c =
     let over = c.self.invariant in
     let free : named_commit_refusal (named_over j t.variables) r ≡ None = ap (λ (s : NamedState). named_commit_refusal s r) c.self.view_is ∙ sym c.commit_refusal.ensures ∙ c.in_default.is in
     let clause : c.clause.result.now ≡ r.lemma.clause = c.clause.ensures.clause ∙ ap (λ (l : LemmaValue). l.clause) c.lemma.ensures.lemma in
-    let u : TopVariables = c.give-left.new.self in
+    let u : TopVariables = c.give.new.self in
     let left : are_left t.top t.variables r.seat r.lemma.clause ≡ true =
     (λ i. are_left t.top t.variables (sym c.seat.ensures i) (sym clause i)) ∙ sym c.in_ok-left.ensures.left ∙ c.if-not-left.false in
     let given : u ≡ variables_at t.top (given t.top t.variables r.seat r.lemma.clause) =
@@ -66,7 +66,7 @@ enter_joint-requires-clause-legal c =
     let over = c.self.invariant in
     let free : named_commit_refusal (named_over j t.variables) r ≡ None = ap (λ (s : NamedState). named_commit_refusal s r) c.self.view_is ∙ sym c.commit_refusal.ensures ∙ c.in_default.is in
     let clause : c.clause.result.now ≡ r.lemma.clause = c.clause.ensures.clause ∙ ap (λ (l : LemmaValue). l.clause) c.lemma.ensures.lemma in
-    let u : TopVariables = c.give-left.new.self in
+    let u : TopVariables = c.give.new.self in
     let left : are_left t.top t.variables r.seat r.lemma.clause ≡ true =
     (λ i. are_left t.top t.variables (sym c.seat.ensures i) (sym clause i)) ∙ sym c.in_ok-left.ensures.left ∙ c.if-not-left.false in
     let given : u ≡ variables_at t.top (given t.top t.variables r.seat r.lemma.clause) =
@@ -75,15 +75,15 @@ enter_joint-requires-clause-legal c =
     ∙ (λ i. variables_at t.top (given t.top t.variables (c.seat.ensures i) (clause i))) in
     subst (λ (w : TopVariables). IsLegal j (joint_line j w.variables r)) (sym given) (legal_then j t r over free c.lemma.ensures.receipt)
 
-pub invariant_of-self-3 : goal.invariant_of-self-3
-invariant_of-self-3 c =
+pub invariant_of-self-in-Ok : goal.invariant_of-self-in-Ok
+invariant_of-self-in-Ok c =
     let j : State = c.self.inside.joint in
     let t : TopVariables = c.self.inside.variables in
     let r : ReceiptValue = c.args.receipt.now in
     let over = c.self.invariant in
     let free : named_commit_refusal (named_over j t.variables) r ≡ None = ap (λ (s : NamedState). named_commit_refusal s r) c.self.view_is ∙ sym c.commit_refusal.ensures ∙ c.in_default.is in
     let clause : c.clause.result.now ≡ r.lemma.clause = c.clause.ensures.clause ∙ ap (λ (l : LemmaValue). l.clause) c.lemma.ensures.lemma in
-    let u : TopVariables = c.give-left.new.self in
+    let u : TopVariables = c.give.new.self in
     let left : are_left t.top t.variables r.seat r.lemma.clause ≡ true =
     (λ i. are_left t.top t.variables (sym c.seat.ensures i) (sym clause i)) ∙ sym c.in_ok-left.ensures.left ∙ c.if-not-left.false in
     let given : u ≡ variables_at t.top (given t.top t.variables r.seat r.lemma.clause) =
@@ -102,7 +102,7 @@ returns-in-Ok-clause-reply c =
     let over = c.self.invariant in
     let free : named_commit_refusal (named_over j t.variables) r ≡ None = ap (λ (s : NamedState). named_commit_refusal s r) c.self.view_is ∙ sym c.commit_refusal.ensures ∙ c.in_default.is in
     let clause : c.clause.result.now ≡ r.lemma.clause = c.clause.ensures.clause ∙ ap (λ (l : LemmaValue). l.clause) c.lemma.ensures.lemma in
-    let u : TopVariables = c.give-left.new.self in
+    let u : TopVariables = c.give.new.self in
     let left : are_left t.top t.variables r.seat r.lemma.clause ≡ true =
     (λ i. are_left t.top t.variables (sym c.seat.ensures i) (sym clause i)) ∙ sym c.in_ok-left.ensures.left ∙ c.if-not-left.false in
     let given : u ≡ variables_at t.top (given t.top t.variables r.seat r.lemma.clause) =
@@ -119,7 +119,7 @@ returns-in-Ok-clause-ok c =
     let over = c.self.invariant in
     let free : named_commit_refusal (named_over j t.variables) r ≡ None = ap (λ (s : NamedState). named_commit_refusal s r) c.self.view_is ∙ sym c.commit_refusal.ensures ∙ c.in_default.is in
     let clause : c.clause.result.now ≡ r.lemma.clause = c.clause.ensures.clause ∙ ap (λ (l : LemmaValue). l.clause) c.lemma.ensures.lemma in
-    let u : TopVariables = c.give-left.new.self in
+    let u : TopVariables = c.give.new.self in
     let left : are_left t.top t.variables r.seat r.lemma.clause ≡ true =
     (λ i. are_left t.top t.variables (sym c.seat.ensures i) (sym clause i)) ∙ sym c.in_ok-left.ensures.left ∙ c.if-not-left.false in
     let given : u ≡ variables_at t.top (given t.top t.variables r.seat r.lemma.clause) =
@@ -138,7 +138,7 @@ take_back-requires c =
     let over = c.self.invariant in
     let free : named_commit_refusal (named_over j t.variables) r ≡ None = ap (λ (s : NamedState). named_commit_refusal s r) c.self.view_is ∙ sym c.commit_refusal.ensures ∙ c.in_default.is in
     let clause : c.clause.result.now ≡ r.lemma.clause = c.clause.ensures.clause ∙ ap (λ (l : LemmaValue). l.clause) c.lemma.ensures.lemma in
-    let u : TopVariables = c.give-left.new.self in
+    let u : TopVariables = c.give.new.self in
     let left : are_left t.top t.variables r.seat r.lemma.clause ≡ true =
     (λ i. are_left t.top t.variables (sym c.seat.ensures i) (sym clause i)) ∙ sym c.in_ok-left.ensures.left ∙ c.if-not-left.false in
     let given : u ≡ variables_at t.top (given t.top t.variables r.seat r.lemma.clause) =
@@ -152,15 +152,15 @@ take_back-requires c =
     let next = c.next-before.ensures.next in
     (omega arith, omega arith)
 
-pub invariant_of-self-4 : goal.invariant_of-self-4
-invariant_of-self-4 c =
+pub invariant_of-self-in-Err : goal.invariant_of-self-in-Err
+invariant_of-self-in-Err c =
     let j : State = c.self.inside.joint in
     let t : TopVariables = c.self.inside.variables in
     let r : ReceiptValue = c.args.receipt.now in
     let over = c.self.invariant in
     let free : named_commit_refusal (named_over j t.variables) r ≡ None = ap (λ (s : NamedState). named_commit_refusal s r) c.self.view_is ∙ sym c.commit_refusal.ensures ∙ c.in_default.is in
     let clause : c.clause.result.now ≡ r.lemma.clause = c.clause.ensures.clause ∙ ap (λ (l : LemmaValue). l.clause) c.lemma.ensures.lemma in
-    let u : TopVariables = c.give-left.new.self in
+    let u : TopVariables = c.give.new.self in
     let left : are_left t.top t.variables r.seat r.lemma.clause ≡ true =
     (λ i. are_left t.top t.variables (sym c.seat.ensures i) (sym clause i)) ∙ sym c.in_ok-left.ensures.left ∙ c.if-not-left.false in
     let given : u ≡ variables_at t.top (given t.top t.variables r.seat r.lemma.clause) =
@@ -179,7 +179,7 @@ returns-in-Err-clause-err c =
     let over = c.self.invariant in
     let free : named_commit_refusal (named_over j t.variables) r ≡ None = ap (λ (s : NamedState). named_commit_refusal s r) c.self.view_is ∙ sym c.commit_refusal.ensures ∙ c.in_default.is in
     let clause : c.clause.result.now ≡ r.lemma.clause = c.clause.ensures.clause ∙ ap (λ (l : LemmaValue). l.clause) c.lemma.ensures.lemma in
-    let u : TopVariables = c.give-left.new.self in
+    let u : TopVariables = c.give.new.self in
     let left : are_left t.top t.variables r.seat r.lemma.clause ≡ true =
     (λ i. are_left t.top t.variables (sym c.seat.ensures i) (sym clause i)) ∙ sym c.in_ok-left.ensures.left ∙ c.if-not-left.false in
     let given : u ≡ variables_at t.top (given t.top t.variables r.seat r.lemma.clause) =
@@ -194,16 +194,16 @@ pub invariant_of-self : goal.invariant_of-self
 invariant_of-self c = subst (λ (w : TopVariables). IsOver c.self.inside.joint w) (sym c.in_err-left.ensures.err) c.self.invariant
 
 pub returns-in_err-left-clause-err : goal.returns-in_err-left-clause-err
-returns-in_err-left-clause-err c = ap (λ (w : TopVariables). named_over c.self.inside.joint w.variables) c.in_err-left.ensures.err ∙ c.self.view_is
+returns-in_err-left-clause-err c = on_err c.from_residual.result (ap (λ (w : TopVariables). named_over c.self.inside.joint w.variables) c.in_err-left.ensures.err ∙ c.self.view_is)
 
 -- what isn't given is as it was
 kept_so : (t u g : TopVariables) (b : Bool) → u ≡ (cond b g t) → b ≡ false → u ≡ t
-kept_so t u g b is no = is ∙ ap (λ (x : Bool). cond x g t) no
+kept_so t u g b is off = is ∙ ap (λ (x : Bool). cond x g t) off
 
-pub invariant_of-self-2 : goal.invariant_of-self-2
-invariant_of-self-2 c =
-    subst (λ (w : TopVariables). IsOver c.self.inside.joint w) (sym (kept_so c.self.inside.variables c.give-left.new.self _ _ c.in_ok-left.ensures.given c.if-not-left.true)) c.self.invariant
+pub invariant_of-self-then-not-left : goal.invariant_of-self-then-not-left
+invariant_of-self-then-not-left c =
+    subst (λ (w : TopVariables). IsOver c.self.inside.joint w) (sym (kept_so c.self.inside.variables c.give.new.self _ _ c.in_ok-left.ensures.given c.if-not-left.true)) c.self.invariant
 
 pub returns-then-not-left-clause-err : goal.returns-then-not-left-clause-err
 returns-then-not-left-clause-err c =
-    ap (λ (w : TopVariables). named_over c.self.inside.joint w.variables) (kept_so c.self.inside.variables c.give-left.new.self _ _ c.in_ok-left.ensures.given c.if-not-left.true) ∙ c.self.view_is
+    ap (λ (w : TopVariables). named_over c.self.inside.joint w.variables) (kept_so c.self.inside.variables c.give.new.self _ _ c.in_ok-left.ensures.given c.if-not-left.true) ∙ c.self.view_is

@@ -1,6 +1,7 @@
-use Rattle.std.proofs.Common.{◌≡◌, sym, ◌∙◌, subst}
+use Rattle.std.proofs.Common.{◌≡◌, ap, sym, ◌∙◌, subst}
 use Rattle.std.specs.Prelude.{[], OnOk}
 use Rattle.lj_clause.specs.Renaming.{lemma_image}
+use Rattle.lj_hint.specs.Hints.{numbers}
 use Rattle.lj_text.specs.declared.line.Addition.{Addition}
 use Rattle.lj_book.specs.declared.entry.Entry.{Entry}
 use Rattle.lj_book.specs.State.{State, next}
@@ -19,21 +20,21 @@ enter_legal-requires c =
     let r = c.args.receipt.now in
     let lemma : c.in-Some.lemma ≡ lemma_image (renaming_of t.variables r.seat) r.lemma =
     lemma_is t.top t.variables r.seat r.lemma c.in-Some.lemma c.requires.named
-    (sym c.in-Some.is ∙ c.in_ok-joint_lemma.ensures ∙ (λ i. lemma_as_joint t.top t.variables (c.seat-seat.ensures i) (c.lemma.ensures.lemma i))) in
+    (sym c.in-Some.is ∙ c.in_ok-lemma.ensures ∙ (λ i. lemma_as_joint t.top t.variables (c.seat-seat.ensures i) (c.lemma.ensures.lemma i))) in
     let step : c.new-step.result ≡ receipt_step (renaming_of t.variables r.seat) (next j) r =
-    c.new-step.ensures ∙ (λ i. addition_of_parts (c.next.ensures i) (lemma i) (c.in_ok-hints.ensures i, c.new-groups.ensures i)) in
+    c.new-step.ensures ∙ (λ i. addition_of_parts (c.next.ensures i) (lemma i) ((c.in_ok-hints.ensures ∙ ap numbers c.listed.ensures.listed) i, c.new-groups.ensures i)) in
     subst (λ (e : Entry). IsLegal j e) (λ i. line_entry (sym c.seat-seat.ensures i) (sym c.own.ensures i) (sym step i)) c.requires.legal
 
-pub returns-in-Some-clause-ok : goal.returns-in-Some-clause-ok
-returns-in-Some-clause-ok c =
+pub returns-clause-ok : goal.returns-clause-ok
+returns-clause-ok c =
     let j : State = c.args.book.now in
     let t = c.args.variables.now in
     let r = c.args.receipt.now in
     let lemma : c.in-Some.lemma ≡ lemma_image (renaming_of t.variables r.seat) r.lemma =
     lemma_is t.top t.variables r.seat r.lemma c.in-Some.lemma c.requires.named
-    (sym c.in-Some.is ∙ c.in_ok-joint_lemma.ensures ∙ (λ i. lemma_as_joint t.top t.variables (c.seat-seat.ensures i) (c.lemma.ensures.lemma i))) in
+    (sym c.in-Some.is ∙ c.in_ok-lemma.ensures ∙ (λ i. lemma_as_joint t.top t.variables (c.seat-seat.ensures i) (c.lemma.ensures.lemma i))) in
     let step : c.new-step.result ≡ receipt_step (renaming_of t.variables r.seat) (next j) r =
-    c.new-step.ensures ∙ (λ i. addition_of_parts (c.next.ensures i) (lemma i) (c.in_ok-hints.ensures i, c.new-groups.ensures i)) in
+    c.new-step.ensures ∙ (λ i. addition_of_parts (c.next.ensures i) (lemma i) ((c.in_ok-hints.ensures ∙ ap numbers c.listed.ensures.listed) i, c.new-groups.ensures i)) in
     subst (λ (e : Entry). OnOk c.enter_legal.result (c.enter_legal.new.self ≡ after_entry j e)) (λ i. line_entry (c.seat-seat.ensures i) (c.own.ensures i) (step i)) c.enter_legal.ensures.ok
 
 pub unreachable-requires : goal.unreachable-requires
@@ -41,4 +42,4 @@ unreachable-requires c =
     let t = c.args.variables.now in
     let r = c.args.receipt.now in
     some_lemma t.top t.variables r.seat r.lemma c.requires.named
-    (sym c.in-None.is ∙ c.in_ok-joint_lemma.ensures ∙ (λ i. lemma_as_joint t.top t.variables (c.seat-seat.ensures i) (c.lemma.ensures.lemma i)))
+    (sym c.in-None.is ∙ c.in_ok-lemma.ensures ∙ (λ i. lemma_as_joint t.top t.variables (c.seat-seat.ensures i) (c.lemma.ensures.lemma i)))

@@ -43,4 +43,4 @@ returns-else-forth c =
     (λ i. list_all (λ l. holds c.args.joint.now (literal_image (renaming_of (sym c.to_joint.ensures.0 i).variables (sym c.to_joint.ensures.1 i)) l)) (sym c.lits.ensures i)) ∙ sym c.all_held-forth.ensures in
     let back : list_all (λ k. holds c.args.clause.now (literal_image (inverse m) k)) (literals c.args.joint.now) ≡ c.all_held-back.result =
     (λ i. list_all (λ k. holds (sym c.view.ensures i) (literal_image (inverse (renaming_of (sym c.to_own.ensures.0 i).variables (sym c.to_own.ensures.1 i))) k)) (sym c.lits-2.ensures i)) ∙ sym c.all_held-back.ensures in
-    forms_found t.top t.variables c.args.seat c.args.clause.now c.args.joint.now c.is_within.ensures.variables true true false c.all_held-back.result named own (forth ∙ c.if-forth.false) back
+    c.if-forth.false ∙ forms_found t.top t.variables c.args.seat c.args.clause.now c.args.joint.now c.is_within.ensures.variables true true false c.all_held-back.result named own (forth ∙ c.if-forth.false) back
