@@ -23,6 +23,8 @@ pub mod ViewLaws
 pub mod NamedTakes
 pub mod EnteringLaws
 pub mod OverLaws
+pub mod FormLaws
+pub mod EntryLaws
 pub mod OwnHoldings
 pub mod DecidedBeneath
 pub mod Scans
