@@ -14,7 +14,7 @@ use Rattle.lj_book.specs.declared.entry.Entry.{Entry}
 use Rattle.lj_book.specs.State.{State}
 use Rattle.lj_book.specs.History.{after_entry, IsReached}
 use Rattle.lj_book.specs.Variables.{Variables, renaming_of, IsVariables}
-use Rattle.lj_book.specs.Named.{NamedState, top_of, call_image, joint_entry, own_entry, beneath, named_over, variables_behind, entry_beneath, after_named, after_all_named, NamesRightly, IsNamedLegal, AreNamedLegal, named_opening, IsNamedReached, OverBeneath, LeadsOn, LegalEntriesLeadOn, TakenBeneathAreLegal}
+use Rattle.lj_book.specs.Named.{NamedState, top_of, call_image, joint_entry, own_entry, beneath, named_over, variables_behind, entry_beneath, after_named, after_all_named, NamesRightly, IsNamedLegal, AreNamedLegal, named_opening, IsNamedReached, OverBeneath, EntersBook, LegalEntriesEnter, TakenBeneathAreLegal}
 use Rattle.lj_book.proofs.NamedLaws.{CallNamed, beneath_after, beneath_is_reached, rules_reached}
 use Rattle.lj_book.proofs.ViewLaws.{legal_entry}
 
@@ -43,7 +43,7 @@ module _ (top : ℕ) (m : Renaming) (one : IsOneToOne top m) where
   some_variable x None e lt = lt
   some_variable x (Some y) e lt = let above = (one.above x y e).1 in omega arith
 
-  literal_back : (l : ℤ) → has_name top m (variable_of l) ≡ true → literal_image (inverse m) (literal_image m l) ≡ l
+  pub literal_back : (l : ℤ) → has_name top m (variable_of l) ≡ true → literal_image (inverse m) (literal_image m l) ≡ l
   literal_back (pos n) h = ap pos (variable_back n (fin.get m n) refl h)
   literal_back (negsuc n) h =
       turned (inverse m) (renamed m (suc n)) (some_variable (suc n) (fin.get m (suc n)) refl (omega arith))
@@ -97,8 +97,8 @@ named_reached_after s e r legal = record {
   leads = after_all-push (named_opening s.formula r.seats s.max_steps) s.history e ∙ ap (λ (t : NamedState). after_named t e) r.leads;
 }
 
-pub legal_leads_on : LegalEntriesLeadOn
-legal_leads_on s e reached legal =
+pub legal_enters : LegalEntriesEnter
+legal_enters s e reached legal =
     let later = named_reached_after s e reached legal in
     let joint = beneath_after s (rules_reached s reached) e legal in
     record {

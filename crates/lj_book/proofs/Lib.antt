@@ -27,6 +27,8 @@ pub mod PrivateReplies
 mod OtherViews
 pub mod EnteringLaws
 pub mod OverLaws
+pub mod FormLaws
+pub mod EntryLaws
 pub mod OwnHoldings
 pub mod DecidedBeneath
 pub mod Scans

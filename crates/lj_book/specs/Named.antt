@@ -164,17 +164,17 @@ NamedKeepRules = (s : NamedState) → IsNamedReached s → IsVariables (top_of s
 abbrev pub OverBeneath : Type 0
 OverBeneath = (s : NamedState) → IsNamedReached s → named_over (beneath s) s.variables ≡ s
 
--- An entry that leads on: it changes the book beneath by the entry in joint variables, and gives the variables out.
-pub record LeadsOn (s : NamedState) (e : Entry) : Type 0 where
+-- An entry that enters: it changes the book beneath by the entry in joint variables, and gives the variables out.
+pub record EntersBook (s : NamedState) (e : Entry) : Type 0 where
   pub reached : IsNamedReached (after_named s e)
   pub joint : beneath (after_named s e) ≡ after_entry (beneath s) (entry_beneath s e)
   pub over : named_over (after_entry (beneath s) (entry_beneath s e))
       (variables_behind s e.seat e.call) ≡ after_named s e
 
--- Each legal entry leads on.
-abbrev pub LegalEntriesLeadOn : Type 0
-LegalEntriesLeadOn = (s : NamedState) (e : Entry) → IsNamedReached s → IsNamedLegal s e
-    → LeadsOn s e
+-- Each legal entry enters.
+abbrev pub LegalEntriesEnter : Type 0
+LegalEntriesEnter = (s : NamedState) (e : Entry) → IsNamedReached s → IsNamedLegal s e
+    → EntersBook s e
 
 -- An entry that names rightly is legal where the book beneath takes it.
 abbrev pub TakenBeneathAreLegal : Type 0

@@ -1,5 +1,5 @@
 -- The replies of a book whose seats name variables as they like. A take's stands in `NamedViews`.
-use Rattle.std.specs.Prelude.{ℕ, nat_lt, Bool, false, not, ◌&&◌, List, [], ◌∷◌, length, Option, Some, None, if◌then◌else◌, Result, Ok, Err}
+use Rattle.std.specs.Prelude.{ℕ, nat_lt, Bool, ◌&&◌, List, [], ◌∷◌, length, Option, Some, None, if◌then◌else◌, Result, Ok, Err}
 use Rattle.std.specs.FinMap as fin
 use Rattle.lj_clause.specs.LiteralSet.{LiteralSet}
 use Rattle.lj_clause.specs.ClauseMap.{ClauseMap}
@@ -74,11 +74,6 @@ named_commit s r =
     if_free (named_commit_refusal s r) (if_variables_left s r.seat r.lemma.clause)
 
 -- ---- adopting and importing
-
--- whether the clause, if there is one, names a variable above the formula's that the seat was not given
-abbrev pub is_private : NamedState → ℕ → Option LiteralSet → Bool
-is_private s seat None = false
-is_private s seat (Some c) = not (is_own (top_of s) s.variables seat c)
 
 -- the reply by the clause that lives under the joint number
 abbrev pub adopted : NamedState → ℕ → Option LiteralSet → Result ℕ Refusal

@@ -49,8 +49,8 @@ pub use refusal::Refusal;
 pub use solo_laws::{fresh_receipts_are_not_stale, tidy_seats_are_alone};
 pub use steps::Steps;
 pub use variable_laws::{
-    beneath_is_reached, clauses_give_variables, decided_beneath, entries_lead_on, images_are_own,
-    named_clauses_give_none, named_takes_are_alone, no_variables_at_first,
+    beneath_is_reached, clauses_give_variables, decided_beneath, images_are_own,
+    legal_entries_enter, named_clauses_give_none, named_takes_are_alone, no_variables_at_first,
     private_candidates_are_seen, private_clauses_are_held, private_tests_are_alone,
     seats_hold_their_own,
 };

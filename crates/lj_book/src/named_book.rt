@@ -176,10 +176,11 @@ impl NamedBook {
         ensures refused { IfSome (free_refusal (beneath self.now) seat addition.now.number)
             (λ e. result ≡ Err e) }
     {
-        let mut case = self.joint.take(seat, addition)?;
-        if self.variables.is_any_given() {
-            case.rename_hints(&self.variables.to_own(seat))?;
+        if !self.variables.is_any_given() {
+            return self.joint.take(seat, addition);
         }
+        let mut case = self.joint.take(seat, addition)?;
+        case.rename_hints(&self.variables.to_own(seat))?;
         Ok(case)
     }
 

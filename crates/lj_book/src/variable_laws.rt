@@ -1,5 +1,5 @@
 //! Laws of the variables that seats name as they like. The functions do nothing.
-ghost use Rattle.lj_book.specs.Named.{BeneathIsReached, NamedKeepRules, OverBeneath, LegalEntriesLeadOn, TakenBeneathAreLegal};
+ghost use Rattle.lj_book.specs.Named.{BeneathIsReached, NamedKeepRules, OverBeneath, LegalEntriesEnter, TakenBeneathAreLegal};
 ghost use Rattle.lj_book.specs.NamedViews.{TakesCommuteWithRenamings, NamedTakesAreAlone, SeatsHoldTheirOwn, ViewsComeBack, DecidedBeneath, ClosedBeneath, OpenBeneath, PrivateAreHeld, PrivateCandidates, GivenCandidates, NewPivotsHaveNone, PrivateRat, TakenHintsAreSeen, PrivateRefusals};
 ghost use Rattle.lj_book.specs.VariableLaws.{NoneAreVariables, EachGives, NamedGivesNothing, ImagesAreOwn, OthersOwnNone};
 
@@ -35,9 +35,9 @@ pub fn beneath_is_reached()
 
 /// What a legal entry leaves, in the book beneath: it takes the entry in joint variables, and what lies over it then is the
 /// whole. An entry that the book beneath takes so is legal where it names no variable that it may not. Takes constant time.
-pub fn entries_lead_on()
+pub fn legal_entries_enter()
     ensures over { OverBeneath }
-    ensures leads { LegalEntriesLeadOn }
+    ensures leads { LegalEntriesEnter }
     ensures legal { TakenBeneathAreLegal }
 {}
 

@@ -5,7 +5,8 @@ ghost use Rattle.lj_clause.specs.ClauseMap.{names_up_to};
 ghost use Rattle.lj_book.specs.State.{live};
 ghost use Rattle.lj_book.specs.Calls.{IsReply, adopt_entry, import_entry};
 ghost use Rattle.lj_book.specs.Named.{top_of, beneath, after_named};
-ghost use Rattle.lj_book.specs.NamedReplies.{is_private, named_adopt, import_refusal, named_import};
+ghost use Rattle.lj_book.specs.inner.Over.{is_private};
+ghost use Rattle.lj_book.specs.NamedReplies.{named_adopt, import_refusal, named_import};
 
 use crate::book::laws::history_is_legal;
 use crate::entry::Imported;
