@@ -21,6 +21,8 @@ pub mod SoloSteps
 pub mod SoloRuns
 pub mod ViewLaws
 pub mod NamedTakes
+pub mod EnteringLaws
+pub mod OverLaws
 pub mod OwnHoldings
 pub mod DecidedBeneath
 pub mod Scans

@@ -1,5 +1,5 @@
 -- The replies of a book whose seats name variables as they like. A take's stands in `NamedViews`.
-use Rattle.std.specs.Prelude.{ℕ, nat_lt, ◌&&◌, List, [], ◌∷◌, length, Option, Some, None, if◌then◌else◌, Result, Ok, Err}
+use Rattle.std.specs.Prelude.{ℕ, nat_lt, Bool, false, not, ◌&&◌, List, [], ◌∷◌, length, Option, Some, None, if◌then◌else◌, Result, Ok, Err}
 use Rattle.std.specs.FinMap as fin
 use Rattle.lj_clause.specs.LiteralSet.{LiteralSet}
 use Rattle.lj_clause.specs.ClauseMap.{ClauseMap}
@@ -75,6 +75,11 @@ named_commit s r =
 
 -- ---- adopting and importing
 
+-- whether the clause, if there is one, names a variable above the formula's that the seat was not given
+abbrev pub is_private : NamedState → ℕ → Option LiteralSet → Bool
+is_private s seat None = false
+is_private s seat (Some c) = not (is_own (top_of s) s.variables seat c)
+
 -- the reply by the clause that lives under the joint number
 abbrev pub adopted : NamedState → ℕ → Option LiteralSet → Result ℕ Refusal
 adopted s seat None = Err NoSuchClause
@@ -86,13 +91,21 @@ abbrev pub named_adopt : NamedState → ℕ → ℕ → ℕ → Result ℕ Refus
 named_adopt s seat own joint = if_free (free_refusal (beneath s) seat own)
     (adopted s seat (fin.get (live (beneath s)) joint))
 
+-- a refusal, or that of a clause which isn't named
+abbrev pub or_private : Option Refusal → Bool → Option Refusal
+or_private (Some e) named = Some e
+or_private None named = if named then None else Some PrivateVariable
+
+-- the first refusal of an import that holds before its clause is sought
+abbrev pub import_refusal : NamedState → ℕ → ℕ → LiteralSet → Option Refusal
+import_refusal s seat own c =
+    or_private (free_refusal (beneath s) seat own) (is_named (top_of s) (names_of s seat) c)
+
 -- the reply to an import
 abbrev pub named_import : NamedState → ℕ → ℕ → LiteralSet → Result Imported Refusal
-named_import s seat own c = if_free (free_refusal (beneath s) seat own)
-    (if is_named (top_of s) (names_of s seat) c
-    then imported_at (length s.history)
-    (least_number (live (beneath s)) (image (names_of s seat) c))
-    else Err PrivateVariable)
+named_import s seat own c = if_free (import_refusal s seat own c)
+    (imported_at (length s.history)
+    (least_number (live (beneath s)) (image (names_of s seat) c)))
 
 -- ---- giving up, and leaving
 

@@ -19,3 +19,4 @@ pub mod Chains
 pub mod VariableTables
 pub mod Limits
 pub mod JointForms
+pub mod Over

@@ -144,6 +144,11 @@ impl Book {
         self.tables.joint(seat, own)
     }
 
+    /// Where its memory comes from.
+    pub(crate) fn allocator(&self) -> Global {
+        self.ledger.allocator()
+    }
+
     /// The number of entries in the history. Takes constant time.
     pub fn history_len(&self) -> u64
         ensures { result ≡ length self.now.history }

@@ -1,5 +1,5 @@
 //! The variables of the seats.
-ghost use Rattle.std.specs.Prelude.{◌≡◌, ◌+◌, ◌-◌, ◌<◌, ◌≤◌, OnOk, OnErr, IfOk, IfSome, None, length, true, false, if◌then◌else◌, nat_le, replicate};
+ghost use Rattle.std.specs.Prelude.{ℕ, ◌≡◌, ◌+◌, ◌-◌, ◌<◌, ◌≤◌, OnOk, OnErr, IfOk, IfSome, None, length, true, false, if◌then◌else◌, nat_le, replicate};
 ghost use Rattle.std.specs.FinMap as fin;
 ghost use Rattle.lj_clause.specs.declared.lit.TheConstants.{MAX_VARIABLE};
 ghost use Rattle.lj_clause.specs.ClauseMap.{names_up_to};
@@ -68,6 +68,14 @@ impl VariableTable {
         ensures variables { IsVariables self.now.top self.now.variables }
     {
         self.top + 1 + self.owners.len() as u32
+    }
+
+    /// Whether some joint variable was given out.
+    pub(crate) fn is_any_given(&self) -> bool
+        ensures { result ≡ false
+            → (seat : ℕ) → inverse (renaming_of self.now.variables seat) ≡ fin.empty }
+    {
+        !self.owners.is_empty()
     }
 
     /// The joint variable of the seat's own one.
@@ -294,7 +302,7 @@ impl VariableTable {
     }
 
     /// Whether each variable of the clause is the formula's, or the seat has a joint one for it.
-    fn is_named(&self, seat: u32, clause: &Clause) -> bool
+    pub(crate) fn is_named(&self, seat: u32, clause: &Clause) -> bool
         ensures { result ≡ is_named self.now.top (renaming_of self.now.variables seat) clause.now }
     {
         for lit in clause.lits() {
@@ -306,7 +314,7 @@ impl VariableTable {
     }
 
     /// Whether each variable of a joint clause is the formula's, or the seat's.
-    fn is_own(&self, seat: u32, clause: &ClauseView<'_>) -> bool
+    pub(crate) fn is_own(&self, seat: u32, clause: &ClauseView<'_>) -> bool
         ensures { result ≡ is_own self.now.top self.now.variables seat clause.now }
     {
         for lit in clause.lits() {
