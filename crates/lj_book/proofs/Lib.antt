@@ -38,6 +38,7 @@ pub mod NamedInsideLaws
 mod NewLiterals
 mod LimitLaws
 pub mod LimitReplies
+mod InsideOver
 pub mod PlayLaws
 mod Slots
 mod VariableTables

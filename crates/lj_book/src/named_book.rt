@@ -12,6 +12,7 @@ ghost use Rattle.lj_book.specs.NamedReplies.{named_drop, named_leave};
 
 mod binding;
 mod entries;
+mod inside;
 
 use crate::book::Book;
 use crate::book::laws::history_is_legal;

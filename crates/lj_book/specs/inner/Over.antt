@@ -1,7 +1,8 @@
 -- What a book keeps whose seats name variables as they like: one in joint variables, and the variables.
 use Rattle.std.specs.Prelude.{◌≡◌}
 use Rattle.lj_book.specs.State.{State}
-use Rattle.lj_book.specs.Named.{beneath, named_over, IsNamedReached}
+use Rattle.lj_book.specs.declared.entry.Entry.{Entry}
+use Rattle.lj_book.specs.Named.{NamedState, beneath, named_over, after_named, IsNamedReached}
 use Rattle.lj_book.specs.inner.VariableTables.{TopVariables}
 
 -- A legal history leads to the state over them, and the one in joint variables is what lies beneath it.
@@ -9,3 +10,8 @@ pub record IsOver (joint : State) (t : TopVariables) : Type 0 where
   pub top : t.top ≡ joint.formula.variables
   pub reached : IsNamedReached (named_over joint t.variables)
   pub below : beneath (named_over joint t.variables) ≡ joint
+
+-- They are what the entry leaves of the state that lay over them before.
+pub record IsOverAfter (s : NamedState) (e : Entry) (joint : State) (t : TopVariables) : Type 0 where
+  pub over : IsOver joint t
+  pub leaves : named_over joint t.variables ≡ after_named s e

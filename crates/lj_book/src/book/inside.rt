@@ -21,7 +21,6 @@ use crate::seat_tables::SeatTables;
 use lj_clause::{Lemma, NoMemory};
 use lj_hint::Marks;
 use lj_text::{Addition, Groups, Numbers};
-use std::alloc::Global;
 use std::mem::replace;
 
 impl Book {
@@ -92,11 +91,6 @@ impl Book {
         let hints = replace(&mut self.joints, Numbers::from_short(Vec::new(alloc)));
         let groups = replace(&mut self.joint_groups, Groups::new(alloc));
         (hints, groups)
-    }
-
-    /// What its memory comes from.
-    pub(crate) fn allocator(&self) -> Global {
-        self.ledger.allocator()
     }
 
     /// Whether the history holds as many additions as it may.
