@@ -24,6 +24,7 @@ pub mod NamedTakes
 pub mod NamedCommits
 mod ReceiptForms
 pub mod PrivateReplies
+pub mod NamedPlays
 mod OtherViews
 pub mod EnteringLaws
 pub mod OverLaws
@@ -40,6 +41,11 @@ mod PrivateClauses
 mod SeenClauses
 mod PrivateCandidates
 mod PrivateRefusals
+pub mod NamedInsideLaws
+mod NewLiterals
+mod LimitLaws
+pub mod LimitReplies
+mod InsideOver
 pub mod PlayLaws
 mod Slots
 mod VariableTables

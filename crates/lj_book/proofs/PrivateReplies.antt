@@ -32,7 +32,7 @@ use Rattle.lj_book.specs.Variables.{renaming_of}
 use Rattle.lj_book.specs.Named.{NamedState, top_of, beneath, given_in, has_variables_for, IsNamedReached}
 use Rattle.lj_book.specs.NamedViews.{take_image, named_view, seen_clauses, names_with, addition_beneath, IsOpenAlone, IsPrivatePivot}
 use Rattle.lj_book.specs.NamedReplies.{named_test, if_variables_left, named_inside_after, named_inside}
-use Rattle.lj_book.specs.NamedEntries.{named_inside_entry}
+use Rattle.lj_book.specs.NamedInside.{named_inside_entry}
 use Rattle.lj_book.specs.Worlds.{IsTried}
 use Rattle.lj_book.specs.NamedWorlds.{NamedWorld, named_nothing_pending, if_named_entered, IsNamedAnswered, IsNamedRun}
 use Rattle.lj_book.specs.PrivateAdditions.{IsAcceptance, IsTestReply, IsPrivateReply, IsPrivateStep, PrivateRepliesAreAlone, ArePrivateReplies}

@@ -1,4 +1,4 @@
--- What additions enter in a book whose seats name variables as they like. Their calls speak the seat's variables, and their steps joint ones.
+-- What receipts enter in a book whose seats name variables as they like. The calls speak the seat's variables, and the steps joint ones.
 use Rattle.std.specs.Prelude.{ℕ, [], Some}
 use Rattle.lj_clause.specs.Renaming.{Renaming, lemma_image}
 use Rattle.lj_text.specs.declared.line.Addition.{Addition}
@@ -8,10 +8,8 @@ use Rattle.lj_hint.specs.Receipt.{ReceiptValue}
 use Rattle.lj_book.specs.declared.entry.Call.TheVariants as calls
 use Rattle.lj_book.specs.declared.entry.Entry.{Entry}
 use Rattle.lj_book.specs.State.{next}
-use Rattle.lj_book.specs.Calls.{take_reply}
-use Rattle.lj_book.specs.Inside.{inside_step}
 use Rattle.lj_book.specs.Named.{NamedState, beneath}
-use Rattle.lj_book.specs.NamedViews.{names_with, addition_beneath}
+use Rattle.lj_book.specs.NamedViews.{names_with}
 
 -- the step of a receipt under a number, with its lemma renamed
 abbrev pub receipt_step : Renaming → ℕ → ReceiptValue → Addition
@@ -25,12 +23,4 @@ named_commit_entry s r = record {
   call = calls.Add r.own r.lemma;
   step = Some (steps.Add
       (receipt_step (names_with s r.seat r.lemma.clause) (next (beneath s)) r));
-}
-
--- the entry of an addition that isn't refused
-abbrev pub named_inside_entry : NamedState → ℕ → Addition → Entry
-named_inside_entry s seat a = record {
-  seat = seat;
-  call = calls.Add a.number a.lemma;
-  step = inside_step (beneath s) (take_reply (beneath s) seat (addition_beneath s seat a));
 }

@@ -12,8 +12,9 @@ use Rattle.lj_book.specs.Calls.{free_refusal, drop_entry, adopt_entry, import_en
 use Rattle.lj_book.specs.Worlds.{IsCalled, IsTried, case_taken, IsNothing, IsTestOf}
 use Rattle.lj_book.specs.Named.{NamedState, beneath, after_named}
 use Rattle.lj_book.specs.NamedViews.{named_take}
-use Rattle.lj_book.specs.NamedReplies.{named_inside, named_commit_refusal, named_commit, named_drop, named_adopt, named_import, named_leave}
-use Rattle.lj_book.specs.NamedEntries.{named_commit_entry, named_inside_entry}
+use Rattle.lj_book.specs.NamedReplies.{named_inside, named_commit_refusal, named_commit, named_drop, named_adopt, import_refusal, named_import, named_leave}
+use Rattle.lj_book.specs.NamedInside.{named_inside_entry}
+use Rattle.lj_book.specs.NamedEntries.{named_commit_entry}
 
 -- A state, and for each seat what is pending for it, in its own variables.
 pub record NamedWorld : Type 0 where
@@ -66,7 +67,7 @@ IsNamedAnswered w (events.Adopt seat own joint) reply after =
     IsCalled (named_adopt w.state seat own joint) replies.Adopted
     (if_named_entered w (adopt_entry seat own joint)) reply after
 IsNamedAnswered w (events.Import seat own clause) reply after =
-    IsTried (free_refusal (beneath w.state) seat own) (named_import w.state seat own clause)
+    IsTried (import_refusal w.state seat own clause) (named_import w.state seat own clause)
     replies.Imported (if_named_entered w (import_entry seat own clause)) reply after
 IsNamedAnswered w (events.Leave seat) reply after =
     IsCalled (named_leave w.state seat) replies.Left

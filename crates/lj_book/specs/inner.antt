@@ -18,4 +18,6 @@ pub mod Occurrences
 pub mod Chains
 pub mod VariableTables
 pub mod ReceiptForms
+pub mod Limits
+pub mod JointForms
 pub mod Over

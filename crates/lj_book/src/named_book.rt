@@ -13,7 +13,9 @@ ghost use Rattle.lj_book.specs.NamedReplies.{named_drop, named_leave};
 mod binding;
 mod committing;
 mod entries;
+mod inside;
 pub mod laws;
+mod playing;
 
 use crate::book::Book;
 use crate::book::laws::history_is_legal;

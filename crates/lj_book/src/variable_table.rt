@@ -5,6 +5,7 @@ ghost use Rattle.lj_clause.specs.declared.lit.TheConstants.{MAX_VARIABLE};
 ghost use Rattle.lj_clause.specs.ClauseMap.{names_up_to};
 ghost use Rattle.lj_clause.specs.Renaming.{is_named, inverse};
 ghost use Rattle.lj_book.specs.Variables.{renaming_of, no_variables, with_variable, given, is_own, IsVariables};
+ghost use Rattle.lj_book.specs.inner.JointForms.{is_unmoved};
 ghost use Rattle.lj_book.specs.inner.VariableTables.{variables_at, variables_before, are_left, seat_names, as_joint, lemma_as_joint, as_own, lemma_as_own, holds_image};
 
 mod forms;
@@ -147,7 +148,7 @@ impl VariableTable {
     }
 
     /// Whether the variable is the formula's, or the seat has a joint one for it.
-    fn has_name(&self, seat: u32, variable: u32) -> bool
+    pub(crate) fn has_name(&self, seat: u32, variable: u32) -> bool
         ensures { result ≡ seat_names self.now seat variable }
     {
         variable <= self.top || self.joint(seat, variable).is_some()
@@ -314,6 +315,20 @@ impl VariableTable {
         ensures variables { IsVariables self.now.top self.now.variables }
     {
         clause.max_variable() <= self.top
+    }
+
+    /// Whether each variable of the clause is its own joint one, or has none. Takes the time of [`VariableTable::joint`] for each
+    /// literal.
+    pub(crate) fn is_unmoved(&self, seat: u32, clause: &Clause) -> bool
+        ensures { result ≡ is_unmoved (renaming_of self.now.variables seat) clause.now }
+    {
+        for lit in clause.lits() {
+            let variable = lit.variable();
+            if self.joint(seat, variable).unwrap_or(variable) != variable {
+                return false;
+            }
+        }
+        true
     }
 
     /// Whether each variable of the clause is the formula's, or the seat has a joint one for it.
