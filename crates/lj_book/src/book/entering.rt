@@ -1,6 +1,5 @@
 //! Additions whose entry is known to be legal.
-ghost use Rattle.std.specs.Prelude.{◌≡◌, length, not, nat_lt, OnOk, OnErr, IfOk};
-ghost use Rattle.lj_book.specs.State.{addition_count};
+ghost use Rattle.std.specs.Prelude.{◌≡◌, length, OnOk, OnErr, IfOk};
 ghost use Rattle.lj_book.specs.History.{after_entry, IsLegal};
 ghost use Rattle.lj_book.specs.Calls.{commit_told};
 ghost use Rattle.lj_book.specs.inner.JointLines.{line_entry};
@@ -17,13 +16,6 @@ impl Book {
         ensures { result ≡ length self.now.tables }
     {
         self.tables.len()
-    }
-
-    /// Whether the history holds as many additions as it may.
-    pub(crate) fn is_full(&self) -> bool
-        ensures { result ≡ not (nat_lt (addition_count self.now.history) self.now.max_steps) }
-    {
-        self.added >= self.max_steps
     }
 
     /// Enters a seat's addition, under its own number, with a step that is legal.
