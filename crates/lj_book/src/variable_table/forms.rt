@@ -12,12 +12,7 @@ impl VariableTable {
     /// Whether the clause has a joint form, and it is this one. Takes no memory, and time linear in the literals where the
     /// clause has no variable above the formula's. Otherwise takes O(log n) time for each of the n literals, and the time of
     /// [`VariableTable::joint`].
-    pub(crate) fn is_joint_form(
-        &self,
-        seat: u32,
-        clause: &Clause,
-        joint: &ClauseView<'_>,
-    ) -> bool
+    pub(crate) fn is_joint_form(&self, seat: u32, clause: &Clause, joint: &ClauseView<'_>) -> bool
         ensures { result
             ≡ is_joint_form self.now.top self.now.variables seat clause.now joint.now }
     {
