@@ -5,7 +5,7 @@ use Rattle.lj_book.specs.declared.event.Pending.TheVariants as pendings
 use Rattle.lj_book.specs.declared.event.Reply.TheVariants as replies
 use Rattle.lj_book.specs.Worlds.{IsTestOf}
 use Rattle.lj_book.proofs.PlayLaws.{tested_at, no_case, put_back}
-use Rattle.lj_book.proofs.book.playing.answer_test.Goals as goal
+use Rattle.lj_book.proofs.pending.answer_test.Goals as goal
 
 pub returns-in-Case : goal.returns-in-Case
 returns-in-Case c =

@@ -1,0 +1,112 @@
+-- An addition inside by the book in joint variables, and by the one over it.
+use Rattle.std.proofs.Common.{◌≡◌, ap, refl, sym, ◌∙◌, subst, ℕ, ◌+◌, ◌<◌, ◌≤◌, Bool, cond, true, false, arith}
+use Rattle.std.specs.Prelude.{ℤ, nat_le, ◌==◌, List, [], ◌∷◌, map, Option, Some, None, option_map, unwrap_or, OnOk, OnErr, Result, Ok, Err}
+use Rattle.std.specs.List.{list_all}
+use Rattle.std.proofs.lemmas.Bool.{eqb-true, le-leb}
+use Rattle.lj_clause.specs.declared.lit.TheConstants.{MAX_VARIABLE}
+use Rattle.lj_clause.specs.Literal.{variable_of}
+use Rattle.lj_clause.specs.LiteralSet.{LiteralSet, holds, literals}
+use Rattle.lj_clause.specs.Lemma.{LemmaValue, IsLemma}
+use Rattle.lj_clause.specs.ClauseMap.{names_up_to, IsFormula}
+use Rattle.lj_clause.specs.Renaming.{Renaming, has_name, renamed, literal_image, image, lemma_image}
+use Rattle.lj_clause.proofs.Images.{image-same}
+use Rattle.lj_text.specs.declared.line.Addition.{Addition}
+use Rattle.lj_book.specs.declared.entry.Added.{Added}
+use Rattle.lj_book.specs.declared.entry.Entry.{Entry}
+use Rattle.lj_book.specs.declared.refusal.Refusal.{Refusal}
+use Rattle.lj_book.specs.Variables.{Variables, IsVariables, renaming_of, with_variable, with_name, with_names, given}
+use Rattle.lj_book.specs.State.{State}
+use Rattle.lj_book.specs.History.{after_entry, IsReached}
+use Rattle.lj_book.specs.Inside.{inside_reply, inside_entry}
+use Rattle.lj_book.specs.Named.{NamedState, top_of, beneath, named_over, given_in, has_variables_for, entry_beneath, after_named}
+use Rattle.lj_book.specs.NamedReplies.{named_inside}
+use Rattle.lj_book.specs.NamedViews.{addition_beneath}
+use Rattle.lj_book.specs.NamedInside.{if_left, named_inside_entry}
+use Rattle.lj_book.specs.inner.VariableTables.{TopVariables, variables_at, variables_before}
+use Rattle.lj_book.specs.inner.JointForms.{joint_form, is_unmoved}
+use Rattle.lj_book.specs.inner.Limits.{limit_reply}
+use Rattle.lj_book.specs.inner.Over.{IsOver, IsOverAfter}
+use Rattle.lj_book.proofs.VariableLaws.{nameless}
+use Rattle.lj_book.proofs.TakenBack.{variables_before-next, variables_before-with_variable}
+use Rattle.lj_book.proofs.WithinTop.{within_given, within_lemma}
+use Rattle.lj_book.proofs.NamedLaws.{rules_reached}
+use Rattle.lj_book.proofs.NamedInsideLaws.{replies_are_beneath}
+use Rattle.lj_book.proofs.LimitReplies.{replied_at_limit}
+use Rattle.lj_book.proofs.OverLaws.{entered}
+
+-- ---- what is given is taken back
+
+back_names : (n top : ℕ) (v : Variables) (seat : ℕ) (xs : List ℕ) → n ≤ v.next → variables_before n (with_names top v seat xs) ≡ variables_before n v
+back_names n top v seat [] le = refl
+back_names n top v seat (x ∷ xs) le = by (λ w more. back_names n top w seat xs more) (has_name top (renaming_of v seat) x) refl
+  where
+    by : ((w : Variables) → n ≤ w.next → variables_before n (with_names top w seat xs) ≡ variables_before n w)
+        → (b : Bool) → has_name top (renaming_of v seat) x ≡ b → variables_before n (with_names top (with_name top v seat x) seat xs) ≡ variables_before n v
+    by go true h = ap (λ b. variables_before n (with_names top (cond b v (with_variable v seat x)) seat xs)) h ∙ go v le
+    by go false h =
+        ap (λ b. variables_before n (with_names top (cond b v (with_variable v seat x)) seat xs)) h
+        ∙ go (with_variable v seat x) (omega arith)
+        ∙ variables_before-with_variable n v seat x (nameless top (renaming_of v seat) x h).1 le
+
+pub given_back : (top : ℕ) (v : Variables) (seat : ℕ) (c : LiteralSet) → IsVariables top v → variables_before v.next (given top v seat c) ≡ v
+given_back top v seat c is = back_names v.next top v seat (map variable_of (literals c)) (omega arith) ∙ variables_before-next top v is
+
+-- ---- clauses that stay
+
+within_stays : (top : ℕ) (v : Variables) (seat : ℕ) (lemma : LemmaValue) → IsVariables top v → IsLemma lemma → names_up_to top lemma.clause ≡ true → lemma_image (renaming_of v seat) lemma ≡ lemma
+within_stays top v seat lemma is isl within = by (has_all) (within_lemma top v seat is lemma isl within)
+  where
+    has_all : Bool
+    has_all = list_all (λ l. has_name top (renaming_of v seat) (variable_of l)) (literals lemma.clause)
+
+    by : (b : Bool) → Some lemma ≡ cond b (Some (lemma_image (renaming_of v seat) lemma)) None → lemma_image (renaming_of v seat) lemma ≡ lemma
+    by true e = let same : lemma ≡ lemma_image (renaming_of v seat) lemma = cc in sym same
+    by false e = absurd (let no : ⊥ = cc in no)
+
+-- ---- by what the book beneath answers
+
+module _ (joint : State) (t : TopVariables) (over : IsOver joint t) (seat : ℕ) (a : Addition) (lemma : IsLemma a.lemma) where
+  abbrev s : NamedState
+  s = named_over joint t.variables
+
+  abbrev below : Addition
+  below = addition_beneath s seat a
+
+  rules : IsVariables t.top t.variables
+  rules = subst (λ (n : ℕ). IsVariables n t.variables) (sym over.top) (rules_reached s over.reached).variables
+
+  -- where enough are left, the reply is that of the book beneath
+  pub same_reply : has_variables_for s seat a.lemma.clause ≡ true → inside_reply joint seat below ≡ named_inside s seat a
+  same_reply enough =
+      ap (λ (j : State). inside_reply j seat below) (sym over.below)
+      ∙ left (inside_reply (beneath s) seat below)
+      ∙ sym (ap (λ b. if_left b (inside_reply (beneath s) seat below)) enough)
+      ∙ sym (replies_are_beneath s seat a)
+    where
+      left : (r : Result Added Refusal) → r ≡ if_left true r
+      left (Ok x) = refl
+      left (Err e) = refl
+
+  -- where too few are left, it is that of the limit
+  pub same_limit : IsFormula joint.formula → has_variables_for s seat a.lemma.clause ≡ false → limit_reply joint t seat a ≡ named_inside s seat a
+  same_limit is none =
+      (λ i. limit_reply (sym over.below i) (variables_at (over.top i) t.variables) seat a)
+      ∙ sym (replied_at_limit s is over.reached seat a lemma none)
+
+  pub entered_so : (after : State) (u : TopVariables) → has_variables_for s seat a.lemma.clause ≡ true → IsReached after → after ≡ after_entry joint (inside_entry joint seat below)
+      → u.top ≡ t.top → u.variables ≡ given_in s seat a.lemma.clause → IsOverAfter s (named_inside_entry s seat a) after u
+  entered_so after u enough reached is top given =
+      let both = entered joint after t u (named_inside_entry s seat a) over reached (lemma, enough)
+      (is ∙ ap (λ (j : State). after_entry joint (inside_entry j seat below)) (sym over.below)) top given in
+      record { over = both.0; leaves = both.1 }
+
+  -- a lemma without a variable above the formula's
+  pub within_so : names_up_to t.top a.lemma.clause ≡ true → (below ≡ a) × (given_in s seat a.lemma.clause ≡ t.variables)
+  within_so within =
+      let none : given_in s seat a.lemma.clause ≡ t.variables = (λ i. given (sym over.top i) t.variables seat a.lemma.clause) ∙ within_given t.top t.variables seat rules a.lemma.clause within in (
+        (λ i. joint_form (none i) seat a) ∙ (λ i. record a { lemma = within_stays t.top t.variables seat a.lemma rules lemma within i }),
+        none,
+      )
+
+  pub within_enough : names_up_to t.top a.lemma.clause ≡ true → t.variables.next ≤ MAX_VARIABLE + 1 → has_variables_for s seat a.lemma.clause ≡ true
+  within_enough within few = ap (λ (v : Variables). nat_le v.next (MAX_VARIABLE + 1)) (within_so within).1 ∙ le-leb t.variables.next (MAX_VARIABLE + 1) few
