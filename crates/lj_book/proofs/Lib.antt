@@ -34,6 +34,10 @@ mod PrivateClauses
 mod SeenClauses
 mod PrivateCandidates
 mod PrivateRefusals
+pub mod NamedInsideLaws
+mod NewLiterals
+mod LimitLaws
+pub mod LimitReplies
 pub mod PlayLaws
 mod Slots
 mod VariableTables

@@ -17,4 +17,5 @@ pub mod Opened
 pub mod Occurrences
 pub mod Chains
 pub mod VariableTables
+pub mod Limits
 pub mod Over
