@@ -1,5 +1,5 @@
 -- An addition inside by the book in joint variables, and by the one over it.
-use Rattle.std.proofs.Common.{◌≡◌, ap, refl, sym, ◌∙◌, subst, ℕ, ◌+◌, ◌<◌, ◌≤◌, Bool, cond, true, false, arith}
+use Rattle.std.proofs.Common.{◌≡◌, ap, refl, sym, ◌∙◌, subst, ℕ, ◌+◌, ◌<◌, ◌≤◌, Bool, cond, true, false, length, arith}
 use Rattle.std.specs.Prelude.{ℤ, nat_le, ◌==◌, List, [], ◌∷◌, map, Option, Some, None, option_map, unwrap_or, OnOk, OnErr, Result, Ok, Err}
 use Rattle.std.specs.List.{list_all}
 use Rattle.std.proofs.lemmas.Bool.{eqb-true, le-leb}
@@ -17,15 +17,19 @@ use Rattle.lj_book.specs.declared.refusal.Refusal.{Refusal}
 use Rattle.lj_book.specs.Variables.{Variables, IsVariables, renaming_of, with_variable, with_name, with_names, given}
 use Rattle.lj_book.specs.State.{State}
 use Rattle.lj_book.specs.History.{after_entry, IsReached}
-use Rattle.lj_book.specs.Inside.{inside_reply, inside_entry}
+use Rattle.lj_book.specs.declared.entry.Call.TheVariants as calls
+use Rattle.lj_book.specs.Calls.{take_reply, free_refusal}
+use Rattle.lj_book.specs.Inside.{inside_reply, inside_step, inside_entry}
 use Rattle.lj_book.specs.Named.{NamedState, top_of, beneath, named_over, given_in, has_variables_for, entry_beneath, after_named}
 use Rattle.lj_book.specs.NamedReplies.{named_inside}
 use Rattle.lj_book.specs.NamedViews.{addition_beneath}
 use Rattle.lj_book.specs.NamedInside.{if_left, named_inside_entry}
-use Rattle.lj_book.specs.inner.VariableTables.{TopVariables, variables_at, variables_before}
-use Rattle.lj_book.specs.inner.JointForms.{joint_form, is_unmoved}
+use Rattle.lj_book.specs.inner.VariableTables.{TopVariables, variables_at, variables_before, are_left}
+use Rattle.lj_book.specs.inner.JointForms.{joint_form, with_call}
 use Rattle.lj_book.specs.inner.Limits.{limit_reply}
 use Rattle.lj_book.specs.inner.Over.{IsOver, IsOverAfter}
+use Rattle.lj_book.proofs.TableLaws.{here_in_range}
+use Rattle.lj_book.proofs.BindingLaws.{can_bind}
 use Rattle.lj_book.proofs.VariableLaws.{nameless}
 use Rattle.lj_book.proofs.TakenBack.{variables_before-next, variables_before-with_variable}
 use Rattle.lj_book.proofs.WithinTop.{within_given, within_lemma}
@@ -110,3 +114,55 @@ module _ (joint : State) (t : TopVariables) (over : IsOver joint t) (seat : ℕ)
 
   pub within_enough : names_up_to t.top a.lemma.clause ≡ true → t.variables.next ≤ MAX_VARIABLE + 1 → has_variables_for s seat a.lemma.clause ≡ true
   within_enough within few = ap (λ (v : Variables). nat_le v.next (MAX_VARIABLE + 1)) (within_so within).1 ∙ le-leb t.variables.next (MAX_VARIABLE + 1) few
+
+  pub within_reply : names_up_to t.top a.lemma.clause ≡ true → t.variables.next ≤ MAX_VARIABLE + 1 → inside_reply joint seat a ≡ named_inside s seat a
+  within_reply within few = ap (inside_reply joint seat) (sym (within_so within).0) ∙ same_reply (within_enough within few)
+
+  pub within_entry : names_up_to t.top a.lemma.clause ≡ true → inside_entry joint seat a ≡ named_inside_entry s seat a
+  within_entry within =
+      ap (inside_entry joint seat) (sym (within_so within).0)
+      ∙ (λ i. record { seat = seat; call = calls.Add a.number ((within_so within).0 i).lemma; step = inside_step (sym over.below i) (take_reply (sym over.below i) seat below) })
+
+  pub within_entered : (after : State) → names_up_to t.top a.lemma.clause ≡ true → t.variables.next ≤ MAX_VARIABLE + 1 → IsReached after → after ≡ after_entry joint (inside_entry joint seat a) → IsOverAfter s (named_inside_entry s seat a) after t
+  within_entered after within few reached is =
+      entered_so after t (within_enough within few) reached (is ∙ ap (λ (b : Addition). after_entry joint (inside_entry joint seat b)) (sym (within_so within).0)) refl (sym (within_so within).1)
+
+  -- what the table gives
+  pub as_left : (b : Bool) → b ≡ are_left t.top t.variables seat a.lemma.clause → has_variables_for s seat a.lemma.clause ≡ b
+  as_left b e = sym (e ∙ ap (λ n. are_left n t.variables seat a.lemma.clause) over.top)
+
+  module _ (u : TopVariables) (enough : has_variables_for s seat a.lemma.clause ≡ true) (gave : u ≡ variables_at t.top (given t.top t.variables seat a.lemma.clause)) where
+    given_is : u.variables ≡ given_in s seat a.lemma.clause
+    given_is = ap (λ (w : TopVariables). w.variables) gave ∙ ap (λ n. given n t.variables seat a.lemma.clause) over.top
+
+    form_is : joint_form u.variables seat a ≡ below
+    form_is = ap (λ (v : Variables). joint_form v seat a) given_is
+
+    pub given_reply : inside_reply joint seat (joint_form u.variables seat a) ≡ named_inside s seat a
+    given_reply = ap (inside_reply joint seat) form_is ∙ same_reply enough
+
+    pub given_entry : with_call a (inside_entry joint seat (joint_form u.variables seat a)) ≡ named_inside_entry s seat a
+    given_entry =
+        ap (λ (b : Addition). with_call a (inside_entry joint seat b)) form_is
+        ∙ ap (λ (j : State). with_call a (inside_entry j seat below)) (sym over.below)
+
+    pub given_entered : (after : State) → IsReached after → after ≡ after_entry joint (inside_entry joint seat (joint_form u.variables seat a)) → IsOverAfter s (named_inside_entry s seat a) after u
+    given_entered after reached is =
+        entered_so after u enough reached (is ∙ ap (λ (b : Addition). after_entry joint (inside_entry joint seat b)) form_is) (ap (λ (w : TopVariables). w.top) gave) given_is
+
+    pub taken_back : (before : ℕ) (w : TopVariables) → before ≡ t.variables.next → w ≡ variables_at u.top (variables_before before u.variables) → w ≡ t
+    taken_back before w next is =
+        is ∙ (λ i. variables_at (gave i).top (variables_before (next i) (gave i).variables))
+        ∙ ap (variables_at t.top) (given_back t.top t.variables seat a.lemma.clause rules)
+
+  -- a seat whose number is free is one that may be given variables
+  pub seat_within : free_refusal joint seat a.number ≡ None → seat < length t.variables.of_seats
+  seat_within free = subst (λ n. seat < n) (sym (rules_reached s over.reached).seats) (here_in_range joint.tables seat (can_bind joint seat a.number free).here)
+
+pub on_ok : {A E P Q : Type 0} (r : Result A E) → (P → Q) → OnOk r P → OnOk r Q
+on_ok (Ok x) f h = f h
+on_ok (Err e) f h = tt
+
+pub on_err : {A E P Q : Type 0} (r : Result A E) → (P → Q) → OnErr r P → OnErr r Q
+on_err (Ok x) f h = tt
+on_err (Err e) f h = f h

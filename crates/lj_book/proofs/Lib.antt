@@ -46,6 +46,7 @@ mod NewLiterals
 mod LimitLaws
 pub mod LimitReplies
 mod InsideOver
+mod JointFormLaws
 pub mod PlayLaws
 mod Slots
 mod VariableTables

@@ -30,7 +30,7 @@ use Rattle.lj_book.specs.State.{State, live}
 use Rattle.lj_book.specs.Inside.{open_refusal, rat_refusal, walk_refusal}
 use Rattle.lj_book.specs.Named.{NamedState, top_of, names_of, beneath, given_in, IsNamedReached}
 use Rattle.lj_book.specs.inner.JointLines.{LineParts, addition_of_parts}
-use Rattle.lj_book.specs.inner.Limits.{is_known, known_images, pivot_first, known_lemma, closes_at_once, is_new, is_lifted, limit_refusal}
+use Rattle.lj_book.specs.inner.Limits.{is_known, known_images, led_by, known_lemma, closes_at_once, is_new, is_lifted, limit_refusal}
 use Rattle.lj_book.proofs.SoloStates.{some_clause}
 use Rattle.lj_book.proofs.NamedLaws.{Rules, Grows, literal_alike, given_grows_within, rules_reached}
 use Rattle.lj_book.proofs.OwnHoldings.{seats_hold_own, turned_variable}
@@ -108,11 +108,11 @@ no_lits (l ∷ ls) none = absurd (none l (or_left (eq_by_cmp lit_cmp l l) (among
 literals-empty : (c : LiteralSet) → c ≡ no_literals → literals c ≡ []
 literals-empty c e = no_lits (literals c) (λ l m. false≢true (sym (holds-no_literals l) ∙ ap (λ (d : LiteralSet). holds d l) (sym e) ∙ holds-literals c l ∙ m))
 
-first_has : (o : Option ℤ) (ls : List ℤ) (l : ℤ) → among l ls ≡ true → among l (pivot_first o ls) ≡ true
+first_has : (o : Option ℤ) (ls : List ℤ) (l : ℤ) → among l ls ≡ true → among l (led_by o ls) ≡ true
 first_has None ls l m = m
 first_has (Some p) ls l m = or_right (eq_by_cmp lit_cmp l p) (among l ls) m
 
-among_first : (c : LiteralSet) (o : Option ℤ) → IsLemma (record { clause = c; pivot = o }) → (l : ℤ) → among l (pivot_first o (literals c)) ≡ true → holds c l ≡ true
+among_first : (c : LiteralSet) (o : Option ℤ) → IsLemma (record { clause = c; pivot = o }) → (l : ℤ) → among l (led_by o (literals c)) ≡ true → holds c l ≡ true
 among_first c None lemma l m = holds-literals c l ∙ m
 among_first c (Some p) lemma l m = ⊎_elim
     (λ e. ap (holds c) (same_literal l p e) ∙ lemma)
@@ -300,7 +300,7 @@ module _ (s : NamedState) (is : IsFormula s.formula) (reached : IsNamedReached s
 
     module _ (pivot : Option ℤ) (lemma : IsLemma (record { clause = c; pivot = pivot })) where
       abbrev all_lits : List ℤ
-      all_lits = pivot_first pivot (literals c)
+      all_lits = led_by pivot (literals c)
 
       abbrev near : LiteralSet
       near = from_literals (known_images (top_of s) now all_lits)
@@ -426,7 +426,7 @@ limited s is reached seat within lemma isl number parts = by (closes_at_once (to
     walks o closes new = walk_refusal (live (beneath s)) (addition_of_parts number (lemma_image (renaming_of (given_in s seat c) seat) (record { clause = c; pivot = o })) parts)
         (walk_over (negations (image (renaming_of (given_in s seat c) seat) c)) (hints_in (live (beneath s)) parts.0))
         ≡ limit_refusal closes new (walk_refusal (live (beneath s)) (addition_of_parts number (known_lemma (top_of s) m (record { clause = c; pivot = o })) parts)
-        (walk_over (negations (from_literals (known_images (top_of s) m (pivot_first o (literals c))))) (hints_in (live (beneath s)) parts.0)))
+        (walk_over (negations (from_literals (known_images (top_of s) m (led_by o (literals c))))) (hints_in (live (beneath s)) parts.0)))
 
     by_pivot : (o : Option ℤ) → IsLemma (record { clause = c; pivot = o }) → closes_at_once (top_of s) m c ≡ false → walks o false (is_new (top_of s) m o)
     by_pivot None g parted =

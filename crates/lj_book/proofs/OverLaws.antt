@@ -146,7 +146,7 @@ not_false : (b : Bool) → not b ≡ false → b ≡ true
 not_false true h = refl
 not_false false h = absurd (false≢true (sym h))
 
-if_free-err : {A : Type 0} (o : Option Refusal) (e : Refusal) → if_free {A} o (Err e) ≡ Err (unwrap_or o e)
+if_free-err : {A : Type 0} (o : Option Refusal) (e : Refusal) → if_free {A = A} o (Err e) ≡ Err (unwrap_or o e)
 if_free-err None e = refl
 if_free-err (Some x) e = refl
 

@@ -7,7 +7,7 @@ ghost use Rattle.lj_book.specs.Calls.{IsRefusal, IsReply, IsReplyBy};
 ghost use Rattle.lj_book.specs.Inside.{inside_reply, inside_entry};
 ghost use Rattle.lj_book.specs.declared.entry.Call.TheVariants as calls;
 ghost use Rattle.lj_book.specs.inner.JointForms.{joint_form, with_call};
-ghost use Rattle.lj_book.specs.inner.Limits.{known_images, pivot_first, known_addition, closes_at_once, is_new, is_lifted, limit_reply};
+ghost use Rattle.lj_book.specs.inner.Limits.{known_images, led_by, known_addition, closes_at_once, is_new, is_lifted, limit_reply};
 
 use crate::book::Book;
 use crate::entry::{Added, Call, Entry};
@@ -185,7 +185,7 @@ fn known_lits(
 ) -> Result<Vec<Lit>, NoMemory>
     ensures { IfOk result (λ lits. lits.items
         ≡ known_images variables.now.top (renaming_of variables.now.variables seat)
-        (pivot_first lemma.now.pivot (literals lemma.now.clause))) }
+        (led_by lemma.now.pivot (literals lemma.now.clause))) }
 {
     let mut lits = Vec::new(alloc);
     if let Some(pivot) = lemma.pivot() {

@@ -25,14 +25,14 @@ abbrev pub known_images : ℕ → Renaming → List ℤ → List ℤ
 known_images top m ls = map (literal_image m) (filter (is_known top m) ls)
 
 -- the literals of a lemma, with its pivot in front
-abbrev pub pivot_first : Option ℤ → List ℤ → List ℤ
-pivot_first None ls = ls
-pivot_first (Some p) ls = p ∷ ls
+abbrev pub led_by : Option ℤ → List ℤ → List ℤ
+led_by None ls = ls
+led_by (Some p) ls = p ∷ ls
 
 -- the lemma of these, whose pivot is the lemma's where that has a joint form
 abbrev pub known_lemma : ℕ → Renaming → LemmaValue → LemmaValue
 known_lemma top m lemma =
-    lemma_of (known_images top m (pivot_first lemma.pivot (literals lemma.clause)))
+    lemma_of (known_images top m (led_by lemma.pivot (literals lemma.clause)))
 
 -- whether the clause holds both signs of a variable without a joint one, so that each walk of it closes at once
 abbrev pub closes_at_once : ℕ → Renaming → LiteralSet → Bool
