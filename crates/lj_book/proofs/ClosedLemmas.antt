@@ -123,7 +123,9 @@ short_alone (refusals.MissingGroup n) r x is h = absurd (let no : ⊥ = cc in no
 short_alone (refusals.GroupStuck n place) r x is h = absurd (let no : ⊥ = cc in no)
 short_alone (refusals.GroupOpen n) r x is h = absurd (let no : ⊥ = cc in no)
 short_alone (refusals.Stale n) r x is h = absurd (let no : ⊥ = cc in no)
+short_alone refusals.PrivateVariable r x is h = absurd (let no : ⊥ = cc in no)
 short_alone refusals.NoSuchClause r x is h = absurd (let no : ⊥ = cc in no)
+short_alone refusals.NoVariableLeft r x is h = absurd (let no : ⊥ = cc in no)
 
 -- ---- what the code finds
 

@@ -238,8 +238,10 @@ refusal_passes (refusals.MissingGroup n) one whole f h = f (refusals.MissingGrou
 refusal_passes (refusals.GroupStuck n place) one whole f h = f (refusals.GroupStuck n place) h
 refusal_passes (refusals.GroupOpen n) one whole f h = f (refusals.GroupOpen n) h
 refusal_passes (refusals.Stale n) one whole f h = f (refusals.Stale n) h
+refusal_passes refusals.PrivateVariable one whole f h = f refusals.PrivateVariable h
 refusal_passes refusals.NoSuchClause one whole f h = f refusals.NoSuchClause h
 refusal_passes refusals.Full one whole f h = f refusals.Full h
+refusal_passes refusals.NoVariableLeft one whole f h = f refusals.NoVariableLeft h
 
 -- A line whose seat and numbers aren't refused.
 record IsTaken (s : State) (seat : ℕ) (a : Addition) (parts : LineParts) : Type 0 where

@@ -12,6 +12,7 @@ pub mod Worlds
 pub mod Solo
 pub mod Views
 pub mod NamedViews
+pub mod NamedReplies
 pub mod RefusalText
 pub mod Telling
 pub mod inner

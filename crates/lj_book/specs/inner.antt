@@ -17,4 +17,3 @@ pub mod Opened
 pub mod Occurrences
 pub mod Chains
 pub mod VariableTables
-pub mod NamedReplies

@@ -13,33 +13,14 @@ use Rattle.lj_book.specs.declared.entry.Added.{Added}
 use Rattle.lj_book.specs.declared.entry.Dropped.{Dropped}
 use Rattle.lj_book.specs.declared.entry.Imported.{Imported}
 use Rattle.lj_book.specs.declared.refusal.Refusal.{Refusal}
-use Rattle.lj_book.specs.declared.refusal.Refusal.TheVariants.{SeatGone, NumberTaken, NoSuchClause, Full}
+use Rattle.lj_book.specs.declared.refusal.Refusal.TheVariants.{SeatGone, NumberTaken, PrivateVariable, NoSuchClause, Full, NoVariableLeft}
 use Rattle.lj_book.specs.Tables.{is_here, is_bound}
 use Rattle.lj_book.specs.Variables.{renaming_of, is_own}
 use Rattle.lj_book.specs.State.{addition_count, next, live}
-use Rattle.lj_book.specs.Calls.{take_reply, drop_reply, leave_reply, free_refusal, imported_at, is_live_as, stale_or, commit_told}
+use Rattle.lj_book.specs.Calls.{take_reply, drop_reply, leave_reply, free_refusal, if_free, imported_at, is_live_as, stale_or, commit_told}
 use Rattle.lj_book.specs.Inside.{joint_addition, test_refusal}
 use Rattle.lj_book.specs.Lookup.{least_number}
 use Rattle.lj_book.specs.Named.{NamedState, top_of, names_of, beneath, given_in, has_variables_for}
-
--- ---- refusals
-
--- One of the book beneath, or one of names.
-pub data NamedRefusal : Type 0 where
-  Beneath : Refusal → NamedRefusal
-  NoVariableLeft : NamedRefusal
-  PrivateVariable : NamedRefusal
-
--- the reply of the book beneath
-abbrev pub as_beneath : {A : Type 0} → Result A Refusal → Result A NamedRefusal
-as_beneath (Ok x) = Ok x
-as_beneath (Err e) = Err (Beneath e)
-
--- the reply that a refusal leaves, and those that come later
-abbrev pub unless_named : {A : Type 0} → Option Refusal → Result A NamedRefusal
-    → Result A NamedRefusal
-unless_named None later = later
-unless_named (Some e) later = Err (Beneath e)
 
 -- ---- adding with a test
 
@@ -53,19 +34,19 @@ named_test s seat c = test_refusal (beneath s) (joint_addition (next (beneath s)
     (lemma_renamed (renaming_of (given_in s seat c.lemma.clause) seat) c))
 
 -- the reply where nothing else was refused
-abbrev pub if_variables_left : NamedState → ℕ → LiteralSet → Result Added NamedRefusal
+abbrev pub if_variables_left : NamedState → ℕ → LiteralSet → Result Added Refusal
 if_variables_left s seat c =
     if has_variables_for s seat c then Ok (commit_told (beneath s)) else Err NoVariableLeft
 
 -- the reply to an addition by that to its take
 abbrev pub named_inside_after : NamedState → ℕ → Result CaseValue Refusal
-    → Result Added NamedRefusal
-named_inside_after s seat (Err e) = Err (Beneath e)
+    → Result Added Refusal
+named_inside_after s seat (Err e) = Err e
 named_inside_after s seat (Ok c) =
-    unless_named (named_test s seat c) (if_variables_left s seat c.lemma.clause)
+    if_free (named_test s seat c) (if_variables_left s seat c.lemma.clause)
 
 -- the reply to an addition
-abbrev pub named_inside : NamedState → ℕ → Addition → Result Added NamedRefusal
+abbrev pub named_inside : NamedState → ℕ → Addition → Result Added Refusal
 named_inside s seat a = named_inside_after s seat (take_reply (beneath s) seat a)
 
 -- ---- committing a receipt
@@ -88,37 +69,37 @@ named_commit_refusal s r =
     else Some SeatGone
 
 -- the reply to a commit
-abbrev pub named_commit : NamedState → ReceiptValue → Result Added NamedRefusal
+abbrev pub named_commit : NamedState → ReceiptValue → Result Added Refusal
 named_commit s r =
-    unless_named (named_commit_refusal s r) (if_variables_left s r.seat r.lemma.clause)
+    if_free (named_commit_refusal s r) (if_variables_left s r.seat r.lemma.clause)
 
 -- ---- adopting and importing
 
 -- the reply by the clause that lives under the joint number
-abbrev pub adopted : NamedState → ℕ → Option LiteralSet → Result ℕ NamedRefusal
-adopted s seat None = Err (Beneath NoSuchClause)
+abbrev pub adopted : NamedState → ℕ → Option LiteralSet → Result ℕ Refusal
+adopted s seat None = Err NoSuchClause
 adopted s seat (Some c) =
     if is_own (top_of s) s.variables seat c then Ok (length s.history) else Err PrivateVariable
 
 -- the reply to an adoption
-abbrev pub named_adopt : NamedState → ℕ → ℕ → ℕ → Result ℕ NamedRefusal
-named_adopt s seat own joint = unless_named (free_refusal (beneath s) seat own)
+abbrev pub named_adopt : NamedState → ℕ → ℕ → ℕ → Result ℕ Refusal
+named_adopt s seat own joint = if_free (free_refusal (beneath s) seat own)
     (adopted s seat (fin.get (live (beneath s)) joint))
 
 -- the reply to an import
-abbrev pub named_import : NamedState → ℕ → ℕ → LiteralSet → Result Imported NamedRefusal
-named_import s seat own c = unless_named (free_refusal (beneath s) seat own)
+abbrev pub named_import : NamedState → ℕ → ℕ → LiteralSet → Result Imported Refusal
+named_import s seat own c = if_free (free_refusal (beneath s) seat own)
     (if is_named (top_of s) (names_of s seat) c
-    then as_beneath (imported_at (length s.history)
-    (least_number (live (beneath s)) (image (names_of s seat) c)))
+    then imported_at (length s.history)
+    (least_number (live (beneath s)) (image (names_of s seat) c))
     else Err PrivateVariable)
 
 -- ---- giving up, and leaving
 
 -- the reply to a drop
-abbrev pub named_drop : NamedState → ℕ → List ℕ → Result Dropped NamedRefusal
-named_drop s seat numbers = as_beneath (drop_reply (beneath s) seat numbers)
+abbrev pub named_drop : NamedState → ℕ → List ℕ → Result Dropped Refusal
+named_drop s seat numbers = drop_reply (beneath s) seat numbers
 
 -- the reply to a leave
-abbrev pub named_leave : NamedState → ℕ → Result ℕ NamedRefusal
-named_leave s seat = as_beneath (leave_reply (beneath s) seat)
+abbrev pub named_leave : NamedState → ℕ → Result ℕ Refusal
+named_leave s seat = leave_reply (beneath s) seat
