@@ -6,7 +6,7 @@ ghost use Rattle.lj_clause.specs.ClauseMap.{names_up_to};
 ghost use Rattle.lj_clause.specs.Renaming.{is_named, inverse};
 ghost use Rattle.lj_book.specs.Variables.{renaming_of, no_variables, with_variable, given, is_own, IsVariables};
 ghost use Rattle.lj_book.specs.inner.JointForms.{is_unmoved};
-ghost use Rattle.lj_book.specs.inner.VariableTables.{variables_at, variables_before, are_left, seat_names, as_joint, lemma_as_joint, as_own, lemma_as_own, holds_image};
+ghost use Rattle.lj_book.specs.inner.VariableTables.{variables_at, variables_before, are_left, seat_names, as_joint, lemma_as_joint, as_own, lemma_as_own};
 
 mod forms;
 
@@ -267,25 +267,13 @@ impl VariableTable {
         Ok(Some(clause.to_clause(alloc)?.renamed(alloc, &self.to_own(seat))?))
     }
 
-    /// Whether this clause is the joint one in the seat's variables. Takes the time of [`VariableTable::joint`] for each literal,
-    /// O(n log n) time for n of them, and no memory.
-    pub(crate) fn is_own_form(&self, seat: u32, own: &Clause, joint: &ClauseView<'_>) -> bool
-        ensures { IsTrue result
-            ↔ (as_own self.now.top self.now.variables seat joint.now ≡ Some own.now) }
-    {
-        let mine = own.view();
-        self.is_own(seat, joint)
-            && self.is_named(seat, own)
-            && holds_each(&mine, &self.to_own(seat), joint)
-            && holds_each(joint, &self.to_joint(seat), &mine)
-    }
-
-    /// Whether this lemma is the joint one in the seat's variables. Takes the time of [`VariableTable::is_own_form`].
+    /// Whether this lemma is the joint one in the seat's variables. Takes the time of
+    /// [`VariableTable::is_joint_form`].
     pub(crate) fn is_own_lemma(&self, seat: u32, own: &Lemma, joint: &Lemma) -> bool
         ensures { IsTrue result
             ↔ (lemma_as_own self.now.top self.now.variables seat joint.now ≡ Some own.now) }
     {
-        if !self.is_own_form(seat, own.clause(), &joint.clause().view()) {
+        if !self.is_joint_form(seat, own.clause(), &joint.clause().view()) {
             return false;
         }
         match (own.pivot(), joint.pivot()) {
@@ -385,18 +373,6 @@ impl<'a> Renames for ToOwn<'a> {
     fn variable(&self, variable: u32) -> Option<u32> {
         self.table.own(self.seat, variable)
     }
-}
-
-/// Whether the clause holds each literal of the other, renamed.
-fn holds_each<R: Renames>(clause: &ClauseView<'_>, renaming: &R, other: &ClauseView<'_>) -> bool
-    ensures { result ≡ holds_image (R.renaming renaming.now) clause.now other.now }
-{
-    for lit in other.lits() {
-        if !clause.holds(lit.renamed(renaming)) {
-            return false;
-        }
-    }
-    true
 }
 
 /// So many maps without an entry.

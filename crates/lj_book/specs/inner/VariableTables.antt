@@ -1,12 +1,11 @@
 -- How the variables of the seats are kept, and how the last of them are taken back.
-use Rattle.std.specs.Prelude.{◌≡◌, ℕ, ◌+◌, ◌<◌, ◌≤◌, Bool, ◌&&◌, if◌then◌else◌, nat_lt, nat_le, List, map, filter, length, Option, Some, None, slice_get, slice_index_or, refl}
-use Rattle.std.specs.List.{list_all}
+use Rattle.std.specs.Prelude.{◌≡◌, ℕ, ◌+◌, ◌<◌, ◌≤◌, Bool, if◌then◌else◌, nat_lt, nat_le, List, map, filter, length, Option, Some, None, slice_get, slice_index_or, refl}
 use Rattle.std.specs.Coded.{Coded, code_by, coded×, coded_list, coded_ℕ}
 use Rattle.std.specs.FinMap as fin
 use Rattle.lj_clause.specs.declared.lit.TheConstants.{MAX_VARIABLE}
-use Rattle.lj_clause.specs.LiteralSet.{LiteralSet, literals, holds}
+use Rattle.lj_clause.specs.LiteralSet.{LiteralSet}
 use Rattle.lj_clause.specs.Lemma.{LemmaValue}
-use Rattle.lj_clause.specs.Renaming.{Renaming, has_name, is_named, literal_image, image, lemma_image, inverse}
+use Rattle.lj_clause.specs.Renaming.{Renaming, has_name, is_named, image, lemma_image, inverse}
 use Rattle.lj_book.specs.declared.variable_table.Owner.{Owner}
 use Rattle.lj_book.specs.Variables.{Variables, renaming_of, given, is_own}
 
@@ -84,14 +83,3 @@ abbrev pub lemma_as_own : ℕ → Variables → ℕ → LemmaValue → Option Le
 lemma_as_own top v seat lemma = if is_own top v seat lemma.clause
     then Some (lemma_image (inverse (renaming_of v seat)) lemma)
     else None
-
--- whether the clause holds each literal of the other, renamed
-abbrev pub holds_image : Renaming → LiteralSet → LiteralSet → Bool
-holds_image m c d = list_all (λ l. holds c (literal_image m l)) (literals d)
-
--- whether the clause is the joint one in the seat's variables: each has the other's literals
-abbrev pub is_own_form : ℕ → Variables → ℕ → LiteralSet → LiteralSet → Bool
-is_own_form top v seat own joint =
-    is_own top v seat joint && (is_named top (renaming_of v seat) own
-    && (holds_image (inverse (renaming_of v seat)) own joint
-    && holds_image (renaming_of v seat) joint own))

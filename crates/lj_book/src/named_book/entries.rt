@@ -36,7 +36,7 @@ impl NamedBook {
             }
             (Call::Import { own, clause }, None) => {
                 match self.joint.history().imported(place, seat, *own) {
-                    Some(joint) => self.variables.is_own_form(seat, clause, &joint),
+                    Some(joint) => self.variables.is_joint_form(seat, clause, &joint),
                     None => false,
                 }
             }

@@ -46,9 +46,11 @@ returns-clause-run c =
     let w : NamedWorld = named_nothing_pending c.args.self.now in
     let es : List Event = c.args.events.now in
     let v : NamedWorld = record { state = c.loop-event.self; pending = c.loop-event.pending.items } in
-    let all : length es ≤ c.loop-event.event-index = omega arith in
-    (c.loop-event.pending.items, kept_run w es c.loop-event.replies.items v
-    (subst (λ (ds : List Event). IsKeptRun w ds c.loop-event.replies.items v) (take_all es c.loop-event.event-index all) c.loop-event.invariant.run))
+    let all : length es ≤ c.loop-event.event-index = omega arith in (
+      c.loop-event.pending.items,
+      kept_run w es c.loop-event.replies.items v
+          (subst (λ (ds : List Event). IsKeptRun w ds c.loop-event.replies.items v) (take_all es c.loop-event.event-index all) c.loop-event.invariant.run),
+    )
 
 pub returns-clause-private : goal.returns-clause-private
 returns-clause-private c =
