@@ -1,7 +1,8 @@
 -- What stands at a place of the history, in the seats' variables and in joint ones.
 use Rattle.std.proofs.Common.{◌≡◌, ap, refl, sym, ◌∙◌, subst, ℕ, zero, suc, Bool, cond, true, false}
-use Rattle.std.specs.Prelude.{List, [], ◌∷◌, map, Option, Some, None, option_map, slice_get}
+use Rattle.std.specs.Prelude.{List, [], ◌∷◌, map, Option, Some, None, option_map, slice_get, ◌↔◌}
 use Rattle.std.specs.List.{AllByRecursion}
+use Rattle.std.proofs.lemmas.Bool.{false≢true}
 use Rattle.lj_clause.specs.LiteralSet.{LiteralSet}
 use Rattle.lj_clause.specs.Lemma.{LemmaValue}
 use Rattle.lj_clause.specs.Renaming.{image, lemma_image, is_named, inverse}
@@ -18,9 +19,13 @@ use Rattle.lj_book.specs.Calls.{import_entry}
 use Rattle.lj_book.specs.Variables.{Variables, IsVariables, renaming_of, is_own}
 use Rattle.lj_book.specs.Named.{NamedState, top_of, own_entry, joint_entry, beneath, named_over, IsNamedReached}
 use Rattle.lj_book.specs.inner.JointLines.{line_entry}
-use Rattle.lj_book.specs.inner.VariableTables.{as_own, lemma_as_own}
+use Rattle.lj_book.specs.inner.VariableTables.{TopVariables, as_own, lemma_as_own}
+use Rattle.lj_book.specs.inner.Over.{IsOver}
+use Rattle.lj_book.specs.inner.ReceiptForms.{is_joint_form}
 use Rattle.lj_book.proofs.NamedLaws.{CallNamed, rules_reached, beneath_is_reached}
 use Rattle.lj_book.proofs.EnteringLaws.{lemma_back, over_beneath}
+use Rattle.lj_book.proofs.OverLaws.{under}
+use Rattle.lj_book.proofs.FormLaws.{forms}
 
 some-is : {A : Type 0} (x y : A) → Some x ≡ Some y → x ≡ y
 some-is x y e = cc
@@ -43,6 +48,14 @@ legal-at s (x ∷ es) (suc k) e legal at = legal-at (after_entry s x) es k e leg
 
 abbrev entry_with : ℕ → Call → Option Step → Entry
 entry_with seat call step = record { seat = seat; call = call; step = step }
+
+-- any other call is the same in joint variables
+abbrev pub Speaks : Call → Type 0
+Speaks (calls.Add own lemma) = ⊥
+Speaks (calls.Drop numbers) = Unit {0}
+Speaks (calls.Adopt own joint) = Unit {0}
+Speaks (calls.Import own clause) = ⊥
+Speaks calls.Leave = Unit {0}
 
 module _ (s : NamedState) (reached : IsNamedReached s) (k : ℕ) where
   v : Variables
@@ -120,14 +133,6 @@ module _ (s : NamedState) (reached : IsNamedReached s) (k : ℕ) where
         let none = (legal-there (joint_entry s.variables e) (joint-at e at)).1.stepless in
         cc
 
-  -- any other call is the same in joint variables
-  abbrev pub Speaks : Call → Type 0
-  Speaks (calls.Add own lemma) = ⊥
-  Speaks (calls.Drop numbers) = Unit {0}
-  Speaks (calls.Adopt own joint) = Unit {0}
-  Speaks (calls.Import own clause) = ⊥
-  Speaks calls.Leave = Unit {0}
-
   same_own : (seat : ℕ) (call : Call) (step : Option Step) → Speaks call → own_entry s.variables (entry_with seat call step) ≡ entry_with seat call step
   same_own seat (calls.Add own lemma) step no = absurd no
   same_own seat (calls.Drop numbers) step no = refl
@@ -147,3 +152,71 @@ module _ (s : NamedState) (reached : IsNamedReached s) (k : ℕ) where
 
   pub at-other : (e : Entry) → Speaks e.call → slice_get s.history k ≡ Some e → slice_get (beneath s).history k ≡ Some e
   at-other e no at = joint-at e at ∙ ap Some (same_joint e.seat e.call e.step no)
+
+-- ---- what the code finds in the book beneath
+
+-- the entry of an addition
+abbrev added_as : ℕ → ℕ → LemmaValue → Addition → Entry
+added_as seat own lemma a = entry_with seat (calls.Add own lemma) (Some (steps.Add a))
+
+module _ (joint : State) (t : TopVariables) (s : NamedState) (over : IsOver joint t) (is : named_over joint t.variables ≡ s) (k : ℕ) where
+  pub reached_so : IsNamedReached s
+  reached_so = subst IsNamedReached is over.reached
+
+  module _ (seat own : ℕ) where
+    line_there : (lemma : LemmaValue) (a : Addition) → slice_get joint.history k ≡ Some (line_entry seat own a) → lemma_as_own t.top t.variables seat a.lemma ≡ Some lemma → slice_get s.history k ≡ Some (added_as seat own lemma a)
+    line_there lemma a at mine =
+        subst (λ (u : NamedState). slice_get u.history k ≡ Some (added_as seat own lemma a)) is
+        (line-at (named_over joint t.variables) over.reached k seat own lemma a
+        (ap (λ (j : State). slice_get j.history k) over.below ∙ at)
+        (ap (λ n. lemma_as_own n t.variables seat a.lemma) (sym over.top) ∙ mine))
+
+    there_line : (lemma : LemmaValue) (a : Addition) → slice_get s.history k ≡ Some (added_as seat own lemma a) → (slice_get joint.history k ≡ Some (line_entry seat own a)) × (lemma_as_own t.top t.variables seat a.lemma ≡ Some lemma)
+    there_line lemma a at =
+        let both = at-line (named_over joint t.variables) over.reached k seat own lemma a (ap (λ (u : NamedState). slice_get u.history k) is ∙ at) in
+        (ap (λ (j : State). slice_get j.history k) (sym over.below) ∙ both.0, ap (λ n. lemma_as_own n t.variables seat a.lemma) over.top ∙ both.1)
+
+    -- an addition whose lemma is the joint one's
+    pub line_is : (lemma : LemmaValue) (a : Addition) (b : Bool) → lemma_as_own t.top t.variables seat a.lemma ≡ Some lemma → (b ≡ true) ↔ (slice_get joint.history k ≡ Some (line_entry seat own a)) → (b ≡ true) ↔ (slice_get s.history k ≡ Some (added_as seat own lemma a))
+    line_is lemma a b mine found = (λ h. line_there lemma a (found.0 h) mine, λ h. found.1 (there_line lemma a h).0)
+
+    -- any other
+    pub line_none : (lemma : LemmaValue) (a : Addition) (b : Bool) → b ≡ false → (lemma_as_own t.top t.variables seat a.lemma ≡ Some lemma → ⊥) → (b ≡ true) ↔ (slice_get s.history k ≡ Some (added_as seat own lemma a))
+    line_none lemma a b off none = (λ h. absurd (false≢true (sym off ∙ h)), λ h. absurd (none (there_line lemma a h).1))
+
+    import_there : (c d : LiteralSet) → slice_get joint.history k ≡ Some (import_entry seat own d) → is_joint_form t.top t.variables seat c d ≡ true → slice_get s.history k ≡ Some (import_entry seat own c)
+    import_there c d at form =
+        subst (λ (u : NamedState). slice_get u.history k ≡ Some (import_entry seat own c)) is
+        (import-at (named_over joint t.variables) over.reached k seat own c d
+        (ap (λ (j : State). slice_get j.history k) over.below ∙ at)
+        ((forms (top_of (named_over joint t.variables)) t.variables seat (rules (named_over joint t.variables) over.reached k) c d).0 (ap (λ n. is_joint_form n t.variables seat c d) (sym over.top) ∙ form)))
+
+    there_import : (c : LiteralSet) → slice_get s.history k ≡ Some (import_entry seat own c) → (d : LiteralSet) × ((slice_get joint.history k ≡ Some (import_entry seat own d)) × (is_joint_form t.top t.variables seat c d ≡ true))
+    there_import c at =
+        let d : LiteralSet = image (renaming_of t.variables seat) c in
+        let both = at-import (named_over joint t.variables) over.reached k seat own c (ap (λ (u : NamedState). slice_get u.history k) is ∙ at) in (
+          d,
+          (ap (λ (j : State). slice_get j.history k) (sym over.below) ∙ both.0,
+          ap (λ n. is_joint_form n t.variables seat c d) over.top ∙ (forms (top_of (named_over joint t.variables)) t.variables seat (rules (named_over joint t.variables) over.reached k) c d).1 both.1),
+        )
+
+    -- an import of this clause
+    pub import_is : (c d : LiteralSet) (b : Bool) → slice_get joint.history k ≡ Some (import_entry seat own d) → b ≡ is_joint_form t.top t.variables seat c d → (b ≡ true) ↔ (slice_get s.history k ≡ Some (import_entry seat own c))
+    import_is c d b at form = (λ h. import_there c d at (sym form ∙ h), λ h. back (there_import c h))
+      where
+        back : (e : LiteralSet) × ((slice_get joint.history k ≡ Some (import_entry seat own e)) × (is_joint_form t.top t.variables seat c e ≡ true)) → b ≡ true
+        back w =
+            let one : import_entry seat own d ≡ import_entry seat own w.0 = some-is _ _ (sym at ∙ w.1.0) in
+            let same : d ≡ w.0 = cc in
+            form ∙ ap (is_joint_form t.top t.variables seat c) same ∙ w.1.1
+
+    -- none
+    pub import_none : (c : LiteralSet) (b : Bool) → b ≡ false → ((d : LiteralSet) → slice_get joint.history k ≡ Some (import_entry seat own d) → ⊥) → (b ≡ true) ↔ (slice_get s.history k ≡ Some (import_entry seat own c))
+    import_none c b off none = (λ h. absurd (false≢true (sym off ∙ h)), λ h. absurd (let w = there_import c h in none w.0 w.1.0))
+
+  -- any other call
+  pub other_is : (e : Entry) (b : Bool) → Speaks e.call → (b ≡ true) ↔ (slice_get joint.history k ≡ Some e) → (b ≡ true) ↔ (slice_get s.history k ≡ Some e)
+  other_is e b speaks found = (
+    λ h. other-at s reached_so k e speaks (ap (λ (j : State). slice_get j.history k) (sym (under joint t s over is)) ∙ found.0 h),
+    λ h. found.1 (ap (λ (j : State). slice_get j.history k) (under joint t s over is) ∙ at-other s reached_so k e speaks h),
+  )

@@ -21,7 +21,7 @@ use Rattle.lj_book.specs.declared.entry.Call.TheVariants as calls
 use Rattle.lj_book.specs.Calls.{take_reply, free_refusal}
 use Rattle.lj_book.specs.Inside.{inside_reply, inside_step, inside_entry}
 use Rattle.lj_book.specs.Named.{NamedState, top_of, beneath, named_over, given_in, has_variables_for, entry_beneath, after_named}
-use Rattle.lj_book.specs.NamedReplies.{named_inside}
+use Rattle.lj_book.specs.NamedReplies.{named_inside_after, named_inside}
 use Rattle.lj_book.specs.NamedViews.{addition_beneath}
 use Rattle.lj_book.specs.NamedInside.{if_left, named_inside_entry}
 use Rattle.lj_book.specs.inner.VariableTables.{TopVariables, variables_at, variables_before, are_left}
@@ -30,6 +30,7 @@ use Rattle.lj_book.specs.inner.Limits.{limit_reply}
 use Rattle.lj_book.specs.inner.Over.{IsOver, IsOverAfter}
 use Rattle.lj_book.proofs.TableLaws.{here_in_range}
 use Rattle.lj_book.proofs.BindingLaws.{can_bind}
+use Rattle.lj_book.proofs.InsideLaws.{taken_refused}
 use Rattle.lj_book.proofs.VariableLaws.{nameless}
 use Rattle.lj_book.proofs.TakenBack.{variables_before-next, variables_before-with_variable}
 use Rattle.lj_book.proofs.WithinTop.{within_given, within_lemma}
@@ -154,6 +155,10 @@ module _ (joint : State) (t : TopVariables) (over : IsOver joint t) (seat : ℕ)
     taken_back before w next is =
         is ∙ (λ i. variables_at (gave i).top (variables_before (next i) (gave i).variables))
         ∙ ap (variables_at t.top) (given_back t.top t.variables seat a.lemma.clause rules)
+
+  -- what a number that isn't free is refused by
+  pub refused_at_once : (e : Refusal) → free_refusal joint seat a.number ≡ Some e → named_inside s seat a ≡ Err e
+  refused_at_once e is = ap (named_inside_after s seat) (taken_refused (beneath s) seat a e (ap (λ (j : State). free_refusal j seat a.number) over.below ∙ is))
 
   -- a seat whose number is free is one that may be given variables
   pub seat_within : free_refusal joint seat a.number ≡ None → seat < length t.variables.of_seats

@@ -1,6 +1,6 @@
 -- Books whose seats name variables as they like: what is read of them, and what a call of the book beneath leaves.
 use Rattle.std.proofs.Common.{◌≡◌, ap, refl, sym, ◌∙◌, subst, ℕ, zero, suc, ◌+◌, ◌<◌, Bool, cond, true, false}
-use Rattle.std.specs.Prelude.{List, [], ◌∷◌, map, length, Option, Some, None, is_some, option_map, unwrap_or, slice_get, not, if◌then◌else◌, Result, Ok, Err, OnOk, OnErr, IfErr, IfSome}
+use Rattle.std.specs.Prelude.{List, [], ◌∷◌, map, length, Option, Some, None, is_some, option_map, unwrap_or, slice_get, not, if◌then◌else◌, Result, Ok, Err, OnOk, OnErr, IfErr, IfSome, IsErrAnd}
 use Rattle.std.specs.List.{cons_option}
 use Rattle.std.proofs.lemmas.Bool.{false≢true}
 use Rattle.std.proofs.lemmas.List.{length-map}
@@ -233,6 +233,11 @@ is_refusal refusals.PrivateVariable r is = is
 is_refusal refusals.NoSuchClause r is = is
 is_refusal refusals.Full r is = is
 is_refusal refusals.NoVariableLeft r is = is
+
+-- a refusal that is passed on
+pub passed_on : {A : Type 0} (r : Result A Refusal) (e : Refusal) (reply : Result A Refusal) → IsErrAnd r (λ y. y ≡ e) → IsRefusal e reply → IsReply r reply
+passed_on (Ok x) e reply h is = absurd h
+passed_on (Err y) e reply h is = subst (λ (x : Refusal). IsRefusal x reply) (sym h) is
 
 -- what an adoption that was accepted beneath names
 pub own_answered : (s : NamedState) (seat own joint : ℕ) (r : Result ℕ Refusal) → is_private s seat (fin.get (live (beneath s)) joint) ≡ false → IsReply r (adopt_reply (beneath s) seat own joint) → OnOk r (IsOwnLive s seat (fin.get (live (beneath s)) joint))

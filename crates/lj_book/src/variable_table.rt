@@ -273,6 +273,7 @@ impl VariableTable {
         ensures { IsTrue result
             ↔ (lemma_as_own self.now.top self.now.variables seat joint.now ≡ Some own.now) }
     {
+        let _ = self.next();
         if !self.is_joint_form(seat, own.clause(), &joint.clause().view()) {
             return false;
         }

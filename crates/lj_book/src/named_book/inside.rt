@@ -102,16 +102,21 @@ fn add_named(
     if let Some(refusal) = joint.free_refusal(seat, addition.number) {
         return Err(refusal);
     }
-    if !variables.give(seat, clause)? {
+    let left = variables.give(seat, clause)?;
+    if !left {
         let _ = joint.formula().variables();
         return Err(refusal_at_limit(joint, variables, seat, addition, marks));
     }
-    let added = add_joint_form(joint, variables, seat, addition, marks);
-    history_is_legal(joint);
-    if added.is_err() {
-        variables.take_back(before);
+    match add_joint_form(joint, variables, seat, addition, marks) {
+        Ok(added) => {
+            history_is_legal(joint);
+            Ok(added)
+        }
+        Err(refusal) => {
+            variables.take_back(before);
+            Err(refusal)
+        }
     }
-    added
 }
 
 /// As [`NamedBook::add_inside_telling`], with the parts of a book.
@@ -147,14 +152,19 @@ fn add_named_telling(
     if let Some(refusal) = joint.free_refusal(seat, addition.number) {
         return Err(refusal);
     }
-    if !variables.give(seat, clause)? {
+    let left = variables.give(seat, clause)?;
+    if !left {
         let _ = joint.formula().variables();
         return Err(refusal_at_limit(joint, variables, seat, addition, marks));
     }
-    let told = add_joint_form_telling(joint, variables, seat, addition, marks);
-    history_is_legal(joint);
-    if told.is_err() {
-        variables.take_back(before);
+    match add_joint_form_telling(joint, variables, seat, addition, marks) {
+        Ok(told) => {
+            history_is_legal(joint);
+            Ok(told)
+        }
+        Err(refusal) => {
+            variables.take_back(before);
+            Err(refusal)
+        }
     }
-    told
 }
