@@ -196,8 +196,10 @@ module _ (joint : State) (t : TopVariables) (s : NamedState) (over : IsOver join
         let d : LiteralSet = image (renaming_of t.variables seat) c in
         let both = at-import (named_over joint t.variables) over.reached k seat own c (ap (λ (u : NamedState). slice_get u.history k) is ∙ at) in (
           d,
-          (ap (λ (j : State). slice_get j.history k) (sym over.below) ∙ both.0,
-          ap (λ n. is_joint_form n t.variables seat c d) over.top ∙ (forms (top_of (named_over joint t.variables)) t.variables seat (rules (named_over joint t.variables) over.reached k) c d).1 both.1),
+          (
+            ap (λ (j : State). slice_get j.history k) (sym over.below) ∙ both.0,
+            ap (λ n. is_joint_form n t.variables seat c d) over.top ∙ (forms (top_of (named_over joint t.variables)) t.variables seat (rules (named_over joint t.variables) over.reached k) c d).1 both.1,
+          ),
         )
 
     -- an import of this clause

@@ -35,7 +35,8 @@ use Rattle.lj_book.specs.NamedReplies.{named_test, if_variables_left, named_insi
 use Rattle.lj_book.specs.NamedInside.{named_inside_entry}
 use Rattle.lj_book.specs.Worlds.{IsTried}
 use Rattle.lj_book.specs.NamedWorlds.{NamedWorld, named_nothing_pending, if_named_entered, IsNamedAnswered, IsNamedRun}
-use Rattle.lj_book.specs.PrivateAdditions.{IsAcceptance, IsTestReply, IsPrivateReply, IsPrivateStep, PrivateRepliesAreAlone, ArePrivateReplies}
+use Rattle.lj_book.specs.PrivateAdditions.{IsAcceptance, IsTestReply, IsPrivateReply, PrivateRepliesAreAlone, ArePrivateReplies}
+use Rattle.lj_book.specs.inner.PrivateSteps.{IsPrivateStep}
 use Rattle.lj_book.proofs.HistoryLaws.{IsSound-reached}
 use Rattle.lj_book.proofs.SoloStates.{IsGiven, IsGiven-sound}
 use Rattle.lj_book.proofs.SoloTakes.{take_alone, take_fits}

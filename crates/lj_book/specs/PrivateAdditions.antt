@@ -42,18 +42,6 @@ IsPrivateReply top v seat a reply = (left : LiteralSet) (pivot : ℤ) (at : IsOp
     → IsTestReply
     (rat_refusal (rat (seen_clauses v) left pivot (joint_addition a.number at.case).groups)) reply
 
--- what is said so of an event's reply in a state
-abbrev pub IsPrivateStep : NamedState → Event → Reply → Type 0
-IsPrivateStep s (events.Take seat a) reply = Unit {0}
-IsPrivateStep s (events.Test seat) reply = Unit {0}
-IsPrivateStep s (events.Commit seat) reply = Unit {0}
-IsPrivateStep s (events.Inside seat a) reply = IsPrivateReply (top_of s) (named_view s seat) seat a
-    reply
-IsPrivateStep s (events.Drop seat numbers) reply = Unit {0}
-IsPrivateStep s (events.Adopt seat own joint) reply = Unit {0}
-IsPrivateStep s (events.Import seat own clause) reply = Unit {0}
-IsPrivateStep s (events.Leave seat) reply = Unit {0}
-
 -- So each addition inside is answered.
 abbrev pub PrivateRepliesAreAlone : Type 0
 PrivateRepliesAreAlone = (w after : NamedWorld) (seat : ℕ) (a : Addition) (reply : Reply)

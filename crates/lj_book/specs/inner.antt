@@ -21,3 +21,4 @@ pub mod ReceiptForms
 pub mod Limits
 pub mod JointForms
 pub mod Over
+pub mod PrivateSteps

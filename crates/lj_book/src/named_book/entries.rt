@@ -1,11 +1,12 @@
 //! Entries in their seats' variables.
 ghost use Rattle.std.specs.Prelude.{◌≡◌, ◌↔◌, IsTrue, IfOk, Some, slice_get};
 ghost use Rattle.lj_clause.specs.Renaming.{inverse};
+ghost use Rattle.lj_book.specs.declared.entry.Call.TheVariants as calls;
 ghost use Rattle.lj_book.specs.Named.{names_of, call_image, own_entry};
 
 use crate::entry::{Call, Entry};
 use crate::named_book::NamedBook;
-use lj_clause::NoMemory;
+use lj_clause::{Clause, Lemma, NoMemory};
 use lj_text::Step;
 
 impl NamedBook {
@@ -28,20 +29,57 @@ impl NamedBook {
     pub fn is_entry(&self, place: u64, entry: &Entry) -> bool
         ensures { IsTrue result ↔ (slice_get self.now.history place ≡ Some entry.now) }
     {
-        let seat = entry.seat;
-        match (&entry.call, &entry.step) {
-            (Call::Add { own, lemma }, Some(Step::Add(addition))) => {
-                self.variables.is_own_lemma(seat, lemma, &addition.lemma)
-                    && self.joint.history().is_line(place, seat, *own, addition)
+        match &entry.call {
+            Call::Add { own, lemma } => {
+                self.is_addition(place, entry.seat, *own, lemma, &entry.step)
             }
-            (Call::Import { own, clause }, None) => {
-                match self.joint.history().imported(place, seat, *own) {
-                    Some(joint) => self.variables.is_joint_form(seat, clause, &joint),
-                    None => false,
-                }
+            Call::Import { own, clause } => {
+                self.is_import(place, entry.seat, *own, clause, &entry.step)
             }
-            (Call::Add { .. } | Call::Import { .. }, _) => false,
             _ => self.joint.is_entry(place, entry),
+        }
+    }
+
+    /// Whether the entry at the place is that of the seat's addition under its own number, with this step.
+    fn is_addition(
+        &self,
+        place: u64,
+        seat: u32,
+        own: u64,
+        lemma: &Lemma,
+        step: &Option<Step>,
+    ) -> bool
+        ensures { IsTrue result ↔ (slice_get self.now.history place ≡ Some
+            (record { seat = seat; call = calls.Add own lemma.now; step = step.now })) }
+    {
+        match step {
+            Some(Step::Add(addition)) => {
+                self.variables.is_own_lemma(seat, lemma, &addition.lemma)
+                    && self.joint.history().is_line(place, seat, own, addition)
+            }
+            Some(Step::Delete { .. }) => false,
+            None => false,
+        }
+    }
+
+    /// Whether the entry at the place is that of the seat's import under its own number, with this step.
+    fn is_import(
+        &self,
+        place: u64,
+        seat: u32,
+        own: u64,
+        clause: &Clause,
+        step: &Option<Step>,
+    ) -> bool
+        ensures { IsTrue result ↔ (slice_get self.now.history place ≡ Some
+            (record { seat = seat; call = calls.Import own clause.now; step = step.now })) }
+    {
+        if step.is_some() {
+            return false;
+        }
+        match self.joint.history().imported(place, seat, own) {
+            Some(joint) => self.variables.is_joint_form(seat, clause, &joint),
+            None => false,
         }
     }
 

@@ -5,7 +5,8 @@ ghost use Rattle.lj_book.specs.declared.event.Pending.{Pending};
 ghost use Rattle.lj_book.specs.Named.{top_of};
 ghost use Rattle.lj_book.specs.NamedViews.{named_view};
 ghost use Rattle.lj_book.specs.NamedWorlds.{IsNamedAnswered, IsNamedPlayed};
-ghost use Rattle.lj_book.specs.PrivateAdditions.{IsPrivateReply, IsPrivateStep, ArePrivateReplies};
+ghost use Rattle.lj_book.specs.PrivateAdditions.{IsPrivateReply, ArePrivateReplies};
+ghost use Rattle.lj_book.specs.inner.PrivateSteps.{IsPrivateStep};
 
 use super::NamedBook;
 use crate::event::{Event, Pending, Reply};
@@ -150,8 +151,8 @@ impl NamedBook {
 
     fn answer_leave(&mut self, seat: u32) -> Reply
         ensures { (pending : List Pending)
-            → IsNamedAnswered (record { state = self.old; pending = pending }) (events.Leave seat) result
-            (record { state = self.new; pending = pending }) }
+            → IsNamedAnswered (record { state = self.old; pending = pending })
+            (events.Leave seat) result (record { state = self.new; pending = pending }) }
     {
         match self.leave(seat) {
             Ok(place) => Reply::Left(place),
