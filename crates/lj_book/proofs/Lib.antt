@@ -30,6 +30,7 @@ pub mod EnteringLaws
 pub mod OverLaws
 pub mod FormLaws
 pub mod EntryLaws
+mod PlacedEntries
 pub mod OwnHoldings
 pub mod DecidedBeneath
 pub mod Scans

@@ -1,6 +1,6 @@
 -- What is written of an entry is read again, and stays when more is written behind it.
 use Rattle.std.proofs.Common.{◌≡◌, ap, refl, sym, ◌∙◌, ◌+◌, ◌*◌, ◌<◌, ◌≤◌, arith, append_assoc, length-append, subst}
-use Rattle.std.specs.Prelude.{ℕ, zero, suc, ℤ, Bool, true, false, List, [], ◌∷◌, ◌++◌, length, take, drop, get_or, Option, Some, None, IfNone, option_map, slice_get, filter_map, ◌||◌}
+use Rattle.std.specs.Prelude.{ℕ, zero, suc, ℤ, Bool, true, false, List, [], ◌∷◌, ◌++◌, length, take, drop, get_or, Option, Some, None, filter_map, ◌||◌}
 use Rattle.std.specs.List.{cons_option, list_any}
 use Rattle.std.proofs.lemmas.Bool.{false≢true}
 use Rattle.std.specs.Ordering.{eq_by_cmp, is_eq}
@@ -269,19 +269,3 @@ all_steps lits words starts k steps are le = are ∙ ap (λ (xs : List ℕ). fil
 
 pub some_step : (lits : List ℤ) (words starts : List ℕ) (k : ℕ) → k < length starts → (step_at lits words (get_or starts k 0) ≡ None → ⊥) → filter_map (λ e. e.step) (entries_in lits words starts) ≡ [] → ⊥
 some_step lits words starts k lt there none = there (no_step_left (step_at lits words) starts k 0 lt (sym (steps_at lits words starts) ∙ none))
-
--- what the words at a place tell
-pub entry-at : (lits : List ℤ) (words starts : List ℕ) (place : ℕ) (o : Option (List ℕ)) → o ≡ option_map (λ start. drop start words) (slice_get starts place) → slice_get (entries_in lits words starts) place ≡ option_map (entry_in lits) o
-entry-at lits words starts place o is = at starts place ∙ ap (option_map (entry_in lits)) (sym is)
-  where
-    at : (ss : List ℕ) (k : ℕ) → slice_get (entries_in lits words ss) k ≡ option_map (entry_in lits) (option_map (λ start. drop start words) (slice_get ss k))
-    at [] k = refl
-    at (s ∷ ss) zero = refl
-    at (s ∷ ss) (suc k) = at ss k
-
-pub none_weaker : {A P Q : Type 0} (o : Option A) → (P → Q) → IfNone o P → IfNone o Q
-none_weaker None f h = f h
-none_weaker (Some x) f h = h
-
-pub some-is : {A : Type 0} (x y : A) → Some x ≡ Some y → x ≡ y
-some-is x y e = cc
