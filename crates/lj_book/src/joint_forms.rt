@@ -1,13 +1,13 @@
 //! Additions of seats that name their variables, in joint variables.
-ghost use Rattle.std.specs.Prelude.{◌≡◌, ◌++◌, ◌∷◌, [], OnOk, OnErr, IfOk};
-ghost use Rattle.lj_clause.specs.LiteralSet.{literals};
+ghost use Rattle.std.specs.Prelude.{◌≡◌, ◌++◌, ◌∷◌, [], ◌&&◌, not, neg_ℤ, OnOk, OnErr, IfOk};
+ghost use Rattle.lj_clause.specs.LiteralSet.{literals, holds};
 ghost use Rattle.lj_book.specs.Variables.{renaming_of};
 ghost use Rattle.lj_book.specs.History.{after_entry};
 ghost use Rattle.lj_book.specs.Calls.{IsRefusal, IsReply, IsReplyBy};
 ghost use Rattle.lj_book.specs.Inside.{inside_reply, inside_entry};
 ghost use Rattle.lj_book.specs.declared.entry.Call.TheVariants as calls;
 ghost use Rattle.lj_book.specs.inner.JointForms.{joint_form, with_call};
-ghost use Rattle.lj_book.specs.inner.Limits.{known_images, led_by, known_addition, closes_at_once, is_new, is_lifted, limit_reply};
+ghost use Rattle.lj_book.specs.inner.Limits.{is_known, known_images, led_by, known_addition, closes_at_once, is_new, is_lifted, limit_reply};
 
 use crate::book::Book;
 use crate::entry::{Added, Call, Entry};
@@ -133,16 +133,32 @@ pub(crate) fn refusal_at_limit(
         (limit_reply joint.old variables.now seat addition.now) }
     ensures same { joint.new ≡ joint.old }
 {
+    match known_addition(joint.allocator(), variables, seat, addition) {
+        Ok(known) => refusal_of_known(joint, variables, seat, addition, &known, marks),
+        Err(refused) => Refusal::NoMemory(refused),
+    }
+}
+
+/// The same, by the addition of the literals that have joint variables.
+fn refusal_of_known(
+    joint: &mut Book,
+    variables: &VariableTable,
+    seat: u32,
+    addition: &Addition,
+    known: &Addition,
+    marks: &mut Marks,
+) -> Refusal
+    requires { known.now ≡ known_addition variables.now seat addition.now }
+    ensures reply { IsRefusal result
+        (limit_reply joint.old variables.now seat addition.now) }
+    ensures same { joint.new ≡ joint.old }
+{
     let alloc = joint.allocator();
-    let known = match known_addition(alloc, variables, seat, addition) {
-        Ok(known) => known,
-        Err(refused) => return Refusal::NoMemory(refused),
-    };
     let closes = closes_at_once(variables, seat, addition.lemma.clause());
     let new = is_new(variables, seat, addition.lemma.pivot());
     let mut hints = Numbers::new(Vec::new(alloc));
     let mut groups = Groups::new(alloc);
-    match joint.inside_line(seat, &known, &mut hints, &mut groups, marks) {
+    match joint.inside_line(seat, known, &mut hints, &mut groups, marks) {
         Ok(()) => Refusal::NoVariableLeft,
         Err(refusal) => {
             if !is_lifted(closes, new, refusal) {
@@ -187,14 +203,34 @@ fn known_lits(
         ≡ known_images variables.now.top (renaming_of variables.now.variables seat)
         (led_by lemma.now.pivot (literals lemma.now.clause))) }
 {
-    let mut lits = Vec::new(alloc);
-    if let Some(pivot) = lemma.pivot() {
-        push_known(&mut lits, variables, seat, pivot)?;
-    }
+    let mut lits = known_pivot(alloc, variables, seat, lemma.pivot())?;
     for lit in lemma.clause().lits() {
         push_known(&mut lits, variables, seat, *lit)?;
     }
     Ok(lits)
+}
+
+/// The pivot in joint variables, where it has one.
+///
+/// # Errors
+/// [`NoMemory`] where a growth was refused.
+fn known_pivot(
+    alloc: Global,
+    variables: &VariableTable,
+    seat: u32,
+    pivot: Option<Lit>,
+) -> Result<Vec<Lit>, NoMemory>
+    ensures { IfOk result (λ lits. lits.items ≡ known_images variables.now.top
+        (renaming_of variables.now.variables seat) (led_by pivot [])) }
+{
+    let mut lits = Vec::new(alloc);
+    match pivot {
+        Some(pivot) => {
+            push_known(&mut lits, variables, seat, pivot)?;
+            Ok(lits)
+        }
+        None => Ok(lits),
+    }
 }
 
 /// Takes the literal in joint variables behind the others, where it has a joint variable.
@@ -222,11 +258,19 @@ fn closes_at_once(variables: &VariableTable, seat: u32, clause: &Clause) -> bool
         (renaming_of variables.now.variables seat) clause.now }
 {
     for lit in clause.lits() {
-        if !variables.has_name(seat, lit.variable()) && clause.holds(lit.negated()) {
+        if closes_with(variables, seat, clause, *lit) {
             return true;
         }
     }
     false
+}
+
+/// Whether the literal has no joint form, and the clause has its other sign.
+fn closes_with(variables: &VariableTable, seat: u32, clause: &Clause, lit: Lit) -> bool
+    ensures { result ≡ (not (is_known variables.now.top
+        (renaming_of variables.now.variables seat) lit) && holds clause.now (neg_ℤ lit)) }
+{
+    !variables.has_name(seat, lit.variable()) && clause.holds(lit.negated())
 }
 
 /// Whether the pivot has a variable that has no joint one.

@@ -1,9 +1,9 @@
 //! The variables of the seats.
-ghost use Rattle.std.specs.Prelude.{ℕ, ◌≡◌, ◌+◌, ◌-◌, ◌<◌, ◌≤◌, ◌↔◌, IsTrue, OnOk, OnErr, IfOk, IfSome, Some, None, length, true, false, if◌then◌else◌, nat_le, replicate};
+ghost use Rattle.std.specs.Prelude.{ℕ, ◌≡◌, ◌==◌, ◌+◌, ◌-◌, ◌<◌, ◌≤◌, ◌↔◌, IsTrue, OnOk, OnErr, IfOk, IfSome, Some, None, length, true, false, if◌then◌else◌, nat_le, replicate};
 ghost use Rattle.std.specs.FinMap as fin;
 ghost use Rattle.lj_clause.specs.declared.lit.TheConstants.{MAX_VARIABLE};
 ghost use Rattle.lj_clause.specs.ClauseMap.{names_up_to};
-ghost use Rattle.lj_clause.specs.Renaming.{is_named, inverse};
+ghost use Rattle.lj_clause.specs.Renaming.{is_named, inverse, renamed};
 ghost use Rattle.lj_book.specs.Variables.{renaming_of, no_variables, with_variable, given, is_own, IsVariables};
 ghost use Rattle.lj_book.specs.inner.JointForms.{is_unmoved};
 ghost use Rattle.lj_book.specs.inner.VariableTables.{variables_at, variables_before, are_left, seat_names, as_joint, lemma_as_joint, as_own, lemma_as_own};
@@ -312,12 +312,21 @@ impl VariableTable {
         ensures { result ≡ is_unmoved (renaming_of self.now.variables seat) clause.now }
     {
         for lit in clause.lits() {
-            let variable = lit.variable();
-            if self.joint(seat, variable).unwrap_or(variable) != variable {
+            if !self.stays(seat, lit.variable()) {
                 return false;
             }
         }
         true
+    }
+
+    /// Whether the variable is its own joint one, or has none.
+    fn stays(&self, seat: u32, variable: u32) -> bool
+        ensures { result ≡ (renamed (renaming_of self.now.variables seat) variable == variable) }
+    {
+        match self.joint(seat, variable) {
+            Some(joint) => joint == variable,
+            None => true,
+        }
     }
 
     /// Whether each variable of the clause is the formula's, or the seat has a joint one for it.
