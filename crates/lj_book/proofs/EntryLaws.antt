@@ -1,6 +1,6 @@
 -- What stands at a place of the history, in the seats' variables and in joint ones.
 use Rattle.std.proofs.Common.{◌≡◌, ap, refl, sym, ◌∙◌, subst, ℕ, zero, suc, Bool, cond, true, false}
-use Rattle.std.specs.Prelude.{List, [], ◌∷◌, map, Option, Some, None, option_map, slice_get, ◌↔◌}
+use Rattle.std.specs.Prelude.{List, [], ◌∷◌, map, Option, Some, None, is_some, option_map, slice_get, ◌↔◌}
 use Rattle.std.specs.List.{AllByRecursion}
 use Rattle.std.proofs.lemmas.Bool.{false≢true}
 use Rattle.lj_clause.specs.LiteralSet.{LiteralSet}
@@ -216,9 +216,24 @@ module _ (joint : State) (t : TopVariables) (s : NamedState) (over : IsOver join
     pub import_none : (c : LiteralSet) (b : Bool) → b ≡ false → ((d : LiteralSet) → slice_get joint.history k ≡ Some (import_entry seat own d) → ⊥) → (b ≡ true) ↔ (slice_get s.history k ≡ Some (import_entry seat own c))
     import_none c b off none = (λ h. absurd (false≢true (sym off ∙ h)), λ h. absurd (let w = there_import c h in none w.0 w.1.0))
 
+    pub import_step : (c : LiteralSet) (o : Option Step) → is_some o ≡ true → slice_get s.history k ≡ Some (entry_with seat (calls.Import own c) o) → ⊥
+    import_step c None some at = false≢true some
+    import_step c (Some x) some at = no-import s reached_so k seat own c x at
+
   -- any other call
   pub other_is : (e : Entry) (b : Bool) → Speaks e.call → (b ≡ true) ↔ (slice_get joint.history k ≡ Some e) → (b ≡ true) ↔ (slice_get s.history k ≡ Some e)
   other_is e b speaks found = (
     λ h. other-at s reached_so k e speaks (ap (λ (j : State). slice_get j.history k) (sym (under joint t s over is)) ∙ found.0 h),
     λ h. found.1 (ap (λ (j : State). slice_get j.history k) (under joint t s over is) ∙ at-other s reached_so k e speaks h),
   )
+
+pub stepless : (o : Option Step) → is_some o ≡ false → o ≡ None
+stepless None none = refl
+stepless (Some x) none = absurd (false≢true (sym none))
+
+pub speaks_else : (call : Call) → ((own : ℕ) (lemma : LemmaValue) → call ≡ calls.Add own lemma → ⊥) → ((own : ℕ) (c : LiteralSet) → call ≡ calls.Import own c → ⊥) → Speaks call
+speaks_else (calls.Add own lemma) no none = no own lemma refl
+speaks_else (calls.Drop numbers) no none = tt
+speaks_else (calls.Adopt own joint) no none = tt
+speaks_else (calls.Import own c) no none = none own c refl
+speaks_else calls.Leave no none = tt

@@ -1,8 +1,8 @@
 -- Clauses and lemmas in a seat's variables, compared with joint ones.
 use Rattle.std.proofs.Common.{◌≡◌, ap, refl, sym, ◌∙◌, subst, ℕ, Bool, cond, true, false, arith}
-use Rattle.std.specs.Prelude.{List, length, Option, Some, None, option_map, slice_index_or}
+use Rattle.std.specs.Prelude.{List, length, Option, Some, None, option_map, slice_index_or, ◌↔◌}
 use Rattle.std.specs.Ordering.{nat_cmp}
-use Rattle.std.proofs.lemmas.Bool.{and_parts, and_from}
+use Rattle.std.proofs.lemmas.Bool.{false≢true, and_parts, and_from}
 use Rattle.std.specs.FinMap as fin
 use Rattle.lj_clause.specs.LiteralSet.{LiteralSet}
 use Rattle.lj_clause.specs.Lemma.{LemmaValue}
@@ -70,6 +70,13 @@ module _ (top : ℕ) (v : Variables) (seat : ℕ) (rules : IsVariables top v) wh
       by : (b : Bool) → cond b (Some (lemma_image (inverse m) joint)) None ≡ Some own → (cond b (Some (image (inverse m) joint.clause)) None ≡ Some own.clause) × (option_map (literal_image (inverse m)) joint.pivot ≡ own.pivot)
       by true f = let same = some-is _ _ f in (ap (λ (l : LemmaValue). Some l.clause) same, ap (λ (l : LemmaValue). l.pivot) same)
       by false f = absurd (let no : ⊥ = cc in no)
+
+  -- what the code finds by the clause and the pivot
+  pub lemma_is : (own joint : LemmaValue) (b : Bool) → is_joint_form top v seat own.clause joint.clause ≡ true → (b ≡ true) ↔ (option_map (literal_image (inverse m)) joint.pivot ≡ own.pivot) → (b ≡ true) ↔ (lemma_as_own top v seat joint ≡ Some own)
+  lemma_is own joint b form pivots = (λ h. lemma_forms own joint (by_form own.clause joint.clause form) (pivots.0 h), λ h. pivots.1 (lemma_forms_back own joint h).1)
+
+  pub lemma_isnt : (own joint : LemmaValue) → is_joint_form top v seat own.clause joint.clause ≡ false → (false ≡ true) ↔ (lemma_as_own top v seat joint ≡ Some own)
+  lemma_isnt own joint form = (λ h. absurd (false≢true h), λ h. absurd (false≢true (sym form ∙ (forms own.clause joint.clause).1 (lemma_forms_back own joint h).0)))
 
 -- ---- variables that none was given
 

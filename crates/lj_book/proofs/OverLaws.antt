@@ -38,6 +38,12 @@ use Rattle.lj_book.proofs.EnteringLaws.{legal_enters, taken_beneath_is_legal}
 pub under : (joint : State) (t : TopVariables) (s : NamedState) → IsOver joint t → named_over joint t.variables ≡ s → joint ≡ beneath s
 under joint t s over is = sym over.below ∙ ap beneath is
 
+pub over_top : (joint : State) (t : TopVariables) (s : NamedState) → IsOver joint t → named_over joint t.variables ≡ s → t.top ≡ top_of s
+over_top joint t s over is = over.top ∙ ap top_of is
+
+pub reached_over : (joint : State) (t : TopVariables) (s : NamedState) → IsOver joint t → named_over joint t.variables ≡ s → IsNamedReached s
+reached_over joint t s over is = subst IsNamedReached is over.reached
+
 pub got-over : (v : Variables) (es : List Entry) (k : ℕ) → slice_get (map (own_entry v) es) k ≡ option_map (own_entry v) (slice_get es k)
 got-over v [] k = refl
 got-over v (e ∷ es) zero = refl

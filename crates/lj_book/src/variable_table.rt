@@ -1,9 +1,9 @@
 //! The variables of the seats.
-ghost use Rattle.std.specs.Prelude.{ℕ, ◌≡◌, ◌==◌, ◌+◌, ◌-◌, ◌<◌, ◌≤◌, ◌↔◌, IsTrue, OnOk, OnErr, IfOk, IfSome, Some, None, length, true, false, if◌then◌else◌, nat_le, replicate};
+ghost use Rattle.std.specs.Prelude.{ℕ, ◌≡◌, ◌==◌, ◌+◌, ◌-◌, ◌<◌, ◌≤◌, ◌↔◌, IsTrue, OnOk, OnErr, IfOk, IfSome, Some, None, option_map, length, true, false, if◌then◌else◌, nat_le, replicate};
 ghost use Rattle.std.specs.FinMap as fin;
 ghost use Rattle.lj_clause.specs.declared.lit.TheConstants.{MAX_VARIABLE};
 ghost use Rattle.lj_clause.specs.ClauseMap.{names_up_to};
-ghost use Rattle.lj_clause.specs.Renaming.{is_named, inverse, renamed};
+ghost use Rattle.lj_clause.specs.Renaming.{is_named, inverse, renamed, literal_image};
 ghost use Rattle.lj_book.specs.Variables.{renaming_of, no_variables, with_variable, given, is_own, IsVariables};
 ghost use Rattle.lj_book.specs.inner.JointForms.{is_unmoved};
 ghost use Rattle.lj_book.specs.inner.VariableTables.{variables_at, variables_before, are_left, seat_names, as_joint, lemma_as_joint, as_own, lemma_as_own};
@@ -11,7 +11,8 @@ ghost use Rattle.lj_book.specs.inner.VariableTables.{variables_at, variables_bef
 mod forms;
 
 use crate::own_map::OwnMap;
-use lj_clause::{Clause, ClauseView, Lemma, MAX_VARIABLE, NoMemory, Renames};
+use crate::same::same_pivot;
+use lj_clause::{Clause, ClauseView, Lemma, Lit, MAX_VARIABLE, NoMemory, Renames};
 use std::alloc::Global;
 use std::marker::Model;
 
@@ -277,10 +278,17 @@ impl VariableTable {
         if !self.is_joint_form(seat, own.clause(), &joint.clause().view()) {
             return false;
         }
-        match (own.pivot(), joint.pivot()) {
-            (Some(mine), Some(pivot)) => mine == pivot.renamed(&self.to_own(seat)),
-            (None, None) => true,
-            _ => false,
+        same_pivot(self.own_pivot(seat, joint.pivot()), own.pivot())
+    }
+
+    /// The joint pivot in the seat's variables.
+    fn own_pivot(&self, seat: u32, pivot: Option<Lit>) -> Option<Lit>
+        ensures { result ≡ option_map
+            (literal_image (inverse (renaming_of self.now.variables seat))) pivot }
+    {
+        match pivot {
+            Some(pivot) => Some(pivot.renamed(&self.to_own(seat))),
+            None => None,
         }
     }
 

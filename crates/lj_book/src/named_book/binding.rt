@@ -2,9 +2,10 @@
 ghost use Rattle.std.specs.Prelude.{◌≡◌, None, OnOk, OnErr, IfErr, IfSome, Err, true};
 ghost use Rattle.std.specs.FinMap as fin;
 ghost use Rattle.lj_clause.specs.ClauseMap.{names_up_to};
+ghost use Rattle.lj_clause.specs.Renaming.{is_named, image};
 ghost use Rattle.lj_book.specs.State.{live};
 ghost use Rattle.lj_book.specs.Calls.{IsReply, adopt_entry, import_entry};
-ghost use Rattle.lj_book.specs.Named.{top_of, beneath, after_named};
+ghost use Rattle.lj_book.specs.Named.{top_of, names_of, beneath, after_named};
 ghost use Rattle.lj_book.specs.inner.Over.{is_private};
 ghost use Rattle.lj_book.specs.NamedReplies.{named_adopt, import_refusal, named_import};
 
@@ -57,16 +58,38 @@ impl NamedBook {
         ensures err { OnErr result (self.new ≡ self.old) }
     {
         if self.variables.is_within(clause) {
-            let imported = self.joint.import(seat, own, clause);
-            history_is_legal(&self.joint);
-            return imported;
+            return self.import_joint(seat, own, clause, clause);
         }
         if let Some(refusal) = self.import_refusal(seat, own, clause) {
             return Err(refusal);
         }
         let alloc = self.joint.allocator();
         let renamed = clause.renamed(alloc, &self.variables.to_joint(seat))?;
-        let imported = self.joint.import(seat, own, &renamed);
+        self.import_joint(seat, own, clause, &renamed)
+    }
+
+    /// As [`NamedBook::import`], by the clause in joint variables. The other one is told to the proof alone.
+    ///
+    /// # Errors
+    /// As [`NamedBook::import`].
+    fn import_joint(
+        &mut self,
+        seat: u32,
+        own: u64,
+        clause: &Clause,
+        joint: &Clause,
+    ) -> Result<Imported, Refusal>
+        requires named { is_named (top_of self.old) (names_of self.old seat) clause.now ≡ true }
+        requires joint { image (names_of self.old seat) clause.now ≡ joint.now }
+        ensures reply { IsReply result (named_import self.old seat own clause.now) }
+        ensures refused { IfErr (named_import self.old seat own clause.now)
+            (λ e. result ≡ Err e) }
+        ensures ok { OnOk result
+            (self.new ≡ after_named self.old (import_entry seat own clause.now)) }
+        ensures err { OnErr result (self.new ≡ self.old) }
+    {
+        let _ = clause;
+        let imported = self.joint.import(seat, own, joint);
         history_is_legal(&self.joint);
         imported
     }
