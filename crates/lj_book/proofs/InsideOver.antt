@@ -171,3 +171,20 @@ on_ok (Err e) f h = tt
 pub on_err : {A E P Q : Type 0} (r : Result A E) → (P → Q) → OnErr r P → OnErr r Q
 on_err (Ok x) f h = tt
 on_err (Err e) f h = f h
+
+-- ---- a book by its parts
+
+module _ {A : Type 0} (r : Result A Refusal) (j k : State) (t u : TopVariables) (e : Entry) (over : IsOver j t)
+    (ok : OnOk r (IsOverAfter (named_over j t.variables) e k u)) (err : OnErr r ((k ≡ j) × (u ≡ t))) where
+  pub over_either : IsOver k u
+  over_either = go r ok err
+    where
+      go : (q : Result A Refusal) → OnOk q (IsOverAfter (named_over j t.variables) e k u) → OnErr q ((k ≡ j) × (u ≡ t)) → IsOver k u
+      go (Ok x) after same = after.over
+      go (Err x) after same = subst (λ (v : TopVariables). IsOver k v) (sym same.1) (subst (λ (i : State). IsOver i t) (sym same.0) over)
+
+  pub left_either : OnOk r (named_over k u.variables ≡ after_named (named_over j t.variables) e)
+  left_either = on_ok r (λ (after : IsOverAfter (named_over j t.variables) e k u). after.leaves) ok
+
+  pub same_either : OnErr r (named_over k u.variables ≡ named_over j t.variables)
+  same_either = on_err r (λ (same : (k ≡ j) × (u ≡ t)). (λ i. named_over (same.0 i) (same.1 i).variables)) err
