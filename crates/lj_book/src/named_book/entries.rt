@@ -6,6 +6,7 @@ ghost use Rattle.lj_book.specs.Named.{names_of, call_image, own_entry};
 
 use crate::entry::{Call, Entry};
 use crate::named_book::NamedBook;
+use crate::named_book::laws::named_history_is_legal;
 use lj_clause::{Clause, Lemma, NoMemory};
 use lj_text::Step;
 
@@ -52,13 +53,24 @@ impl NamedBook {
         ensures { IsTrue result ↔ (slice_get self.now.history place ≡ Some
             (record { seat = seat; call = calls.Add own lemma.now; step = step.now })) }
     {
+        named_history_is_legal(self);
         match step {
-            Some(Step::Add(addition)) => {
+            Some(step) => self.is_line(place, seat, own, lemma, step),
+            None => false,
+        }
+    }
+
+    /// The same, by a step that is there.
+    fn is_line(&self, place: u64, seat: u32, own: u64, lemma: &Lemma, step: &Step) -> bool
+        ensures { IsTrue result ↔ (slice_get self.now.history place ≡ Some
+            (record { seat = seat; call = calls.Add own lemma.now; step = Some step.now })) }
+    {
+        match step {
+            Step::Add(addition) => {
                 self.variables.is_own_lemma(seat, lemma, &addition.lemma)
                     && self.joint.history().is_line(place, seat, own, addition)
             }
-            Some(Step::Delete { .. }) => false,
-            None => false,
+            Step::Delete { .. } => false,
         }
     }
 

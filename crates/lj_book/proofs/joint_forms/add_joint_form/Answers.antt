@@ -20,7 +20,7 @@ returns-then-is_unmoved-clause-reply c =
     let still : is_unmoved (renaming_of v c.args.seat) a.lemma.clause ≡ true =
     ap (is_unmoved (renaming_of v c.args.seat)) (sym c.clause.ensures.clause) ∙ sym c.is_unmoved.ensures ∙ c.if-is_unmoved.true in
     let same : a ≡ joint_form v c.args.seat a = sym (unmoved_form v c.args.seat a c.clause.ensures.lemma still) in
-    subst (λ (b : Addition). IsReply c.add_inside-then-is_unmoved.result (inside_reply c.args.joint.now c.args.seat b)) same c.add_inside-then-is_unmoved.ensures.reply
+    subst (λ (b : Addition). IsReply c.add_inside.result (inside_reply c.args.joint.now c.args.seat b)) same c.add_inside.ensures.reply
 
 pub returns-then-is_unmoved-clause-ok : goal.returns-then-is_unmoved-clause-ok
 returns-then-is_unmoved-clause-ok c =
@@ -29,4 +29,4 @@ returns-then-is_unmoved-clause-ok c =
     let still : is_unmoved (renaming_of v c.args.seat) a.lemma.clause ≡ true =
     ap (is_unmoved (renaming_of v c.args.seat)) (sym c.clause.ensures.clause) ∙ sym c.is_unmoved.ensures ∙ c.if-is_unmoved.true in
     let same : a ≡ joint_form v c.args.seat a = sym (unmoved_form v c.args.seat a c.clause.ensures.lemma still) in
-    subst (λ (b : Addition). OnOk c.add_inside-then-is_unmoved.result (c.add_inside-then-is_unmoved.new.self ≡ after_entry c.args.joint.now (inside_entry c.args.joint.now c.args.seat b))) same c.add_inside-then-is_unmoved.ensures.ok
+    subst (λ (b : Addition). OnOk c.add_inside.result (c.add_inside.new.self ≡ after_entry c.args.joint.now (inside_entry c.args.joint.now c.args.seat b))) same c.add_inside.ensures.ok

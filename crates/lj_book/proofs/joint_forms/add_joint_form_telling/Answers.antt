@@ -20,7 +20,7 @@ returns-then-is_unmoved-clause-reply c =
     let still : is_unmoved (renaming_of v c.args.seat) a.lemma.clause ≡ true =
     ap (is_unmoved (renaming_of v c.args.seat)) (sym c.clause.ensures.clause) ∙ sym c.is_unmoved.ensures ∙ c.if-is_unmoved.true in
     let same : a ≡ joint_form v c.args.seat a = sym (unmoved_form v c.args.seat a c.clause.ensures.lemma still) in
-    subst (λ (b : Addition). IsReplyBy (λ (told : Added × Entry). told.0) c.add_inside_telling-then-is_unmoved.result (inside_reply c.args.joint.now c.args.seat b)) same c.add_inside_telling-then-is_unmoved.ensures.reply
+    subst (λ (b : Addition). IsReplyBy (λ (told : Added × Entry). told.0) c.add_inside_telling.result (inside_reply c.args.joint.now c.args.seat b)) same c.add_inside_telling.ensures.reply
 
 pub returns-then-is_unmoved-clause-ok : goal.returns-then-is_unmoved-clause-ok
 returns-then-is_unmoved-clause-ok c =
@@ -29,7 +29,7 @@ returns-then-is_unmoved-clause-ok c =
     let still : is_unmoved (renaming_of v c.args.seat) a.lemma.clause ≡ true =
     ap (is_unmoved (renaming_of v c.args.seat)) (sym c.clause.ensures.clause) ∙ sym c.is_unmoved.ensures ∙ c.if-is_unmoved.true in
     let same : a ≡ joint_form v c.args.seat a = sym (unmoved_form v c.args.seat a c.clause.ensures.lemma still) in
-    subst (λ (b : Addition). OnOk c.add_inside_telling-then-is_unmoved.result (c.add_inside_telling-then-is_unmoved.new.self ≡ after_entry c.args.joint.now (inside_entry c.args.joint.now c.args.seat b))) same c.add_inside_telling-then-is_unmoved.ensures.ok
+    subst (λ (b : Addition). OnOk c.add_inside_telling.result (c.add_inside_telling.new.self ≡ after_entry c.args.joint.now (inside_entry c.args.joint.now c.args.seat b))) same c.add_inside_telling.ensures.ok
 
 pub returns-then-is_unmoved-clause-told : goal.returns-then-is_unmoved-clause-told
 returns-then-is_unmoved-clause-told c =
@@ -38,4 +38,4 @@ returns-then-is_unmoved-clause-told c =
     let still : is_unmoved (renaming_of v c.args.seat) a.lemma.clause ≡ true =
     ap (is_unmoved (renaming_of v c.args.seat)) (sym c.clause.ensures.clause) ∙ sym c.is_unmoved.ensures ∙ c.if-is_unmoved.true in
     let same : a ≡ joint_form v c.args.seat a = sym (unmoved_form v c.args.seat a c.clause.ensures.lemma still) in
-    subst (λ (b : Addition). IfOk c.add_inside_telling-then-is_unmoved.result (λ told. told.1 ≡ with_call a (inside_entry c.args.joint.now c.args.seat b))) same c.add_inside_telling-then-is_unmoved.ensures.told
+    subst (λ (b : Addition). IfOk c.add_inside_telling.result (λ told. told.1 ≡ with_call a (inside_entry c.args.joint.now c.args.seat b))) same c.add_inside_telling.ensures.told

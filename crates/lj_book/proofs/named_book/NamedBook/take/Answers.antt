@@ -12,9 +12,9 @@ use Rattle.lj_book.proofs.named_book.NamedBook.take.Goals as goal
 
 pub returns-then-not-is_any_given-clause-reply : goal.returns-then-not-is_any_given-clause-reply
 returns-then-not-is_any_given-clause-reply c =
-    subst (λ (r : Result CaseValue Refusal). IsReply c.take-then-not-is_any_given.result r)
+    subst (λ (r : Result CaseValue Refusal). IsReply c.take.result r)
     (take_unmoved c.self.inside.joint c.self.inside.variables c.args.self.now c.self.invariant c.self.view_is c.args.seat c.args.addition.now (c.is_any_given.ensures c.if-not-is_any_given.true c.args.seat))
-    c.take-then-not-is_any_given.ensures.reply
+    c.take.ensures.reply
 
 pub returns-in_err-case-clause-reply : goal.returns-in_err-case-clause-reply
 returns-in_err-case-clause-reply c =

@@ -44,7 +44,7 @@ returns-then-is_within-clause-ok c =
     let clause : c.clause.result.now ≡ a.lemma.clause = c.clause.ensures.clause in
     let within : names_up_to t.top a.lemma.clause ≡ true = ap (names_up_to t.top) (sym clause) ∙ sym c.is_within.ensures.within ∙ c.if-is_within.true in
     let few : t.variables.next ≤ MAX_VARIABLE + 1 = subst (λ (n : ℕ). n ≤ MAX_VARIABLE + 1) c.next-before.ensures.next c.next-before.ensures.in_range.1 in
-    on_ok c.add_inside-added.result (within_entered j t over seat a lemma c.add_inside-added.new.self within few c.history_is_legal-then-is_within.ensures) c.add_inside-added.ensures.ok
+    on_ok c.add_inside-added.result (within_entered j t over seat a lemma c.add_inside-added.new.self within few c.history_is_legal.ensures) c.add_inside-added.ensures.ok
 
 pub returns-then-is_within-clause-err : goal.returns-then-is_within-clause-err
 returns-then-is_within-clause-err c =
