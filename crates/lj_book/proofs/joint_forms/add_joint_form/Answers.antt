@@ -30,3 +30,11 @@ returns-then-is_unmoved-clause-ok c =
     ap (is_unmoved (renaming_of v c.args.seat)) (sym c.clause.ensures.clause) ∙ sym c.is_unmoved.ensures ∙ c.if-is_unmoved.true in
     let same : a ≡ joint_form v c.args.seat a = sym (unmoved_form v c.args.seat a c.clause.ensures.lemma still) in
     subst (λ (b : Addition). OnOk c.add_inside.result (c.add_inside.new.self ≡ after_entry c.args.joint.now (inside_entry c.args.joint.now c.args.seat b))) same c.add_inside.ensures.ok
+
+pub returns-in-Ok-clause-reply : goal.returns-in-Ok-clause-reply
+returns-in-Ok-clause-reply c =
+    subst (λ (b : Addition). IsReply c.add_inside-in-Ok.result (inside_reply c.args.joint.now c.args.seat b)) c.in-Ok.ensures c.add_inside-in-Ok.ensures.reply
+
+pub returns-in-Ok-clause-ok : goal.returns-in-Ok-clause-ok
+returns-in-Ok-clause-ok c =
+    subst (λ (b : Addition). OnOk c.add_inside-in-Ok.result (c.add_inside-in-Ok.new.self ≡ after_entry c.args.joint.now (inside_entry c.args.joint.now c.args.seat b))) c.in-Ok.ensures c.add_inside-in-Ok.ensures.ok

@@ -17,6 +17,7 @@ use Rattle.lj_book.specs.inner.VariableTables.{TopVariables, variables_at, are_l
 use Rattle.lj_book.specs.inner.Limits.{limit_reply}
 use Rattle.lj_book.proofs.GivenBack.{given_goes_on}
 use Rattle.lj_book.proofs.OverLaws.{is_refusal}
+use Rattle.lj_book.proofs.NamedCommits.{on_err as anyway}
 use Rattle.lj_book.proofs.InsideOver.{within_reply, within_entry, within_entered, as_left, same_limit, given_reply, given_entry, given_entered, taken_back, refused_at_once, seat_within, on_ok, on_err}
 use Rattle.lj_book.proofs.named_book.inside.add_named.Goals as goal
 
@@ -195,3 +196,6 @@ returns-in-Err-clause-err c =
     ∙ ap (λ (b : Bool). cond b (variables_at t.top (given t.top t.variables seat c.clause.result.now)) t) c.if-not-left.false
     ∙ ap (λ (d : LiteralSet). variables_at t.top (given t.top t.variables seat d)) clause in
     (c.in-Err.ensures.err, taken_back j t over seat a lemma u enough gave c.next-before.result c.take_back.new.self c.next-before.ensures.next c.take_back.ensures)
+
+pub returns-in_err-left-clause-err : goal.returns-in_err-left-clause-err
+returns-in_err-left-clause-err c = anyway c.from_residual.result (refl, c.in_err-left.ensures.err)
