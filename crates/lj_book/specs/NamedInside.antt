@@ -5,7 +5,7 @@ use Rattle.lj_book.specs.declared.entry.Call.TheVariants as calls
 use Rattle.lj_book.specs.declared.entry.Entry.{Entry}
 use Rattle.lj_book.specs.declared.entry.Added.{Added}
 use Rattle.lj_book.specs.declared.refusal.Refusal.{Refusal}
-use Rattle.lj_book.specs.declared.refusal.Refusal.TheVariants.{NoVariableLeft}
+use Rattle.lj_book.specs.declared.refusal.Refusal.TheVariants.{Full, NoVariableLeft, NoMemory}
 use Rattle.lj_book.specs.Calls.{take_reply}
 use Rattle.lj_book.specs.Inside.{inside_reply, inside_step, inside_entry}
 use Rattle.lj_book.specs.Named.{NamedState, beneath, entry_beneath, has_variables_for}
@@ -24,6 +24,13 @@ named_inside_entry s seat a = record {
 abbrev pub if_left : Bool → Result Added Refusal → Result Added Refusal
 if_left left (Err e) = Err e
 if_left left (Ok added) = if left then Ok added else Err NoVariableLeft
+
+-- the history is full, no joint variable is left, or memory is short
+abbrev pub IsClosedRefusal : Refusal → Type 0
+IsClosedRefusal Full = Unit {0}
+IsClosedRefusal NoVariableLeft = Unit {0}
+IsClosedRefusal (NoMemory e) = Unit {0}
+IsClosedRefusal e = ⊥
 
 -- The reply is that of the book beneath, where as many joint variables are left.
 abbrev pub RepliesAreBeneath : Type 0

@@ -1,10 +1,12 @@
 //! Additions of seats that name their variables, in joint variables.
-ghost use Rattle.std.specs.Prelude.{◌≡◌, ◌++◌, ◌∷◌, [], ◌&&◌, not, neg_ℤ, OnOk, OnErr, IfOk};
+ghost use Rattle.std.specs.Prelude.{◌≡◌, ◌++◌, ◌∷◌, [], ◌&&◌, not, neg_ℤ, OnOk, OnErr, IfOk, IfErr};
 ghost use Rattle.lj_clause.specs.LiteralSet.{literals, holds};
 ghost use Rattle.lj_book.specs.Variables.{renaming_of};
 ghost use Rattle.lj_book.specs.History.{after_entry};
 ghost use Rattle.lj_book.specs.Calls.{IsRefusal, IsReply, IsReplyBy};
 ghost use Rattle.lj_book.specs.Inside.{inside_reply, inside_entry};
+ghost use Rattle.lj_book.specs.Solo.{view_of};
+ghost use Rattle.lj_book.specs.Views.{IsClosedAlone, IsFullOrShort};
 ghost use Rattle.lj_book.specs.declared.entry.Call.TheVariants as calls;
 ghost use Rattle.lj_book.specs.inner.JointForms.{joint_form, with_call};
 ghost use Rattle.lj_book.specs.inner.Limits.{is_known, known_images, led_by, known_addition, closes_at_once, is_new, is_lifted, limit_reply};
@@ -71,6 +73,71 @@ pub(crate) fn add_joint_form_telling(
     let call = own_call(addition)?;
     let renamed = joint_form(joint.allocator(), variables, seat, addition)?;
     match joint.add_inside_telling(seat, &renamed, marks) {
+        Ok((added, entry)) => {
+            let Entry { seat, step, .. } = entry;
+            Ok((added, Entry { seat, call, step }))
+        }
+        Err(refusal) => Err(refusal),
+    }
+}
+
+/// As [`add_joint_form`], of an addition that is known to close after so many of its hints, as [`Book::add_closed`].
+///
+/// # Errors
+/// As [`Book::add_closed`].
+pub(crate) fn close_joint_form(
+    joint: &mut Book,
+    variables: &VariableTable,
+    seat: u32,
+    addition: &Addition,
+    read: usize,
+) -> Result<Added, Refusal>
+    requires { IsClosedAlone (view_of joint.old seat) seat
+        (joint_form variables.now.variables seat addition.now) read }
+    ensures reply { IsReply result (inside_reply joint.old seat
+        (joint_form variables.now.variables seat addition.now)) }
+    ensures refusal { IfErr result IsFullOrShort }
+    ensures ok { OnOk result (joint.new ≡ after_entry joint.old
+        (inside_entry joint.old seat (joint_form variables.now.variables seat addition.now))) }
+    ensures err { OnErr result (joint.new ≡ joint.old) }
+{
+    if variables.is_unmoved(seat, addition.lemma.clause()) {
+        return joint.add_closed(seat, addition, read);
+    }
+    match joint_form(joint.allocator(), variables, seat, addition) {
+        Ok(renamed) => joint.add_closed(seat, &renamed, read),
+        Err(refused) => Err(Refusal::NoMemory(refused)),
+    }
+}
+
+/// As [`close_joint_form`], with a copy of the entry, whose call is the seat's own.
+///
+/// # Errors
+/// As [`Book::add_closed`].
+pub(crate) fn close_joint_form_telling(
+    joint: &mut Book,
+    variables: &VariableTable,
+    seat: u32,
+    addition: &Addition,
+    read: usize,
+) -> Result<(Added, Entry), Refusal>
+    requires { IsClosedAlone (view_of joint.old seat) seat
+        (joint_form variables.now.variables seat addition.now) read }
+    ensures reply { IsReplyBy (λ told. told.0) result (inside_reply joint.old seat
+        (joint_form variables.now.variables seat addition.now)) }
+    ensures refusal { IfErr result IsFullOrShort }
+    ensures told { IfOk result (λ told. told.1 ≡ with_call addition.now
+        (inside_entry joint.old seat (joint_form variables.now.variables seat addition.now))) }
+    ensures ok { OnOk result (joint.new ≡ after_entry joint.old
+        (inside_entry joint.old seat (joint_form variables.now.variables seat addition.now))) }
+    ensures err { OnErr result (joint.new ≡ joint.old) }
+{
+    if variables.is_unmoved(seat, addition.lemma.clause()) {
+        return joint.add_closed_telling(seat, addition, read);
+    }
+    let call = own_call(addition)?;
+    let renamed = joint_form(joint.allocator(), variables, seat, addition)?;
+    match joint.add_closed_telling(seat, &renamed, read) {
         Ok((added, entry)) => {
             let Entry { seat, step, .. } = entry;
             Ok((added, Entry { seat, call, step }))

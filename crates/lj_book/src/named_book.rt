@@ -11,6 +11,7 @@ ghost use Rattle.lj_book.specs.NamedViews.{named_take};
 ghost use Rattle.lj_book.specs.NamedReplies.{named_drop, named_leave};
 
 mod binding;
+mod closed;
 mod committing;
 mod entries;
 mod inside;
