@@ -73,10 +73,7 @@ pub(crate) fn add_joint_form_telling(
     let call = own_call(addition)?;
     let renamed = joint_form(joint.allocator(), variables, seat, addition)?;
     match joint.add_inside_telling(seat, &renamed, marks) {
-        Ok((added, entry)) => {
-            let Entry { seat, step, .. } = entry;
-            Ok((added, Entry { seat, call, step }))
-        }
+        Ok((added, entry)) => Ok((added, with_call(entry, call))),
         Err(refusal) => Err(refusal),
     }
 }
@@ -138,12 +135,17 @@ pub(crate) fn close_joint_form_telling(
     let call = own_call(addition)?;
     let renamed = joint_form(joint.allocator(), variables, seat, addition)?;
     match joint.add_closed_telling(seat, &renamed, read) {
-        Ok((added, entry)) => {
-            let Entry { seat, step, .. } = entry;
-            Ok((added, Entry { seat, call, step }))
-        }
+        Ok((added, entry)) => Ok((added, with_call(entry, call))),
         Err(refusal) => Err(refusal),
     }
+}
+
+/// The entry with this call in place of its own.
+fn with_call(entry: Entry, call: Call) -> Entry
+    ensures { result ≡ record entry { call = call } }
+{
+    let Entry { seat, step, .. } = entry;
+    Entry { seat, call, step }
 }
 
 /// The call of an addition, as it was made.
