@@ -83,14 +83,14 @@ impl Case {
     }
 
     /// The first list of hints. Takes constant time.
-    pub fn hints(&self) -> &[Pair]
+    pub(crate) fn hints(&self) -> &[Pair]
         ensures { result.now ≡ self.now.hints }
     {
         self.hints.as_slice()
     }
 
     /// The groups, each a candidate and its hints. Takes constant time.
-    pub fn groups(&self) -> &[(Pair, Vec<Pair>)]
+    pub(crate) fn groups(&self) -> &[(Pair, Vec<Pair>)]
         ensures { groups_of result.now ≡ self.now.groups }
     {
         &self.groups

@@ -1,5 +1,5 @@
 //! Hint groups, and lists of them.
-ghost use Rattle.std.specs.Prelude.{◌≡◌, ◌==◌, ◌↔◌, ℕ, List, ◌⊎◌, IsTrue, [], ◌∷◌, ◌++◌, length, slice_get, IfOk, OnOk, OnErr};
+ghost use Rattle.std.specs.Prelude.{◌≡◌, ◌==◌, ℕ, List, ◌⊎◌, [], ◌∷◌, ◌++◌, length, slice_get, IfOk, OnOk, OnErr};
 
 use crate::numbers::{MANY, Numbers, NumbersIter};
 use std::alloc::{AllocError, Global};
@@ -155,16 +155,6 @@ impl Groups {
         }
     }
 
-    /// Whether the two lists are equal. Takes time linear in their numbers.
-    pub fn same(&self, other: &Groups) -> bool
-        ensures { IsTrue result ↔ (self.now ≡ other.now) }
-    {
-        match (&self.row, &other.row) {
-            (Some(row), Some(other)) => row.same(other),
-            _ => self.is_empty() && other.is_empty(),
-        }
-    }
-
     /// A list of its own with the same groups. Takes time linear in their numbers.
     ///
     /// # Errors
@@ -253,13 +243,6 @@ impl Row {
                 Err(refused)
             }
         }
-    }
-
-    /// Whether the two have the same groups.
-    fn same(&self, other: &Row) -> bool
-        ensures { IsTrue result ↔ (self.now ≡ other.now) }
-    {
-        self.count == other.count && self.numbers.same(&other.numbers)
     }
 
     /// A row of its own with the same groups.

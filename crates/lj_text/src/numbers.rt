@@ -1,5 +1,5 @@
 //! Lists of clause numbers.
-ghost use Rattle.std.specs.Prelude.{◌≡◌, true, ◌==◌, ◌<◌, ◌≤◌, ◌∷◌, ◌++◌, ◌↔◌, ◌⊎◌, IsTrue, [], length, take, drop, slice_get, IfOk, IfSome, OnOk, OnErr};
+ghost use Rattle.std.specs.Prelude.{◌≡◌, true, ◌==◌, ◌<◌, ◌≤◌, ◌∷◌, ◌++◌, ◌⊎◌, [], length, take, drop, slice_get, IfOk, IfSome, OnOk, OnErr};
 ghost use Rattle.lj_text.specs.inner.LineReading.{IsReadOn};
 ghost use Rattle.lj_text.specs.inner.ShortNumbers.{AreNumbersAhead};
 
@@ -264,21 +264,6 @@ impl Numbers {
             Form::Short(numbers) => Some(numbers),
             Form::Long(_) => None,
         }
-    }
-
-    /// Whether the two lists are equal. Takes time linear in how many numbers there are.
-    pub fn same(&self, other: &Numbers) -> bool
-        ensures { IsTrue result ↔ (self.now ≡ other.now) }
-    {
-        if self.len() != other.len() {
-            return false;
-        }
-        for index in 0..self.len() {
-            if self.get(index) != other.get(index) {
-                return false;
-            }
-        }
-        true
     }
 
     /// A list of its own with the same numbers. Takes time and memory linear in how many there are.

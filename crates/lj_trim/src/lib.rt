@@ -10,5 +10,4 @@ mod needed;
 mod trimming;
 
 pub use kept::Kept;
-pub use needed::up_to_empty_clause;
 pub use trimming::{TrimRefusal, trim};

@@ -35,17 +35,6 @@ pub(crate) fn first_empty(steps: &[Step]) -> Option<usize>
     None
 }
 
-/// The steps up to and including the first addition of the empty clause: all of them, where none adds it. Takes time linear in
-/// the steps.
-pub fn up_to_empty_clause(steps: &[Step]) -> &[Step]
-    ensures { result.now ≡ up_to_empty steps.now }
-{
-    match first_empty(steps) {
-        Some(last) => &steps[..last + 1],
-        None => steps,
-    }
-}
-
 /// The number of the step, where it adds the empty clause.
 fn empty_number(step: &Step) -> Option<u64>
     ensures { option_to_list result ≡ empty_number_of step.now }
