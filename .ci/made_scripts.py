@@ -227,10 +227,10 @@ def lists_of_events():
 # ---- walks and RAT tests
 
 
-def add_walk(script, clauses, lemma, hints):
-    how, place = plain_book.walk({-literal for literal in lemma}, hints, lambda hint: frozenset(clauses[hint - 1]))
+def add_propagation(script, clauses, lemma, hints):
+    how, place = plain_book.propagate({-literal for literal in lemma}, hints, lambda hint: frozenset(clauses[hint - 1]))
     told = {"Closed": words("Closed", hints[:place] if how == "Closed" else []), "Open": "Open"}
-    script.ask(f"walk {words(lemma, 0, hints, 0)}", told.get(how, f"Stuck({place})"))
+    script.ask(f"propagate {words(lemma, 0, hints, 0)}", told.get(how, f"Stuck({place})"))
 
 
 def add_rat(script, clauses, line):
@@ -239,17 +239,17 @@ def add_rat(script, clauses, line):
     script.ask(f"rat {line_words(*line)}", f"step {book.steps[0]}" if book.steps else told)
 
 
-def small_walks():
+def small_propagations():
     """Walks and RAT tests over small formulas, in one room, which is moved around its greatest stamp now and then."""
     random, script = Random(7), Script()
     for count in range(60):
         clauses = [random.clause() for _ in range(1 + random.below(8))]
         script.formula(4, clauses)
         if count % 3 == 0:
-            script.ask(f"walks {2**32 - 1 - random.below(30)}")
+            script.ask(f"propagations {2**32 - 1 - random.below(30)}")
         numbers = range(1, len(clauses) + 1)
         for _ in range(40):
-            add_walk(script, clauses, random.literals(3), [random.of(numbers) for _ in range(random.below(6))])
+            add_propagation(script, clauses, random.literals(3), [random.of(numbers) for _ in range(random.below(6))])
         for _ in range(25):
             groups = [(random.of(numbers), [random.of(numbers) for _ in range(random.below(3))]) for _ in range(random.below(5))]
             hints = [random.of(numbers) for _ in range(random.below(3))]
@@ -257,7 +257,7 @@ def small_walks():
     yield script.named("small walks")
 
 
-def long_walks():
+def long_propagations():
     """Walks that hold many literals: near the greatest one, and so often that the list of stamps grows, in walks of more
     literals than a room is kept for and of fewer. No old stamp counts, so a walk of 1 alone is stuck each time."""
     for name, first, count, times in (
@@ -270,10 +270,10 @@ def long_walks():
         clauses = [[1, 2], many, [-literal for literal in many]]
         script.formula(134_217_727, clauses)
         for _ in range(times):
-            add_walk(script, clauses, many, [2])
-            add_walk(script, clauses, [1], [2])
-            add_walk(script, clauses, many, [3, 2])
-            add_walk(script, clauses, [1], [1, 2])
+            add_propagation(script, clauses, many, [2])
+            add_propagation(script, clauses, [1], [2])
+            add_propagation(script, clauses, many, [3, 2])
+            add_propagation(script, clauses, [1], [1, 2])
         yield script.named(name)
 
 
@@ -311,6 +311,6 @@ def long_lines():
 
 def scripts():
     yield from lists_of_events()
-    yield from small_walks()
-    yield from long_walks()
+    yield from small_propagations()
+    yield from long_propagations()
     yield from long_lines()

@@ -21,7 +21,7 @@ def lemma_words(lemma):
     return lemma[:1] + [literal for literal in in_order(lemma) if literal != lemma[0]]
 
 
-def addition_words(number, lemma, hints, groups):
+def addition_tokens(number, lemma, hints, groups):
     """The text of an addition."""
     listed = [word for candidate, own in groups for word in (-candidate, *own)]
     return words(number, lemma_words(lemma), 0, hints, listed, 0)
@@ -38,7 +38,7 @@ def hints_and_groups(numbers):
     return hints, groups
 
 
-def walk(held, hints, clause_of):
+def propagate(held, hints, clause_of):
     """The walk of a set of literals over hints: Closed and how many hints it read, Open and the set, or Stuck and the place."""
     held = set(held)
     if any(-literal in held for literal in held):
@@ -60,7 +60,7 @@ def rat(held, pivot, live, groups):
     for number in sorted(number for number, clause in live.items() if -pivot in clause):
         own = next((hints for candidate, hints in groups if candidate == number), None)
         others = {-literal for literal in live[number] if literal != -pivot}
-        how, place = walk(held | others, own or [], live.get)
+        how, place = propagate(held | others, own or [], live.get)
         if how == "Closed":
             covered.append((number, (own or [])[:place]))
         elif own is None:
@@ -115,7 +115,7 @@ class Book:
         if len(self.given) - self.formula == self.limit:
             raise Refused("Full")
         number = len(self.given) + 1
-        place = self.enter(seat, f"add {words(own, lemma_words(lemma), 0)}", addition_words(number, lemma, hints, groups))
+        place = self.enter(seat, f"add {words(own, lemma_words(lemma), 0)}", addition_tokens(number, lemma, hints, groups))
         self.given[number] = frozenset(lemma)
         self.tables[seat][own] = number
         if not lemma and self.verdict is None:
@@ -146,7 +146,7 @@ class Book:
         if not self.pending[seat] or self.pending[seat][0] != "case":
             return "Nothing"
         _, own, lemma, pairs = self.pending[seat]
-        how, place = walk({-literal for literal in lemma}, range(len(pairs)), lambda at: pairs[at][1])
+        how, place = propagate({-literal for literal in lemma}, range(len(pairs)), lambda at: pairs[at][1])
         self.pending[seat] = ("receipt", own, lemma, pairs[:place]) if how == "Closed" else None
         return f"Stuck({place})" if how == "Stuck" else how
 
@@ -165,7 +165,7 @@ class Book:
     def inside(self, seat, own, lemma, hints, groups=()):
         hints, groups = self.case(seat, own, hints, groups)
         live = self.live()
-        how, place = walk({-literal for literal in lemma}, hints, live.get)
+        how, place = propagate({-literal for literal in lemma}, hints, live.get)
         if how == "Stuck":
             raise Refused(f"HintNotUnit({place})")
         if how == "Closed":
@@ -239,5 +239,5 @@ def trimmed(formula, steps):
             kept += [words(greatest, "d", dead, 0)] if dead else []
         elif adds[at][0] in needed:
             greatest, lemma, hints, groups = adds[at]
-            kept.append(addition_words(greatest, lemma, hints, [it for it in groups if it[0] <= formula or it[0] in needed]))
+            kept.append(addition_tokens(greatest, lemma, hints, [it for it in groups if it[0] <= formula or it[0] in needed]))
     return kept

@@ -28,7 +28,7 @@ from refusing import ALL, SECONDS, refuse_each, run_refused
 SCRIPTS = pathlib.Path(__file__).resolve().parent.parent / "crates" / "lj_script" / "scripts"
 OF_BOOKS = ("stale_receipts", "given_up", "imports", "groups", "found", "verdicts", "trimming")
 OF_SHARED_BOOKS = ("shared", "shared_receipts", "shared_untold")
-UNPLAYED = ("walks", "rat_lines")
+UNPLAYED = ("propagations", "rat_lines")
 BY_EVENTS = ("stale_receipts", "neighbours", "leaving", "given_up", "imports", "groups")
 # How many requests later the second is refused: a shared book's lines are read once more before the call is made once more.
 AGAIN = {**dict.fromkeys(OF_BOOKS, (1, 2)), **dict.fromkeys(OF_SHARED_BOOKS, (1, 4, 6, 8, 10))}

@@ -8,7 +8,7 @@ use Rattle.lj_text.specs.Needed.{additions}
 use Rattle.lj_book.specs.declared.entry.Call.{Call}
 use Rattle.lj_book.specs.declared.entry.Entry.{Entry}
 use Rattle.lj_book.specs.declared.refusal.Refusal.TheVariants.{SeatGone, NumberTaken}
-use Rattle.lj_book.specs.Tables.{Tables, is_here, is_bound, is_held, with_binding}
+use Rattle.lj_book.specs.Tables.{Tables, is_here, is_bound, has_holder, with_binding}
 use Rattle.lj_book.specs.State.{State, steps_of, live}
 use Rattle.lj_book.specs.History.{after_entry, tables_after, IsLegalCall}
 use Rattle.lj_book.specs.Calls.{free_refusal, binding_entry}
@@ -33,8 +33,8 @@ pub IsKept-bound : (s : State) (m : ClauseMap) (count : ℕ) (refuted : Option �
 IsKept-bound s m count refuted seat own joint call kept free lives legal binds =
     let e : Entry = binding_entry seat call in
     let can = can_bind s seat own free in
-    let held : (q : ℕ) → is_held (tables_after s seat call) q ≡ is_held s.tables q = λ q.
-    ap (λ (ts : Tables). is_held ts q) binds ∙ held-found s seat own (Some joint) (IsSound-reached s kept.reached) can.here can.unbound lives q in
+    let held : (q : ℕ) → has_holder (tables_after s seat call) q ≡ has_holder s.tables q = λ q.
+    ap (λ (ts : Tables). has_holder ts q) binds ∙ held-found s seat own (Some joint) (IsSound-reached s kept.reached) can.here can.unbound lives q in
     let before = kept.additions in
     let more = ap (λ ss. length (additions ss)) (steps_of-push s.history e) ∙ additions-append (steps_of s.history) [] in
     record {

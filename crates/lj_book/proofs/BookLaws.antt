@@ -12,7 +12,7 @@ use Rattle.lj_text.proofs.StepLaws.{unsatisfiable-refutes}
 use Rattle.lj_text.specs.Needed.{additions, if_some}
 use Rattle.lj_book.specs.declared.entry.Call.TheVariants as calls
 use Rattle.lj_book.specs.declared.entry.Entry.{Entry}
-use Rattle.lj_book.specs.Tables.{Tables, is_here, joint_of, is_held, is_among, with_table, without_keys}
+use Rattle.lj_book.specs.Tables.{Tables, is_here, joint_of, has_holder, is_among, with_table, without_keys}
 use Rattle.lj_book.specs.State.{State, steps_of, live, opening, is_refutation, verdict_from, verdict}
 use Rattle.lj_clause.specs.Truth.{IsUnsatisfiable}
 use Rattle.lj_book.specs.History.{dead_numbers, after_entry, IsReached}
@@ -98,10 +98,10 @@ IsKept-drop s m n count refuted seat numbers kept here is =
     }
 
 -- the numbers that the code finds are those that died
-pub found_dead : (s : State) (seat : ℕ) (numbers rising dead : List ℕ) (tables : Tables) → IsSound s → is_here s.tables seat ≡ true → tables ≡ with_table (without_keys numbers) s.tables seat → IsStrictlySortedBy nat_cmp rising → ((q : ℕ) → is_among rising q ≡ is_among (filter_map (joint_of s.tables seat) numbers) q) → dead ≡ filter (λ n. not (is_held tables n)) rising → dead ≡ dead_numbers s (with_table (without_keys numbers) s.tables seat)
+pub found_dead : (s : State) (seat : ℕ) (numbers rising dead : List ℕ) (tables : Tables) → IsSound s → is_here s.tables seat ≡ true → tables ≡ with_table (without_keys numbers) s.tables seat → IsStrictlySortedBy nat_cmp rising → ((q : ℕ) → is_among rising q ≡ is_among (filter_map (joint_of s.tables seat) numbers) q) → dead ≡ filter (λ n. not (has_holder tables n)) rising → dead ≡ dead_numbers s (with_table (without_keys numbers) s.tables seat)
 found_dead s seat numbers rising dead tables sound here is sorted same found =
     let t = has_table s.tables seat here in
-    found ∙ ap (λ (ts : Tables). filter (λ n. not (is_held ts n)) rising) is ∙ died_are s seat t.0 numbers rising sound t.1 sorted same
+    found ∙ ap (λ (ts : Tables). filter (λ n. not (has_holder ts n)) rising) is ∙ died_are s seat t.0 numbers rising sound t.1 sorted same
 
 pub dropped_state : (s : State) (seat : ℕ) (numbers written dead : List ℕ) (tables : Tables) (step : Option Step) (history : List Entry) → tables ≡ with_table (without_keys numbers) s.tables seat → written ≡ numbers → dead ≡ dead_numbers s (with_table (without_keys numbers) s.tables seat) → step ≡ if_some dead → history ≡ s.history ++ record { seat = seat; call = calls.Drop written; step = step } ∷ [] → ◌≡◌ {A = State} (record { formula = s.formula; max_steps = s.max_steps; tables = tables; history = history }) (after_entry s (drop_entry s seat numbers))
 dropped_state s seat numbers written dead tables step history is same found step_is pushed =

@@ -4,21 +4,21 @@ use Rattle.std.specs.Prelude.{Option, Some, None, option_map, option_and_then, R
 use Rattle.std.specs.FinMap as fin
 use Rattle.lj_clause.specs.LiteralSet.{negations}
 use Rattle.lj_clause.specs.ClauseMap.{ClauseMap}
-use Rattle.lj_clause.specs.Walk.{Walk, Closed, walk_over, walk}
-use Rattle.lj_clause.proofs.WalkLaws.{used-first}
+use Rattle.lj_clause.specs.Propagation.{Propagation, Closed, propagate_over, propagate}
+use Rattle.lj_clause.proofs.PropagationLaws.{used-first}
 use Rattle.lj_text.specs.declared.line.Addition.{Addition}
-use Rattle.lj_text.specs.Steps.{first_walk, recorded_after}
+use Rattle.lj_text.specs.Steps.{first_propagation, recorded_after}
 use Rattle.lj_hint.specs.declared.pair.Pair.{Pair}
 use Rattle.lj_hint.specs.Hints.{numbers}
-use Rattle.lj_hint.specs.Case.{CaseValue, walk_of}
+use Rattle.lj_hint.specs.Case.{CaseValue, propagation_of}
 use Rattle.lj_book.specs.declared.refusal.Refusal.{Refusal}
 use Rattle.lj_book.specs.declared.refusal.Refusal.TheVariants as refusals
 use Rattle.lj_book.specs.Tables.{Table, table_of, joint_of}
 use Rattle.lj_book.specs.State.{State, addition_count, given_out, next, live}
 use Rattle.lj_book.specs.Calls.{IsRefusal, IsReplyBy, unless_refused, repeated_after, pair_in, pairs_of, group_pairs_of, case_with, free_refusal, take_reply}
-use Rattle.lj_book.specs.Inside.{walk_refusal}
+use Rattle.lj_book.specs.Inside.{propagation_refusal}
 use Rattle.lj_book.specs.Solo.{holdings_of, solo_take, view_of}
-use Rattle.lj_book.specs.Views.{IsClosedAlone, IsFullOrShort}
+use Rattle.lj_book.specs.Views.{IsClosedAlone, IsFullOrNoMemory}
 use Rattle.lj_book.specs.inner.JointLines.{LineParts, if_bound, with_joint, joints_in, joint_groups_in, parts_with, joint_parts, addition_of_parts, tested_line, tested_parts, inside_line}
 use Rattle.lj_book.proofs.HistoryLaws.{IsSound}
 use Rattle.lj_book.proofs.BindingLaws.{can_bind}
@@ -51,11 +51,11 @@ joints_first joint (suc n) (own ∷ owns) js h = go (λ ks f. joints_first joint
         ∙ ap (with_joint j) (rest ks f)
         ∙ ap (λ (ls : List ℕ). Ok (take (suc n) ls)) same
 
--- a line whose first list closes the walk is recorded with the hints that were read
-closed_test : (p : ClauseMap) (b : Addition) (used : List ℕ) (read : ℕ) → first_walk p b ≡ Closed used → length used ≡ read → tested_line p b ≡ Ok (cut b read)
+-- a line whose first list closes the propagation is recorded with the hints that were read
+closed_test : (p : ClauseMap) (b : Addition) (used : List ℕ) (read : ℕ) → first_propagation p b ≡ Closed used → length used ≡ read → tested_line p b ≡ Ok (cut b read)
 closed_test p b used read closed count =
     let first : take (length used) b.hints ≡ used = used-first p (negations b.lemma.clause) b.hints used closed in
-    ap (λ (w : Walk). unless_refused (walk_refusal p b w) (recorded_after p b w)) closed
+    ap (λ (w : Propagation). unless_refused (propagation_refusal p b w) (recorded_after p b w)) closed
     ∙ ap (λ (ns : List ℕ). Ok (record b { hints = ns; groups = [] })) (sym first ∙ ap (λ (k : ℕ). take k b.hints) count)
 
 -- a number whose take is answered is free
@@ -75,18 +75,18 @@ case_joints seat a c None (Ok hs) (Ok gs) h =
     let same : ◌≡◌ {A = CaseValue} (record { seat = seat; own = a.number; lemma = a.lemma; hints = hs; groups = gs }) c = cc in
     ap (λ (d : CaseValue). Ok (numbers d.hints, groups_joint d.groups)) same
 
--- the walk over the live clauses is that of the case
-walked_here : (s : State) (seat : ℕ) (a : Addition) (c : CaseValue) → IsGiven s → solo_take (view_of s seat) seat a ≡ Ok c → walk (live s) (negations a.lemma.clause) (numbers c.hints) ≡ walk_of c
-walked_here s seat a c given taken = go (table_of s.tables seat) refl
+-- propagation over the live clauses is that of the case
+propagated_here : (s : State) (seat : ℕ) (a : Addition) (c : CaseValue) → IsGiven s → solo_take (view_of s seat) seat a ≡ Ok c → propagate (live s) (negations a.lemma.clause) (numbers c.hints) ≡ propagation_of c
+propagated_here s seat a c given taken = go (table_of s.tables seat) refl
   where
     at_view : (o : Option Table) → table_of s.tables seat ≡ o → solo_take (option_map (holdings_of (given_out s)) o) seat a ≡ Ok c
     at_view o e = ap (λ (t : Option Table). solo_take (option_map (holdings_of (given_out s)) t) seat a) (sym e) ∙ taken
 
-    go : (o : Option Table) → table_of s.tables seat ≡ o → walk (live s) (negations a.lemma.clause) (numbers c.hints) ≡ walk_of c
+    go : (o : Option Table) → table_of s.tables seat ≡ o → propagate (live s) (negations a.lemma.clause) (numbers c.hints) ≡ propagation_of c
     go None e = let no = at_view None e in absurd (let bad : ⊥ = cc in bad)
     go (Some t) e =
         let from : IsTakenFrom seat a (Some (holdings_of (given_out s) t)) c = take_fits seat (Some (holdings_of (given_out s) t)) a c (at_view (Some t) e) in
-        (λ i. walk_over (negations (sym from.lemma i).clause) (held_named s seat t c.hints given e from.fit.1 i))
+        (λ i. propagate_over (negations (sym from.lemma i).clause) (held_named s seat t c.hints given e from.fit.1 i))
 
 pub closed_here : (s : State) (seat : ℕ) (a : Addition) (read : ℕ) → IsSound s → IsClosedAlone (view_of s seat) seat a read → IsClosedHere s seat a read
 closed_here s seat a read sound alone =
@@ -101,7 +101,7 @@ closed_here s seat a read sound alone =
     sym (parts_here s seat a sound)
     ∙ case_joints seat a c (repeated_after joint [] a.groups) (pairs_of (pair_in s.tables (live s) seat) a.hints) (group_pairs_of (pair_in s.tables (live s) seat) a.groups) made in
     let found = parts_of (repeated_after joint [] a.groups) (joints_in joint a.hints) (joint_groups_in joint a.groups) parts are in
-    let closed : first_walk (live s) (addition_of_parts (next s) a.lemma parts) ≡ Closed alone.used = walked_here s seat a c given alone.taken ∙ alone.closed in
+    let closed : first_propagation (live s) (addition_of_parts (next s) a.lemma parts) ≡ Closed alone.used = propagated_here s seat a c given alone.taken ∙ alone.closed in
     record {
       free = free;
       hints = take read (numbers c.hints);
@@ -110,7 +110,7 @@ closed_here s seat a read sound alone =
     }
 
 -- where the call answers a list, the only refusal is for want of memory
-pub short_alone : {A : Type 0} (e : Refusal) (r : Result A Refusal) (x : A) → r ≡ Ok x → IsRefusal e r → IsFullOrShort e
+pub short_alone : {A : Type 0} (e : Refusal) (r : Result A Refusal) (x : A) → r ≡ Ok x → IsRefusal e r → IsFullOrNoMemory e
 short_alone (refusals.NoMemory m) r x is h = tt
 short_alone refusals.Full r x is h = tt
 short_alone refusals.SeatGone r x is h = absurd (let no : ⊥ = cc in no)
@@ -135,16 +135,16 @@ held_by s seat t owns at = ap (λ (o : Option Table). joints_in (λ own. option_
 
 -- the hints that were put into a list are those of the line, or memory is short
 pub closed_reply : (s : State) (seat : ℕ) (a : Addition) (read : ℕ) (t : Table) (hints : List ℕ) (r : Result (Unit {0}) Refusal) → IsClosedHere s seat a read → addition_count s.history < s.max_steps → table_of s.tables seat ≡ Some t → IsReplyBy (λ (_ : Unit {0}). hints) r (joints_in (fin.get t) (take read a.hints)) → IsReplyBy (λ (_ : Unit {0}). addition_of_parts (next s) a.lemma (hints, [])) r (inside_line s seat a)
-closed_reply s seat a read t hints (Ok u) here room at put =
+closed_reply s seat a read t hints (Ok u) here capacity at put =
     let are : ◌≡◌ {A = Result (List ℕ) Refusal} (Ok here.hints) (Ok hints) = sym here.held ∙ held_by s seat t (take read a.hints) at ∙ put in
     let same : here.hints ≡ hints = cc in
-    parts_passed (live s) s seat a (addition_of_parts (next s) a.lemma (here.hints, [])) refl here.free here.tested room
+    parts_passed (live s) s seat a (addition_of_parts (next s) a.lemma (here.hints, [])) refl here.free here.tested capacity
     ∙ ap (λ (js : List ℕ). Ok (addition_of_parts (next s) a.lemma (js, []))) same
-closed_reply s seat a read t hints (Err e) here room at put =
+closed_reply s seat a read t hints (Err e) here capacity at put =
     refusal_passes e (joints_in (fin.get t) (take read a.hints)) (inside_line s seat a)
     (λ x one. let is : ◌≡◌ {A = Result (List ℕ) Refusal} (Ok here.hints) (Err x) = sym here.held ∙ held_by s seat t (take read a.hints) at ∙ one in absurd (let no : ⊥ = cc in no))
     put
 
-pub closed_short : (s : State) (seat : ℕ) (a : Addition) (read : ℕ) (t : Table) (hints : List ℕ) (r : Result (Unit {0}) Refusal) → IsClosedHere s seat a read → table_of s.tables seat ≡ Some t → IsReplyBy (λ (_ : Unit {0}). hints) r (joints_in (fin.get t) (take read a.hints)) → IfErr r IsFullOrShort
+pub closed_short : (s : State) (seat : ℕ) (a : Addition) (read : ℕ) (t : Table) (hints : List ℕ) (r : Result (Unit {0}) Refusal) → IsClosedHere s seat a read → table_of s.tables seat ≡ Some t → IsReplyBy (λ (_ : Unit {0}). hints) r (joints_in (fin.get t) (take read a.hints)) → IfErr r IsFullOrNoMemory
 closed_short s seat a read t hints (Ok u) here at put = tt
 closed_short s seat a read t hints (Err e) here at put = short_alone e (joints_in (fin.get t) (take read a.hints)) here.hints (sym (held_by s seat t (take read a.hints) at) ∙ here.held) put

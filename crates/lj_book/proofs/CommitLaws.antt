@@ -11,13 +11,13 @@ use Rattle.lj_clause.specs.Literal.{lit_cmp}
 use Rattle.lj_clause.specs.LiteralSet.{LiteralSet, holds, literals, negations}
 use Rattle.lj_clause.specs.ClauseMap.{ClauseMap}
 use Rattle.lj_clause.specs.Lemma.{LemmaValue}
-use Rattle.lj_clause.specs.Walk.{Walk, Closed, hints_in, walk_over, is_closed}
+use Rattle.lj_clause.specs.Propagation.{Propagation, Closed, hints_in, propagate_over, is_closed}
 use Rattle.lj_clause.proofs.LiteralSets.{same_set, holds-literals}
 use Rattle.lj_clause.proofs.Among.{among, itself}
 use Rattle.lj_clause.proofs.Literals.{same_literal}
 use Rattle.lj_text.specs.declared.line.Addition.{Addition}
 use Rattle.lj_text.specs.declared.step.Step.TheVariants as steps
-use Rattle.lj_text.specs.Steps.{names_all, names, is_in_place, first_walk, is_rat_after, IsRecordedAfter}
+use Rattle.lj_text.specs.Steps.{names_all, names, is_in_place, first_propagation, is_rat_after, IsRecordedAfter}
 use Rattle.lj_text.specs.Needed.{additions}
 use Rattle.lj_hint.specs.declared.pair.Pair.{Pair}
 use Rattle.lj_hint.specs.Hints.{named_hints, numbers}
@@ -25,7 +25,7 @@ use Rattle.lj_hint.specs.Receipt.{ReceiptValue, IsReceipt}
 use Rattle.lj_book.specs.declared.entry.Call.{Call}
 use Rattle.lj_book.specs.declared.entry.Call.TheVariants as calls
 use Rattle.lj_book.specs.declared.entry.Entry.{Entry}
-use Rattle.lj_book.specs.Tables.{Table, Tables, is_here, is_bound, is_held, with_table}
+use Rattle.lj_book.specs.Tables.{Table, Tables, is_here, is_bound, has_holder, with_table}
 use Rattle.lj_book.specs.State.{State, steps_of, addition_count, next, live, verdict}
 use Rattle.lj_book.specs.History.{after_entry, IsLegal}
 use Rattle.lj_book.specs.Lookup.{is_same, is_clause}
@@ -96,20 +96,20 @@ pub record CanCommit (s : State) (r : ReceiptValue) : Type 0 where
   pub here : is_here s.tables r.seat ≡ true
   pub unbound : is_bound s.tables r.seat r.own ≡ false
   pub fresh : first_stale (live s) r.listed ≡ None
-  pub room : addition_count s.history < s.max_steps
+  pub capacity : addition_count s.history < s.max_steps
 
 pub can_commit : (s : State) (r : ReceiptValue) → commit_refusal s r ≡ None → CanCommit s r
 can_commit s r h = go (is_here s.tables r.seat) (is_bound s.tables r.seat r.own) (first_stale (live s) r.listed) (nat_lt (addition_count s.history) s.max_steps) refl refl refl refl h
   where
-    room : (a m : ℕ) → nat_lt a m ≡ true → a < m
-    room a m e = grind (arith, nat_tests)
+    capacity : (a m : ℕ) → nat_lt a m ≡ true → a < m
+    capacity a m e = grind (arith, nat_tests)
 
     go : (a b : Bool) (o : Option ℕ) (c : Bool) → is_here s.tables r.seat ≡ a → is_bound s.tables r.seat r.own ≡ b → first_stale (live s) r.listed ≡ o → nat_lt (addition_count s.history) s.max_steps ≡ c → (if a then (if b then Some NumberTaken else stale_or o (if c then None else Some Full)) else Some SeatGone) ≡ None → CanCommit s r
     go false b o c p q u v h = absurd (false≢true (sym (ap is_some h)))
     go true true o c p q u v h = absurd (false≢true (sym (ap is_some h)))
     go true false (Some j) c p q u v h = absurd (false≢true (sym (ap is_some h)))
     go true false None false p q u v h = absurd (false≢true (sym (ap is_some h)))
-    go true false None true p q u v h = record { here = p; unbound = q; fresh = u; room = room (addition_count s.history) s.max_steps v }
+    go true false None true p q u v h = record { here = p; unbound = q; fresh = u; capacity = capacity (addition_count s.history) s.max_steps v }
 
 -- ---- the entry of a commit is legal
 
@@ -120,8 +120,8 @@ not_there s sound = go (fin.contains_key (live s) (next s)) refl
     go true e = let low = sound.given_below (next s) (sound.held_given (next s) (sym (live-held s sound (next s)) ∙ e)) in absurd (omega arith)
     go false e = refl
 
-pub not_held_at_next : (s : State) → IsSound s → is_held s.tables (next s) ≡ false
-not_held_at_next s sound = sym (live-held s sound (next s)) ∙ not_there s sound
+pub no_holder_at_next : (s : State) → IsSound s → has_holder s.tables (next s) ≡ false
+no_holder_at_next s sound = sym (live-held s sound (next s)) ∙ not_there s sound
 
 pub no_clause_at_next : (s : State) → IsSound s → fin.get (live s) (next s) ≡ None
 no_clause_at_next s sound = go (fin.get (live s) (next s)) (not_there s sound)
@@ -134,15 +134,15 @@ commit_legal : (s : State) (r : ReceiptValue) → IsSound s → IsReceipt r → 
 commit_legal s r sound receipt can =
     let lives = all_live (live s) r.listed can.fresh in
     let a : Addition = record { number = next s; lemma = r.lemma; hints = numbers r.listed; groups = [] } in
-    let closed : first_walk (live s) a ≡ Closed (numbers r.listed) = ap (walk_over (negations r.lemma.clause)) lives.hints ∙ receipt in
-    let placed : is_in_place (live s) a ≡ true =
+    let closed : first_propagation (live s) a ≡ Closed (numbers r.listed) = ap (propagate_over (negations r.lemma.clause)) lives.hints ∙ receipt in
+    let stored : is_in_place (live s) a ≡ true =
     and_from (not (names (live s) (next s))) _ (ap not (not_there s sound)) (and_from (names_all (live s) (numbers r.listed)) true lives.names refl) in
-    let rup : (is_closed (first_walk (live s) a) || is_rat_after (live s) a (first_walk (live s) a)) ≡ true = ap (λ (w : Walk). is_closed w || is_rat_after (live s) a w) closed in
+    let rup : (is_closed (first_propagation (live s) a) || is_rat_after (live s) a (first_propagation (live s) a)) ≡ true = ap (λ (w : Propagation). is_closed w || is_rat_after (live s) a w) closed in
     record {
       here = can.here;
       unbound = can.unbound;
-      room = can.room;
-      addition = (refl, (refl, (and_from (is_in_place (live s) a) _ placed rup, subst (IsRecordedAfter (live s) a) (sym closed) (refl, refl))));
+      capacity = can.capacity;
+      addition = (refl, (refl, (and_from (is_in_place (live s) a) _ stored rup, subst (IsRecordedAfter (live s) a) (sym closed) (refl, refl))));
     }
 
 refuted_next : (s : State) (r : ReceiptValue) (refuted : Option ℕ) → refuted ≡ verdict s.history → refuted_after refuted (length s.history) r.lemma.clause ≡ verdict (s.history ++ commit_entry s r ∷ [])

@@ -7,14 +7,14 @@ use Rattle.std.specs.FinMap as fin
 use Rattle.lj_clause.specs.LiteralSet.{LiteralSet, negations}
 use Rattle.lj_clause.specs.ClauseMap.{IsFormula}
 use Rattle.lj_clause.specs.Lemma.{LemmaValue}
-use Rattle.lj_clause.specs.Walk.{Walk, Closed, Open, Stuck, Hint, walk_over}
-use Rattle.lj_clause.specs.Renaming.{Renaming, has_name, image, lemma_image, inverse, is_named, IsOneToOne, walk_image}
+use Rattle.lj_clause.specs.Propagation.{Propagation, Closed, Open, Stuck, Hint, propagate_over}
+use Rattle.lj_clause.specs.Renaming.{Renaming, has_name, image, lemma_image, inverse, is_named, IsOneToOne, propagation_image}
 use Rattle.lj_clause.proofs.TruthLaws.{holds-negations}
 use Rattle.lj_clause.proofs.Renaming.{all_known, named_by}
 use Rattle.lj_text.specs.declared.line.Addition.{Addition}
 use Rattle.lj_hint.specs.declared.pair.Pair.{Pair}
 use Rattle.lj_hint.specs.Hints.{named_hints}
-use Rattle.lj_hint.specs.Case.{CaseValue, walk_of}
+use Rattle.lj_hint.specs.Case.{CaseValue, propagation_of}
 use Rattle.lj_hint.specs.Images.{pair_image, IsNamedCase}
 use Rattle.lj_hint.proofs.Images.{tests_commute}
 use Rattle.lj_book.specs.declared.refusal.Refusal.{Refusal}
@@ -26,7 +26,7 @@ use Rattle.lj_book.specs.Solo.{Holdings, View, holdings_of, view_of, solo_case, 
 use Rattle.lj_book.specs.Views.{stuck_refusal, decided_by, IsClosedAlone}
 use Rattle.lj_book.specs.Variables.{renaming_of, is_own}
 use Rattle.lj_book.specs.Named.{NamedState, top_of, names_of, beneath, given_in, IsNamedReached}
-use Rattle.lj_book.specs.NamedViews.{hints_image, take_image, named_view, held_at, addition_beneath, DecidedBeneath, ClosedBeneath, IsOpenAlone, OpenBeneath}
+use Rattle.lj_book.specs.NamedViews.{hints_image, take_image, named_view, pair_at, addition_beneath, DecidedBeneath, ClosedBeneath, IsOpenAlone, OpenBeneath}
 use Rattle.lj_book.proofs.SoloTakes.{AllHeld, IsFit, take_fits}
 use Rattle.lj_book.proofs.NamedLaws.{rules_reached, given_grows}
 use Rattle.lj_book.proofs.NamedTakes.{takes_commute}
@@ -52,20 +52,20 @@ take_for (Some h) seat a l = by (fin.contains_key h a.number)
     by true = refl
     by false = case_for seat a l (repeated_after (λ own. option_map (λ (p : Pair). p.joint) (fin.get h own)) [] a.groups) (pairs_of (fin.get h) a.hints) (group_pairs_of (fin.get h) a.groups)
 
--- ---- walks in own variables and in joint ones
+-- ---- propagations in own variables and in joint ones
 
-same_stuck : (m : Renaming) (w : Walk) → stuck_refusal (walk_image m w) ≡ stuck_refusal w
+same_stuck : (m : Renaming) (w : Propagation) → stuck_refusal (propagation_image m w) ≡ stuck_refusal w
 same_stuck m (Closed used) = refl
 same_stuck m (Open a) = refl
 same_stuck m (Stuck place) = refl
 
-closed_before : (m : Renaming) (w : Walk) (used : List ℕ) → walk_image m w ≡ Closed used → w ≡ Closed used
+closed_before : (m : Renaming) (w : Propagation) (used : List ℕ) → propagation_image m w ≡ Closed used → w ≡ Closed used
 closed_before m (Closed ns) used e = e
 closed_before m (Open a) used e = absurd (cc)
 closed_before m (Stuck place) used e = absurd (cc)
 
--- the literals of an open walk of a named case are named
-open_named : (top : ℕ) (m : Renaming) → IsOneToOne top m → (c : CaseValue) (left : LiteralSet) → IsNamedCase top m c → walk_of c ≡ Open left → is_named top m left ≡ true
+-- the literals of an open propagation of a named case are named
+open_named : (top : ℕ) (m : Renaming) → IsOneToOne top m → (c : CaseValue) (left : LiteralSet) → IsNamedCase top m c → propagation_of c ≡ Open left → is_named top m left ≡ true
 open_named top m one c left named ends =
     (tests_commute top m one).open_named (negations c.lemma.clause) left (named_hints c.hints)
     (named_by top m (negations c.lemma.clause) (λ l h.
@@ -93,20 +93,20 @@ module _ (s : NamedState) (seat : ℕ) (a : Addition) (is : IsFormula s.formula)
 
   held_own : (h : Holdings) → view_of (beneath s) seat ≡ Some h → (ps : List Pair) → AllHeld h ps → AllByRecursion (λ (p : Pair). is_own (top_of s) s.variables seat p.clause ≡ true) ps
   held_own h at [] all = tt
-  held_own h at (p ∷ ps) all = (seats_hold_own s seat all.0.own p is reached (ap (λ (v : View). held_at v all.0.own) at ∙ all.0.bound), held_own h at ps all.1)
+  held_own h at (p ∷ ps) all = (seats_hold_own s seat all.0.own p is reached (ap (λ (v : View). pair_at v all.0.own) at ∙ all.0.bound), held_own h at ps all.1)
 
   here : (h : Holdings) (o : Option Table) → table_of s.tables seat ≡ o → option_map (holdings_of (given_out (beneath s))) o ≡ Some h → is_here s.tables seat ≡ true
   here h None at e = absurd (cc)
   here h (Some t) at e = ap is_some at
 
-  -- The case is named in own variables, and its walk beneath is the image of the one in own variables.
-  pub record IsWalkedAlike (c : CaseValue) : Type 0 where
+  -- The case is named in own variables, and its propagation beneath is the image of the one in own variables.
+  pub record IsPropagatedAlike (c : CaseValue) : Type 0 where
     pub one : IsOneToOne (top_of s) later
     pub named : IsNamedCase (top_of s) later (hints_image own_names c)
-    pub walked : walk_of (beneath_case c) ≡ walk_image later (walk_of (hints_image own_names c))
+    pub propagated : propagation_of (beneath_case c) ≡ propagation_image later (propagation_of (hints_image own_names c))
 
-  walks_by : (c : CaseValue) → c.lemma ≡ a.lemma → (h : Holdings) → view_of (beneath s) seat ≡ Some h → AllHeld h c.hints → IsWalkedAlike c
-  walks_by c same h at all =
+  propagations_by : (c : CaseValue) → c.lemma ≡ a.lemma → (h : Holdings) → view_of (beneath s) seat ≡ Some h → AllHeld h c.hints → IsPropagatedAlike c
+  propagations_by c same h at all =
       let rules = rules_reached s reached in
       let gives = given_grows s rules seat a.lemma.clause (here h (table_of s.tables seat) refl at) in
       let one : IsOneToOne (top_of s) later = gives.0.rules.one_to_one seat in
@@ -118,16 +118,16 @@ module _ (s : NamedState) (seat : ℕ) (a : Addition) (is : IsFormula s.formula)
       record {
         one = one;
         named = named;
-        walked = (λ i. walk_over (negations (image later (sym same i).clause)) (named_hints (sym back.0 i)))
+        propagated = (λ i. propagate_over (negations (image later (sym same i).clause)) (named_hints (sym back.0 i)))
             ∙ (tests_commute (top_of s) later one).case (hints_image own_names c) named;
       }
 
-  pub walks : (c : CaseValue) → solo_take (view_of (beneath s) seat) seat a ≡ Ok c → IsWalkedAlike c
-  walks c at = let taken = take_fits seat (view_of (beneath s) seat) a c at in by (view_of (beneath s) seat) refl taken.lemma taken.fit
+  pub propagations : (c : CaseValue) → solo_take (view_of (beneath s) seat) seat a ≡ Ok c → IsPropagatedAlike c
+  propagations c at = let taken = take_fits seat (view_of (beneath s) seat) a c at in by (view_of (beneath s) seat) refl taken.lemma taken.fit
     where
-      by : (v : View) → view_of (beneath s) seat ≡ v → c.lemma ≡ a.lemma → IsFit v c.own c.hints → IsWalkedAlike c
+      by : (v : View) → view_of (beneath s) seat ≡ v → c.lemma ≡ a.lemma → IsFit v c.own c.hints → IsPropagatedAlike c
       by None is_view same fit = absurd fit
-      by (Some h) is_view same fit = walks_by c same h is_view fit.1
+      by (Some h) is_view same fit = propagations_by c same h is_view fit.1
 
   -- ---- the laws
 
@@ -139,7 +139,7 @@ module _ (s : NamedState) (seat : ℕ) (a : Addition) (is : IsFormula s.formula)
 
   decided_alike : (r : Result CaseValue Refusal) → solo_take (view_of (beneath s) seat) seat a ≡ r → decided_by (take_image own_names r) ≡ decided_by (with_lemma joint_lemma r)
   decided_alike (Err e) at = refl
-  decided_alike (Ok c) at = sym (ap stuck_refusal (walks c at).walked ∙ same_stuck later (walk_of (hints_image own_names c)))
+  decided_alike (Ok c) at = sym (ap stuck_refusal (propagations c at).propagated ∙ same_stuck later (propagation_of (hints_image own_names c)))
 
   own_closed : (read : ℕ) (r : Result CaseValue Refusal) → solo_take (view_of (beneath s) seat) seat a ≡ r → IsClosedAlone (named_view s seat) seat a read → IsClosedAlone (view_of (beneath s) seat) seat (addition_beneath s seat a) read
   own_closed read (Err e) at k = let none : Err e ≡ Ok k.case = sym (own_take ∙ ap (take_image own_names) at) ∙ k.taken in absurd (cc)
@@ -150,7 +150,7 @@ module _ (s : NamedState) (seat : ℕ) (a : Addition) (is : IsFormula s.formula)
         case = beneath_case c;
         used = k.used;
         taken = joint_take ∙ ap (with_lemma joint_lemma) at;
-        closed = (walks c at).walked ∙ ap (walk_image later) (ap walk_of same ∙ k.closed);
+        closed = (propagations c at).propagated ∙ ap (propagation_image later) (ap propagation_of same ∙ k.closed);
         read_is = k.read_is;
       }
 
@@ -163,7 +163,7 @@ module _ (s : NamedState) (seat : ℕ) (a : Addition) (is : IsFormula s.formula)
         case = hints_image own_names c;
         used = k.used;
         taken = own_take ∙ ap (take_image own_names) at;
-        closed = closed_before later (walk_of (hints_image own_names c)) k.used (sym (walks c at).walked ∙ ap walk_of same ∙ k.closed);
+        closed = closed_before later (propagation_of (hints_image own_names c)) k.used (sym (propagations c at).propagated ∙ ap propagation_of same ∙ k.closed);
         read_is = k.read_is;
       }
 
@@ -172,13 +172,13 @@ module _ (s : NamedState) (seat : ℕ) (a : Addition) (is : IsFormula s.formula)
   own_open left (Ok c) at k =
       let taken : Ok (hints_image own_names c) ≡ Ok k.case = sym (own_take ∙ ap (take_image own_names) at) ∙ k.taken in
       let same : hints_image own_names c ≡ k.case = cc in
-      let alike = walks c at in
-      let ends : walk_of (hints_image own_names c) ≡ Open left = ap walk_of same ∙ k.ends in (
+      let alike = propagations c at in
+      let ends : propagation_of (hints_image own_names c) ≡ Open left = ap propagation_of same ∙ k.ends in (
         open_named (top_of s) later alike.one (hints_image own_names c) left alike.named ends,
         record {
           case = beneath_case c;
           taken = joint_take ∙ ap (with_lemma joint_lemma) at;
-          ends = alike.walked ∙ ap (walk_image later) ends;
+          ends = alike.propagated ∙ ap (propagation_image later) ends;
         },
       )
 

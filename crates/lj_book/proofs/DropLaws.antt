@@ -13,7 +13,7 @@ use Rattle.std.specs.FinMap.{nat_cmp-IsAntisymmetric}
 use Rattle.std.specs.FinMap.Entries.{find, is_sorted, below_all, where_key, same_entries, is_sorted-where_key}
 use Rattle.lj_clause.proofs.Tests.{both_of, left_of, right_of}
 use Rattle.lj_clause.proofs.SortedEntries.{less, none_below}
-use Rattle.lj_book.specs.Tables.{Table, Tables, table_of, joint_of, is_held, is_among, with_table, without_keys}
+use Rattle.lj_book.specs.Tables.{Table, Tables, table_of, joint_of, has_holder, is_among, with_table, without_keys}
 use Rattle.lj_book.specs.State.{State, live}
 use Rattle.lj_book.specs.History.{dead_numbers}
 use Rattle.lj_book.specs.inner.Holders.{holders_of, count_in, occurrences}
@@ -126,8 +126,8 @@ among_picked f (n ∷ ns) own joint h e =
     behind None ms q h = h
     behind (Some m) ms q h = or_right (m == q) (is_among ms q) h
 
-bound_is_held : (ts : Tables) (seat own joint : ℕ) (t : Table) → table_of ts seat ≡ Some t → joint_of ts seat own ≡ Some joint → is_held ts joint ≡ true
-bound_is_held ts seat own joint t at is =
+bound_has_holder : (ts : Tables) (seat own joint : ℕ) (t : Table) → table_of ts seat ≡ Some t → joint_of ts seat own ≡ Some joint → has_holder ts joint ≡ true
+bound_has_holder ts seat own joint t at is =
     let a = count-remove t own joint joint (sym (joint_in_table ts seat own t at) ∙ is) in
     let b = self_counts joint (count_in (Some (fin.remove t own)) joint) in
     let c = holders_at_least ts seat joint t at in
@@ -136,14 +136,14 @@ bound_is_held ts seat own joint t at is =
     more : (n : ℕ) → 0 < n → nat_lt 0 n ≡ true
     more n h = grind (arith, nat_tests)
 
-picked_is_held : (ts : Tables) (seat joint : ℕ) (t : Table) (ns : List ℕ) → table_of ts seat ≡ Some t → is_among (filter_map (joint_of ts seat) ns) joint ≡ true → is_held ts joint ≡ true
-picked_is_held ts seat joint t [] at h = absurd (false≢true h)
-picked_is_held ts seat joint t (n ∷ ns) at h =
-    elim (joint_of ts seat n) as (λ o. joint_of ts seat n ≡ o → is_among (cons_option o (filter_map (joint_of ts seat) ns)) joint ≡ true → is_held ts joint ≡ true) [
-      | None ↦ λ e g. picked_is_held ts seat joint t ns at g
+picked_has_holder : (ts : Tables) (seat joint : ℕ) (t : Table) (ns : List ℕ) → table_of ts seat ≡ Some t → is_among (filter_map (joint_of ts seat) ns) joint ≡ true → has_holder ts joint ≡ true
+picked_has_holder ts seat joint t [] at h = absurd (false≢true h)
+picked_has_holder ts seat joint t (n ∷ ns) at h =
+    elim (joint_of ts seat n) as (λ o. joint_of ts seat n ≡ o → is_among (cons_option o (filter_map (joint_of ts seat) ns)) joint ≡ true → has_holder ts joint ≡ true) [
+      | None ↦ λ e g. picked_has_holder ts seat joint t ns at g
       | Some m ↦ λ e g. elim (or_cases (m == joint) (is_among (filter_map (joint_of ts seat) ns) joint) g) [
-        | inl is ↦ bound_is_held ts seat n joint t at (e ∙ ap Some (eqb-true m joint is))
-        | inr there ↦ picked_is_held ts seat joint t ns at there
+        | inl is ↦ bound_has_holder ts seat n joint t at (e ∙ ap Some (eqb-true m joint is))
+        | inr there ↦ picked_has_holder ts seat joint t ns at there
       ]
     ] refl h
 
@@ -158,7 +158,7 @@ nothing : (n : ℕ) → nat_lt 0 n ≡ false → n ≡ 0
 nothing n h = grind (arith, nat_tests)
 
 -- what was held and no longer is, was bound to one of the numbers that were given up
-lost_was_picked : (ts : Tables) (seat joint : ℕ) (t : Table) (ns : List ℕ) → table_of ts seat ≡ Some t → is_held ts joint ≡ true → is_held (with_table (without_keys ns) ts seat) joint ≡ false → is_among (filter_map (joint_of ts seat) ns) joint ≡ true
+lost_was_picked : (ts : Tables) (seat joint : ℕ) (t : Table) (ns : List ℕ) → table_of ts seat ≡ Some t → has_holder ts joint ≡ true → has_holder (with_table (without_keys ns) ts seat) joint ≡ false → is_among (filter_map (joint_of ts seat) ns) joint ≡ true
 lost_was_picked ts seat joint t ns at held gone =
     let p = λ (own : ℕ). not (is_among ns own) in
     let a = holders-with_table (without_keys ns) ts seat t joint at in
@@ -174,14 +174,14 @@ lost_was_picked ts seat joint t ns at held gone =
     more n h = grind (arith, nat_tests)
 
 -- the numbers that died are those that were bound to one of the numbers and aren't held any more
-pub died_are : (s : State) (seat : ℕ) (t : Table) (ns rising : List ℕ) → IsSound s → table_of s.tables seat ≡ Some t → IsStrictlySortedBy nat_cmp rising → ((q : ℕ) → is_among rising q ≡ is_among (filter_map (joint_of s.tables seat) ns) q) → filter (λ n. not (is_held (with_table (without_keys ns) s.tables seat) n)) rising ≡ dead_numbers s (with_table (without_keys ns) s.tables seat)
+pub died_are : (s : State) (seat : ℕ) (t : Table) (ns rising : List ℕ) → IsSound s → table_of s.tables seat ≡ Some t → IsStrictlySortedBy nat_cmp rising → ((q : ℕ) → is_among rising q ≡ is_among (filter_map (joint_of s.tables seat) ns) q) → filter (λ n. not (has_holder (with_table (without_keys ns) s.tables seat) n)) rising ≡ dead_numbers s (with_table (without_keys ns) s.tables seat)
 died_are s seat t ns rising sound at sorted same =
     let ts = with_table (without_keys ns) s.tables seat in
-    let p = λ (n : ℕ). not (is_held ts n) in
+    let p = λ (n : ℕ). not (has_holder ts n) in
     same_rising (filter p rising) (dead_numbers s ts) (Rises-filter p rising (Rises-sorted rising sorted)) (Rises-filter p (fin.keys (live s)) (Rises-keys (live s))) (λ q.
     among-filter p rising q
     ∙ ap (λ b. p q && b) (same q)
-    ∙ agree (is_held ts q) (is_among (filter_map (joint_of s.tables seat) ns) q) (is_held s.tables q) (picked_is_held s.tables seat q t ns at) (λ held gone. lost_was_picked s.tables seat q t ns at held gone)
+    ∙ agree (has_holder ts q) (is_among (filter_map (joint_of s.tables seat) ns) q) (has_holder s.tables q) (picked_has_holder s.tables seat q t ns at) (λ held gone. lost_was_picked s.tables seat q t ns at held gone)
     ∙ ap (λ b. p q && b) (sym (live-held s sound q))
     ∙ sym (among-died s ts q))
   where

@@ -7,7 +7,7 @@ use Rattle.std.proofs.lemmas.Bool.Decides.{nat_tests}
 use Rattle.std.specs.Ordering.{nat_cmp, is_lt}
 use Rattle.std.specs.FinMap as fin
 use Rattle.std.specs.FinMap.Entries.{is_sorted, below_all}
-use Rattle.lj_clause.specs.Literal.{variable_of, lit_cmp, place_of}
+use Rattle.lj_clause.specs.Literal.{variable_of, lit_cmp, index_of}
 use Rattle.lj_clause.specs.LiteralSet.{LiteralSet, literals}
 use Rattle.lj_clause.specs.Renaming.{has_name}
 use Rattle.lj_clause.proofs.Tests.{left_of, right_of}
@@ -109,7 +109,7 @@ variables_in es = map variable_of (map (λ (e : Listed). e.0) es)
 place_less : (m n : ℕ) → T (is_lt (nat_cmp m n)) → m < n
 place_less m n h = grind (arith, nat_tests)
 
-place-le : (a b : ℤ) → place_of a < place_of b → variable_of a ≤ variable_of b
+place-le : (a b : ℤ) → index_of a < index_of b → variable_of a ≤ variable_of b
 place-le (pos m) (pos n) h = omega arith
 place-le (pos m) (negsuc n) h = omega arith
 place-le (negsuc m) (pos n) h = omega arith
@@ -117,7 +117,7 @@ place-le (negsuc m) (negsuc n) h = omega arith
 
 all_after : (l : ℤ) (es : List Listed) → T (below_all lit_cmp l es) → AllByRecursion (λ z. variable_of l ≤ z) (variables_in es)
 all_after l [] h = tt
-all_after l (e ∷ es) h = (place-le l e.0 (place_less (place_of l) (place_of e.0) (left_of _ _ h)), all_after l es (right_of _ _ h))
+all_after l (e ∷ es) h = (place-le l e.0 (place_less (index_of l) (index_of e.0) (left_of _ _ h)), all_after l es (right_of _ _ h))
 
 none_falls : (es : List Listed) → T (is_sorted lit_cmp es) → NoneFalls (variables_in es)
 none_falls [] h = tt

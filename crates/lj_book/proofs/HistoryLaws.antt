@@ -25,7 +25,7 @@ use Rattle.lj_text.specs.Needed.{additions, if_some}
 use Rattle.lj_book.specs.declared.entry.Call.{Call}
 use Rattle.lj_book.specs.declared.entry.Call.TheVariants as calls
 use Rattle.lj_book.specs.declared.entry.Entry.{Entry}
-use Rattle.lj_book.specs.Tables.{Table, Tables, table_of, is_here, is_bound, is_held, holds_joint, is_among, with_table, with_binding, without_keys, without_seat, up_to}
+use Rattle.lj_book.specs.Tables.{Table, Tables, table_of, is_here, is_bound, has_holder, holds_joint, is_among, with_table, with_binding, without_keys, without_seat, up_to}
 use Rattle.lj_book.specs.Lookup.{least_number}
 use Rattle.lj_book.specs.State.{State, steps_of, next, with_additions, given_out, live, opening}
 use Rattle.lj_book.specs.History.{dead_numbers, with_found, some_lives, after_entry, after_entries, IsLegalCall, IsLegal, AreLegal, IsReached}
@@ -34,15 +34,15 @@ use Rattle.lj_book.proofs.TableLaws.{held_counts, count-insert, count-up_to, cou
 
 -- What each state that a legal history reaches keeps: what is held was given out, and no number from the next on was.
 pub record IsSound (s : State) : Type 0 where
-  pub held_given : (n : ℕ) → is_held s.tables n ≡ true → fin.contains_key (given_out s) n ≡ true
+  pub held_given : (n : ℕ) → has_holder s.tables n ≡ true → fin.contains_key (given_out s) n ≡ true
   pub given_below : (n : ℕ) → fin.contains_key (given_out s) n ≡ true → n < next s
   pub replayed : replay (formula_map s.formula) (steps_of s.history) ≡ Some (live s)
 
 alike : (p : ℕ → Bool) (q x : ℕ) → nat_cmp q x ≡ Equal → p x ≡ p q
 alike p q x e = ap p (sym (nat_cmp-IsAntisymmetric q x e))
 
-pub get-live : (s : State) (q : ℕ) → fin.get (live s) q ≡ cond (is_held s.tables q) (fin.get (given_out s) q) None
-get-live s q = fin.get-retain_keys (given_out s) (is_held s.tables) q (alike (is_held s.tables) q)
+pub get-live : (s : State) (q : ℕ) → fin.get (live s) q ≡ cond (has_holder s.tables q) (fin.get (given_out s) q) None
+get-live s q = fin.get-retain_keys (given_out s) (has_holder s.tables) q (alike (has_holder s.tables) q)
 
 some_or_none : {X : Type 0} (b : Bool) (o : Option X) → is_some (cond b o None) ≡ (b && is_some o)
 some_or_none true o = refl
@@ -53,8 +53,8 @@ both true b h = h refl
 both false b h = refl
 
 -- a number lives where it is held
-pub live-held : (s : State) → IsSound s → (n : ℕ) → fin.contains_key (live s) n ≡ is_held s.tables n
-live-held s sound n = ap is_some (get-live s n) ∙ some_or_none (is_held s.tables n) (fin.get (given_out s) n) ∙ both (is_held s.tables n) _ (sound.held_given n)
+pub live-held : (s : State) → IsSound s → (n : ℕ) → fin.contains_key (live s) n ≡ has_holder s.tables n
+live-held s sound n = ap is_some (get-live s n) ∙ some_or_none (has_holder s.tables n) (fin.get (given_out s) n) ∙ both (has_holder s.tables n) _ (sound.held_given n)
 
 -- ---- the history with one entry more
 
@@ -83,7 +83,7 @@ replay-push p q (y ∷ xs) x e h =
 
 -- ---- an addition
 
-held-bind : (ts : Tables) (seat own joint q : ℕ) (t : Table) → table_of ts seat ≡ Some t → fin.get t own ≡ None → is_held (with_table (λ u. fin.insert u own joint) ts seat) q ≡ (joint == q || is_held ts q)
+held-bind : (ts : Tables) (seat own joint q : ℕ) (t : Table) → table_of ts seat ≡ Some t → fin.get t own ≡ None → has_holder (with_table (λ u. fin.insert u own joint) ts seat) q ≡ (joint == q || has_holder ts q)
 held-bind ts seat own joint q t at free =
     let a = holders-with_table (λ u. fin.insert u own joint) ts seat t q at in
     let b = count-insert t own joint q free in
@@ -93,7 +93,7 @@ held-bind ts seat own joint q t at free =
     sums true now before own more e f = grind (arith, nat_tests)
     sums false now before own more e f = let g : now ≡ before = omega arith in ap (nat_lt 0) g
 
-held-drop : (ts : Tables) (seat q : ℕ) (numbers : List ℕ) (t : Table) → table_of ts seat ≡ Some t → is_held (with_table (without_keys numbers) ts seat) q ≡ true → is_held ts q ≡ true
+held-drop : (ts : Tables) (seat q : ℕ) (numbers : List ℕ) (t : Table) → table_of ts seat ≡ Some t → has_holder (with_table (without_keys numbers) ts seat) q ≡ true → has_holder ts q ≡ true
 held-drop ts seat q numbers t at h =
     let a = holders-with_table (without_keys numbers) ts seat t q at in
     let b = count-without_keys numbers t q in
@@ -119,8 +119,8 @@ live-addition s seat own a sound here free num =
     same_map _ _ (λ q.
     get-live (after_entry s e) q
     ∙ ap (λ b. cond b (fin.get (given_out (after_entry s e)) q) None) (held-bind s.tables seat own (next s) q t.0 t.1 (free_in_table s.tables seat own t.0 t.1 free))
-    ∙ ap (λ o. cond (next s == q || is_held s.tables q) o None) (ap (λ (m : ClauseMap). fin.get m q) given ∙ fin.get-insert nat_cmp_total (given_out s) a.number a.lemma.clause q)
-    ∙ joined (next s == q) (is_held s.tables q) (eq_by_cmp nat_cmp q a.number) (unsigned_tied q a.number ∙ ap (λ n. q == n) num ∙ turned q (next s)) (Some a.lemma.clause) (fin.get (given_out s) q)
+    ∙ ap (λ o. cond (next s == q || has_holder s.tables q) o None) (ap (λ (m : ClauseMap). fin.get m q) given ∙ fin.get-insert nat_cmp_total (given_out s) a.number a.lemma.clause q)
+    ∙ joined (next s == q) (has_holder s.tables q) (eq_by_cmp nat_cmp q a.number) (unsigned_tied q a.number ∙ ap (λ n. q == n) num ∙ turned q (next s)) (Some a.lemma.clause) (fin.get (given_out s) q)
     ∙ ap (cond (eq_by_cmp nat_cmp q a.number) (Some a.lemma.clause)) (sym (get-live s q))
     ∙ sym (fin.get-insert nat_cmp_total (live s) a.number a.lemma.clause q))
   where
@@ -148,7 +148,7 @@ sound-addition s seat own a sound here free num accepted =
     ∙ ap is_some (fin.get-insert nat_cmp_total (given_out s) a.number a.lemma.clause q)
     ∙ one_more (eq_by_cmp nat_cmp q a.number) (next s == q) (unsigned_tied q a.number ∙ ap (λ n. q == n) num ∙ turned q (next s)) (Some a.lemma.clause) (fin.get (given_out s) q) refl in
     record {
-      held_given = λ q h. has q ∙ elim (or_cases (next s == q) (is_held s.tables q) (sym (held-bind s.tables seat own (next s) q t.0 t.1 (free_in_table s.tables seat own t.0 t.1 free)) ∙ h)) [
+      held_given = λ q h. has q ∙ elim (or_cases (next s == q) (has_holder s.tables q) (sym (held-bind s.tables seat own (next s) q t.0 t.1 (free_in_table s.tables seat own t.0 t.1 free)) ∙ h)) [
         | inl e ↦ or_left (next s == q) (fin.contains_key (given_out s) q) e
         | inr e ↦ or_right (next s == q) (fin.contains_key (given_out s) q) (sound.held_given q e)
       ];
@@ -205,8 +205,8 @@ pub among-keys : {X : Type 0} (m : fin.FinMap nat_cmp X) (q : ℕ) → is_among 
 among-keys m q = sym (among_tied (fin.keys m) q) ∙ sym (fin.contains_key-keys m q)
 
 -- what died is what was live and isn't held any more
-pub among-died : (s : State) (tables : Tables) (q : ℕ) → is_among (dead_numbers s tables) q ≡ (not (is_held tables q) && fin.contains_key (live s) q)
-among-died s tables q = among-filter (λ n. not (is_held tables n)) (fin.keys (live s)) q ∙ ap (λ b. not (is_held tables q) && b) (among-keys (live s) q)
+pub among-died : (s : State) (tables : Tables) (q : ℕ) → is_among (dead_numbers s tables) q ≡ (not (has_holder tables q) && fin.contains_key (live s) q)
+among-died s tables q = among-filter (λ n. not (has_holder tables n)) (fin.keys (live s)) q ∙ ap (λ b. not (has_holder tables q) && b) (among-keys (live s) q)
 
 all_named : (p : ClauseMap) (test : ℕ → Bool) (ns : List ℕ) → ((q : ℕ) → is_among ns q ≡ true → fin.contains_key p q ≡ true) → names_all p ns ≡ true
 all_named p test [] h = refl
@@ -240,12 +240,12 @@ next-same s ts e none =
     omega arith
 
 -- the clauses that are left where nothing more is held than before
-pub live-fewer : (s : State) (ts : Tables) (e : Entry) → IsSound s → ((q : ℕ) → is_held ts q ≡ true → is_held s.tables q ≡ true) → additions (cons_option e.step []) ≡ [] → live (with_entry s ts e) ≡ without (live s) (dead_numbers s ts)
+pub live-fewer : (s : State) (ts : Tables) (e : Entry) → IsSound s → ((q : ℕ) → has_holder ts q ≡ true → has_holder s.tables q ≡ true) → additions (cons_option e.step []) ≡ [] → live (with_entry s ts e) ≡ without (live s) (dead_numbers s ts)
 live-fewer s ts e sound fewer none = same_map _ _ (λ q.
     get-live (with_entry s ts e) q
-    ∙ ap (λ (m : ClauseMap). cond (is_held ts q) (fin.get m q) None) (given-same s ts e none)
-    ∙ held_after (is_held ts q) (is_held s.tables q) (fewer q) (fin.contains_key (live s) q) (live-held s sound q) (fin.get (given_out s) q)
-    ∙ ap (λ o. cond (not (is_held ts q) && fin.contains_key (live s) q) None o) (sym (get-live s q))
+    ∙ ap (λ (m : ClauseMap). cond (has_holder ts q) (fin.get m q) None) (given-same s ts e none)
+    ∙ held_after (has_holder ts q) (has_holder s.tables q) (fewer q) (fin.contains_key (live s) q) (live-held s sound q) (fin.get (given_out s) q)
+    ∙ ap (λ o. cond (not (has_holder ts q) && fin.contains_key (live s) q) None o) (sym (get-live s q))
     ∙ ap (λ b. cond b None (fin.get (live s) q)) (sym (among-died s ts q))
     ∙ sym (get-without (live s) (dead_numbers s ts) q))
   where
@@ -269,7 +269,7 @@ none_added (n ∷ ns) = refl
 pub none_added_by : (step : Option Step) (ns : List ℕ) → step ≡ if_some ns → additions (cons_option step []) ≡ []
 none_added_by step ns is = ap (λ o. additions (cons_option o [])) is ∙ none_added ns
 
-sound-fewer : (s : State) (ts : Tables) (e : Entry) → IsSound s → ((q : ℕ) → is_held ts q ≡ true → is_held s.tables q ≡ true) → e.step ≡ if_some (dead_numbers s ts) → IsSound (with_entry s ts e)
+sound-fewer : (s : State) (ts : Tables) (e : Entry) → IsSound s → ((q : ℕ) → has_holder ts q ≡ true → has_holder s.tables q ≡ true) → e.step ≡ if_some (dead_numbers s ts) → IsSound (with_entry s ts e)
 sound-fewer s ts e sound fewer is =
     let none = none_added_by e.step (dead_numbers s ts) is in
     let given = given-same s ts e none in
@@ -279,19 +279,19 @@ sound-fewer s ts e sound fewer is =
       given_below = λ q h. let low = sound.given_below q (sym (ap (λ (m : ClauseMap). fin.contains_key m q) given) ∙ h) in omega arith;
       replayed =
           ap (replay (formula_map s.formula)) (steps_of-push s.history e ∙ ap (λ o. steps_of s.history ++ cons_option o []) is)
-          ∙ replay-died (formula_map s.formula) (live s) (steps_of s.history) (dead_numbers s ts) sound.replayed (all_named (live s) (λ n. true) (dead_numbers s ts) (λ q h. (and_parts (not (is_held ts q)) (fin.contains_key (live s) q) (sym (among-died s ts q) ∙ h)).1))
+          ∙ replay-died (formula_map s.formula) (live s) (steps_of s.history) (dead_numbers s ts) sound.replayed (all_named (live s) (λ n. true) (dead_numbers s ts) (λ q h. (and_parts (not (has_holder ts q)) (fin.contains_key (live s) q) (sym (among-died s ts q) ∙ h)).1))
           ∙ ap Some (sym (live-fewer s ts e sound fewer none));
     }
 
 -- the clauses where the same is held as before
-pub live-same : (s : State) (ts : Tables) (e : Entry) → ((q : ℕ) → is_held ts q ≡ is_held s.tables q) → e.step ≡ None → live (with_entry s ts e) ≡ live s
+pub live-same : (s : State) (ts : Tables) (e : Entry) → ((q : ℕ) → has_holder ts q ≡ has_holder s.tables q) → e.step ≡ None → live (with_entry s ts e) ≡ live s
 live-same s ts e same is = same_map _ _ (λ q.
     get-live (with_entry s ts e) q
-    ∙ ap (λ (m : ClauseMap). cond (is_held ts q) (fin.get m q) None) (given-same s ts e (none_added_by e.step [] is))
+    ∙ ap (λ (m : ClauseMap). cond (has_holder ts q) (fin.get m q) None) (given-same s ts e (none_added_by e.step [] is))
     ∙ ap (λ b. cond b (fin.get (given_out s) q) None) (same q)
     ∙ sym (get-live s q))
 
-sound-same : (s : State) (ts : Tables) (e : Entry) → IsSound s → ((q : ℕ) → is_held ts q ≡ is_held s.tables q) → e.step ≡ None → IsSound (with_entry s ts e)
+sound-same : (s : State) (ts : Tables) (e : Entry) → IsSound s → ((q : ℕ) → has_holder ts q ≡ has_holder s.tables q) → e.step ≡ None → IsSound (with_entry s ts e)
 sound-same s ts e sound same is =
     let none = none_added_by e.step [] is in
     let given = given-same s ts e none in
@@ -314,12 +314,12 @@ live-drop s seat numbers step sound here none =
 
 -- ---- a leave
 
-held-leave : (ts : Tables) (seat q : ℕ) → is_held (without_seat ts seat) q ≡ true → is_held ts q ≡ true
+held-leave : (ts : Tables) (seat q : ℕ) → has_holder (without_seat ts seat) q ≡ true → has_holder ts q ≡ true
 held-leave [] seat q h = h
-held-leave (t ∷ ts) zero q h = or_right (holds_joint q t) (is_held ts q) h
-held-leave (t ∷ ts) (suc seat) q h = elim (or_cases (holds_joint q t) (is_held (without_seat ts seat) q) h) [
-  | inl e ↦ or_left (holds_joint q t) (is_held ts q) e
-  | inr e ↦ or_right (holds_joint q t) (is_held ts q) (held-leave ts seat q e)
+held-leave (t ∷ ts) zero q h = or_right (holds_joint q t) (has_holder ts q) h
+held-leave (t ∷ ts) (suc seat) q h = elim (or_cases (holds_joint q t) (has_holder (without_seat ts seat) q) h) [
+  | inl e ↦ or_left (holds_joint q t) (has_holder ts q) e
+  | inr e ↦ or_right (holds_joint q t) (has_holder ts q) (held-leave ts seat q e)
 ]
 
 pub live-leave : (s : State) (seat : ℕ) (step : Option Step) → IsSound s → additions (cons_option step []) ≡ [] → live (after_entry s (record { seat = seat; call = calls.Leave; step = step })) ≡ without (live s) (dead_numbers s (without_seat s.tables seat))
@@ -327,12 +327,12 @@ live-leave s seat step sound none = live-fewer s (without_seat s.tables seat) (r
 
 -- ---- a binding of a live number
 
-pub held-found : (s : State) (seat own : ℕ) (o : Option ℕ) → IsSound s → is_here s.tables seat ≡ true → is_bound s.tables seat own ≡ false → some_lives s o ≡ true → (q : ℕ) → is_held (with_found s.tables seat own o) q ≡ is_held s.tables q
+pub held-found : (s : State) (seat own : ℕ) (o : Option ℕ) → IsSound s → is_here s.tables seat ≡ true → is_bound s.tables seat own ≡ false → some_lives s o ≡ true → (q : ℕ) → has_holder (with_found s.tables seat own o) q ≡ has_holder s.tables q
 held-found s seat own None sound here free lives q = refl
 held-found s seat own (Some joint) sound here free lives q =
     let t = has_table s.tables seat here in
     held-bind s.tables seat own joint q t.0 t.1 (free_in_table s.tables seat own t.0 t.1 free)
-    ∙ already (joint == q) (is_held s.tables q) (λ e. sym (ap (is_held s.tables) (eqb-true joint q e)) ∙ sym (live-held s sound joint) ∙ lives)
+    ∙ already (joint == q) (has_holder s.tables q) (λ e. sym (ap (has_holder s.tables) (eqb-true joint q e)) ∙ sym (live-held s sound joint) ∙ lives)
   where
     already : (a b : Bool) → (a ≡ true → b ≡ true) → (a || b) ≡ b
     already true b h = sym (h refl)
@@ -369,7 +369,7 @@ IsSound-after_all s (e ∷ es) sound legal = IsSound-after_all (after_entry s e)
 abbrev one_if : Bool → ℕ
 one_if b = if b then 1 else 0
 
-held-opening : (seats clauses q : ℕ) → 0 < seats → is_held (replicate seats (Some (up_to clauses))) q ≡ (nat_lt 0 q && nat_le q clauses)
+held-opening : (seats clauses q : ℕ) → 0 < seats → has_holder (replicate seats (Some (up_to clauses))) q ≡ (nat_lt 0 q && nat_le q clauses)
 held-opening seats clauses q some =
     held_counts (replicate seats (Some (up_to clauses))) q
     ∙ ap (nat_lt 0) (holders-replicate seats (up_to clauses) q ∙ ap (λ (n : ℕ). seats * n) (count-up_to clauses q))

@@ -9,13 +9,13 @@ use Rattle.lj_clause.specs.Literal.{variable_of}
 use Rattle.lj_clause.specs.LiteralSet.{LiteralSet, holds}
 use Rattle.lj_clause.specs.Lemma.{LemmaValue}
 use Rattle.lj_clause.specs.ClauseMap.{ClauseMap}
-use Rattle.lj_clause.specs.Walk.{Walk, Closed, Open, Stuck, is_closed}
+use Rattle.lj_clause.specs.Propagation.{Propagation, Closed, Open, Stuck, is_closed}
 use Rattle.lj_clause.specs.Rat as rats
 use Rattle.lj_clause.specs.Rat.{HintGroup, rat}
 use Rattle.lj_text.specs.declared.line.Addition.{Addition}
 use Rattle.lj_text.specs.declared.step.Step.{Step}
 use Rattle.lj_text.specs.declared.step.Step.TheVariants as steps
-use Rattle.lj_text.specs.Steps.{is_accepted, IsRecorded, with_covered, is_in_place, is_rat_on, is_rat_after, names, names_all, are_distinct, first_walk, recorded_form, recorded_after, recorded_on}
+use Rattle.lj_text.specs.Steps.{is_accepted, IsRecorded, with_covered, is_in_place, is_rat_on, is_rat_after, names, names_all, are_distinct, first_propagation, recorded_form, recorded_after, recorded_on}
 use Rattle.lj_text.specs.Needed.{additions}
 use Rattle.lj_text.proofs.StepLaws.{recorded_keeps}
 use Rattle.lj_hint.specs.declared.pair.Pair.{Pair}
@@ -26,19 +26,19 @@ use Rattle.lj_book.specs.declared.entry.Added.{Added}
 use Rattle.lj_hint.specs.Case.{CaseValue}
 use Rattle.lj_book.specs.declared.refusal.Refusal.{Refusal}
 use Rattle.lj_book.specs.declared.refusal.Refusal.TheVariants as refusals
-use Rattle.lj_book.specs.Tables.{Table, Tables, is_here, is_bound, is_held, is_among, joint_of, with_table}
+use Rattle.lj_book.specs.Tables.{Table, Tables, is_here, is_bound, has_holder, is_among, joint_of, with_table}
 use Rattle.lj_book.specs.State.{State, steps_of, addition_count, next, live, verdict}
 use Rattle.lj_book.specs.History.{after_entry, IsLegal}
-use Rattle.lj_book.specs.Calls.{IsRefusal, unless_refused, pair_in, if_held, with_pair, pairs_of, with_group_pair, group_pairs_of, repeated_after, is_seen, with_seen, case_with, free_refusal, if_free, take_reply, commit_told}
-use Rattle.lj_book.specs.Inside.{walk_refusal, open_refusal, rat_refusal, or_full, test_refusal, inside_after, inside_reply, inside_step, inside_entry}
+use Rattle.lj_book.specs.Calls.{IsRefusal, unless_refused, pair_in, if_known, with_pair, pairs_of, with_group_pair, group_pairs_of, repeated_after, is_seen, with_seen, case_with, free_refusal, if_free, take_reply, commit_told}
+use Rattle.lj_book.specs.Inside.{propagation_refusal, open_refusal, rat_refusal, or_full, test_refusal, inside_after, inside_reply, inside_step, inside_entry}
 use Rattle.lj_book.specs.inner.JointLines.{LineParts, if_bound, with_joint, joints_in, with_joint_group, joint_groups_in, parts_with, joint_parts, addition_of_parts, tested_line, tested_parts, line_by, inside_line, line_entry}
 use Rattle.lj_book.specs.inner.Kept.{IsKept, refuted_after}
 use Rattle.lj_book.proofs.HistoryLaws.{IsSound, IsSound-reached, IsReached-after, live-addition, live-held, steps_of-push, additions-append}
 use Rattle.lj_book.proofs.BookLaws.{same_state, verdict-same, verdict-first, verdict-stays}
 use Rattle.lj_book.proofs.BindingLaws.{CanBind, can_bind}
-use Rattle.lj_book.proofs.CommitLaws.{not_there, not_held_at_next}
+use Rattle.lj_book.proofs.CommitLaws.{not_there, no_holder_at_next}
 use Rattle.lj_book.proofs.SoloStates.{some_clause}
-use Rattle.lj_book.proofs.SoloTables.{bound_is_held}
+use Rattle.lj_book.proofs.SoloTables.{bound_has_holder}
 
 -- ---- pairs and joint numbers
 
@@ -70,13 +70,13 @@ numbers_taken : (tables : Tables) (p : ClauseMap) (seat : ℕ) → Lives tables 
 numbers_taken tables p seat lives [] = refl
 numbers_taken tables p seat lives (own ∷ owns) = go (numbers_taken tables p seat lives owns) (joint_of tables seat own) refl
   where
-    go : numbers_of (pairs_of (pair_in tables p seat) owns) ≡ joints_in (joint_of tables seat) owns → (o : Option ℕ) → joint_of tables seat own ≡ o → numbers_of (if_held own (option_and_then (λ j. option_map (λ c. record { joint = j; clause = c }) (fin.get p j)) o) (λ q. with_pair q (pairs_of (pair_in tables p seat) owns))) ≡ if_bound own o (λ j. with_joint j (joints_in (joint_of tables seat) owns))
+    go : numbers_of (pairs_of (pair_in tables p seat) owns) ≡ joints_in (joint_of tables seat) owns → (o : Option ℕ) → joint_of tables seat own ≡ o → numbers_of (if_known own (option_and_then (λ j. option_map (λ c. record { joint = j; clause = c }) (fin.get p j)) o) (λ q. with_pair q (pairs_of (pair_in tables p seat) owns))) ≡ if_bound own o (λ j. with_joint j (joints_in (joint_of tables seat) owns))
     go rest None e = refl
     go rest (Some j) e =
         let found = lives own j e in
         let pair : Pair = record { joint = j; clause = found.0 } in
         let made : LiteralSet → Pair = λ c. record { joint = j; clause = c } in
-        ap (λ o. numbers_of (if_held own (option_map made o) (λ q. with_pair q (pairs_of (pair_in tables p seat) owns)))) found.1
+        ap (λ o. numbers_of (if_known own (option_map made o) (λ q. with_pair q (pairs_of (pair_in tables p seat) owns)))) found.1
         ∙ one_pair pair (pairs_of (pair_in tables p seat) owns)
         ∙ ap (with_joint j) rest
 
@@ -84,18 +84,18 @@ groups_taken : (tables : Tables) (p : ClauseMap) (seat : ℕ) → Lives tables p
 groups_taken tables p seat lives [] = refl
 groups_taken tables p seat lives (g ∷ gs) = go (groups_taken tables p seat lives gs) (joint_of tables seat g.candidate) refl
   where
-    go : joint_groups (group_pairs_of (pair_in tables p seat) gs) ≡ joint_groups_in (joint_of tables seat) gs → (o : Option ℕ) → joint_of tables seat g.candidate ≡ o → joint_groups (if_held g.candidate (option_and_then (λ j. option_map (λ c. record { joint = j; clause = c }) (fin.get p j)) o) (λ q. with_group_pair q (pairs_of (pair_in tables p seat) g.hints) (group_pairs_of (pair_in tables p seat) gs))) ≡ if_bound g.candidate o (λ j. with_joint_group j (joints_in (joint_of tables seat) g.hints) (joint_groups_in (joint_of tables seat) gs))
+    go : joint_groups (group_pairs_of (pair_in tables p seat) gs) ≡ joint_groups_in (joint_of tables seat) gs → (o : Option ℕ) → joint_of tables seat g.candidate ≡ o → joint_groups (if_known g.candidate (option_and_then (λ j. option_map (λ c. record { joint = j; clause = c }) (fin.get p j)) o) (λ q. with_group_pair q (pairs_of (pair_in tables p seat) g.hints) (group_pairs_of (pair_in tables p seat) gs))) ≡ if_bound g.candidate o (λ j. with_joint_group j (joints_in (joint_of tables seat) g.hints) (joint_groups_in (joint_of tables seat) gs))
     go rest None e = refl
     go rest (Some j) e =
         let found = lives g.candidate j e in
         let pair : Pair = record { joint = j; clause = found.0 } in
         let made : LiteralSet → Pair = λ c. record { joint = j; clause = c } in
-        ap (λ o. joint_groups (if_held g.candidate (option_map made o) (λ q. with_group_pair q (pairs_of (pair_in tables p seat) g.hints) (group_pairs_of (pair_in tables p seat) gs)))) found.1
+        ap (λ o. joint_groups (if_known g.candidate (option_map made o) (λ q. with_group_pair q (pairs_of (pair_in tables p seat) g.hints) (group_pairs_of (pair_in tables p seat) gs)))) found.1
         ∙ one_group pair (pairs_of (pair_in tables p seat) g.hints) (group_pairs_of (pair_in tables p seat) gs)
         ∙ (λ i. with_joint_group j (numbers_taken tables p seat lives g.hints i) (rest i))
 
 lives_sound : (s : State) (seat : ℕ) → IsSound s → Lives s.tables (live s) seat
-lives_sound s seat sound own joint e = some_clause (fin.get (live s) joint) (live-held s sound joint ∙ bound_is_held s.tables seat own joint e)
+lives_sound s seat sound own joint e = some_clause (fin.get (live s) joint) (live-held s sound joint ∙ bound_has_holder s.tables seat own joint e)
 
 -- ---- the reply and the entry, told from the joint numbers
 
@@ -190,7 +190,7 @@ entered s seat a step h = go (free_refusal s seat a.number) refl (joint_parts (j
     go None is (Err x) are h = absurd (let no : ⊥ = cc in no)
     go (Some x) is r are h = absurd (let no : ⊥ = cc in no)
 
-recorded_same : (p : ClauseMap) (a : Addition) (w : Walk) → ((recorded_after p a w).number ≡ a.number) × ((recorded_after p a w).lemma ≡ a.lemma)
+recorded_same : (p : ClauseMap) (a : Addition) (w : Propagation) → ((recorded_after p a w).number ≡ a.number) × ((recorded_after p a w).lemma ≡ a.lemma)
 recorded_same p a (Closed used) = (refl, refl)
 recorded_same p a (Stuck place) = (refl, refl)
 recorded_same p a (Open t) = go a.lemma.pivot
@@ -209,7 +209,7 @@ recorded_same p a (Open t) = go a.lemma.pivot
 pub step_kept : (s : State) (seat : ℕ) (a step : Addition) (parts : LineParts) → IsEntered s seat a step parts → (step.number ≡ next s) × (step.lemma ≡ a.lemma)
 step_kept s seat a step parts e =
     let b = addition_of_parts (next s) a.lemma parts in
-    let kept = recorded_same (live s) b (first_walk (live s) b) in
+    let kept = recorded_same (live s) b (first_propagation (live s) b) in
     (sym (ap (λ (x : Addition). x.number) e.is) ∙ kept.0, sym (ap (λ (x : Addition). x.lemma) e.is) ∙ kept.1)
 
 -- the reply and the entry of an addition that is entered
@@ -254,24 +254,24 @@ line_taken s seat a parts t =
 line_refused : (s : State) (seat : ℕ) (a : Addition) (parts : LineParts) (x : Refusal) → IsTaken s seat a parts → tested_line (live s) (addition_of_parts (next s) a.lemma parts) ≡ Err x → inside_line s seat a ≡ Err x
 line_refused s seat a parts x t h =
     line_taken s seat a parts t
-    ∙ go (walk_refusal (live s) (addition_of_parts (next s) a.lemma parts) (first_walk (live s) (addition_of_parts (next s) a.lemma parts))) h
+    ∙ go (propagation_refusal (live s) (addition_of_parts (next s) a.lemma parts) (first_propagation (live s) (addition_of_parts (next s) a.lemma parts))) h
   where
     go : (o : Option Refusal) → unless_refused o (recorded_form (live s) (addition_of_parts (next s) a.lemma parts)) ≡ Err x → unless_refused (or_full s o) (recorded_form (live s) (addition_of_parts (next s) a.lemma parts)) ≡ Err x
     go None h = cc
     go (Some y) h = h
 
 line_room : (s : State) (seat : ℕ) (a : Addition) (parts : LineParts) (step : Addition) (b : Bool) → IsTaken s seat a parts → tested_line (live s) (addition_of_parts (next s) a.lemma parts) ≡ Ok step → nat_lt (addition_count s.history) s.max_steps ≡ b → inside_line s seat a ≡ (if b then Ok step else Err refusals.Full)
-line_room s seat a parts step b t h room =
+line_room s seat a parts step b t h capacity =
     line_taken s seat a parts t
-    ∙ go (walk_refusal (live s) (addition_of_parts (next s) a.lemma parts) (first_walk (live s) (addition_of_parts (next s) a.lemma parts))) b h room
+    ∙ go (propagation_refusal (live s) (addition_of_parts (next s) a.lemma parts) (first_propagation (live s) (addition_of_parts (next s) a.lemma parts))) b h capacity
   where
     full : (c : Bool) (x : Addition) → ◌≡◌ {A = Result Addition Refusal} (Ok x) (Ok step) → unless_refused (if c then None else Some refusals.Full) x ≡ (if c then Ok step else Err refusals.Full)
     full true x h = h
     full false x h = refl
 
     go : (o : Option Refusal) (c : Bool) → unless_refused o (recorded_form (live s) (addition_of_parts (next s) a.lemma parts)) ≡ Ok step → nat_lt (addition_count s.history) s.max_steps ≡ c → unless_refused (or_full s o) (recorded_form (live s) (addition_of_parts (next s) a.lemma parts)) ≡ (if c then Ok step else Err refusals.Full)
-    go None c h room = ap (λ k. unless_refused (if k then None else Some refusals.Full) (recorded_form (live s) (addition_of_parts (next s) a.lemma parts))) room ∙ full c (recorded_form (live s) (addition_of_parts (next s) a.lemma parts)) h
-    go (Some y) c h room = cc
+    go None c h capacity = ap (λ k. unless_refused (if k then None else Some refusals.Full) (recorded_form (live s) (addition_of_parts (next s) a.lemma parts))) capacity ∙ full c (recorded_form (live s) (addition_of_parts (next s) a.lemma parts)) h
+    go (Some y) c h capacity = cc
 
 line_full : (s : State) (seat : ℕ) (a : Addition) (parts : LineParts) (step : Addition) → IsTaken s seat a parts → tested_line (live s) (addition_of_parts (next s) a.lemma parts) ≡ Ok step → s.max_steps ≤ addition_count s.history → inside_line s seat a ≡ Err refusals.Full
 line_full s seat a parts step t h le = line_room s seat a parts step false t h (above (addition_count s.history) s.max_steps le)
@@ -352,22 +352,22 @@ abbrev candidates_of : List HintGroup → List ℕ
 candidates_of gs = map (λ g. g.candidate) gs
 
 -- Groups without a repeated candidate, none of which was seen before.
-record AreApart (seen : List ℕ) (js : List HintGroup) : Type 0 where
+record AreDisjoint (seen : List ℕ) (js : List HintGroup) : Type 0 where
   distinct : are_distinct (candidates_of js) ≡ true
   unseen : (m : ℕ) → is_among seen m ≡ true → is_among (candidates_of js) m ≡ false
 
 itself : (n : ℕ) → (n == n) ≡ true
 itself n = grind (arith, nat_tests)
 
-apart : (joint : ℕ → Option ℕ) (seen : List ℕ) (gs js : List HintGroup) → repeated_after joint seen gs ≡ None → joint_groups_in joint gs ≡ Ok js → AreApart seen js
-apart joint seen [] js new h = let same : [] ≡ js = cc in subst (AreApart seen) same (record { distinct = refl; unseen = λ m e. refl })
+apart : (joint : ℕ → Option ℕ) (seen : List ℕ) (gs js : List HintGroup) → repeated_after joint seen gs ≡ None → joint_groups_in joint gs ≡ Ok js → AreDisjoint seen js
+apart joint seen [] js new h = let same : [] ≡ js = cc in subst (AreDisjoint seen) same (record { distinct = refl; unseen = λ m e. refl })
 apart joint seen (g ∷ gs) js new h = go (λ j ks n f. apart joint (j ∷ seen) gs ks n f) (joint g.candidate) refl (joints_in joint g.hints) (joint_groups_in joint gs) refl new h
   where
     fresh : (j : ℕ) (b : Bool) → is_among seen j ≡ b → (if b then Some g.candidate else repeated_after joint (j ∷ seen) gs) ≡ None → (is_among seen j ≡ false) × (repeated_after joint (j ∷ seen) gs ≡ None)
     fresh j true e h = absurd (false≢true (sym (ap is_some h)))
     fresh j false e h = (e, h)
 
-    go : ((j : ℕ) (ks : List HintGroup) → repeated_after joint (j ∷ seen) gs ≡ None → joint_groups_in joint gs ≡ Ok ks → AreApart (j ∷ seen) ks) → (o : Option ℕ) → joint g.candidate ≡ o → (hs : Result (List ℕ) Refusal) (r : Result (List HintGroup) Refusal) → joint_groups_in joint gs ≡ r → (if is_seen seen o then Some g.candidate else repeated_after joint (with_seen o seen) gs) ≡ None → if_bound g.candidate o (λ j. with_joint_group j hs r) ≡ Ok js → AreApart seen js
+    go : ((j : ℕ) (ks : List HintGroup) → repeated_after joint (j ∷ seen) gs ≡ None → joint_groups_in joint gs ≡ Ok ks → AreDisjoint (j ∷ seen) ks) → (o : Option ℕ) → joint g.candidate ≡ o → (hs : Result (List ℕ) Refusal) (r : Result (List HintGroup) Refusal) → joint_groups_in joint gs ≡ r → (if is_seen seen o then Some g.candidate else repeated_after joint (with_seen o seen) gs) ≡ None → if_bound g.candidate o (λ j. with_joint_group j hs r) ≡ Ok js → AreDisjoint seen js
     go before None e hs r f new h = absurd (let no : ⊥ = cc in no)
     go before (Some j) e (Err x) r f new h = absurd (let no : ⊥ = cc in no)
     go before (Some j) e (Ok hints) (Err x) f new h = absurd (let no : ⊥ = cc in no)
@@ -377,7 +377,7 @@ apart joint seen (g ∷ gs) js new h = go (λ j ks n f. apart joint (j ∷ seen)
         let unseen = fresh j (is_among seen j) refl new in
         let rest = before j later unseen.1 f in
         let not_here : is_among (candidates_of later) j ≡ false = rest.unseen j (ap (λ b. b || is_among seen j) (itself j)) in
-        subst (AreApart seen) same (record {
+        subst (AreDisjoint seen) same (record {
           distinct = and_from (not (is_among (candidates_of later) j)) (are_distinct (candidates_of later)) (ap not not_here) rest.distinct;
           unseen = λ m was. elim (j == m) as (λ b. (j == m) ≡ b → (b || is_among (candidates_of later) m) ≡ false) [
             | true ↦ λ is. absurd (false≢true (sym unseen.0 ∙ ap (is_among seen) (eqb-true j m is) ∙ was))
@@ -390,7 +390,7 @@ pub record IsPivot (lemma : LemmaValue) : Type 0 where
   pub literal : IfSome lemma.pivot (λ q. (variable_of q == 0) ≡ false)
   pub there : IfSome lemma.pivot (λ q. holds lemma.clause q ≡ true)
 
-accepted_by : (p : ClauseMap) (a : Addition) (w : Walk) → IsPivot a.lemma → walk_refusal p a w ≡ None → (is_closed w || is_rat_after p a w) ≡ true
+accepted_by : (p : ClauseMap) (a : Addition) (w : Propagation) → IsPivot a.lemma → propagation_refusal p a w ≡ None → (is_closed w || is_rat_after p a w) ≡ true
 accepted_by p a (Closed used) pivot h = refl
 accepted_by p a (Stuck place) pivot h = absurd (false≢true (sym (ap is_some h)))
 accepted_by p a (Open t) pivot h = go a.lemma.pivot pivot.literal pivot.there h
@@ -407,27 +407,27 @@ accepted_by p a (Open t) pivot h = go a.lemma.pivot pivot.literal pivot.there h
 
 -- What passing says of the state.
 record IsPassed (s : State) (a : Addition) : Type 0 where
-  walked : walk_refusal (live s) a (first_walk (live s) a) ≡ None
-  room : addition_count s.history < s.max_steps
+  propagated : propagation_refusal (live s) a (first_propagation (live s) a) ≡ None
+  capacity : addition_count s.history < s.max_steps
 
 abbrev full_or : Bool → Option Refusal → Option Refusal
 full_or b None = if b then None else Some refusals.Full
 full_or b (Some e) = Some e
 
 passed_by : (s : State) (a : Addition) → test_refusal s a ≡ None → IsPassed s a
-passed_by s a h = go (walk_refusal (live s) a (first_walk (live s) a)) refl (nat_lt (addition_count s.history) s.max_steps) refl h
+passed_by s a h = go (propagation_refusal (live s) a (first_propagation (live s) a)) refl (nat_lt (addition_count s.history) s.max_steps) refl h
   where
     fits : (n m : ℕ) → nat_lt n m ≡ true → n < m
     fits n m e = grind (arith, nat_tests)
 
-    go : (o : Option Refusal) → walk_refusal (live s) a (first_walk (live s) a) ≡ o → (b : Bool) → nat_lt (addition_count s.history) s.max_steps ≡ b → full_or b o ≡ None → IsPassed s a
+    go : (o : Option Refusal) → propagation_refusal (live s) a (first_propagation (live s) a) ≡ o → (b : Bool) → nat_lt (addition_count s.history) s.max_steps ≡ b → full_or b o ≡ None → IsPassed s a
     go (Some e) is b f h = absurd (false≢true (sym (ap is_some h)))
     go None is false f h = absurd (false≢true (sym (ap is_some h)))
-    go None is true f h = record { walked = is; room = fits (addition_count s.history) s.max_steps f }
+    go None is true f h = record { propagated = is; capacity = fits (addition_count s.history) s.max_steps f }
 
 -- there is room for it
 pub entered_room : (s : State) (seat : ℕ) (a step : Addition) (parts : LineParts) → IsEntered s seat a step parts → addition_count s.history < s.max_steps
-entered_room s seat a step parts e = (passed_by s (addition_of_parts (next s) a.lemma parts) e.passed).room
+entered_room s seat a step parts e = (passed_by s (addition_of_parts (next s) a.lemma parts) e.passed).capacity
 
 -- the entry is legal
 pub entered_legal : (s : State) (seat : ℕ) (a step : Addition) (parts : LineParts) → IsSound s → IsPivot a.lemma → IsEntered s seat a step parts → IsLegal s (line_entry seat a.number step)
@@ -436,19 +436,19 @@ entered_legal s seat a step parts sound pivot e =
     let joint = joint_of s.tables seat in
     let b = addition_of_parts (next s) a.lemma parts in
     let found = parts_of (repeated_after joint [] a.groups) (joints_in joint a.hints) (joint_groups_in joint a.groups) parts e.are in
-    let named : (own j : ℕ) → joint own ≡ Some j → names p j ≡ true = λ own j is. live-held s sound j ∙ bound_is_held s.tables seat own j is in
-    let placed : is_in_place p b ≡ true =
+    let named : (own j : ℕ) → joint own ≡ Some j → names p j ≡ true = λ own j is. live-held s sound j ∙ bound_has_holder s.tables seat own j is in
+    let stored : is_in_place p b ≡ true =
     and_from (not (names p (next s))) _ (ap not (not_there s sound))
     (and_from (names_all p parts.0) _ (joints_named p joint named a.hints parts.0 found.1)
     (and_from (list_all (group_named p) parts.1) _ (groups_named p joint named a.groups parts.1 found.2) (apart joint [] a.groups parts.1 found.0 found.2).distinct)) in
     let passed = passed_by s b e.passed in
-    let accepted : is_accepted p (steps.Add b) ≡ true = and_from (is_in_place p b) _ placed (accepted_by p b (first_walk p b) pivot passed.walked) in
+    let accepted : is_accepted p (steps.Add b) ≡ true = and_from (is_in_place p b) _ stored (accepted_by p b (first_propagation p b) pivot passed.propagated) in
     let kept = recorded_keeps p b accepted in
     let same = step_kept s seat a step parts e in
     record {
       here = e.can.here;
       unbound = e.can.unbound;
-      room = passed.room;
+      capacity = passed.capacity;
       addition = (same.0, (refl, (subst (λ (x : Addition). is_accepted p (steps.Add x) ≡ true) e.is kept.1, subst (IsRecorded p) e.is kept.0)));
     }
 
@@ -483,10 +483,10 @@ line_state s seat own joint step tables history is bound pushed =
 -- ---- a line that passed
 
 -- its own number can be bound to the next, which nothing holds
-pub line_can : (s : State) (seat : ℕ) (a step : Addition) → IsSound s → inside_line s seat a ≡ Ok step → CanBind s seat a.number × (is_held s.tables step.number ≡ false)
+pub line_can : (s : State) (seat : ℕ) (a step : Addition) → IsSound s → inside_line s seat a ≡ Ok step → CanBind s seat a.number × (has_holder s.tables step.number ≡ false)
 line_can s seat a step sound passed =
     let e = entered s seat a step passed in
-    (e.1.can, ap (is_held s.tables) (step_kept s seat a step e.0 e.1).0 ∙ not_held_at_next s sound)
+    (e.1.can, ap (has_holder s.tables) (step_kept s seat a step e.0 e.1).0 ∙ no_holder_at_next s sound)
 
 -- what a book keeps once it is entered, and its state then
 pub line_made : (s : State) (seat : ℕ) (a step : Addition) (clauses more : ClauseMap) (added : ℕ) (refuted first : Option ℕ) (tables : Tables) (history : List Entry) → IsKept s clauses added refuted → IsPivot a.lemma → inside_line s seat a ≡ Ok step → tables ≡ with_table (λ t. fin.insert t a.number step.number) s.tables seat → history ≡ s.history ++ line_entry seat a.number step ∷ [] → more ≡ fin.insert clauses step.number step.lemma.clause → first ≡ refuted_after refuted (length s.history) step.lemma.clause → IsKept (record { formula = s.formula; max_steps = s.max_steps; tables = tables; history = history }) more (added + 1) first × (◌≡◌ {A = State} (record { formula = s.formula; max_steps = s.max_steps; tables = tables; history = history }) (after_entry s (line_entry seat a.number step)))

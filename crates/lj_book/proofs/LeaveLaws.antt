@@ -11,7 +11,7 @@ use Rattle.lj_text.specs.Steps.{without}
 use Rattle.lj_text.specs.Needed.{additions, if_some}
 use Rattle.lj_book.specs.declared.entry.Call.TheVariants as calls
 use Rattle.lj_book.specs.declared.entry.Entry.{Entry}
-use Rattle.lj_book.specs.Tables.{Table, Tables, table_of, is_here, joint_of, is_held, holds_joint, is_among, with_table, without_keys, without_seat}
+use Rattle.lj_book.specs.Tables.{Table, Tables, table_of, is_here, joint_of, has_holder, holds_joint, is_among, with_table, without_keys, without_seat}
 use Rattle.lj_book.specs.inner.Tables.{own_numbers}
 use Rattle.lj_book.specs.inner.Holders.{AreHolders, holders_of}
 use Rattle.lj_book.specs.State.{State, steps_of, live}
@@ -70,17 +70,17 @@ emptied ts us seat numbers here all is =
     ∙ ap Some (nothing_left t.0)
 
 -- the same is held, whether a seat holds nothing or is gone
-held-emptied : (ts : Tables) (seat q : ℕ) → table_of ts seat ≡ Some fin.empty → is_held (without_seat ts seat) q ≡ is_held ts q
+held-emptied : (ts : Tables) (seat q : ℕ) → table_of ts seat ≡ Some fin.empty → has_holder (without_seat ts seat) q ≡ has_holder ts q
 held-emptied [] seat q h = refl
 held-emptied (None ∷ ts) zero q h = refl
 held-emptied (Some u ∷ ts) zero q h =
     let is : u ≡ fin.empty = cc in
-    sym (ap (λ (w : Table). holds_joint q (Some w) || is_held ts q) is ∙ ap (λ es. is_among (map (λ (e : ℕ × ℕ). e.1) es) q || is_held ts q) entries-empty)
+    sym (ap (λ (w : Table). holds_joint q (Some w) || has_holder ts q) is ∙ ap (λ es. is_among (map (λ (e : ℕ × ℕ). e.1) es) q || has_holder ts q) entries-empty)
 held-emptied (t ∷ ts) (suc seat) q h = ap (λ b. holds_joint q t || b) (held-emptied ts seat q h)
 
-held-left : (ts : Tables) (seat q : ℕ) (numbers : List ℕ) → is_here ts seat ≡ true → numbers ≡ own_numbers (table_of ts seat) → is_held (without_seat ts seat) q ≡ is_held (with_table (without_keys numbers) ts seat) q
+held-left : (ts : Tables) (seat q : ℕ) (numbers : List ℕ) → is_here ts seat ≡ true → numbers ≡ own_numbers (table_of ts seat) → has_holder (without_seat ts seat) q ≡ has_holder (with_table (without_keys numbers) ts seat) q
 held-left ts seat q numbers here all =
-    ap (λ (us : Tables). is_held us q) (sym (without_seat-with_table (without_keys numbers) ts seat))
+    ap (λ (us : Tables). has_holder us q) (sym (without_seat-with_table (without_keys numbers) ts seat))
     ∙ held-emptied (with_table (without_keys numbers) ts seat) seat q (emptied ts _ seat numbers here all refl)
 
 -- ---- what died
@@ -90,12 +90,12 @@ filter-same p r [] e = refl
 filter-same p r (n ∷ ns) e = λ i. cond (e n i) (n ∷ filter-same p r ns e i) (filter-same p r ns e i)
 
 -- the numbers that the code finds are those that died
-pub left_dead : (s : State) (seat : ℕ) (numbers rising dead : List ℕ) (tables : Tables) → IsSound s → is_here s.tables seat ≡ true → numbers ≡ own_numbers (table_of s.tables seat) → tables ≡ without_seat s.tables seat → IsStrictlySortedBy nat_cmp rising → ((q : ℕ) → is_among rising q ≡ is_among (filter_map (joint_of s.tables seat) numbers) q) → dead ≡ filter (λ n. not (is_held tables n)) rising → dead ≡ dead_numbers s (without_seat s.tables seat)
+pub left_dead : (s : State) (seat : ℕ) (numbers rising dead : List ℕ) (tables : Tables) → IsSound s → is_here s.tables seat ≡ true → numbers ≡ own_numbers (table_of s.tables seat) → tables ≡ without_seat s.tables seat → IsStrictlySortedBy nat_cmp rising → ((q : ℕ) → is_among rising q ≡ is_among (filter_map (joint_of s.tables seat) numbers) q) → dead ≡ filter (λ n. not (has_holder tables n)) rising → dead ≡ dead_numbers s (without_seat s.tables seat)
 left_dead s seat numbers rising dead tables sound here all is sorted same found =
     let us : Tables = with_table (without_keys numbers) s.tables seat in
-    let each : (n : ℕ) → not (is_held (without_seat s.tables seat) n) ≡ not (is_held us n) = λ n. ap not (held-left s.tables seat n numbers here all) in
+    let each : (n : ℕ) → not (has_holder (without_seat s.tables seat) n) ≡ not (has_holder us n) = λ n. ap not (held-left s.tables seat n numbers here all) in
     found_dead s seat numbers rising dead us sound here refl sorted same
-    (found ∙ ap (λ (ts : Tables). filter (λ n. not (is_held ts n)) rising) is ∙ filter-same _ _ rising each)
+    (found ∙ ap (λ (ts : Tables). filter (λ n. not (has_holder ts n)) rising) is ∙ filter-same _ _ rising each)
     ∙ sym (filter-same _ _ (fin.keys (live s)) each)
 
 -- ---- the book

@@ -27,7 +27,7 @@ pub mod Scans
 pub mod BindingLaws
 pub mod LeaveLaws
 mod HolderBounds
-mod PlaceLaws
+mod RangeLaws
 mod PrivateClauses
 mod SeenClauses
 mod PrivateCandidates

@@ -12,7 +12,7 @@ use Rattle.lj_hint.specs.declared.pair.Pair.{Pair}
 use Rattle.lj_hint.specs.Images.{pair_image, hinted_image}
 use Rattle.lj_book.specs.declared.refusal.Refusal.{Refusal}
 use Rattle.lj_book.specs.declared.refusal.Refusal.TheVariants.{NumberTaken}
-use Rattle.lj_book.specs.Calls.{if_held, pairs_of, with_pair, group_pairs_of, with_group_pair, repeated_after, case_with}
+use Rattle.lj_book.specs.Calls.{if_known, pairs_of, with_pair, group_pairs_of, with_group_pair, repeated_after, case_with}
 use Rattle.lj_book.specs.Solo.{Holdings, view_of, solo_case}
 use Rattle.lj_book.specs.Named.{names_of, beneath}
 use Rattle.lj_book.specs.NamedViews.{take_image, holdings_image, TakesCommuteWithRenamings, NamedTakesAreAlone}
@@ -52,7 +52,7 @@ module _ (m : Renaming) where
   pairs_of-image pair (own ∷ owns) = by (pair own) (pairs_of-image pair owns)
     where
       by : (o : Option Pair) → pairs_of (λ own. option_map (pair_image m) (pair own)) owns ≡ pairs_image (pairs_of pair owns)
-          → if_held own (option_map (pair_image m) o) (λ p. with_pair p (pairs_of (λ own. option_map (pair_image m) (pair own)) owns)) ≡ pairs_image (if_held own o (λ p. with_pair p (pairs_of pair owns)))
+          → if_known own (option_map (pair_image m) o) (λ p. with_pair p (pairs_of (λ own. option_map (pair_image m) (pair own)) owns)) ≡ pairs_image (if_known own o (λ p. with_pair p (pairs_of pair owns)))
       by None rest = refl
       by (Some p) rest = ap (with_pair (pair_image m p)) rest ∙ with_pair-image p (pairs_of pair owns)
 
@@ -61,8 +61,8 @@ module _ (m : Renaming) where
   group_pairs_of-image pair (g ∷ gs) = by (pair g.candidate) (group_pairs_of-image pair gs)
     where
       by : (o : Option Pair) → group_pairs_of (λ own. option_map (pair_image m) (pair own)) gs ≡ groups_image (group_pairs_of pair gs)
-          → if_held g.candidate (option_map (pair_image m) o) (λ p. with_group_pair p (pairs_of (λ own. option_map (pair_image m) (pair own)) g.hints) (group_pairs_of (λ own. option_map (pair_image m) (pair own)) gs))
-          ≡ groups_image (if_held g.candidate o (λ p. with_group_pair p (pairs_of pair g.hints) (group_pairs_of pair gs)))
+          → if_known g.candidate (option_map (pair_image m) o) (λ p. with_group_pair p (pairs_of (λ own. option_map (pair_image m) (pair own)) g.hints) (group_pairs_of (λ own. option_map (pair_image m) (pair own)) gs))
+          ≡ groups_image (if_known g.candidate o (λ p. with_group_pair p (pairs_of pair g.hints) (group_pairs_of pair gs)))
       by None rest = refl
       by (Some p) rest = (λ i. with_group_pair (pair_image m p) (pairs_of-image pair g.hints i) (rest i)) ∙ with_group-image p (pairs_of pair g.hints) (group_pairs_of pair gs)
 

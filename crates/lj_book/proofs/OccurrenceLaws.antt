@@ -12,7 +12,7 @@ use Rattle.std.specs.Ordering.{nat_cmp, eq_by_cmp}
 use Rattle.std.specs.Cmp.{nat_cmp_total, unsigned_tied, second_so}
 use Rattle.std.specs.FinMap as fin
 use Rattle.std.specs.FinMap.Entries.{find, is_sorted, below_all}
-use Rattle.lj_clause.specs.Literal.{place_of, lit_cmp}
+use Rattle.lj_clause.specs.Literal.{index_of, lit_cmp}
 use Rattle.lj_clause.specs.LiteralSet.{LiteralSet, holds, literals}
 use Rattle.lj_clause.specs.ClauseMap.{ClauseMap}
 use Rattle.lj_clause.proofs.LiteralSets.{holds-literals}
@@ -20,7 +20,7 @@ use Rattle.lj_clause.proofs.Tests.{left_of, right_of, turned}
 use Rattle.lj_clause.proofs.SortedEntries.{none_below, less_not_equal, is_sorted-filter}
 use Rattle.lj_book.specs.Tables.{is_among}
 use Rattle.lj_book.specs.Lookup.{is_same, is_clause, numbers_where, numbers_holding, least_number}
-use Rattle.lj_book.specs.inner.Occurrences.{Lists, places_of, list_or_empty, list_at, put_if, AreOccurrences, AreListed, AreIndexed}
+use Rattle.lj_book.specs.inner.Occurrences.{Lists, keys_of, list_or_empty, list_at, put_if, AreOccurrences, AreListed, AreIndexed}
 use Rattle.lj_book.proofs.TableLaws.{among_push}
 use Rattle.lj_book.proofs.HistoryLaws.{among-filter, among_tied}
 use Rattle.lj_book.proofs.DropLaws.{Rises-sorted, sorted-keys, same_rising}
@@ -67,25 +67,25 @@ some_equal : {X : Type 0} {x y : X} → Some x ≡ Some y → x ≡ y
 some_equal e = cc
 
 -- the lists with the number of a new clause, which none of them has yet
-pub clause_added : (m after : Lists) (clause later : ℕ → Option LiteralSet) (bound n : ℕ) (c : LiteralSet) → AreOccurrences m clause bound → bound ≤ n → ((k : ℕ) → list_at after k ≡ put_if (is_among (places_of c) k) (list_at m k) n) → later n ≡ Some c → ((q : ℕ) → (n == q) ≡ false → later q ≡ clause q) → AreOccurrences after later (n + 1)
-clause_added m after clause later bound n c are room is new others = record {
-  rising = λ k. subst (IsStrictlySortedBy nat_cmp) (sym (is k)) (rising_if (is_among (places_of c) k) (list_at m k) n (are.rising k) (λ q e. let b = are.below k q e in omega arith));
-  below = λ k q e. elim (or_cases (is_among (list_at m k) q) (is_among (places_of c) k && (n == q)) (sym (among k q) ∙ e)) [
+pub clause_added : (m after : Lists) (clause later : ℕ → Option LiteralSet) (bound n : ℕ) (c : LiteralSet) → AreOccurrences m clause bound → bound ≤ n → ((k : ℕ) → list_at after k ≡ put_if (is_among (keys_of c) k) (list_at m k) n) → later n ≡ Some c → ((q : ℕ) → (n == q) ≡ false → later q ≡ clause q) → AreOccurrences after later (n + 1)
+clause_added m after clause later bound n c are capacity is new others = record {
+  rising = λ k. subst (IsStrictlySortedBy nat_cmp) (sym (is k)) (rising_if (is_among (keys_of c) k) (list_at m k) n (are.rising k) (λ q e. let b = are.below k q e in omega arith));
+  below = λ k q e. elim (or_cases (is_among (list_at m k) q) (is_among (keys_of c) k && (n == q)) (sym (among k q) ∙ e)) [
     | inl there ↦ let b = are.below k q there in omega arith
-    | inr last ↦ let b = eqb-true n q (second_so (is_among (places_of c) k) (n == q) last) in omega arith
+    | inr last ↦ let b = eqb-true n q (second_so (is_among (keys_of c) k) (n == q) last) in omega arith
   ];
-  exact = λ q d at k. among k q ∙ elim (n == q) as (λ b. (n == q) ≡ b → (is_among (list_at m k) q || (is_among (places_of c) k && b)) ≡ is_among (places_of d) k) [
+  exact = λ q d at k. among k q ∙ elim (n == q) as (λ b. (n == q) ≡ b → (is_among (list_at m k) q || (is_among (keys_of c) k && b)) ≡ is_among (keys_of d) k) [
     | true ↦ λ e.
         let here : n ≡ q = eqb-true n q e in
         let same : c ≡ d = some_equal (sym new ∙ ap later here ∙ at) in
-        fresh (is_among (list_at m k) q) (is_among (places_of c) k) (λ there. let b = are.below k q there in omega arith)
-        ∙ ap (λ x. is_among (places_of x) k) same
-    | false ↦ λ e. never (is_among (list_at m k) q) (is_among (places_of c) k) ∙ are.exact q d (sym (others q e) ∙ at) k
+        fresh (is_among (list_at m k) q) (is_among (keys_of c) k) (λ there. let b = are.below k q there in omega arith)
+        ∙ ap (λ x. is_among (keys_of x) k) same
+    | false ↦ λ e. never (is_among (list_at m k) q) (is_among (keys_of c) k) ∙ are.exact q d (sym (others q e) ∙ at) k
   ] refl;
 }
   where
-    among : (k q : ℕ) → is_among (list_at after k) q ≡ (is_among (list_at m k) q || (is_among (places_of c) k && (n == q)))
-    among k q = ap (λ ns. is_among ns q) (is k) ∙ among_put (is_among (places_of c) k) (list_at m k) n q
+    among : (k q : ℕ) → is_among (list_at after k) q ≡ (is_among (list_at m k) q || (is_among (keys_of c) k && (n == q)))
+    among k q = ap (λ ns. is_among ns q) (is k) ∙ among_put (is_among (keys_of c) k) (list_at m k) n q
 
     fresh : (a b : Bool) → (a ≡ true → ⊥) → (a || (b && true)) ≡ b
     fresh true b = λ no. absurd (no refl)
@@ -132,8 +132,8 @@ list_swept m clause bound place ns are rises keeps fewer = record {
     | true ↦ λ h there. are.below place q (fewer q there)
     | false ↦ λ h there. are.below k q there
   ] refl (ap (λ xs. is_among xs q) (sym (list-insert m place ns k)) ∙ e);
-  exact = λ q d at k. ap (λ xs. is_among xs q) (list-insert m place ns k) ∙ elim (k == place) as (λ b. (k == place) ≡ b → is_among (cond b ns (list_at m k)) q ≡ is_among (places_of d) k) [
-    | true ↦ λ h. keeps q (ap is_some at) ∙ are.exact q d at place ∙ ap (is_among (places_of d)) (sym (eqb-true k place h))
+  exact = λ q d at k. ap (λ xs. is_among xs q) (list-insert m place ns k) ∙ elim (k == place) as (λ b. (k == place) ≡ b → is_among (cond b ns (list_at m k)) q ≡ is_among (keys_of d) k) [
+    | true ↦ λ h. keeps q (ap is_some at) ∙ are.exact q d at place ∙ ap (is_among (keys_of d)) (sym (eqb-true k place h))
     | false ↦ λ h. are.exact q d at k
   ] refl;
 }
@@ -143,48 +143,48 @@ list_swept m clause bound place ns are rises keeps fewer = record {
 abbrev keys_in : List (ℤ × Unit {0}) → List ℤ
 keys_in es = map (λ e. e.0) es
 
-below_at : (x : ℤ) (es : List (ℤ × Unit {0})) (i : ℕ) (d : ℤ) → T (below_all lit_cmp x es) → i < length (keys_in es) → (place_of x == place_of (get_or (keys_in es) i d)) ≡ false
+below_at : (x : ℤ) (es : List (ℤ × Unit {0})) (i : ℕ) (d : ℤ) → T (below_all lit_cmp x es) → i < length (keys_in es) → (index_of x == index_of (get_or (keys_in es) i d)) ≡ false
 below_at x [] i d h lt = absurd (omega arith)
-below_at x (e ∷ es) zero d h lt = sym (unsigned_tied (place_of x) (place_of e.0)) ∙ less_not_equal (lit_cmp x e.0) (left_of _ _ h)
+below_at x (e ∷ es) zero d h lt = sym (unsigned_tied (index_of x) (index_of e.0)) ∙ less_not_equal (lit_cmp x e.0) (left_of _ _ h)
 below_at x (e ∷ es) (suc i) d h lt = below_at x es i d (right_of _ _ h) (grind arith)
 
-fresh_place : (es : List (ℤ × Unit {0})) (i : ℕ) (d : ℤ) → T (is_sorted lit_cmp es) → i < length (keys_in es) → is_among (map place_of (take i (keys_in es))) (place_of (get_or (keys_in es) i d)) ≡ false
+fresh_place : (es : List (ℤ × Unit {0})) (i : ℕ) (d : ℤ) → T (is_sorted lit_cmp es) → i < length (keys_in es) → is_among (map index_of (take i (keys_in es))) (index_of (get_or (keys_in es) i d)) ≡ false
 fresh_place [] i d h lt = absurd (omega arith)
 fresh_place (e ∷ es) zero d h lt = refl
 fresh_place (e ∷ es) (suc i) d h lt =
-    ap (λ b. b || is_among (map place_of (take i (keys_in es))) (place_of (get_or (keys_in es) i d))) (below_at e.0 es i d (left_of _ _ h) (grind arith))
+    ap (λ b. b || is_among (map index_of (take i (keys_in es))) (index_of (get_or (keys_in es) i d))) (below_at e.0 es i d (left_of _ _ h) (grind arith))
     ∙ fresh_place es i d (right_of _ _ h) (grind arith)
 
-map-push : (ls : List ℤ) (l : ℤ) → map place_of (ls ++ l ∷ []) ≡ map place_of ls ++ place_of l ∷ []
+map-push : (ls : List ℤ) (l : ℤ) → map index_of (ls ++ l ∷ []) ≡ map index_of ls ++ index_of l ∷ []
 map-push [] l = refl
-map-push (x ∷ ls) l = ap (λ ks. place_of x ∷ ks) (map-push ls l)
+map-push (x ∷ ls) l = ap (λ ks. index_of x ∷ ks) (map-push ls l)
 
 -- the places of one literal more
-places-more : (ls : List ℤ) (i : ℕ) (d : ℤ) (k : ℕ) → i < length ls → is_among (map place_of (take (i + 1) ls)) k ≡ (is_among (map place_of (take i ls)) k || (place_of (get_or ls i d) == k))
-places-more ls i d k lt =
-    ap (λ xs. is_among (map place_of xs) k) (take_more ls i d lt)
+ranges-more : (ls : List ℤ) (i : ℕ) (d : ℤ) (k : ℕ) → i < length ls → is_among (map index_of (take (i + 1) ls)) k ≡ (is_among (map index_of (take i ls)) k || (index_of (get_or ls i d) == k))
+ranges-more ls i d k lt =
+    ap (λ xs. is_among (map index_of xs) k) (take_more ls i d lt)
     ∙ ap (λ xs. is_among xs k) (map-push (take i ls) (get_or ls i d))
-    ∙ among_push (map place_of (take i ls)) (place_of (get_or ls i d)) k
+    ∙ among_push (map index_of (take i ls)) (index_of (get_or ls i d)) k
 
 -- of literals each of which stands there once: the lists where the number stands under the places of the first of them,
 -- and of one more
 abbrev IsPlaceAdded : List ℤ → Type 0
-IsPlaceAdded ls = (m now after : Lists) (i n : ℕ) (d : ℤ) → i < length ls → ((k : ℕ) → list_at now k ≡ put_if (is_among (map place_of (take i ls)) k) (list_at m k) n) → after ≡ fin.insert now (place_of (get_or ls i d)) (list_at now (place_of (get_or ls i d)) ++ n ∷ []) → (k : ℕ) → list_at after k ≡ put_if (is_among (map place_of (take (i + 1) ls)) k) (list_at m k) n
+IsPlaceAdded ls = (m now after : Lists) (i n : ℕ) (d : ℤ) → i < length ls → ((k : ℕ) → list_at now k ≡ put_if (is_among (map index_of (take i ls)) k) (list_at m k) n) → after ≡ fin.insert now (index_of (get_or ls i d)) (list_at now (index_of (get_or ls i d)) ++ n ∷ []) → (k : ℕ) → list_at after k ≡ put_if (is_among (map index_of (take (i + 1) ls)) k) (list_at m k) n
 
 place_added : (c : LiteralSet) → IsPlaceAdded (literals c)
 place_added c m now after i n d lt before is k =
-    let place = place_of (get_or (literals c) i d) in
-    let fresh : is_among (map place_of (take i (literals c))) place ≡ false = fresh_place (fin.entries c) i d (fin.entries_sorted c) lt in
+    let place = index_of (get_or (literals c) i d) in
+    let fresh : is_among (map index_of (take i (literals c))) place ≡ false = fresh_place (fin.entries c) i d (fin.entries_sorted c) lt in
     ap (λ (x : Lists). list_at x k) is
     ∙ list-insert now place (list_at now place ++ n ∷ []) k
-    ∙ (elim (k == place) as (λ b. (k == place) ≡ b → cond b (list_at now place ++ n ∷ []) (list_at now k) ≡ put_if (is_among (map place_of (take i (literals c))) k || b) (list_at m k) n) [
+    ∙ (elim (k == place) as (λ b. (k == place) ≡ b → cond b (list_at now place ++ n ∷ []) (list_at now k) ≡ put_if (is_among (map index_of (take i (literals c))) k || b) (list_at m k) n) [
       | true ↦ λ e.
           let here : k ≡ place = eqb-true k place e in
           ap (λ ns. ns ++ n ∷ []) (before place ∙ ap (λ b. put_if b (list_at m place) n) fresh ∙ ap (list_at m) (sym here))
-          ∙ sym (ap (λ b. put_if b (list_at m k) n) (or_true (is_among (map place_of (take i (literals c))) k)))
-      | false ↦ λ e. before k ∙ sym (ap (λ b. put_if b (list_at m k) n) (or_false (is_among (map place_of (take i (literals c))) k)))
+          ∙ sym (ap (λ b. put_if b (list_at m k) n) (or_true (is_among (map index_of (take i (literals c))) k)))
+      | false ↦ λ e. before k ∙ sym (ap (λ b. put_if b (list_at m k) n) (or_false (is_among (map index_of (take i (literals c))) k)))
     ]) refl
-    ∙ ap (λ b. put_if b (list_at m k) n) (ap (λ b. is_among (map place_of (take i (literals c))) k || b) (turned k place) ∙ sym (places-more (literals c) i d k lt))
+    ∙ ap (λ b. put_if b (list_at m k) n) (ap (λ b. is_among (map index_of (take i (literals c))) k || b) (turned k place) ∙ sym (ranges-more (literals c) i d k lt))
   where
     or_true : (b : Bool) → (b || true) ≡ true
     or_true true = refl
@@ -198,18 +198,18 @@ pub literal_added : (c : LiteralSet) (ls : List ℤ) → ls ≡ literals c → I
 literal_added c ls is = subst IsPlaceAdded (sym is) (place_added c)
 
 -- each literal's place is among them
-pub place_among : (ls : List ℤ) (i : ℕ) (d : ℤ) → i < length ls → is_among (map place_of ls) (place_of (get_or ls i d)) ≡ true
+pub place_among : (ls : List ℤ) (i : ℕ) (d : ℤ) → i < length ls → is_among (map index_of ls) (index_of (get_or ls i d)) ≡ true
 place_among [] i d lt = absurd (omega arith)
-place_among (l ∷ ls) zero d lt = or_left (place_of l == place_of l) (is_among (map place_of ls) (place_of l)) (itself (place_of l))
-place_among (l ∷ ls) (suc i) d lt = or_right (place_of l == place_of (get_or ls i d)) (is_among (map place_of ls) (place_of (get_or ls i d))) (place_among ls i d (grind arith))
+place_among (l ∷ ls) zero d lt = or_left (index_of l == index_of l) (is_among (map index_of ls) (index_of l)) (itself (index_of l))
+place_among (l ∷ ls) (suc i) d lt = or_right (index_of l == index_of (get_or ls i d)) (is_among (map index_of ls) (index_of (get_or ls i d))) (place_among ls i d (grind arith))
 
-pub some_places : (c : LiteralSet) → (length (literals c) == 0) ≡ false → places_of c ≡ map place_of (literals c)
-some_places c h = ap (λ b. cond b (1 ∷ []) (map place_of (literals c))) h
+pub some_places : (c : LiteralSet) → (length (literals c) == 0) ≡ false → keys_of c ≡ map index_of (literals c)
+some_places c h = ap (λ b. cond b (1 ∷ []) (map index_of (literals c))) h
 
-pub one_place : (c : LiteralSet) → (length (literals c) == 0) ≡ true → places_of c ≡ 1 ∷ []
-one_place c h = ap (λ b. cond b (1 ∷ []) (map place_of (literals c))) h
+pub one_place : (c : LiteralSet) → (length (literals c) == 0) ≡ true → keys_of c ≡ 1 ∷ []
+one_place c h = ap (λ b. cond b (1 ∷ []) (map index_of (literals c))) h
 
-pub only_place : (c : LiteralSet) (m after : Lists) (n : ℕ) → (length (literals c) == 0) ≡ true → after ≡ fin.insert m 1 (list_at m 1 ++ n ∷ []) → (k : ℕ) → list_at after k ≡ put_if (is_among (places_of c) k) (list_at m k) n
+pub only_place : (c : LiteralSet) (m after : Lists) (n : ℕ) → (length (literals c) == 0) ≡ true → after ≡ fin.insert m 1 (list_at m 1 ++ n ∷ []) → (k : ℕ) → list_at after k ≡ put_if (is_among (keys_of c) k) (list_at m k) n
 only_place c m after n none is k =
     ap (λ (x : Lists). list_at x k) is
     ∙ list-insert m 1 (list_at m 1 ++ n ∷ []) k
@@ -220,9 +220,9 @@ only_place c m after n none is k =
     ∙ ap (λ b. put_if b (list_at m k) n) (ap (λ b. b || false) (turned k 1) ∙ ap (λ ks. is_among ks k) (sym (one_place c none)))
 
 -- all places of the clause were passed
-pub all_places : (c : LiteralSet) (m now : Lists) (i n : ℕ) → (length (literals c) == 0) ≡ false → length (literals c) ≤ i → ((k : ℕ) → list_at now k ≡ put_if (is_among (map place_of (take i (literals c))) k) (list_at m k) n) → (k : ℕ) → list_at now k ≡ put_if (is_among (places_of c) k) (list_at m k) n
+pub all_places : (c : LiteralSet) (m now : Lists) (i n : ℕ) → (length (literals c) == 0) ≡ false → length (literals c) ≤ i → ((k : ℕ) → list_at now k ≡ put_if (is_among (map index_of (take i (literals c))) k) (list_at m k) n) → (k : ℕ) → list_at now k ≡ put_if (is_among (keys_of c) k) (list_at m k) n
 all_places c m now i n some past before k =
-    before k ∙ ap (λ ks. put_if (is_among ks k) (list_at m k) n) (ap (map place_of) (take_all i (literals c) past) ∙ sym (some_places c some))
+    before k ∙ ap (λ ks. put_if (is_among ks k) (list_at m k) n) (ap (map index_of) (take_all i (literals c) past) ∙ sym (some_places c some))
 
 -- ---- what is found
 
@@ -256,40 +256,40 @@ found_all p test ns rising is =
     (subst T (sym (sorted-keys (filter (λ e. test e.1) (fin.entries p)))) (is_sorted-filter (λ e. test e.1) (fin.entries p) (fin.entries_sorted p)))
     (λ q. is q ∙ ap (passes test) (fin.get-entries p q) ∙ sym (among_where test (fin.entries p) q (fin.entries_sorted p)))
 
-any-places : (q : ℤ) (ls : List ℤ) → list_any (eq_by_cmp nat_cmp (place_of q)) (map place_of ls) ≡ list_any (eq_by_cmp lit_cmp q) ls
-any-places q [] = refl
-any-places q (l ∷ ls) = ap (λ b. eq_by_cmp lit_cmp q l || b) (any-places q ls)
+any-ranges : (q : ℤ) (ls : List ℤ) → list_any (eq_by_cmp nat_cmp (index_of q)) (map index_of ls) ≡ list_any (eq_by_cmp lit_cmp q) ls
+any-ranges q [] = refl
+any-ranges q (l ∷ ls) = ap (λ b. eq_by_cmp lit_cmp q l || b) (any-ranges q ls)
 
 no_literal : (ls : List ℤ) → (length ls == 0) ≡ true → ls ≡ []
 no_literal [] h = refl
 no_literal (l ∷ ls) h = absurd (grind (arith, nat_tests))
 
-not_one : (l : ℤ) → (1 == place_of l) ≡ false
-not_one l = elim l as (λ x. (1 == place_of x) ≡ false) [ pos n ↦ grind (arith, nat_tests) | negsuc n ↦ grind (arith, nat_tests) ]
+not_one : (l : ℤ) → (1 == index_of l) ≡ false
+not_one l = elim l as (λ x. (1 == index_of x) ≡ false) [ pos n ↦ grind (arith, nat_tests) | negsuc n ↦ grind (arith, nat_tests) ]
 
 -- a clause is listed under the place of a literal where it holds it
-holds_place : (c : LiteralSet) (l : ℤ) → is_among (places_of c) (place_of l) ≡ holds c l
+holds_place : (c : LiteralSet) (l : ℤ) → is_among (keys_of c) (index_of l) ≡ holds c l
 holds_place c l =
-    elim (length (literals c) == 0) as (λ b. (length (literals c) == 0) ≡ b → is_among (cond b (1 ∷ []) (map place_of (literals c))) (place_of l) ≡ holds c l) [
+    elim (length (literals c) == 0) as (λ b. (length (literals c) == 0) ≡ b → is_among (cond b (1 ∷ []) (map index_of (literals c))) (index_of l) ≡ holds c l) [
       | true ↦ λ e.
           ap (λ b. b || false) (not_one l)
           ∙ sym (holds-literals c l ∙ ap (list_any (eq_by_cmp lit_cmp l)) (no_literal (literals c) e))
-      | false ↦ λ e. sym (among_tied (map place_of (literals c)) (place_of l)) ∙ any-places l (literals c) ∙ sym (holds-literals c l)
+      | false ↦ λ e. sym (among_tied (map index_of (literals c)) (index_of l)) ∙ any-ranges l (literals c) ∙ sym (holds-literals c l)
     ] refl
 
 -- the numbers under a literal's place that have a clause
-pub living_are : (m : Lists) (p : ClauseMap) (bound : ℕ) (l : ℤ) → AreOccurrences m (fin.get p) bound → filter (λ n. fin.contains_key p n) (list_at m (place_of l)) ≡ numbers_holding p l
+pub living_are : (m : Lists) (p : ClauseMap) (bound : ℕ) (l : ℤ) → AreOccurrences m (fin.get p) bound → filter (λ n. fin.contains_key p n) (list_at m (index_of l)) ≡ numbers_holding p l
 living_are m p bound l are =
-    found_all p (λ c. holds c l) (filter (λ n. fin.contains_key p n) (list_at m (place_of l)))
-    (IsStrictlySortedBy-filter nat_cmp (λ n. fin.contains_key p n) (list_at m (place_of l)) (are.rising (place_of l)))
-    (λ q. among-filter (λ n. fin.contains_key p n) (list_at m (place_of l)) q ∙ by q (fin.get p q) refl)
+    found_all p (λ c. holds c l) (filter (λ n. fin.contains_key p n) (list_at m (index_of l)))
+    (IsStrictlySortedBy-filter nat_cmp (λ n. fin.contains_key p n) (list_at m (index_of l)) (are.rising (index_of l)))
+    (λ q. among-filter (λ n. fin.contains_key p n) (list_at m (index_of l)) q ∙ by q (fin.get p q) refl)
   where
-    by : (q : ℕ) (o : Option LiteralSet) → fin.get p q ≡ o → (is_some o && is_among (list_at m (place_of l)) q) ≡ passes (λ c. holds c l) o
+    by : (q : ℕ) (o : Option LiteralSet) → fin.get p q ≡ o → (is_some o && is_among (list_at m (index_of l)) q) ≡ passes (λ c. holds c l) o
     by q None at = refl
-    by q (Some c) at = are.exact q c at (place_of l) ∙ holds_place c l
+    by q (Some c) at = are.exact q c at (index_of l) ∙ holds_place c l
 
 -- the first under a place of the clause is the least
-pub first_is_least : (m : Lists) (p : ClauseMap) (bound place : ℕ) (c : LiteralSet) → AreOccurrences m (fin.get p) bound → is_among (places_of c) place ≡ true → slice_get (filter (λ n. is_clause c (fin.get p n)) (list_at m place)) 0 ≡ least_number p c
+pub first_is_least : (m : Lists) (p : ClauseMap) (bound place : ℕ) (c : LiteralSet) → AreOccurrences m (fin.get p) bound → is_among (keys_of c) place ≡ true → slice_get (filter (λ n. is_clause c (fin.get p n)) (list_at m place)) 0 ≡ least_number p c
 first_is_least m p bound place c are there =
     ap (λ ns. slice_get ns 0) (found_all p (is_same c) (filter (λ n. is_clause c (fin.get p n)) (list_at m place))
     (IsStrictlySortedBy-filter nat_cmp (λ n. is_clause c (fin.get p n)) (list_at m place) (are.rising place))
@@ -299,15 +299,15 @@ first_is_least m p bound place c are there =
     by q None at = refl
     by q (Some d) at =
         elim (is_same c d) as (λ b. is_same c d ≡ b → (b && is_among (list_at m place) q) ≡ b) [
-          | true ↦ λ e. are.exact q d at place ∙ ap (λ x. is_among (places_of x) place) (sym (same_clauses c d e)) ∙ there
+          | true ↦ λ e. are.exact q d at place ∙ ap (λ x. is_among (keys_of x) place) (sym (same_clauses c d e)) ∙ there
           | false ↦ λ e. refl
         ] refl
 
 -- ---- the lists of a map with one clause more
 
-pub clause_listed : (m after : Lists) (p : ClauseMap) (bound n : ℕ) (c : LiteralSet) → AreOccurrences m (fin.get p) bound → bound ≤ n → ((k : ℕ) → list_at after k ≡ put_if (is_among (places_of c) k) (list_at m k) n) → AreOccurrences after (fin.get (fin.insert p n c)) (n + 1)
-clause_listed m after p bound n c are room is =
-    clause_added m after (fin.get p) (fin.get (fin.insert p n c)) bound n c are room is
+pub clause_listed : (m after : Lists) (p : ClauseMap) (bound n : ℕ) (c : LiteralSet) → AreOccurrences m (fin.get p) bound → bound ≤ n → ((k : ℕ) → list_at after k ≡ put_if (is_among (keys_of c) k) (list_at m k) n) → AreOccurrences after (fin.get (fin.insert p n c)) (n + 1)
+clause_listed m after p bound n c are capacity is =
+    clause_added m after (fin.get p) (fin.get (fin.insert p n c)) bound n c are capacity is
     (fin.get-insert nat_cmp_total p n c n ∙ ap (λ b. cond b (Some c) (fin.get p n)) (unsigned_tied n n ∙ itself n))
     (λ q e. fin.get-insert nat_cmp_total p n c q ∙ ap (λ b. cond b (Some c) (fin.get p q)) (unsigned_tied q n ∙ turned q n ∙ e))
 
@@ -321,7 +321,7 @@ none_yet p m is = fewer_clauses m (λ _. None) (clauses_below p 0) 0 0 (subst (�
     below_none : (q : ℕ) → nat_lt q 0 ≡ false
     below_none q = grind (arith, nat_tests)
 
-pub next_listed : (p : ClauseMap) (m after : Lists) (n : ℕ) (c : LiteralSet) → AreOccurrences m (clauses_below p n) n → fin.get p n ≡ Some c → ((k : ℕ) → list_at after k ≡ put_if (is_among (places_of c) k) (list_at m k) n) → AreOccurrences after (clauses_below p (n + 1)) (n + 1)
+pub next_listed : (p : ClauseMap) (m after : Lists) (n : ℕ) (c : LiteralSet) → AreOccurrences m (clauses_below p n) n → fin.get p n ≡ Some c → ((k : ℕ) → list_at after k ≡ put_if (is_among (keys_of c) k) (list_at m k) n) → AreOccurrences after (clauses_below p (n + 1)) (n + 1)
 next_listed p m after n c are at is =
     clause_added m after (clauses_below p n) (clauses_below p (n + 1)) n n c are (omega arith) is
     (ap (λ b. cond b (fin.get p n) None) (now_below n) ∙ at)

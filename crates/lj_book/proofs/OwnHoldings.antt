@@ -25,7 +25,7 @@ use Rattle.lj_book.specs.Solo.{Holdings, View, without_holdings, holdings_of, vi
 use Rattle.lj_book.specs.Views.{view_after_call, with_found_holding}
 use Rattle.lj_book.specs.Variables.{Variables, renaming_of, no_variables, is_own}
 use Rattle.lj_book.specs.Named.{NamedState, top_of, names_of, call_image, beneath, variables_behind, entry_beneath, after_named, after_all_named, IsOwnLive, NamesRightly, IsNamedLegal, AreNamedLegal, named_opening}
-use Rattle.lj_book.specs.NamedViews.{holdings_image, view_image, held_at, SeatsHoldTheirOwn, ViewsComeBack}
+use Rattle.lj_book.specs.NamedViews.{holdings_image, view_image, pair_at, SeatsHoldTheirOwn, ViewsComeBack}
 use Rattle.lj_book.proofs.FirstUseLaws.{name_at}
 use Rattle.lj_book.proofs.HistoryLaws.{IsSound-reached, IsReached-opening, IsReached-after}
 use Rattle.lj_book.proofs.SoloStates.{IsGiven-sound}
@@ -37,7 +37,7 @@ use Rattle.lj_book.proofs.NamedTakes.{get-holdings_image}
 
 -- each clause that a seat holds is its own
 abbrev OwnHeld : NamedState → Type 0
-OwnHeld s = (seat own : ℕ) (p : Pair) → held_at (view_of (beneath s) seat) own ≡ Some p → is_own (top_of s) s.variables seat p.clause ≡ true
+OwnHeld s = (seat own : ℕ) (p : Pair) → pair_at (view_of (beneath s) seat) own ≡ Some p → is_own (top_of s) s.variables seat p.clause ≡ true
 
 -- ---- what is own stays so
 
@@ -68,7 +68,7 @@ was_there h numbers q p e = by (not (is_among numbers q)) (sym (fin.get-retain_k
 module _ (s : NamedState) (held : OwnHeld s) where
   module _ (seat : ℕ) (w : Variables) (grows : Grows (top_of s) s.variables w) (h : Holdings) (at : view_of (beneath s) seat ≡ Some h) (own : ℕ) (p : Pair) where
     kept : fin.get h own ≡ Some p → is_own (top_of s) w seat p.clause ≡ true
-    kept got = still_own (top_of s) s.variables w seat p.clause grows (held seat own p (ap (λ (v : View). held_at v own) at ∙ got))
+    kept got = still_own (top_of s) s.variables w seat p.clause grows (held seat own p (ap (λ (v : View). pair_at v own) at ∙ got))
 
     bound : (k : ℕ) (x : Pair) → is_own (top_of s) w seat x.clause ≡ true → fin.get (fin.insert h k x) own ≡ Some p → is_own (top_of s) w seat p.clause ≡ true
     bound k x mine e = ⊎_elim
@@ -87,7 +87,7 @@ module _ (s : NamedState) (held : OwnHeld s) where
   live_own seat None is = absurd is
   live_own seat (Some c) is = is
 
-  own_after : (seat : ℕ) (call : Call) → NamesRightly s seat call → Grows (top_of s) s.variables (variables_behind s seat call) → CallNamed (top_of s) (variables_behind s seat call) seat call → (h : Holdings) → view_of (beneath s) seat ≡ Some h → (own : ℕ) (p : Pair) → held_at (view_after_call (beneath s) (call_image (renaming_of (variables_behind s seat call) seat) call) h) own ≡ Some p → is_own (top_of s) (variables_behind s seat call) seat p.clause ≡ true
+  own_after : (seat : ℕ) (call : Call) → NamesRightly s seat call → Grows (top_of s) s.variables (variables_behind s seat call) → CallNamed (top_of s) (variables_behind s seat call) seat call → (h : Holdings) → view_of (beneath s) seat ≡ Some h → (own : ℕ) (p : Pair) → pair_at (view_after_call (beneath s) (call_image (renaming_of (variables_behind s seat call) seat) call) h) own ≡ Some p → is_own (top_of s) (variables_behind s seat call) seat p.clause ≡ true
   own_after seat (calls.Add k lemma) names grows named h at own p e =
       let w : Variables = variables_behind s seat (calls.Add k lemma) in
       bound seat w grows h at own p k _ (image_own seat w grows h at own p lemma.clause named.1) e
@@ -98,19 +98,19 @@ module _ (s : NamedState) (held : OwnHeld s) where
   own_after seat calls.Leave names grows named h at own p e = absurd (cc)
 
   module _ (rules : Rules s) (reached : IsReached (beneath s)) (e : Entry) (legal : IsNamedLegal s e) where
-    by_caller : (o : View) → view_of (beneath s) e.seat ≡ o → (own : ℕ) (p : Pair) → held_at (option_and_then (view_after_call (beneath s) (entry_beneath s e).call) o) own ≡ Some p → is_own (top_of s) (variables_behind s e.seat e.call) e.seat p.clause ≡ true
+    by_caller : (o : View) → view_of (beneath s) e.seat ≡ o → (own : ℕ) (p : Pair) → pair_at (option_and_then (view_after_call (beneath s) (entry_beneath s e).call) o) own ≡ Some p → is_own (top_of s) (variables_behind s e.seat e.call) e.seat p.clause ≡ true
     by_caller None at own p has = absurd (cc)
     by_caller (Some h) at own p has = own_after e.seat e.call legal.names (grown s rules e legal).0 (grown s rules e legal).1 h at own p has
 
-    by_seat : (seat : ℕ) (b : Bool) → (e.seat == seat) ≡ b → (own : ℕ) (p : Pair) → held_at (if b then option_and_then (view_after_call (beneath s) (entry_beneath s e).call) (view_of (beneath s) seat) else view_of (beneath s) seat) own ≡ Some p → is_own (top_of s) (variables_behind s e.seat e.call) seat p.clause ≡ true
+    by_seat : (seat : ℕ) (b : Bool) → (e.seat == seat) ≡ b → (own : ℕ) (p : Pair) → pair_at (if b then option_and_then (view_after_call (beneath s) (entry_beneath s e).call) (view_of (beneath s) seat) else view_of (beneath s) seat) own ≡ Some p → is_own (top_of s) (variables_behind s e.seat e.call) seat p.clause ≡ true
     by_seat seat true is own p has =
-        subst (λ (k : ℕ). held_at (option_and_then (view_after_call (beneath s) (entry_beneath s e).call) (view_of (beneath s) k)) own ≡ Some p → is_own (top_of s) (variables_behind s e.seat e.call) k p.clause ≡ true)
+        subst (λ (k : ℕ). pair_at (option_and_then (view_after_call (beneath s) (entry_beneath s e).call) (view_of (beneath s) k)) own ≡ Some p → is_own (top_of s) (variables_behind s e.seat e.call) k p.clause ≡ true)
         (eqb-true e.seat seat is) (by_caller (view_of (beneath s) e.seat) refl own p) has
     by_seat seat false is own p has = still_own (top_of s) s.variables (variables_behind s e.seat e.call) seat p.clause (grown s rules e legal).0 (held seat own p has)
 
     own_after_entry : OwnHeld (after_named s e)
     own_after_entry seat own p has = by_seat seat (e.seat == seat) refl own p
-        (sym (ap (λ (v : View). held_at v own) (ap (λ (t : State). view_of t seat) (beneath_after s rules e legal) ∙ view_follows (beneath s) (entry_beneath s e) seat (IsGiven-sound (beneath s) (IsSound-reached (beneath s) reached)) legal.legal (e.seat == seat) refl)) ∙ has)
+        (sym (ap (λ (v : View). pair_at v own) (ap (λ (t : State). view_of t seat) (beneath_after s rules e legal) ∙ view_follows (beneath s) (entry_beneath s e) seat (IsGiven-sound (beneath s) (IsSound-reached (beneath s) reached)) legal.legal (e.seat == seat) refl)) ∙ has)
 
     reached_after : IsReached (beneath (after_named s e))
     reached_after = subst IsReached (sym (beneath_after s rules e legal)) (IsReached-after (beneath s) (entry_beneath s e) reached legal.legal)
@@ -144,8 +144,8 @@ module _ (f : FormulaValue) (is : IsFormula f) (seats max_steps : ℕ) where
 
   opening_own : OwnHeld (named_opening f seats max_steps)
   opening_own seat own p has = ⊎_elim
-      (λ none. gone (sym (ap (λ (t : Option Table). held_at (option_map (holdings_of (formula_map f)) t) own) none) ∙ has))
-      (λ there. formula_own seat own p (fin.get (formula_map f) own) refl (sym (holds_the_formula f own) ∙ sym (ap (λ (t : Option Table). held_at (option_map (holdings_of (formula_map f)) t) own) there) ∙ has))
+      (λ none. gone (sym (ap (λ (t : Option Table). pair_at (option_map (holdings_of (formula_map f)) t) own) none) ∙ has))
+      (λ there. formula_own seat own p (fin.get (formula_map f) own) refl (sym (holds_the_formula f own) ∙ sym (ap (λ (t : Option Table). pair_at (option_map (holdings_of (formula_map f)) t) own) there) ∙ has))
       (same_table seats (Some (up_to (length f.clauses))) seat)
     where
       gone : None ≡ Some p → is_own f.variables (no_variables f.variables seats) seat p.clause ≡ true
@@ -179,7 +179,7 @@ module _ (top : ℕ) (m n : Renaming) (one : IsOneToOne top m) (part : IsPartOf 
 pub views_come_back : ViewsComeBack
 views_come_back s seat is reached = by (view_of (beneath s) seat) refl
   where
-    by_pair : (own : ℕ) (o : Option Pair) → held_at (view_of (beneath s) seat) own ≡ o → option_map (pair_image (names_of s seat)) (option_map (pair_image (inverse (names_of s seat))) o) ≡ o
+    by_pair : (own : ℕ) (o : Option Pair) → pair_at (view_of (beneath s) seat) own ≡ o → option_map (pair_image (names_of s seat)) (option_map (pair_image (inverse (names_of s seat))) o) ≡ o
     by_pair own None at = refl
     by_pair own (Some p) at =
         let one = (rules_reached s reached).variables.one_to_one seat in
@@ -190,7 +190,7 @@ views_come_back s seat is reached = by (view_of (beneath s) seat) refl
     by (Some h) at = ap Some (same_holdings _ _ (λ q.
         get-holdings_image (names_of s seat) (holdings_image (inverse (names_of s seat)) h) q
         ∙ ap (option_map (pair_image (names_of s seat))) (get-holdings_image (inverse (names_of s seat)) h q)
-        ∙ by_pair q (fin.get h q) (ap (λ (v : View). held_at v q) at)))
+        ∙ by_pair q (fin.get h q) (ap (λ (v : View). pair_at v q) at)))
 
 -- a literal's negation has its variable
 pub turned_variable : (l : ℤ) → variable_of (neg_ℤ l) ≡ variable_of l

@@ -29,7 +29,7 @@ put_back xs ys zs i d x is left put =
 pub tested_at : (c : CaseValue) (xs ys zs : List Pending) (seat : ℕ) (reply : Reply) (after d : Pending) → IsTested c (λ (p : Pending). p) reply after → ys ≡ slice_set xs seat d → zs ≡ slice_set ys seat after → IsTested c (slice_set xs seat) reply zs
 tested_at c xs ys zs seat reply after d tested left put = record {
   answer = tested.answer;
-  walk = tested.walk;
+  propagate = tested.propagate;
   no_memory = tested.no_memory;
   tells = tested.tells;
   leaves = put ∙ ap (λ vs. slice_set vs seat after) left ∙ set_twice xs seat d after ∙ ap (slice_set xs seat) tested.leaves;

@@ -10,7 +10,7 @@ use Rattle.std.specs.FinMap as fin
 use Rattle.lj_clause.specs.Literal.{variable_of}
 use Rattle.lj_clause.specs.LiteralSet.{LiteralSet, holds, no_literals}
 use Rattle.lj_clause.specs.ClauseMap.{ClauseMap, IsFormula}
-use Rattle.lj_clause.specs.Walk.{hints_in}
+use Rattle.lj_clause.specs.Propagation.{hints_in}
 use Rattle.lj_clause.specs.Rat.{HintGroup, groups_in, candidates, rat_over, rat}
 use Rattle.lj_clause.specs.Renaming.{Renaming, renamed, literal_image, image, has_name, is_named, inverse, entry_image, clauses_image, AreNamed}
 use Rattle.lj_clause.proofs.Renaming.{all_known, get-clauses_image}
@@ -21,7 +21,7 @@ use Rattle.lj_book.specs.State.{State, given_out, live}
 use Rattle.lj_book.specs.Solo.{holdings_of, with_clause, view_of}
 use Rattle.lj_book.specs.Variables.{Variables, renaming_of, IsGiven}
 use Rattle.lj_book.specs.Named.{NamedState, top_of, names_of, beneath, given_in, IsNamedReached}
-use Rattle.lj_book.specs.NamedViews.{named_view, held_at, seen_clauses, names_with, IsPrivatePivot, PrivateCandidates, GivenCandidates, NewPivotsHaveNone, PrivateRat}
+use Rattle.lj_book.specs.NamedViews.{named_view, pair_at, seen_clauses, names_with, IsPrivatePivot, PrivateCandidates, GivenCandidates, NewPivotsHaveNone, PrivateRat}
 use Rattle.lj_book.proofs.NumberMaps.{same_map}
 use Rattle.lj_book.proofs.HistoryLaws.{IsSound-reached}
 use Rattle.lj_book.proofs.SoloTables.{get-holdings}
@@ -29,13 +29,13 @@ use Rattle.lj_book.proofs.SoloStates as states
 use Rattle.lj_book.proofs.GivenLaws.{length-given}
 use Rattle.lj_book.proofs.NamedLaws.{Grows, same_grows, given_grows_within, rules_reached, beneath_is_reached}
 use Rattle.lj_book.proofs.OwnHoldings.{seats_hold_own, pair_back, turned_variable}
-use Rattle.lj_book.proofs.SeenClauses.{where_so, same_where, none_where, seen_is_held, held_is_seen, seen-image}
+use Rattle.lj_book.proofs.SeenClauses.{where_so, same_where, none_where, seen_has_holder, held_is_seen, seen-image}
 use Rattle.lj_book.proofs.PrivateClauses.{held_by}
 
 -- ---- what is held lives
 
 module _ (s : State) (given : states.IsGiven s) (seat own joint : ℕ) (c : LiteralSet) where
-  held_lives : held_at (view_of s seat) own ≡ Some (record { joint = joint; clause = c }) → fin.get (live s) joint ≡ Some c
+  held_lives : pair_at (view_of s seat) own ≡ Some (record { joint = joint; clause = c }) → fin.get (live s) joint ≡ Some c
   held_lives h = by_table (table_of s.tables seat) refl h
     where
       by_clause : (o : Option LiteralSet) → fin.get (given_out s) joint ≡ o → is_some o ≡ true → unwrap_or o no_literals ≡ c → fin.get (given_out s) joint ≡ Some c
@@ -52,7 +52,7 @@ module _ (s : State) (given : states.IsGiven s) (seat own joint : ℕ) (c : Lite
           ∙ by_clause (fin.get (given_out s) joint) refl (given.bound_given seat own joint bound)
           (ap (λ n. unwrap_or (fin.get (given_out s) n) no_literals) (sym number) ∙ ap (λ (p : Pair). p.clause) same)
 
-      by_table : (t : Option Table) → table_of s.tables seat ≡ t → held_at (option_map (holdings_of (given_out s)) t) own ≡ Some (record { joint = joint; clause = c }) → fin.get (live s) joint ≡ Some c
+      by_table : (t : Option Table) → table_of s.tables seat ≡ t → pair_at (option_map (holdings_of (given_out s)) t) own ≡ Some (record { joint = joint; clause = c }) → fin.get (live s) joint ≡ Some c
       by_table None at e = absurd (cc)
       by_table (Some t) at e = by_number t at (fin.get t own) refl (sym (get-holdings (given_out s) t own) ∙ e)
 
@@ -75,7 +75,7 @@ module _ (s : NamedState) (is : IsFormula s.formula) (reached : IsNamedReached s
   later = renaming_of w seat
 
   -- a clause that is held, in own variables and back
-  back : (own joint : ℕ) (c : LiteralSet) → held_at (view_of (beneath s) seat) own ≡ Some (record { joint = joint; clause = c }) → (image later (image (inverse (names_of s seat)) c) ≡ c) × (is_named (top_of s) later (image (inverse (names_of s seat)) c) ≡ true)
+  back : (own joint : ℕ) (c : LiteralSet) → pair_at (view_of (beneath s) seat) own ≡ Some (record { joint = joint; clause = c }) → (image later (image (inverse (names_of s seat)) c) ≡ c) × (is_named (top_of s) later (image (inverse (names_of s seat)) c) ≡ true)
   back own joint c h =
       let p : Pair = record { joint = joint; clause = c } in
       let both = pair_back (top_of s) (names_of s seat) later ((rules_reached s reached).variables.one_to_one seat) (grows.part seat) (grows.rules.one_to_one seat) p (seats_hold_own s seat own p is reached h) in
@@ -94,7 +94,7 @@ module _ (s : NamedState) (is : IsFormula s.formula) (reached : IsNamedReached s
       by None at e = absurd (cc)
       by (Some d) at e =
           let same : image (inverse (names_of s seat)) d ≡ c = cc in
-          let held = seen_is_held (view_of (beneath s) seat) n d at in
+          let held = seen_has_holder (view_of (beneath s) seat) n d at in
           subst (λ (q : LiteralSet). is_named (top_of s) later q ≡ true) same (back held.0 n d held.1).1
 
   -- what is seen in joint variables is the image of what is seen in own ones
@@ -104,13 +104,13 @@ module _ (s : NamedState) (is : IsFormula s.formula) (reached : IsNamedReached s
       by : (n : ℕ) (o : Option LiteralSet) → fin.get joint_seen n ≡ o → fin.get joint_seen n ≡ option_map (image later) (option_map (image (inverse (names_of s seat))) (fin.get joint_seen n))
       by n None at = at ∙ sym (ap (λ (o : Option LiteralSet). option_map (image later) (option_map (image (inverse (names_of s seat))) o)) at)
       by n (Some c) at =
-          let held = seen_is_held (view_of (beneath s) seat) n c at in
+          let held = seen_has_holder (view_of (beneath s) seat) n c at in
           at ∙ sym (ap Some (back held.0 n c held.1).0) ∙ sym (ap (λ (o : Option LiteralSet). option_map (image later) (option_map (image (inverse (names_of s seat))) o)) at)
 
   -- what is seen lives
   seen_lives : (n : ℕ) (c : LiteralSet) → fin.get joint_seen n ≡ Some c → fin.get (live (beneath s)) n ≡ Some c
   seen_lives n c at =
-      let held = seen_is_held (view_of (beneath s) seat) n c at in
+      let held = seen_has_holder (view_of (beneath s) seat) n c at in
       held_lives (beneath s) (states.IsGiven-sound (beneath s) (IsSound-reached (beneath s) (beneath_is_reached s reached))) seat held.0 n c held.1
 
   module _ (x : ℕ) (l : ℤ) (given : IsGiven w seat x (variable_of l)) where

@@ -14,12 +14,12 @@ use Rattle.lj_clause.specs.Renaming.{inverse, has_name}
 use Rattle.lj_clause.proofs.Tests.{left_of, right_of}
 use Rattle.lj_clause.proofs.SortedEntries.{none_below}
 use Rattle.lj_clause.proofs.Renaming.{all_known, inverse_gives}
-use Rattle.lj_book.specs.Tables.{Table, Tables, table_of, joint_of, is_among, holds_joint, is_held}
+use Rattle.lj_book.specs.Tables.{Table, Tables, table_of, joint_of, is_among, holds_joint, has_holder}
 use Rattle.lj_book.specs.State.{State, given_out, live}
 use Rattle.lj_book.specs.Solo.{holdings_of, with_clause, view_of}
 use Rattle.lj_book.specs.Variables.{Variables, renaming_of, is_own, IsGiven}
 use Rattle.lj_book.specs.Named.{NamedState, top_of, beneath, IsNamedReached}
-use Rattle.lj_book.specs.NamedViews.{held_at, IsHeldAs, PrivateAreHeld}
+use Rattle.lj_book.specs.NamedViews.{pair_at, IsKnownAs, PrivateAreHeld}
 use Rattle.lj_book.proofs.SoloTables.{get-holdings}
 use Rattle.lj_book.proofs.SoloStates.{live-given}
 use Rattle.lj_book.proofs.HistoryLaws.{get-live}
@@ -57,10 +57,10 @@ record Holder (ts : Tables) (joint : ℕ) : Type 0 where
   own : ℕ
   bound : joint_of ts seat own ≡ Some joint
 
-holder : (ts : Tables) (joint : ℕ) → is_held ts joint ≡ true → Holder ts joint
+holder : (ts : Tables) (joint : ℕ) → has_holder ts joint ≡ true → Holder ts joint
 holder [] joint h = absurd (false≢true h)
 holder (t ∷ ts) joint h =
-    elim (or_cases (holds_joint joint t) (is_held ts joint) h) [
+    elim (or_cases (holds_joint joint t) (has_holder ts joint) h) [
       | inl here ↦ (let found = bound_in t joint here in record { seat = zero; own = found.0; bound = found.1 })
       | inr there ↦ (let found = holder ts joint there in record { seat = suc found.seat; own = found.own; bound = found.bound })
     ]
@@ -68,17 +68,17 @@ holder (t ∷ ts) joint h =
 -- ---- a live clause is held by some seat
 
 module _ (s : State) (joint : ℕ) (c : LiteralSet) (lives : fin.get (live s) joint ≡ Some c) where
-  live_held : is_held s.tables joint ≡ true
-  live_held = by (is_held s.tables joint) refl (sym (get-live s joint) ∙ lives)
+  live_held : has_holder s.tables joint ≡ true
+  live_held = by (has_holder s.tables joint) refl (sym (get-live s joint) ∙ lives)
     where
-      by : (b : Bool) → is_held s.tables joint ≡ b → cond b (fin.get (given_out s) joint) None ≡ Some c → is_held s.tables joint ≡ true
+      by : (b : Bool) → has_holder s.tables joint ≡ b → cond b (fin.get (given_out s) joint) None ≡ Some c → has_holder s.tables joint ≡ true
       by true is e = is
       by false is e = absurd (cc)
 
-  seen_with : (seat own : ℕ) → joint_of s.tables seat own ≡ Some joint → held_at (view_of s seat) own ≡ Some (record { joint = joint; clause = c })
+  seen_with : (seat own : ℕ) → joint_of s.tables seat own ≡ Some joint → pair_at (view_of s seat) own ≡ Some (record { joint = joint; clause = c })
   seen_with seat own bound = by (table_of s.tables seat) bound
     where
-      by : (t : Option Table) → option_and_then (λ (u : Table). fin.get u own) t ≡ Some joint → held_at (option_map (holdings_of (given_out s)) t) own ≡ Some (record { joint = joint; clause = c })
+      by : (t : Option Table) → option_and_then (λ (u : Table). fin.get u own) t ≡ Some joint → pair_at (option_map (holdings_of (given_out s)) t) own ≡ Some (record { joint = joint; clause = c })
       by None e = absurd (cc)
       by (Some t) e =
           get-holdings (given_out s) t own ∙ ap (option_map (with_clause (given_out s))) e
@@ -104,12 +104,12 @@ module _ (s : NamedState) (is : IsFormula s.formula) (reached : IsNamedReached s
           past y v h e = grind (arith, nat_tests)
       by y above given (Some z) at h = grows.rules.apart t seat z x y (grows.part t z y (inverse_gives (renaming_of s.variables t) z y at)) given
 
-  pub held_by : fin.get (live (beneath s)) joint ≡ Some c → holds c l ≡ true → IsGiven w seat x (variable_of l) → IsHeldAs s seat joint c
+  pub held_by : fin.get (live (beneath s)) joint ≡ Some c → holds c l ≡ true → IsGiven w seat x (variable_of l) → IsKnownAs s seat joint c
   held_by lives has given =
       let found = holder s.tables joint (live_held (beneath s) joint c lives) in
       let seen = seen_with (beneath s) joint c lives found.seat found.own found.bound in
       let mine = seats_hold_own s found.seat found.own (record { joint = joint; clause = c }) is reached seen in
-      subst (λ (t : ℕ). IsHeldAs s t joint c) (one_seat found.seat mine has given) (found.own, seen)
+      subst (λ (t : ℕ). IsKnownAs s t joint c) (one_seat found.seat mine has given) (found.own, seen)
 
 pub private_held : PrivateAreHeld
 private_held s seat x joint c l is reached lives has given =

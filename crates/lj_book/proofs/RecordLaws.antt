@@ -20,8 +20,8 @@ use Rattle.lj_text.specs.declared.step.Step.TheVariants as steps
 use Rattle.lj_text.specs.Needed.{if_some}
 use Rattle.lj_book.specs.declared.entry.Call.TheVariants as calls
 use Rattle.lj_book.specs.declared.entry.Entry.{Entry}
-use Rattle.lj_book.specs.inner.Words.{number_words, list_words, hint_groups_words, number_in, list_in, hint_groups_in}
-use Rattle.lj_book.specs.inner.Records.{lemma_lits, pivot_before, some_lits, seat_in, kind_in, head_words, add_words, drop_words, adopt_words, import_words, leave_words, lits_in, behind_lits, addition_in, call_in, step_in, entry_in, named_in, read_in, entry_of, call_lits, IsWritten, AreWritten, entries_in}
+use Rattle.lj_book.specs.inner.Encoding.{number_encoding, list_encoding, hint_groups_encoding, number_in, list_in, hint_groups_in}
+use Rattle.lj_book.specs.inner.Records.{lemma_lits, pivot_before, some_lits, seat_in, kind_in, head_encoding, add_encoding, drop_encoding, adopt_encoding, import_encoding, leave_encoding, lits_in, behind_lits, addition_in, call_in, step_in, entry_in, named_in, read_in, entry_of, call_lits, IsWritten, AreWritten, entries_in}
 use Rattle.lj_book.proofs.Lists.{not_empty}
 use Rattle.lj_book.proofs.WordLaws.{number_back, number_then, list_back, list_then, groups_back}
 
@@ -67,31 +67,31 @@ seat_of_head seat kind lt = omega (arith, lt)
 kind_of_head : (seat kind : ℕ) → kind < 8 → kind_in (8 * seat + kind) ≡ kind
 kind_of_head seat kind lt = omega (arith, lt)
 
-head_then : (lits : List ℤ) (seat kind : ℕ) (ws more : List ℕ) → kind < 8 → read_in lits ((head_words seat kind ++ ws) ++ more) ≡ by_kind lits seat kind (ws ++ more)
+head_then : (lits : List ℤ) (seat kind : ℕ) (ws more : List ℕ) → kind < 8 → read_in lits ((head_encoding seat kind ++ ws) ++ more) ≡ by_kind lits seat kind (ws ++ more)
 head_then lits seat kind ws more lt =
     ap (λ (p : ℕ × List ℕ). by_kind lits (seat_in p.0) (kind_in p.0) p.1) (number_then (8 * seat + kind) ws more)
     ∙ (λ i. by_kind lits (seat_of_head seat kind lt i) (kind_of_head seat kind lt i) (ws ++ more))
 
-named_then : (lits : List ℤ) (at n : ℕ) (ws more : List ℕ) → lits_in lits ((number_words at ++ (number_words n ++ ws)) ++ more) ≡ some_lits lits at n
+named_then : (lits : List ℤ) (at n : ℕ) (ws more : List ℕ) → lits_in lits ((number_encoding at ++ (number_encoding n ++ ws)) ++ more) ≡ some_lits lits at n
 named_then lits at n ws more =
-    ap (λ (p : ℕ × List ℕ). some_lits lits p.0 (number_in p.1).0) (number_then at (number_words n ++ ws) more)
+    ap (λ (p : ℕ × List ℕ). some_lits lits p.0 (number_in p.1).0) (number_then at (number_encoding n ++ ws) more)
     ∙ ap (λ (p : ℕ × List ℕ). some_lits lits at p.0) (number_then n ws more)
 
-behind_then : (at n : ℕ) (ws more : List ℕ) → behind_lits ((number_words at ++ (number_words n ++ ws)) ++ more) ≡ ws ++ more
+behind_then : (at n : ℕ) (ws more : List ℕ) → behind_lits ((number_encoding at ++ (number_encoding n ++ ws)) ++ more) ≡ ws ++ more
 behind_then at n ws more =
-    ap (λ (p : ℕ × List ℕ). (number_in p.1).1) (number_then at (number_words n ++ ws) more)
+    ap (λ (p : ℕ × List ℕ). (number_in p.1).1) (number_then at (number_encoding n ++ ws) more)
     ∙ ap (λ (p : ℕ × List ℕ). p.1) (number_then n ws more)
 
 -- ---- what each kind of entry is read as
 
-added_back : (lits : List ℤ) (a : Addition) (at : ℕ) (more : List ℕ) → IsLemma a.lemma → some_lits lits at (length (lemma_lits a.lemma)) ≡ lemma_lits a.lemma → addition_in lits ((number_words a.number ++ (number_words at ++ (number_words (length (lemma_lits a.lemma)) ++ (list_words a.hints ++ hint_groups_words a.groups)))) ++ more) ≡ a
+added_back : (lits : List ℤ) (a : Addition) (at : ℕ) (more : List ℕ) → IsLemma a.lemma → some_lits lits at (length (lemma_lits a.lemma)) ≡ lemma_lits a.lemma → addition_in lits ((number_encoding a.number ++ (number_encoding at ++ (number_encoding (length (lemma_lits a.lemma)) ++ (list_encoding a.hints ++ hint_groups_encoding a.groups)))) ++ more) ≡ a
 added_back lits a at more is there =
     let n : ℕ = length (lemma_lits a.lemma) in
-    let hints_on : List ℕ = list_words a.hints ++ hint_groups_words a.groups in
-    let lits_on : List ℕ = number_words at ++ (number_words n ++ hints_on) in
+    let hints_on : List ℕ = list_encoding a.hints ++ hint_groups_encoding a.groups in
+    let lits_on : List ℕ = number_encoding at ++ (number_encoding n ++ hints_on) in
     ap (λ (p : ℕ × List ℕ). parts p.0 (lemma_of (lits_in lits p.1)) (list_in (behind_lits p.1))) (number_then a.number lits_on more)
     ∙ (λ i. parts a.number (lemma_of ((named_then lits at n hints_on more ∙ there) i)) (list_in (behind_then at n hints_on more i)))
-    ∙ (λ i. parts a.number (lemma_back a.lemma is i) (list_then a.hints (hint_groups_words a.groups) more i))
+    ∙ (λ i. parts a.number (lemma_back a.lemma is i) (list_then a.hints (hint_groups_encoding a.groups) more i))
     ∙ ap (λ (p : List HintGroup × List ℕ). addition_of a.number a.lemma a.hints p.0) (groups_back a.groups more)
   where
     addition_of : ℕ → LemmaValue → List ℕ → List HintGroup → Addition
@@ -100,36 +100,36 @@ added_back lits a at more is there =
     parts : ℕ → LemmaValue → List ℕ × List ℕ → Addition
     parts number lemma read = addition_of number lemma read.0 (hint_groups_in read.1).0
 
-pub addition_back : (lits : List ℤ) (seat own : ℕ) (a : Addition) (at : ℕ) (more : List ℕ) → IsLemma a.lemma → some_lits lits at (length (lemma_lits a.lemma)) ≡ lemma_lits a.lemma → read_in lits (add_words seat own a at ++ more) ≡ (entry_of seat (calls.Add own a.lemma) (Some (steps.Add a)), lemma_lits a.lemma)
+pub addition_back : (lits : List ℤ) (seat own : ℕ) (a : Addition) (at : ℕ) (more : List ℕ) → IsLemma a.lemma → some_lits lits at (length (lemma_lits a.lemma)) ≡ lemma_lits a.lemma → read_in lits (add_encoding seat own a at ++ more) ≡ (entry_of seat (calls.Add own a.lemma) (Some (steps.Add a)), lemma_lits a.lemma)
 addition_back lits seat own a at more is there =
     let n : ℕ = length (lemma_lits a.lemma) in
-    let hints_on : List ℕ = list_words a.hints ++ hint_groups_words a.groups in
-    let lits_on : List ℕ = number_words at ++ (number_words n ++ hints_on) in
-    let added_on : List ℕ = number_words a.number ++ lits_on in
-    head_then lits seat 0 (number_words own ++ added_on) more (omega arith)
+    let hints_on : List ℕ = list_encoding a.hints ++ hint_groups_encoding a.groups in
+    let lits_on : List ℕ = number_encoding at ++ (number_encoding n ++ hints_on) in
+    let added_on : List ℕ = number_encoding a.number ++ lits_on in
+    head_then lits seat 0 (number_encoding own ++ added_on) more (omega arith)
     ∙ ap (λ (p : ℕ × List ℕ). (entry_of seat (calls.Add p.0 (addition_in lits p.1).lemma) (Some (steps.Add (addition_in lits p.1))), lits_in lits (number_in p.1).1)) (number_then own added_on more)
     ∙ (λ i. (entry_of seat (calls.Add own (added_back lits a at more is there i).lemma) (Some (steps.Add (added_back lits a at more is there i))), lits_in lits (number_then a.number lits_on more i).1))
     ∙ ap (λ ls. (entry_of seat (calls.Add own a.lemma) (Some (steps.Add a)), ls)) (named_then lits at n hints_on more ∙ there)
 
-pub drop_back : (lits : List ℤ) (seat : ℕ) (given died more : List ℕ) → read_in lits (drop_words seat given died ++ more) ≡ (entry_of seat (calls.Drop given) (if_some died), [])
+pub drop_back : (lits : List ℤ) (seat : ℕ) (given died more : List ℕ) → read_in lits (drop_encoding seat given died ++ more) ≡ (entry_of seat (calls.Drop given) (if_some died), [])
 drop_back lits seat given died more =
-    head_then lits seat 1 (list_words given ++ list_words died) more (omega arith)
-    ∙ ap (λ (p : List ℕ × List ℕ). (entry_of seat (calls.Drop p.0) (if_some (list_in p.1).0), [])) (list_then given (list_words died) more)
+    head_then lits seat 1 (list_encoding given ++ list_encoding died) more (omega arith)
+    ∙ ap (λ (p : List ℕ × List ℕ). (entry_of seat (calls.Drop p.0) (if_some (list_in p.1).0), [])) (list_then given (list_encoding died) more)
     ∙ ap (λ (p : List ℕ × List ℕ). (entry_of seat (calls.Drop given) (if_some p.0), [])) (list_back died more)
 
-pub adopt_back : (lits : List ℤ) (seat own joint : ℕ) (more : List ℕ) → read_in lits (adopt_words seat own joint ++ more) ≡ (entry_of seat (calls.Adopt own joint) None, [])
+pub adopt_back : (lits : List ℤ) (seat own joint : ℕ) (more : List ℕ) → read_in lits (adopt_encoding seat own joint ++ more) ≡ (entry_of seat (calls.Adopt own joint) None, [])
 adopt_back lits seat own joint more =
-    head_then lits seat 2 (number_words own ++ number_words joint) more (omega arith)
-    ∙ ap (λ (p : ℕ × List ℕ). (entry_of seat (calls.Adopt p.0 (number_in p.1).0) None, [])) (number_then own (number_words joint) more)
+    head_then lits seat 2 (number_encoding own ++ number_encoding joint) more (omega arith)
+    ∙ ap (λ (p : ℕ × List ℕ). (entry_of seat (calls.Adopt p.0 (number_in p.1).0) None, [])) (number_then own (number_encoding joint) more)
     ∙ ap (λ (p : ℕ × List ℕ). (entry_of seat (calls.Adopt own p.0) None, [])) (number_back joint more)
 
-pub import_back : (lits : List ℤ) (seat own : ℕ) (clause : LiteralSet) (at : ℕ) (more : List ℕ) → some_lits lits at (length (literals clause)) ≡ literals clause → read_in lits (import_words seat own clause at ++ more) ≡ (entry_of seat (calls.Import own clause) None, literals clause)
+pub import_back : (lits : List ℤ) (seat own : ℕ) (clause : LiteralSet) (at : ℕ) (more : List ℕ) → some_lits lits at (length (literals clause)) ≡ literals clause → read_in lits (import_encoding seat own clause at ++ more) ≡ (entry_of seat (calls.Import own clause) None, literals clause)
 import_back lits seat own clause at more there =
     let n : ℕ = length (literals clause) in
-    let lits_on : List ℕ = number_words at ++ number_words n in
-    head_then lits seat 3 (number_words own ++ lits_on) more (omega arith)
+    let lits_on : List ℕ = number_encoding at ++ number_encoding n in
+    head_then lits seat 3 (number_encoding own ++ lits_on) more (omega arith)
     ∙ ap (λ (p : ℕ × List ℕ). imported p.0 (lits_in lits p.1)) (number_then own lits_on more)
-    ∙ ap (λ (p : ℕ × List ℕ). imported own (some_lits lits p.0 (number_in p.1).0)) (number_then at (number_words n) more)
+    ∙ ap (λ (p : ℕ × List ℕ). imported own (some_lits lits p.0 (number_in p.1).0)) (number_then at (number_encoding n) more)
     ∙ ap (λ (p : ℕ × List ℕ). imported own (some_lits lits at p.0)) (number_back n more)
     ∙ ap (imported own) there
     ∙ ap (λ c. (entry_of seat (calls.Import own c) None, literals clause)) (clause_back clause)
@@ -137,9 +137,9 @@ import_back lits seat own clause at more there =
     imported : ℕ → List ℤ → Entry × List ℤ
     imported own ls = (entry_of seat (calls.Import own (from_literals ls)) None, ls)
 
-pub leave_back : (lits : List ℤ) (seat : ℕ) (died more : List ℕ) → read_in lits (leave_words seat died ++ more) ≡ (entry_of seat calls.Leave (if_some died), [])
+pub leave_back : (lits : List ℤ) (seat : ℕ) (died more : List ℕ) → read_in lits (leave_encoding seat died ++ more) ≡ (entry_of seat calls.Leave (if_some died), [])
 leave_back lits seat died more =
-    head_then lits seat 4 (list_words died) more (omega arith)
+    head_then lits seat 4 (list_encoding died) more (omega arith)
     ∙ ap (λ (p : List ℕ × List ℕ). (entry_of seat calls.Leave (if_some p.0), [])) (list_back died more)
 
 -- ---- one entry more
@@ -150,15 +150,15 @@ some_at_end lits ls more =
     ∙ ap (take (length ls)) (drop-append_seam lits (ls ++ more))
     ∙ take-append_seam ls more
 
-stays : (lits more : List ℤ) (words behind : List ℕ) (start : ℕ) → IsWritten lits words start → IsWritten (lits ++ more) (words ++ behind) start
-stays lits more words behind start is =
-    let later : drop start (words ++ behind) ≡ drop start words ++ behind = drop-append-le start words behind is.within in
-    let same : read_in (lits ++ more) (drop start (words ++ behind)) ≡ read_in lits (drop start words) = ap (read_in (lits ++ more)) later ∙ is.whole more behind in
+stays : (lits more : List ℤ) (encoding behind : List ℕ) (start : ℕ) → IsWritten lits encoding start → IsWritten (lits ++ more) (encoding ++ behind) start
+stays lits more encoding behind start is =
+    let later : drop start (encoding ++ behind) ≡ drop start encoding ++ behind = drop-append-le start encoding behind is.within in
+    let same : read_in (lits ++ more) (drop start (encoding ++ behind)) ≡ read_in lits (drop start encoding) = ap (read_in (lits ++ more)) later ∙ is.whole more behind in
     record {
-      within = let n : length (words ++ behind) ≡ length words + length behind = length-append words behind in omega (arith, is.within);
+      within = let n : length (encoding ++ behind) ≡ length encoding + length behind = length-append encoding behind in omega (arith, is.within);
       whole = λ ls ws.
           (λ i. read_in (append_assoc lits more ls i) (later i ++ ws))
-          ∙ ap (read_in (lits ++ (more ++ ls))) (append_assoc (drop start words) behind ws)
+          ∙ ap (read_in (lits ++ (more ++ ls))) (append_assoc (drop start encoding) behind ws)
           ∙ is.whole (more ++ ls) (behind ++ ws)
           ∙ sym same;
       named = (λ i. (same i).1) ∙ is.named ∙ (λ i. call_lits (sym same i).0.call);
@@ -166,44 +166,44 @@ stays lits more words behind start is =
     }
 
 -- what is written at the end: the words of an entry and its literals
-written_at_end : (lits ls : List ℤ) (words ws : List ℕ) (e : Entry) → e.seat < 4294967296 → ls ≡ call_lits e.call → ((all : List ℤ) (more : List ℕ) → some_lits all (length lits) (length ls) ≡ ls → read_in all (ws ++ more) ≡ (e, ls)) → IsWritten (lits ++ ls) (words ++ ws) (length words)
-written_at_end lits ls words ws e few named back =
-    let at_end : drop (length words) (words ++ ws) ≡ ws = drop-append_seam words ws in
-    let whole : (more : List ℤ) (behind : List ℕ) → read_in ((lits ++ ls) ++ more) (drop (length words) (words ++ ws) ++ behind) ≡ (e, ls) =
+written_at_end : (lits ls : List ℤ) (encoding ws : List ℕ) (e : Entry) → e.seat < 4294967296 → ls ≡ call_lits e.call → ((all : List ℤ) (more : List ℕ) → some_lits all (length lits) (length ls) ≡ ls → read_in all (ws ++ more) ≡ (e, ls)) → IsWritten (lits ++ ls) (encoding ++ ws) (length encoding)
+written_at_end lits ls encoding ws e few named back =
+    let at_end : drop (length encoding) (encoding ++ ws) ≡ ws = drop-append_seam encoding ws in
+    let whole : (more : List ℤ) (behind : List ℕ) → read_in ((lits ++ ls) ++ more) (drop (length encoding) (encoding ++ ws) ++ behind) ≡ (e, ls) =
     λ more behind. ap (λ us. read_in ((lits ++ ls) ++ more) (us ++ behind)) at_end ∙ back ((lits ++ ls) ++ more) behind (some_at_end lits ls more) in
-    let is : read_in (lits ++ ls) (drop (length words) (words ++ ws)) ≡ (e, ls) =
-    (λ i. read_in (sym (append-nil (lits ++ ls)) i) (sym (append-nil (drop (length words) (words ++ ws))) i)) ∙ whole [] [] in
+    let is : read_in (lits ++ ls) (drop (length encoding) (encoding ++ ws)) ≡ (e, ls) =
+    (λ i. read_in (sym (append-nil (lits ++ ls)) i) (sym (append-nil (drop (length encoding) (encoding ++ ws))) i)) ∙ whole [] [] in
     record {
-      within = let n : length (words ++ ws) ≡ length words + length ws = length-append words ws in omega arith;
+      within = let n : length (encoding ++ ws) ≡ length encoding + length ws = length-append encoding ws in omega arith;
       whole = λ more behind. whole more behind ∙ sym is;
       named = (λ i. (is i).1) ∙ named ∙ (λ i. call_lits (sym is i).0.call);
       seated = subst (λ (p : Entry × List ℤ). p.0.seat < 4294967296) (sym is) few;
     }
 
-all_stay : (lits more : List ℤ) (words behind : List ℕ) (starts : List ℕ) → AreWritten lits words starts → AreWritten (lits ++ more) (words ++ behind) starts
-all_stay lits more words behind [] are = tt
-all_stay lits more words behind (s ∷ ss) are = (stays lits more words behind s are.0, all_stay lits more words behind ss are.1)
+all_stay : (lits more : List ℤ) (encoding behind : List ℕ) (starts : List ℕ) → AreWritten lits encoding starts → AreWritten (lits ++ more) (encoding ++ behind) starts
+all_stay lits more encoding behind [] are = tt
+all_stay lits more encoding behind (s ∷ ss) are = (stays lits more encoding behind s are.0, all_stay lits more encoding behind ss are.1)
 
-all_and_one : (lits : List ℤ) (words : List ℕ) (starts : List ℕ) (s : ℕ) → AreWritten lits words starts → IsWritten lits words s → AreWritten lits words (starts ++ s ∷ [])
-all_and_one lits words [] s are is = (is, tt)
-all_and_one lits words (t ∷ ts) s are is = (are.0, all_and_one lits words ts s are.1 is)
+all_and_one : (lits : List ℤ) (encoding : List ℕ) (starts : List ℕ) (s : ℕ) → AreWritten lits encoding starts → IsWritten lits encoding s → AreWritten lits encoding (starts ++ s ∷ [])
+all_and_one lits encoding [] s are is = (is, tt)
+all_and_one lits encoding (t ∷ ts) s are is = (are.0, all_and_one lits encoding ts s are.1 is)
 
 -- The words and literals of an entry are put behind the others.
-pub more_written : (lits ls : List ℤ) (words ws : List ℕ) (starts : List ℕ) (e : Entry) → e.seat < 4294967296 → ls ≡ call_lits e.call → ((all : List ℤ) (more : List ℕ) → some_lits all (length lits) (length ls) ≡ ls → read_in all (ws ++ more) ≡ (e, ls)) → AreWritten lits words starts → AreWritten (lits ++ ls) (words ++ ws) (starts ++ length words ∷ [])
-more_written lits ls words ws starts e few named back are =
-    all_and_one (lits ++ ls) (words ++ ws) starts (length words) (all_stay lits ls words ws starts are) (written_at_end lits ls words ws e few named back)
+pub more_written : (lits ls : List ℤ) (encoding ws : List ℕ) (starts : List ℕ) (e : Entry) → e.seat < 4294967296 → ls ≡ call_lits e.call → ((all : List ℤ) (more : List ℕ) → some_lits all (length lits) (length ls) ≡ ls → read_in all (ws ++ more) ≡ (e, ls)) → AreWritten lits encoding starts → AreWritten (lits ++ ls) (encoding ++ ws) (starts ++ length encoding ∷ [])
+more_written lits ls encoding ws starts e few named back are =
+    all_and_one (lits ++ ls) (encoding ++ ws) starts (length encoding) (all_stay lits ls encoding ws starts are) (written_at_end lits ls encoding ws e few named back)
 
-entries_stay : (lits more : List ℤ) (words behind : List ℕ) (starts : List ℕ) → AreWritten lits words starts → entries_in (lits ++ more) (words ++ behind) starts ≡ entries_in lits words starts
-entries_stay lits more words behind [] are = refl
-entries_stay lits more words behind (s ∷ ss) are =
-    let later : drop s (words ++ behind) ≡ drop s words ++ behind = drop-append-le s words behind are.0.within in
-    λ i. ((ap (read_in (lits ++ more)) later ∙ are.0.whole more behind) i).0 ∷ entries_stay lits more words behind ss are.1 i
+entries_stay : (lits more : List ℤ) (encoding behind : List ℕ) (starts : List ℕ) → AreWritten lits encoding starts → entries_in (lits ++ more) (encoding ++ behind) starts ≡ entries_in lits encoding starts
+entries_stay lits more encoding behind [] are = refl
+entries_stay lits more encoding behind (s ∷ ss) are =
+    let later : drop s (encoding ++ behind) ≡ drop s encoding ++ behind = drop-append-le s encoding behind are.0.within in
+    λ i. ((ap (read_in (lits ++ more)) later ∙ are.0.whole more behind) i).0 ∷ entries_stay lits more encoding behind ss are.1 i
 
-pub more_entries : (lits ls : List ℤ) (words ws : List ℕ) (starts : List ℕ) (e : Entry) → ((all : List ℤ) (more : List ℕ) → some_lits all (length lits) (length ls) ≡ ls → read_in all (ws ++ more) ≡ (e, ls)) → AreWritten lits words starts → entries_in (lits ++ ls) (words ++ ws) (starts ++ length words ∷ []) ≡ entries_in lits words starts ++ e ∷ []
-more_entries lits ls words ws starts e back are =
-    map_push (λ start. entry_in (lits ++ ls) (drop start (words ++ ws))) starts (length words)
-    ∙ (λ i. entries_stay lits ls words ws starts are i ++ entry_in (lits ++ ls) (drop-append_seam words ws i) ∷ [])
-    ∙ ap (λ (f : Entry). entries_in lits words starts ++ f ∷ []) last
+pub more_entries : (lits ls : List ℤ) (encoding ws : List ℕ) (starts : List ℕ) (e : Entry) → ((all : List ℤ) (more : List ℕ) → some_lits all (length lits) (length ls) ≡ ls → read_in all (ws ++ more) ≡ (e, ls)) → AreWritten lits encoding starts → entries_in (lits ++ ls) (encoding ++ ws) (starts ++ length encoding ∷ []) ≡ entries_in lits encoding starts ++ e ∷ []
+more_entries lits ls encoding ws starts e back are =
+    map_push (λ start. entry_in (lits ++ ls) (drop start (encoding ++ ws))) starts (length encoding)
+    ∙ (λ i. entries_stay lits ls encoding ws starts are i ++ entry_in (lits ++ ls) (drop-append_seam encoding ws i) ∷ [])
+    ∙ ap (λ (f : Entry). entries_in lits encoding starts ++ f ∷ []) last
   where
     last : entry_in (lits ++ ls) ws ≡ e
     last =
@@ -212,15 +212,15 @@ more_entries lits ls words ws starts e back are =
 
 -- ---- the same of an entry without literals
 
-pub more_words_written : (lits : List ℤ) (words ws : List ℕ) (starts : List ℕ) (e : Entry) → e.seat < 4294967296 → [] ≡ call_lits e.call → ((all : List ℤ) (more : List ℕ) → read_in all (ws ++ more) ≡ (e, [])) → AreWritten lits words starts → AreWritten lits (words ++ ws) (starts ++ length words ∷ [])
-more_words_written lits words ws starts e few named back are =
-    subst (λ (ls : List ℤ). AreWritten ls (words ++ ws) (starts ++ length words ∷ [])) (append-nil lits)
-    (more_written lits [] words ws starts e few named (λ all more _. back all more) are)
+pub more_words_written : (lits : List ℤ) (encoding ws : List ℕ) (starts : List ℕ) (e : Entry) → e.seat < 4294967296 → [] ≡ call_lits e.call → ((all : List ℤ) (more : List ℕ) → read_in all (ws ++ more) ≡ (e, [])) → AreWritten lits encoding starts → AreWritten lits (encoding ++ ws) (starts ++ length encoding ∷ [])
+more_words_written lits encoding ws starts e few named back are =
+    subst (λ (ls : List ℤ). AreWritten ls (encoding ++ ws) (starts ++ length encoding ∷ [])) (append-nil lits)
+    (more_written lits [] encoding ws starts e few named (λ all more _. back all more) are)
 
-pub more_words_entries : (lits : List ℤ) (words ws : List ℕ) (starts : List ℕ) (e : Entry) → ((all : List ℤ) (more : List ℕ) → read_in all (ws ++ more) ≡ (e, [])) → AreWritten lits words starts → entries_in lits (words ++ ws) (starts ++ length words ∷ []) ≡ entries_in lits words starts ++ e ∷ []
-more_words_entries lits words ws starts e back are =
-    ap (λ (ls : List ℤ). entries_in ls (words ++ ws) (starts ++ length words ∷ [])) (sym (append-nil lits))
-    ∙ more_entries lits [] words ws starts e (λ all more _. back all more) are
+pub more_words_entries : (lits : List ℤ) (encoding ws : List ℕ) (starts : List ℕ) (e : Entry) → ((all : List ℤ) (more : List ℕ) → read_in all (ws ++ more) ≡ (e, [])) → AreWritten lits encoding starts → entries_in lits (encoding ++ ws) (starts ++ length encoding ∷ []) ≡ entries_in lits encoding starts ++ e ∷ []
+more_words_entries lits encoding ws starts e back are =
+    ap (λ (ls : List ℤ). entries_in ls (encoding ++ ws) (starts ++ length encoding ∷ [])) (sym (append-nil lits))
+    ∙ more_entries lits [] encoding ws starts e (λ all more _. back all more) are
 
 -- ---- what is compared
 
@@ -234,12 +234,12 @@ same_import n own ls clause number literals = λ i. calls.Import (number i) ((ap
 -- ---- the steps of what is written
 
 pub step_at : List ℤ → List ℕ → ℕ → Option Step
-step_at lits words start = (entry_in lits (drop start words)).step
+step_at lits encoding start = (entry_in lits (drop start encoding)).step
 
-pub steps_at : (lits : List ℤ) (words starts : List ℕ) → filter_map (λ e. e.step) (entries_in lits words starts) ≡ filter_map (step_at lits words) starts
+pub steps_at : (lits : List ℤ) (encoding starts : List ℕ) → filter_map (λ e. e.step) (entries_in lits encoding starts) ≡ filter_map (step_at lits encoding) starts
 unfolding step_at
-steps_at lits words [] = refl
-steps_at lits words (s ∷ ss) = ap (λ (xs : List Step). cons_option (entry_in lits (drop s words)).step xs) (steps_at lits words ss)
+steps_at lits encoding [] = refl
+steps_at lits encoding (s ∷ ss) = ap (λ (xs : List Step). cons_option (entry_in lits (drop s encoding)).step xs) (steps_at lits encoding ss)
 
 pub no_step_left : {X Y : Type 0} (f : X → Option Y) (xs : List X) (k : ℕ) (d : X) → k < length xs → filter_map f xs ≡ [] → f (get_or xs k d) ≡ None
 no_step_left f [] k d lt e = absurd (let no : ⊥ = omega (arith, lt) in no)
@@ -254,9 +254,9 @@ no_step_left f (x ∷ xs) (suc k) d lt e = no_step_left f xs k d (omega (arith, 
     others None ys e = e
     others (Some y) ys e = absurd (not_empty y ys e)
 
-pub step_at-is : (lits : List ℤ) (words : List ℕ) (start : ℕ) → step_at lits words start ≡ (entry_in lits (drop start words)).step
+pub step_at-is : (lits : List ℤ) (encoding : List ℕ) (start : ℕ) → step_at lits encoding start ≡ (entry_in lits (drop start encoding)).step
 unfolding step_at
-step_at-is lits words start = refl
+step_at-is lits encoding start = refl
 
 take_all : {X : Type 0} (xs : List X) (k : ℕ) → length xs ≤ k → take k xs ≡ xs
 take_all [] zero le = refl
@@ -264,8 +264,8 @@ take_all [] (suc k) le = refl
 take_all (x ∷ xs) zero le = absurd (let no : ⊥ = omega (arith, le) in no)
 take_all (x ∷ xs) (suc k) le = ap (λ ys. x ∷ ys) (take_all xs k (omega (arith, le)))
 
-pub all_steps : (lits : List ℤ) (words starts : List ℕ) (k : ℕ) (steps : List Step) → steps ≡ filter_map (step_at lits words) (take k starts) → length starts ≤ k → steps ≡ filter_map (λ e. e.step) (entries_in lits words starts)
-all_steps lits words starts k steps are le = are ∙ ap (λ (xs : List ℕ). filter_map (step_at lits words) xs) (take_all starts k le) ∙ sym (steps_at lits words starts)
+pub all_steps : (lits : List ℤ) (encoding starts : List ℕ) (k : ℕ) (steps : List Step) → steps ≡ filter_map (step_at lits encoding) (take k starts) → length starts ≤ k → steps ≡ filter_map (λ e. e.step) (entries_in lits encoding starts)
+all_steps lits encoding starts k steps are le = are ∙ ap (λ (xs : List ℕ). filter_map (step_at lits encoding) xs) (take_all starts k le) ∙ sym (steps_at lits encoding starts)
 
-pub some_step : (lits : List ℤ) (words starts : List ℕ) (k : ℕ) → k < length starts → (step_at lits words (get_or starts k 0) ≡ None → ⊥) → filter_map (λ e. e.step) (entries_in lits words starts) ≡ [] → ⊥
-some_step lits words starts k lt there none = there (no_step_left (step_at lits words) starts k 0 lt (sym (steps_at lits words starts) ∙ none))
+pub some_step : (lits : List ℤ) (encoding starts : List ℕ) (k : ℕ) → k < length starts → (step_at lits encoding (get_or starts k 0) ≡ None → ⊥) → filter_map (λ e. e.step) (entries_in lits encoding starts) ≡ [] → ⊥
+some_step lits encoding starts k lt there none = there (no_step_left (step_at lits encoding) starts k 0 lt (sym (steps_at lits encoding starts) ∙ none))

@@ -23,10 +23,10 @@ use Rattle.lj_hint.specs.Case.{CaseValue, case_of}
 use Rattle.lj_hint.specs.Images.{pair_image}
 use Rattle.lj_book.specs.declared.refusal.Refusal.{Refusal}
 use Rattle.lj_book.specs.declared.refusal.Refusal.TheVariants.{NumberTaken}
-use Rattle.lj_book.specs.Calls.{case_with, repeated_after, pairs_of, group_pairs_of, with_group_pair, if_held}
+use Rattle.lj_book.specs.Calls.{case_with, repeated_after, pairs_of, group_pairs_of, with_group_pair, if_known}
 use Rattle.lj_book.specs.Inside.{joint_addition}
 use Rattle.lj_book.specs.Solo.{Holdings, View, solo_case}
-use Rattle.lj_book.specs.NamedViews.{holdings_image, view_image, held_at, seen_clauses, AreHintsIn, TakenHintsAreSeen}
+use Rattle.lj_book.specs.NamedViews.{holdings_image, view_image, pair_at, seen_clauses, AreHintsIn, TakenHintsAreSeen}
 use Rattle.lj_book.proofs.NumberMaps.{same_map}
 use Rattle.lj_book.proofs.SoloTakes.{AllHeld, pairs_held}
 use Rattle.lj_book.proofs.Mapped.{entries_mapped}
@@ -100,9 +100,9 @@ held_among (e ∷ es) joint c sorted h =
       ] refl,
     )
 
-pub seen_is_held : (v : View) (joint : ℕ) (c : LiteralSet) → fin.get (seen_clauses v) joint ≡ Some c → (own : ℕ) × (held_at v own ≡ Some (record { joint = joint; clause = c }))
-seen_is_held None joint c e = let none = fin.get-empty {X = LiteralSet} nat_cmp joint in absurd (cc)
-seen_is_held (Some h) joint c e =
+pub seen_has_holder : (v : View) (joint : ℕ) (c : LiteralSet) → fin.get (seen_clauses v) joint ≡ Some c → (own : ℕ) × (pair_at v own ≡ Some (record { joint = joint; clause = c }))
+seen_has_holder None joint c e = let none = fin.get-empty {X = LiteralSet} nat_cmp joint in absurd (cc)
+seen_has_holder (Some h) joint c e =
     let found = held_among (fin.entries h) joint c (fin.entries_sorted h) (sym (fin.get-from_entries nat_cmp_total (numbered (fin.entries h)) joint) ∙ e) in
     (found.0, fin.get-entries h found.0 ∙ found.1)
 
@@ -122,7 +122,7 @@ seen_among (e ∷ es) own p h =
     behind true g = refl
     behind false g = g
 
-pub held_is_seen : (v : View) (own : ℕ) (p : Pair) → held_at v own ≡ Some p → fin.contains_key (seen_clauses v) p.joint ≡ true
+pub held_is_seen : (v : View) (own : ℕ) (p : Pair) → pair_at v own ≡ Some p → fin.contains_key (seen_clauses v) p.joint ≡ true
 held_is_seen None own p h = absurd (cc)
 held_is_seen (Some h) own p e =
     ap is_some (fin.get-from_entries nat_cmp_total (numbered (fin.entries h)) p.joint)
@@ -151,7 +151,7 @@ module _ (h : Holdings) where
   groups_held [] ps e = let is : [] ≡ ps = cc in subst (AllByRecursion (λ (g : Pair × List Pair). AllHeld h g.1)) is tt
   groups_held (g ∷ gs) ps e = go (fin.get h g.candidate) (pairs_of (fin.get h) g.hints) refl (group_pairs_of (fin.get h) gs) (groups_held gs) e
     where
-      go : (o : Option Pair) (r : Result (List Pair) Refusal) → pairs_of (fin.get h) g.hints ≡ r → (later : Result (List (Pair × List Pair)) Refusal) → ((qs : List (Pair × List Pair)) → later ≡ Ok qs → AllByRecursion (λ (g : Pair × List Pair). AllHeld h g.1) qs) → if_held g.candidate o (λ p. with_group_pair p r later) ≡ Ok ps → AllByRecursion (λ (g : Pair × List Pair). AllHeld h g.1) ps
+      go : (o : Option Pair) (r : Result (List Pair) Refusal) → pairs_of (fin.get h) g.hints ≡ r → (later : Result (List (Pair × List Pair)) Refusal) → ((qs : List (Pair × List Pair)) → later ≡ Ok qs → AllByRecursion (λ (g : Pair × List Pair). AllHeld h g.1) qs) → if_known g.candidate o (λ p. with_group_pair p r later) ≡ Ok ps → AllByRecursion (λ (g : Pair × List Pair). AllHeld h g.1) ps
       go None r at later rest e = absurd (cc)
       go (Some p) (Err x) at later rest e = absurd (cc)
       go (Some p) (Ok hints) at (Err x) rest e = absurd (cc)

@@ -12,7 +12,7 @@ use Rattle.lj_book.specs.Tables.{is_among}
 use Rattle.lj_book.specs.inner.Slots.{joined_map, shifted, AreBefore}
 use Rattle.lj_book.proofs.NumberMaps.{same_map}
 use Rattle.lj_book.proofs.HistoryLaws.{among-keys}
-use Rattle.lj_book.proofs.Slots.{joined_far, joined_alone, insert_far, remove_near, remove_far}
+use Rattle.lj_book.proofs.Slots.{joined_sparse, joined_alone, insert_sparse, remove_dense, remove_sparse}
 
 abbrev Numbered : Type 0 → Type 0
 Numbered V = fin.FinMap nat_cmp V
@@ -97,7 +97,7 @@ from_end end q h = omega (arith, h)
 -- what both have at a number from the end on, and at one before it
 pub late_get : {V : Type 0} (end q : ℕ) (early late : Numbered V) → AreBefore end early → end ≤ q → fin.get (joined_map early (shifted end late)) q ≡ fin.get late (q - end)
 late_get end q early late before h =
-    joined_far early (shifted end late) q (before q h)
+    joined_sparse early (shifted end late) q (before q h)
     ∙ ap (fin.get (shifted end late)) (sym (from_end end q h))
     ∙ get_behind end (q - end) late
 
@@ -107,15 +107,15 @@ early_get end q early late h = joined_alone early (shifted end late) q (get_befo
 pub late_insert : {V : Type 0} (end q : ℕ) (early late : Numbered V) (v : V) → AreBefore end early → end ≤ q → joined_map early (shifted end (fin.insert late (q - end) v)) ≡ fin.insert (joined_map early (shifted end late)) q v
 late_insert end q early late v before h =
     ap (joined_map early) (shifted-insert end (q - end) late v ∙ ap (λ n. fin.insert (shifted end late) n v) (from_end end q h))
-    ∙ insert_far early (shifted end late) q v (before q h)
+    ∙ insert_sparse early (shifted end late) q v (before q h)
 
 pub late_remove : {V : Type 0} (end q : ℕ) (early late : Numbered V) → AreBefore end early → end ≤ q → joined_map early (shifted end (fin.remove late (q - end))) ≡ fin.remove (joined_map early (shifted end late)) q
 late_remove end q early late before h =
     ap (joined_map early) (shifted-remove end (q - end) late ∙ ap (fin.remove (shifted end late)) (from_end end q h))
-    ∙ remove_far early (shifted end late) q (before q h)
+    ∙ remove_sparse early (shifted end late) q (before q h)
 
 pub early_remove : {V : Type 0} (end q : ℕ) (early late : Numbered V) → q < end → joined_map (fin.remove early q) (shifted end late) ≡ fin.remove (joined_map early (shifted end late)) q
-early_remove end q early late h = remove_near early (shifted end late) q (get_before end q late h)
+early_remove end q early late h = remove_dense early (shifted end late) q (get_before end q late h)
 
 -- ---- the numbers of a shifted map
 

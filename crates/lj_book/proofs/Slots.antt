@@ -10,7 +10,7 @@ use Rattle.std.specs.FinMap.Entries.{find}
 use Rattle.std.specs.List.{AllByRecursion}
 use Rattle.std.specs.List.Sorted.{IsStrictlySortedBy}
 use Rattle.std.specs.declared.cmp.Ordering.TheVariants.{Less}
-use Rattle.lj_book.specs.inner.Slots.{slot_entries, slot_map, slot_numbers, joined_map, AreApart}
+use Rattle.lj_book.specs.inner.Slots.{slot_entries, slot_map, slot_numbers, joined_map, AreDisjoint}
 use Rattle.lj_book.proofs.Scans.{numbers_in, entries_are}
 use Rattle.lj_book.specs.Tables.{is_among}
 use Rattle.lj_book.proofs.NumberMaps.{same_map}
@@ -57,12 +57,12 @@ find_joined [] fs q = refl
 find_joined (e ∷ es) fs q = by_first (eq_by_cmp nat_cmp q e.0) e.1 _ _ _ (find_joined es fs q)
 
 -- what two maps in one have at a number
-pub get_joined : {V : Type 0} (near far : fin.FinMap nat_cmp V) (q : ℕ) → fin.get (joined_map near far) q ≡ option_or (fin.get near q) (fin.get far q)
-get_joined near far q =
-    fin.get-from_entries nat_cmp_total (fin.entries near ++ fin.entries far) q
-    ∙ find_joined (fin.entries near) (fin.entries far) q
-    ∙ ap (λ o. option_or o (find nat_cmp q (fin.entries far))) (sym (fin.get-entries near q))
-    ∙ ap (option_or (fin.get near q)) (sym (fin.get-entries far q))
+pub get_joined : {V : Type 0} (dense sparse : fin.FinMap nat_cmp V) (q : ℕ) → fin.get (joined_map dense sparse) q ≡ option_or (fin.get dense q) (fin.get sparse q)
+get_joined dense sparse q =
+    fin.get-from_entries nat_cmp_total (fin.entries dense ++ fin.entries sparse) q
+    ∙ find_joined (fin.entries dense) (fin.entries sparse) q
+    ∙ ap (λ o. option_or o (find nat_cmp q (fin.entries sparse))) (sym (fin.get-entries dense q))
+    ∙ ap (option_or (fin.get dense q)) (sym (fin.get-entries sparse q))
 
 pub slot_within : {V : Type 0} (xs : List (Option V)) (k : ℕ) (d : Option V) → k < length xs → slot xs k ≡ slice_index_or xs k d
 slot_within [] k d h = refl_of (grind arith)
@@ -168,15 +168,15 @@ Numbered V = fin.FinMap nat_cmp V
 or_none : {V : Type 0} (o p : Option V) → o ≡ None → option_or o p ≡ p
 or_none o p h = ap (λ x. option_or x p) h
 
-pub joined_near : {V : Type 0} (near far : Numbered V) (k : ℕ) (v : V) → fin.get near k ≡ Some v → fin.get (joined_map near far) k ≡ Some v
-joined_near near far k v h = get_joined near far k ∙ ap (λ x. option_or x (fin.get far k)) h
+pub joined_dense : {V : Type 0} (dense sparse : Numbered V) (k : ℕ) (v : V) → fin.get dense k ≡ Some v → fin.get (joined_map dense sparse) k ≡ Some v
+joined_dense dense sparse k v h = get_joined dense sparse k ∙ ap (λ x. option_or x (fin.get sparse k)) h
 
-pub joined_far : {V : Type 0} (near far : Numbered V) (k : ℕ) → fin.get near k ≡ None → fin.get (joined_map near far) k ≡ fin.get far k
-joined_far near far k h = get_joined near far k ∙ or_none _ _ h
+pub joined_sparse : {V : Type 0} (dense sparse : Numbered V) (k : ℕ) → fin.get dense k ≡ None → fin.get (joined_map dense sparse) k ≡ fin.get sparse k
+joined_sparse dense sparse k h = get_joined dense sparse k ∙ or_none _ _ h
 
 -- where the second map has nothing
-pub joined_alone : {V : Type 0} (near far : Numbered V) (k : ℕ) → fin.get far k ≡ None → fin.get (joined_map near far) k ≡ fin.get near k
-joined_alone near far k h = get_joined near far k ∙ ap (option_or (fin.get near k)) h ∙ alone (fin.get near k)
+pub joined_alone : {V : Type 0} (dense sparse : Numbered V) (k : ℕ) → fin.get sparse k ≡ None → fin.get (joined_map dense sparse) k ≡ fin.get dense k
+joined_alone dense sparse k h = get_joined dense sparse k ∙ ap (option_or (fin.get dense k)) h ∙ alone (fin.get dense k)
   where
     alone : {V : Type 0} (o : Option V) → option_or o None ≡ o
     alone (Some v) = refl
@@ -185,20 +185,20 @@ joined_alone near far k h = get_joined near far k ∙ ap (option_or (fin.get nea
 pub joined_empty : {V : Type 0} → joined_map (fin.empty {X = V}) fin.empty ≡ fin.empty
 joined_empty {V} = same_map (joined_map (fin.empty {X = V}) fin.empty) fin.empty (λ q. get_joined fin.empty fin.empty q ∙ or_none (fin.get fin.empty q) (fin.get fin.empty q) (fin.get-empty nat_cmp q))
 
-pub joined_none : {V : Type 0} (near : Numbered V) → joined_map near fin.empty ≡ near
-joined_none near = same_map (joined_map near fin.empty) near (λ q. joined_alone near fin.empty q (fin.get-empty nat_cmp q))
+pub joined_none : {V : Type 0} (dense : Numbered V) → joined_map dense fin.empty ≡ dense
+joined_none dense = same_map (joined_map dense fin.empty) dense (λ q. joined_alone dense fin.empty q (fin.get-empty nat_cmp q))
 
 put_first : {V : Type 0} (b : Bool) (v : V) (o p : Option V) → option_or (cond b (Some v) o) p ≡ cond b (Some v) (option_or o p)
 put_first true v o p = refl
 put_first false v o p = refl
 
-pub insert_near : {V : Type 0} (near far : Numbered V) (k : ℕ) (v : V) → joined_map (fin.insert near k v) far ≡ fin.insert (joined_map near far) k v
-insert_near near far k v = same_map _ _ (λ q.
-    get_joined (fin.insert near k v) far q
-    ∙ ap (λ o. option_or o (fin.get far q)) (fin.get-insert nat_cmp_total near k v q)
-    ∙ put_first (eq_by_cmp nat_cmp q k) v (fin.get near q) (fin.get far q)
-    ∙ ap (cond (eq_by_cmp nat_cmp q k) (Some v)) (sym (get_joined near far q))
-    ∙ sym (fin.get-insert nat_cmp_total (joined_map near far) k v q))
+pub insert_dense : {V : Type 0} (dense sparse : Numbered V) (k : ℕ) (v : V) → joined_map (fin.insert dense k v) sparse ≡ fin.insert (joined_map dense sparse) k v
+insert_dense dense sparse k v = same_map _ _ (λ q.
+    get_joined (fin.insert dense k v) sparse q
+    ∙ ap (λ o. option_or o (fin.get sparse q)) (fin.get-insert nat_cmp_total dense k v q)
+    ∙ put_first (eq_by_cmp nat_cmp q k) v (fin.get dense q) (fin.get sparse q)
+    ∙ ap (cond (eq_by_cmp nat_cmp q k) (Some v)) (sym (get_joined dense sparse q))
+    ∙ sym (fin.get-insert nat_cmp_total (joined_map dense sparse) k v q))
 
 put_last : {V : Type 0} (b : Bool) (v : V) (o p : Option V) → (b ≡ true → o ≡ None) → option_or o (cond b (Some v) p) ≡ cond b (Some v) (option_or o p)
 put_last true v o p h = or_none o (Some v) (h refl)
@@ -207,13 +207,13 @@ put_last false v o p h = refl
 absent_at : {V : Type 0} (m : Numbered V) (k q : ℕ) → fin.get m k ≡ None → eq_by_cmp nat_cmp q k ≡ true → fin.get m q ≡ None
 absent_at m k q h e = ap (fin.get m) (to_equal q k (sym (same_number q k) ∙ e)) ∙ h
 
-pub insert_far : {V : Type 0} (near far : Numbered V) (k : ℕ) (v : V) → fin.get near k ≡ None → joined_map near (fin.insert far k v) ≡ fin.insert (joined_map near far) k v
-insert_far near far k v h = same_map _ _ (λ q.
-    get_joined near (fin.insert far k v) q
-    ∙ ap (option_or (fin.get near q)) (fin.get-insert nat_cmp_total far k v q)
-    ∙ put_last (eq_by_cmp nat_cmp q k) v (fin.get near q) (fin.get far q) (absent_at near k q h)
-    ∙ ap (cond (eq_by_cmp nat_cmp q k) (Some v)) (sym (get_joined near far q))
-    ∙ sym (fin.get-insert nat_cmp_total (joined_map near far) k v q))
+pub insert_sparse : {V : Type 0} (dense sparse : Numbered V) (k : ℕ) (v : V) → fin.get dense k ≡ None → joined_map dense (fin.insert sparse k v) ≡ fin.insert (joined_map dense sparse) k v
+insert_sparse dense sparse k v h = same_map _ _ (λ q.
+    get_joined dense (fin.insert sparse k v) q
+    ∙ ap (option_or (fin.get dense q)) (fin.get-insert nat_cmp_total sparse k v q)
+    ∙ put_last (eq_by_cmp nat_cmp q k) v (fin.get dense q) (fin.get sparse q) (absent_at dense k q h)
+    ∙ ap (cond (eq_by_cmp nat_cmp q k) (Some v)) (sym (get_joined dense sparse q))
+    ∙ sym (fin.get-insert nat_cmp_total (joined_map dense sparse) k v q))
 
 cut_first : {V : Type 0} (b : Bool) (o p : Option V) → (b ≡ true → p ≡ None) → option_or (cond b None o) p ≡ cond b None (option_or o p)
 cut_first true o p h = h refl
@@ -223,21 +223,21 @@ cut_last : {V : Type 0} (b : Bool) (o p : Option V) → (b ≡ true → o ≡ No
 cut_last true o p h = or_none o None (h refl)
 cut_last false o p h = refl
 
-pub remove_near : {V : Type 0} (near far : Numbered V) (k : ℕ) → fin.get far k ≡ None → joined_map (fin.remove near k) far ≡ fin.remove (joined_map near far) k
-remove_near near far k h = same_map _ _ (λ q.
-    get_joined (fin.remove near k) far q
-    ∙ ap (λ o. option_or o (fin.get far q)) (fin.get-remove nat_cmp_total near k q)
-    ∙ cut_first (eq_by_cmp nat_cmp q k) (fin.get near q) (fin.get far q) (absent_at far k q h)
-    ∙ ap (cond (eq_by_cmp nat_cmp q k) None) (sym (get_joined near far q))
-    ∙ sym (fin.get-remove nat_cmp_total (joined_map near far) k q))
+pub remove_dense : {V : Type 0} (dense sparse : Numbered V) (k : ℕ) → fin.get sparse k ≡ None → joined_map (fin.remove dense k) sparse ≡ fin.remove (joined_map dense sparse) k
+remove_dense dense sparse k h = same_map _ _ (λ q.
+    get_joined (fin.remove dense k) sparse q
+    ∙ ap (λ o. option_or o (fin.get sparse q)) (fin.get-remove nat_cmp_total dense k q)
+    ∙ cut_first (eq_by_cmp nat_cmp q k) (fin.get dense q) (fin.get sparse q) (absent_at sparse k q h)
+    ∙ ap (cond (eq_by_cmp nat_cmp q k) None) (sym (get_joined dense sparse q))
+    ∙ sym (fin.get-remove nat_cmp_total (joined_map dense sparse) k q))
 
-pub remove_far : {V : Type 0} (near far : Numbered V) (k : ℕ) → fin.get near k ≡ None → joined_map near (fin.remove far k) ≡ fin.remove (joined_map near far) k
-remove_far near far k h = same_map _ _ (λ q.
-    get_joined near (fin.remove far k) q
-    ∙ ap (option_or (fin.get near q)) (fin.get-remove nat_cmp_total far k q)
-    ∙ cut_last (eq_by_cmp nat_cmp q k) (fin.get near q) (fin.get far q) (absent_at near k q h)
-    ∙ ap (cond (eq_by_cmp nat_cmp q k) None) (sym (get_joined near far q))
-    ∙ sym (fin.get-remove nat_cmp_total (joined_map near far) k q))
+pub remove_sparse : {V : Type 0} (dense sparse : Numbered V) (k : ℕ) → fin.get dense k ≡ None → joined_map dense (fin.remove sparse k) ≡ fin.remove (joined_map dense sparse) k
+remove_sparse dense sparse k h = same_map _ _ (λ q.
+    get_joined dense (fin.remove sparse k) q
+    ∙ ap (option_or (fin.get dense q)) (fin.get-remove nat_cmp_total sparse k q)
+    ∙ cut_last (eq_by_cmp nat_cmp q k) (fin.get dense q) (fin.get sparse q) (absent_at dense k q h)
+    ∙ ap (cond (eq_by_cmp nat_cmp q k) None) (sym (get_joined dense sparse q))
+    ∙ sym (fin.get-remove nat_cmp_total (joined_map dense sparse) k q))
 
 not_some : {V : Type 0} (o : Option V) → o ≡ None → is_some o ≡ true → ⊥
 not_some o h e = distinct (ap is_some (sym h) ∙ e)
@@ -251,24 +251,24 @@ some_at : {V : Type 0} (b : Bool) (v : V) (o : Option V) → is_some (cond b (So
 some_at true v o h = inl refl
 some_at false v o h = inr h
 
-pub apart-empty : {V : Type 0} → AreApart (fin.empty {X = V}) fin.empty
+pub apart-empty : {V : Type 0} → AreDisjoint (fin.empty {X = V}) fin.empty
 apart-empty q h = fin.get-empty nat_cmp q
 
-pub apart-insert_near : {V : Type 0} (near far : Numbered V) (k : ℕ) (v : V) → AreApart near far → fin.get far k ≡ None → AreApart (fin.insert near k v) far
-apart-insert_near near far k v apart h q e = by (some_at (eq_by_cmp nat_cmp q k) v (fin.get near q) (ap is_some (sym (fin.get-insert nat_cmp_total near k v q)) ∙ e))
+pub apart-insert_dense : {V : Type 0} (dense sparse : Numbered V) (k : ℕ) (v : V) → AreDisjoint dense sparse → fin.get sparse k ≡ None → AreDisjoint (fin.insert dense k v) sparse
+apart-insert_dense dense sparse k v apart h q e = by (some_at (eq_by_cmp nat_cmp q k) v (fin.get dense q) (ap is_some (sym (fin.get-insert nat_cmp_total dense k v q)) ∙ e))
   where
-    by : (eq_by_cmp nat_cmp q k ≡ true) ⊎ (is_some (fin.get near q) ≡ true) → fin.get far q ≡ None
-    by (inl same) = absent_at far k q h same
+    by : (eq_by_cmp nat_cmp q k ≡ true) ⊎ (is_some (fin.get dense q) ≡ true) → fin.get sparse q ≡ None
+    by (inl same) = absent_at sparse k q h same
     by (inr there) = apart q there
 
 none_put : {V : Type 0} (b : Bool) (v : V) (p : Option V) → (b ≡ true → ⊥) → p ≡ None → cond b (Some v) p ≡ None
 none_put true v p differs h = absurd (differs refl)
 none_put false v p differs h = h
 
-pub apart-insert_far : {V : Type 0} (near far : Numbered V) (k : ℕ) (v : V) → AreApart near far → fin.get near k ≡ None → AreApart near (fin.insert far k v)
-apart-insert_far near far k v apart h q e =
-    fin.get-insert nat_cmp_total far k v q
-    ∙ none_put (eq_by_cmp nat_cmp q k) v (fin.get far q) (λ same. not_some (fin.get near q) (absent_at near k q h same) e) (apart q e)
+pub apart-insert_sparse : {V : Type 0} (dense sparse : Numbered V) (k : ℕ) (v : V) → AreDisjoint dense sparse → fin.get dense k ≡ None → AreDisjoint dense (fin.insert sparse k v)
+apart-insert_sparse dense sparse k v apart h q e =
+    fin.get-insert nat_cmp_total sparse k v q
+    ∙ none_put (eq_by_cmp nat_cmp q k) v (fin.get sparse q) (λ same. not_some (fin.get dense q) (absent_at dense k q h same) e) (apart q e)
 
 some_cut : {V : Type 0} (b : Bool) (o : Option V) → is_some (cond b None o) ≡ true → is_some o ≡ true
 some_cut {V} true o h = absurd (not_some none refl h)
@@ -277,15 +277,15 @@ some_cut {V} true o h = absurd (not_some none refl h)
     none = None
 some_cut false o h = h
 
-pub apart-remove_near : {V : Type 0} (near far : Numbered V) (k : ℕ) → AreApart near far → AreApart (fin.remove near k) far
-apart-remove_near near far k apart q e = apart q (some_cut (eq_by_cmp nat_cmp q k) (fin.get near q) (ap is_some (sym (fin.get-remove nat_cmp_total near k q)) ∙ e))
+pub apart-remove_dense : {V : Type 0} (dense sparse : Numbered V) (k : ℕ) → AreDisjoint dense sparse → AreDisjoint (fin.remove dense k) sparse
+apart-remove_dense dense sparse k apart q e = apart q (some_cut (eq_by_cmp nat_cmp q k) (fin.get dense q) (ap is_some (sym (fin.get-remove nat_cmp_total dense k q)) ∙ e))
 
 none_cut : {V : Type 0} (b : Bool) (p : Option V) → p ≡ None → cond b None p ≡ None
 none_cut true p h = refl
 none_cut false p h = h
 
-pub apart-remove_far : {V : Type 0} (near far : Numbered V) (k : ℕ) → AreApart near far → AreApart near (fin.remove far k)
-apart-remove_far near far k apart q e = fin.get-remove nat_cmp_total far k q ∙ none_cut (eq_by_cmp nat_cmp q k) (fin.get far q) (apart q e)
+pub apart-remove_sparse : {V : Type 0} (dense sparse : Numbered V) (k : ℕ) → AreDisjoint dense sparse → AreDisjoint dense (fin.remove sparse k)
+apart-remove_sparse dense sparse k apart q e = fin.get-remove nat_cmp_total sparse k q ∙ none_cut (eq_by_cmp nat_cmp q k) (fin.get sparse q) (apart q e)
 
 pub either_way : {T E : Type 0} (r : Result T E) (P Q X : Type 0) → OnOk r P → OnErr r Q → (P → X) → (Q → X) → X
 either_way (Ok x) P Q X p q fine otherwise = fine p
@@ -400,15 +400,15 @@ pub slot_keys_are : {V : Type 0} (xs : List (Option V)) → slot_numbers (λ _. 
 slot_keys_are xs = slot_numbers_are (λ _. true) xs ∙ all_keys (fin.entries (slot_map xs))
 
 -- the keys of two maps in one
-pub joined_keys : {V : Type 0} (near far : Numbered V) (all : List ℕ) → IsStrictlySortedBy nat_cmp all → ((q : ℕ) → is_among all q ≡ is_among (fin.keys near ++ fin.keys far) q) → all ≡ fin.keys (joined_map near far)
-joined_keys near far all rising same = same_rising all (fin.keys (joined_map near far)) (Rises-sorted all rising) (Rises-keys (joined_map near far)) (λ q.
+pub joined_keys : {V : Type 0} (dense sparse : Numbered V) (all : List ℕ) → IsStrictlySortedBy nat_cmp all → ((q : ℕ) → is_among all q ≡ is_among (fin.keys dense ++ fin.keys sparse) q) → all ≡ fin.keys (joined_map dense sparse)
+joined_keys dense sparse all rising same = same_rising all (fin.keys (joined_map dense sparse)) (Rises-sorted all rising) (Rises-keys (joined_map dense sparse)) (λ q.
     same q
-    ∙ among-append (fin.keys near) (fin.keys far) q
-    ∙ ap (λ b. b || is_among (fin.keys far) q) (among-keys near q)
-    ∙ ap (λ b. fin.contains_key near q || b) (among-keys far q)
-    ∙ either (fin.get near q) (fin.get far q)
-    ∙ ap is_some (sym (get_joined near far q))
-    ∙ sym (among-keys (joined_map near far) q))
+    ∙ among-append (fin.keys dense) (fin.keys sparse) q
+    ∙ ap (λ b. b || is_among (fin.keys sparse) q) (among-keys dense q)
+    ∙ ap (λ b. fin.contains_key dense q || b) (among-keys sparse q)
+    ∙ either (fin.get dense q) (fin.get sparse q)
+    ∙ ap is_some (sym (get_joined dense sparse q))
+    ∙ sym (among-keys (joined_map dense sparse) q))
   where
     among-append : (xs ys : List ℕ) (q : ℕ) → is_among (xs ++ ys) q ≡ (is_among xs q || is_among ys q)
     among-append [] ys q = refl
@@ -431,5 +431,5 @@ first_none : {V : Type 0} (x y : Option V) → option_or x y ≡ None → x ≡ 
 first_none None y e = refl
 first_none (Some v) y e = grind arith
 
-pub neither_near : {V : Type 0} (near far m : Numbered V) (k : ℕ) → joined_map near far ≡ m → fin.get m k ≡ None → fin.get near k ≡ None
-neither_near near far m k is e = first_none (fin.get near k) (fin.get far k) (sym (get_joined near far k) ∙ ap (λ n. fin.get n k) is ∙ e)
+pub neither_dense : {V : Type 0} (dense sparse m : Numbered V) (k : ℕ) → joined_map dense sparse ≡ m → fin.get m k ≡ None → fin.get dense k ≡ None
+neither_dense dense sparse m k is e = first_none (fin.get dense k) (fin.get sparse k) (sym (get_joined dense sparse k) ∙ ap (λ n. fin.get n k) is ∙ e)

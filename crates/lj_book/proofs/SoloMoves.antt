@@ -10,13 +10,13 @@ use Rattle.std.specs.FinMap.Entries.{find, is_sorted}
 use Rattle.lj_clause.specs.LiteralSet.{LiteralSet}
 use Rattle.lj_clause.specs.ClauseMap.{ClauseMap}
 use Rattle.lj_clause.specs.Lemma.{LemmaValue}
-use Rattle.lj_clause.specs.Walk.{Walk, Closed, Open, Stuck}
+use Rattle.lj_clause.specs.Propagation.{Propagation, Closed, Open, Stuck}
 use Rattle.lj_clause.specs.Rat.{RatAnswer, Covered, MissingGroup, GroupStuck, GroupOpen, rat}
 use Rattle.lj_clause.proofs.Tests.{left_of, right_of}
 use Rattle.lj_clause.proofs.SortedEntries.{none_below}
 use Rattle.lj_text.specs.declared.line.Addition.{Addition}
 use Rattle.lj_text.specs.declared.step.Step.TheVariants as steps
-use Rattle.lj_text.specs.Steps.{first_walk, with_covered, recorded_on, recorded_after, recorded_form}
+use Rattle.lj_text.specs.Steps.{first_propagation, with_covered, recorded_on, recorded_after, recorded_form}
 use Rattle.lj_hint.specs.Case.{CaseValue}
 use Rattle.lj_hint.specs.Receipt.{ReceiptValue}
 use Rattle.lj_book.specs.declared.refusal.Refusal.{Refusal}
@@ -157,7 +157,7 @@ covered_keeps a (MissingGroup n) = (refl, refl)
 covered_keeps a (GroupStuck n place) = (refl, refl)
 covered_keeps a (GroupOpen n) = (refl, refl)
 
-recorded_keeps : (p : ClauseMap) (a : Addition) (w : Walk) → ((recorded_after p a w).number ≡ a.number) × ((recorded_after p a w).lemma ≡ a.lemma)
+recorded_keeps : (p : ClauseMap) (a : Addition) (w : Propagation) → ((recorded_after p a w).number ≡ a.number) × ((recorded_after p a w).lemma ≡ a.lemma)
 recorded_keeps p a (Closed used) = (refl, refl)
 recorded_keeps p a (Stuck place) = (refl, refl)
 recorded_keeps p a (Open s) = go a.lemma.pivot
@@ -174,7 +174,7 @@ inside_is : (s : State) (seat : ℕ) (a : Addition) (c : CaseValue) → take_rep
 inside_is s seat a c is = ap (λ (r : Result CaseValue Refusal). record { seat = seat; call = calls.Add a.number a.lemma; step = inside_step s r }) is
 
 entering_keeps : (s : State) (c : CaseValue) → ((entering s c).number ≡ next s) × ((entering s c).lemma ≡ c.lemma)
-entering_keeps s c = recorded_keeps (live s) (joint_addition (next s) c) (first_walk (live s) (joint_addition (next s) c))
+entering_keeps s c = recorded_keeps (live s) (joint_addition (next s) c) (first_propagation (live s) (joint_addition (next s) c))
 
 pub moves-inside : (s : State) (seat : ℕ) (a : Addition) (c : CaseValue) → IsGiven s → take_reply s seat a ≡ Ok c → Moves seat s (after_entry s (inside_entry s seat a))
 moves-inside s seat a c given is =

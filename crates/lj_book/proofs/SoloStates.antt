@@ -13,12 +13,12 @@ use Rattle.lj_text.specs.declared.step.Step.{Step}
 use Rattle.lj_text.specs.declared.step.Step.TheVariants as steps
 use Rattle.lj_text.specs.Needed.{additions, if_some}
 use Rattle.lj_book.specs.declared.entry.Entry.{Entry}
-use Rattle.lj_book.specs.Tables.{Table, Tables, table_of, joint_of, is_held}
+use Rattle.lj_book.specs.Tables.{Table, Tables, table_of, joint_of, has_holder}
 use Rattle.lj_book.specs.State.{State, steps_of, next, with_additions, given_out, live}
 use Rattle.lj_book.specs.History.{after_entry}
 use Rattle.lj_book.specs.Solo.{with_clause, holdings_of, view_of}
 use Rattle.lj_book.proofs.HistoryLaws.{IsSound, get-live, steps_of-push, additions-append}
-use Rattle.lj_book.proofs.SoloTables.{bound_is_held, holdings-agree}
+use Rattle.lj_book.proofs.SoloTables.{bound_has_holder, holdings-agree}
 
 -- What each state keeps that events lead to: each joint number that is bound was given out, and none from the next on.
 pub record IsGiven (s : State) : Type 0 where
@@ -27,7 +27,7 @@ pub record IsGiven (s : State) : Type 0 where
 
 pub IsGiven-sound : (s : State) → IsSound s → IsGiven s
 IsGiven-sound s sound = record {
-  bound_given = λ seat own joint is. sound.held_given joint (bound_is_held s.tables seat own joint is);
+  bound_given = λ seat own joint is. sound.held_given joint (bound_has_holder s.tables seat own joint is);
   given_below = sound.given_below;
 }
 
@@ -105,11 +105,11 @@ Extends-insert p n c none = record { stays = λ q d e. fin.get-insert nat_cmp_to
 
 -- a number that is held lives with the clause that was given out under it
 pub live-bound : (s : State) (seat own joint : ℕ) → joint_of s.tables seat own ≡ Some joint → fin.get (live s) joint ≡ fin.get (given_out s) joint
-live-bound s seat own joint is = get-live s joint ∙ ap (λ b. cond b (fin.get (given_out s) joint) None) (bound_is_held s.tables seat own joint is)
+live-bound s seat own joint is = get-live s joint ∙ ap (λ b. cond b (fin.get (given_out s) joint) None) (bound_has_holder s.tables seat own joint is)
 
 -- what lives was given out
 pub live-given : (s : State) (joint : ℕ) (c : LiteralSet) → fin.get (live s) joint ≡ Some c → fin.get (given_out s) joint ≡ Some c
-live-given s joint c e = go (is_held s.tables joint) (sym (get-live s joint) ∙ e)
+live-given s joint c e = go (has_holder s.tables joint) (sym (get-live s joint) ∙ e)
   where
     go : (b : Bool) → cond b (fin.get (given_out s) joint) None ≡ Some c → fin.get (given_out s) joint ≡ Some c
     go true h = h

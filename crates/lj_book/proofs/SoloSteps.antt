@@ -5,14 +5,14 @@ use Rattle.std.proofs.lemmas.Bool.{false≢true}
 use Rattle.std.specs.FinMap as fin
 use Rattle.lj_clause.specs.LiteralSet.{LiteralSet, negations}
 use Rattle.lj_clause.specs.Lemma.{LemmaValue}
-use Rattle.lj_clause.specs.Walk.{Walk, Closed, Open, Stuck, Hint, hints_in, walk_over}
+use Rattle.lj_clause.specs.Propagation.{Propagation, Closed, Open, Stuck, Hint, hints_in, propagate_over}
 use Rattle.lj_clause.specs.Rat.{RatAnswer, Covered, rat}
 use Rattle.lj_clause.specs.Rat as rats
 use Rattle.lj_clause.specs.ClauseMap.{ClauseMap}
 use Rattle.lj_text.specs.declared.line.Addition.{Addition}
 use Rattle.lj_hint.specs.declared.pair.Pair.{Pair}
 use Rattle.lj_hint.specs.Hints.{named_hints, numbers}
-use Rattle.lj_hint.specs.Case.{CaseValue, walk_of}
+use Rattle.lj_hint.specs.Case.{CaseValue, propagation_of}
 use Rattle.lj_hint.specs.Receipt.{ReceiptValue}
 use Rattle.lj_book.specs.declared.refusal.Refusal.{Refusal}
 use Rattle.lj_book.specs.declared.refusal.Refusal.TheVariants.{SeatGone, NumberTaken, HintNotUnit, EmptyOpen, MissingGroup, GroupStuck, GroupOpen, NoSuchClause, Full}
@@ -30,11 +30,11 @@ use Rattle.lj_book.specs.Tables.{Table, Tables, table_of, is_here, is_bound, wit
 use Rattle.lj_book.specs.Lookup.{is_clause, least_number}
 use Rattle.lj_book.specs.State.{State, addition_count, next, given_out, live}
 use Rattle.lj_book.specs.History.{dead_numbers, after_entry, with_found}
-use Rattle.lj_book.specs.Inside.{joint_addition, rat_refusal, open_refusal, walk_refusal, or_full, inside_after, inside_reply, inside_entry}
+use Rattle.lj_book.specs.Inside.{joint_addition, rat_refusal, open_refusal, propagation_refusal, or_full, inside_after, inside_reply, inside_entry}
 use Rattle.lj_book.specs.Calls.{IsReply, unless_refused, take_reply, is_live_as, first_stale, stale_or, commit_refusal, commit_told, commit_reply, commit_entry, drop_reply, drop_entry, free_refusal, if_free, adopt_entry, imported_at, import_entry, leave_reply, leave_entry}
 use Rattle.lj_book.specs.Events.{seat_of, is_in_turn, taken_after}
 use Rattle.lj_book.specs.Worlds.{World, pending_at, with_pending, reply_by, IsCalled, IsTried, case_taken, if_entered, pending_after_test, IsTestOf, IsCommitOf, IsAnswered}
-use Rattle.lj_book.specs.Solo.{Holdings, View, Solo, solo_case, solo_refusal, solo_take, IsRefusedSolo, IsRefusedOrShort, IfHere, IfNotTaken, IfFree, with_clause, holdings_of, without_holdings, IsSoloAddition, IsSoloCommitOf, IsSoloCommit, IsSoloOpen, IfPivot, IsSoloWalked, IsSoloInside, IsSoloDrop, IsSoloAdoption, IsSoloImport, IsSoloLeave, IsSoloAnswer, view_of}
+use Rattle.lj_book.specs.Solo.{Holdings, View, Solo, solo_case, solo_refusal, solo_take, IsRefusedSolo, IsRefusedOrNoMemory, IfHere, IfNotTaken, IfFree, with_clause, holdings_of, without_holdings, IsSoloAddition, IsSoloCommitOf, IsSoloCommit, IsSoloOpen, IfPivot, IsSoloPropagated, IsSoloInside, IsSoloDrop, IsSoloAdoption, IsSoloImport, IsSoloLeave, IsSoloAnswer, view_of}
 use Rattle.lj_book.specs.inner.Solo.{solo_of}
 use Rattle.lj_book.proofs.CommitLaws.{same_itself}
 use Rattle.lj_book.proofs.TableLaws.{table_of-with_table, here_in_range}
@@ -90,9 +90,9 @@ IsOpenCall call told w entry reply w' = IsTried None call told (if_entered w ent
 called_openly : {A : Type 0} (call : Result A Refusal) (told : A → Reply) (w : World) (entry : Entry) (reply : Reply) (w' : World) → IsCalled call told (if_entered w entry) reply w' → IsOpenCall call told w entry reply w'
 called_openly call told w entry reply w' called = record { answer = called.answer; answers = called.answers; refused = tt; tells = called.tells; leaves = called.leaves }
 
-refused_or_short : {A : Type 0} (w w' : World) (seat : ℕ) (entry : Entry) (call : Result A Refusal) (told : A → Reply) (reply : Reply) (x : Refusal) → call ≡ Err x → IsOpenCall call told w entry reply w' → IsRefusedOrShort x (solo_of w seat) reply (solo_of w' seat)
-refused_or_short w w' seat entry call told reply x is called =
-    tried_by None call told (if_entered w entry) reply w' (λ r after. IsRefusedOrShort x (solo_of w seat) r (solo_of after seat))
+refused_or_no_memory : {A : Type 0} (w w' : World) (seat : ℕ) (entry : Entry) (call : Result A Refusal) (told : A → Reply) (reply : Reply) (x : Refusal) → call ≡ Err x → IsOpenCall call told w entry reply w' → IsRefusedOrNoMemory x (solo_of w seat) reply (solo_of w' seat)
+refused_or_no_memory w w' seat entry call told reply x is called =
+    tried_by None call told (if_entered w entry) reply w' (λ r after. IsRefusedOrNoMemory x (solo_of w seat) r (solo_of after seat))
     (λ y e. absurd (cc))
     (λ y e. let same : y ≡ x = cc in (inl (ap replies.Refused same), refl))
     (inr refl, refl)
@@ -234,7 +234,7 @@ taken_here s seat a c e = go (is_here s.tables seat) _ e
 take_past : (w : World) (seat : ℕ) (a : Addition) (answer : Result CaseValue Refusal) → IsSettled w → IsReply answer (take_reply w.state seat a) → length w.pending ≤ seat → case_taken answer ≡ pendings.Nothing
 take_past w seat a (Ok c) settled is long =
     let within = here_in_range w.state.tables seat (taken_here w.state seat a c is) in
-    let places = settled.places in
+    let ranges = settled.ranges in
     absurd (omega arith)
 take_past w seat a (Err e) settled is long = refl
 
@@ -252,7 +252,7 @@ test_own w w' seat pendings.Nothing reply is answered = (answered.0, ap (λ (v :
 test_own w w' seat (pendings.Receipt r) reply is answered = (answered.0, ap (λ (v : World). solo_of v seat) answered.1)
 test_own w w' seat (pendings.Case c) reply is answered = record {
   answer = answered.answer;
-  walk = answered.walk;
+  propagate = answered.propagate;
   no_memory = answered.no_memory;
   tells = answered.tells;
   leaves = ap (λ (v : World). solo_of v seat) answered.leaves ∙ with_own_pending w seat (pending_after_test answered.answer) (λ long. let none = pending_past w.pending seat long in absurd (cc));
@@ -378,11 +378,11 @@ group_refused clauses w w' seat own lemma h entry call reply x is refused called
     refl called
 
 -- what is left to an addition whose case is in the holdings
-abbrev inside_call : State → CaseValue → Walk → Result Added Refusal
-inside_call s c walked = unless_refused (or_full s (walk_refusal (live s) (joint_addition (next s) c) walked)) (commit_told s)
+abbrev inside_call : State → CaseValue → Propagation → Result Added Refusal
+inside_call s c propagated = unless_refused (or_full s (propagation_refusal (live s) (joint_addition (next s) c) propagated)) (commit_told s)
 
-walked_alone : (clauses : ClauseMap) (w w' : World) (seat : ℕ) (a : Addition) (c : CaseValue) (t : Table) (reply : Reply) → IsSettled w → table_of w.state.tables seat ≡ Some t → take_reply w.state seat a ≡ Ok c → c.own ≡ a.number → Extends (given_out w'.state) clauses → (walked : Walk) → IsOpenCall (inside_call w.state c walked) replies.Added w (inside_entry w.state seat a) reply w' → IsSoloWalked walked clauses c.own c.lemma (solo_of w seat) (holdings_of (given_out w.state) t) reply (solo_of w' seat)
-walked_alone clauses w w' seat a c t reply settled at taken same more walked called = go walked called
+propagated_alone : (clauses : ClauseMap) (w w' : World) (seat : ℕ) (a : Addition) (c : CaseValue) (t : Table) (reply : Reply) → IsSettled w → table_of w.state.tables seat ≡ Some t → take_reply w.state seat a ≡ Ok c → c.own ≡ a.number → Extends (given_out w'.state) clauses → (propagated : Propagation) → IsOpenCall (inside_call w.state c propagated) replies.Added w (inside_entry w.state seat a) reply w' → IsSoloPropagated propagated clauses c.own c.lemma (solo_of w seat) (holdings_of (given_out w.state) t) reply (solo_of w' seat)
+propagated_alone clauses w w' seat a c t reply settled at taken same more propagated called = go propagated called
   where
     added_as : (call : Result Added Refusal) → call ≡ unless_refused (full_or_not w.state) (commit_told w.state) → IsOpenCall call replies.Added w (inside_entry w.state seat a) reply w' → IsSoloAddition clauses c.own c.lemma (solo_of w seat) (holdings_of (given_out w.state) t) reply (solo_of w' seat)
     added_as call decided called =
@@ -399,13 +399,13 @@ walked_alone clauses w w' seat a c t reply settled at taken same more walked cal
     tried (rats.GroupOpen n) called = group_refused clauses w w' seat c.own c.lemma (holdings_of (given_out w.state) t) (inside_entry w.state seat a) _ reply (GroupOpen n) refl refl called
 
     opened : (s : LiteralSet) (pivot : Option ℤ) → IsOpenCall (unless_refused (or_full w.state (open_refusal (live w.state) (joint_addition (next w.state) c) s pivot)) (commit_told w.state)) replies.Added w (inside_entry w.state seat a) reply w' → IfPivot pivot clauses c.own c.lemma (solo_of w seat) (holdings_of (given_out w.state) t) reply (solo_of w' seat)
-    opened s None called = refused_or_short w w' seat (inside_entry w.state seat a) _ replies.Added reply EmptyOpen refl called
+    opened s None called = refused_or_no_memory w w' seat (inside_entry w.state seat a) _ replies.Added reply EmptyOpen refl called
     opened s (Some q) called = tried (rat (live w.state) s q (joint_addition (next w.state) c).groups) called
 
-    go : (walked : Walk) → IsOpenCall (inside_call w.state c walked) replies.Added w (inside_entry w.state seat a) reply w' → IsSoloWalked walked clauses c.own c.lemma (solo_of w seat) (holdings_of (given_out w.state) t) reply (solo_of w' seat)
+    go : (propagated : Propagation) → IsOpenCall (inside_call w.state c propagated) replies.Added w (inside_entry w.state seat a) reply w' → IsSoloPropagated propagated clauses c.own c.lemma (solo_of w seat) (holdings_of (given_out w.state) t) reply (solo_of w' seat)
     go (Closed used) called = added_as _ refl called
     go (Open s) called = opened s c.lemma.pivot called
-    go (Stuck place) called = refused_or_short w w' seat (inside_entry w.state seat a) _ replies.Added reply (HintNotUnit place) refl called
+    go (Stuck place) called = refused_or_no_memory w w' seat (inside_entry w.state seat a) _ replies.Added reply (HintNotUnit place) refl called
 
 inside_free : (s : State) (seat : ℕ) (a : Addition) → is_here s.tables seat ≡ true → is_bound s.tables seat a.number ≡ false → inside_reply s seat a ≡ inside_after s (book_case s seat a)
 inside_free s seat a here free =
@@ -422,15 +422,15 @@ inside_alone : (clauses : ClauseMap) (w w' : World) (seat : ℕ) (a : Addition) 
 inside_alone clauses w w' seat a reply settled more called = by_table (table_of w.state.tables seat) refl
   where
     go : (t : Table) → table_of w.state.tables seat ≡ Some t → fin.contains_key (holdings_of (given_out w.state) t) a.number ≡ false → (r : Result CaseValue Refusal) → solo_case (holdings_of (given_out w.state) t) seat a ≡ r → IsOpenCall (inside_after w.state r) replies.Added w (inside_entry w.state seat a) reply w' → IsSoloInside r clauses (solo_of w seat) (holdings_of (given_out w.state) t) reply (solo_of w' seat)
-    go t at unbound (Err e) is onwards = refused_or_short w w' seat (inside_entry w.state seat a) (Err e) replies.Added reply e refl onwards
+    go t at unbound (Err e) is onwards = refused_or_no_memory w w' seat (inside_entry w.state seat a) (Err e) replies.Added reply e refl onwards
     go t at unbound (Ok c) is onwards =
         let from = case_parts seat a (holdings_of (given_out w.state) t) c unbound is in
         let taken : take_reply w.state seat a ≡ Ok c =
         take_alone w.state seat a settled.given
         ∙ ap (λ (v : View). solo_take v seat a) (view_is w.state seat (Some t) at)
         ∙ ap (λ (b : Bool). if b then Err NumberTaken else solo_case (holdings_of (given_out w.state) t) seat a) unbound ∙ is in
-        walked_alone clauses w w' seat a c t reply settled at taken from.number more (walk_of c)
-        (subst (λ (hs : List Hint). IsOpenCall (inside_call w.state c (walk_over (negations c.lemma.clause) hs)) replies.Added w (inside_entry w.state seat a) reply w')
+        propagated_alone clauses w w' seat a c t reply settled at taken from.number more (propagation_of c)
+        (subst (λ (hs : List Hint). IsOpenCall (inside_call w.state c (propagate_over (negations c.lemma.clause) hs)) replies.Added w (inside_entry w.state seat a) reply w')
         (held_named w.state seat t c.hints settled.given at from.fit.1) onwards)
 
     bound_at : (t : Table) → table_of w.state.tables seat ≡ Some t → (b : Bool) → fin.contains_key (holdings_of (given_out w.state) t) a.number ≡ b → IfNotTaken b (solo_of w seat) reply (solo_of w' seat) (IsSoloInside (solo_case (holdings_of (given_out w.state) t) seat a) clauses (solo_of w seat) (holdings_of (given_out w.state) t) reply (solo_of w' seat))
@@ -496,7 +496,7 @@ ready_tested w w' seat (pendings.Receipt r) reply is ready answered =
 ready_tested w w' seat (pendings.Case c) reply is ready answered =
     let own = test_own w w' seat (pendings.Case c) reply is answered in
     subst IsReady (sym own.leaves)
-    (tested_by c own.answer (IsReadyOf (view_of w.state seat)) tt (λ n. fit_first (view_of w.state seat) c.own n c.hints ready) ready own.walk own.no_memory)
+    (tested_by c own.answer (IsReadyOf (view_of w.state seat)) tt (λ n. fit_first (view_of w.state seat) c.own n c.hints ready) ready own.propagate own.no_memory)
 
 pub ready_after : (w w' : World) (e : Event) (reply : Reply) (taken : Bool) → IsSettled w → (taken ≡ true → IsReady (solo_of w (seat_of e))) → IsAnswered w e reply w' → taken_after taken e ≡ true → IsReady (solo_of w' (seat_of e))
 ready_after w w' (events.Take seat a) reply taken settled ready answered now = ready_taken w w' seat a reply settled answered

@@ -10,7 +10,7 @@ use Rattle.std.specs.FinMap as fin
 use Rattle.std.specs.FinMap.{nat_cmp-IsAntisymmetric}
 use Rattle.lj_clause.specs.LiteralSet.{LiteralSet, no_literals}
 use Rattle.lj_clause.specs.ClauseMap.{ClauseMap}
-use Rattle.lj_book.specs.Tables.{Table, Tables, table_of, joint_of, with_table, with_binding, without_seat, is_among, without_keys, is_held}
+use Rattle.lj_book.specs.Tables.{Table, Tables, table_of, joint_of, with_table, with_binding, without_seat, is_among, without_keys, has_holder}
 use Rattle.lj_book.specs.inner.Holders.{count_in}
 use Rattle.lj_book.specs.Solo.{Holdings, with_clause, holdings_of, without_holdings}
 use Rattle.lj_book.proofs.NumberMaps.{same_map}
@@ -93,13 +93,13 @@ joint_of-left (t ∷ ts) (suc k) zero own joint h = h
 joint_of-left (t ∷ ts) (suc k) (suc seat) own joint h = joint_of-left ts k seat own joint h
 
 -- a joint number to which an own number of a seat is bound is held
-pub bound_is_held : (ts : Tables) (seat own joint : ℕ) → joint_of ts seat own ≡ Some joint → is_held ts joint ≡ true
-bound_is_held ts seat own joint is = go (table_of ts seat) refl
+pub bound_has_holder : (ts : Tables) (seat own joint : ℕ) → joint_of ts seat own ≡ Some joint → has_holder ts joint ≡ true
+bound_has_holder ts seat own joint is = go (table_of ts seat) refl
   where
     more : (n : ℕ) → 0 < n → nat_lt 0 n ≡ true
     more n h = grind (arith, nat_tests)
 
-    go : (o : Option Table) → table_of ts seat ≡ o → is_held ts joint ≡ true
+    go : (o : Option Table) → table_of ts seat ≡ o → has_holder ts joint ≡ true
     go None at = none_some joint (sym (ap (option_and_then (λ (u : Table). fin.get u own)) at) ∙ is)
     go (Some t) at =
         let a = count-remove t own joint joint (sym (joint_in_table ts seat own t at) ∙ is) in

@@ -10,7 +10,7 @@ use Rattle.lj_book.specs.declared.refusal.Refusal.{Refusal}
 use Rattle.lj_book.specs.declared.refusal.Refusal.TheVariants.{SeatGone, NumberTaken}
 use Rattle.lj_book.specs.Tables.{Table, table_of, joint_of, is_bound}
 use Rattle.lj_book.specs.State.{State, given_out, live}
-use Rattle.lj_book.specs.Calls.{pair_in, pairs_of, group_pairs_of, repeated_after, with_pair, if_held, case_with, free_refusal, take_reply}
+use Rattle.lj_book.specs.Calls.{pair_in, pairs_of, group_pairs_of, repeated_after, with_pair, if_known, case_with, free_refusal, take_reply}
 use Rattle.lj_book.specs.Solo.{Holdings, View, with_clause, holdings_of, view_of, solo_case, solo_refusal, solo_take}
 use Rattle.lj_book.proofs.SoloTables.{get-holdings, contains-holdings}
 use Rattle.lj_book.proofs.SoloStates.{IsGiven, some_clause, with_clause-is, live-bound, bound_in_table}
@@ -115,7 +115,7 @@ pub pairs_held : (h : Holdings) (owns : List ℕ) (ps : List Pair) → pairs_of 
 pairs_held h [] ps e = let is : [] ≡ ps = cc in subst (AllHeld h) is tt
 pairs_held h (own ∷ owns) ps e = go (fin.get h own) refl (pairs_of (fin.get h) owns) (pairs_held h owns) e
   where
-    go : (o : Option Pair) → fin.get h own ≡ o → (r : Result (List Pair) Refusal) → ((qs : List Pair) → r ≡ Ok qs → AllHeld h qs) → if_held own o (λ p. with_pair p r) ≡ Ok ps → AllHeld h ps
+    go : (o : Option Pair) → fin.get h own ≡ o → (r : Result (List Pair) Refusal) → ((qs : List Pair) → r ≡ Ok qs → AllHeld h qs) → if_known own o (λ p. with_pair p r) ≡ Ok ps → AllHeld h ps
     go None at r later e = absurd (cc)
     go (Some p) at (Err x) later e = absurd (cc)
     go (Some p) at (Ok qs) later e = let same : p ∷ qs ≡ ps = cc in subst (AllHeld h) same (record { own = own; bound = at }, later qs refl)

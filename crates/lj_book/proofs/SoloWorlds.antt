@@ -4,9 +4,9 @@ use Rattle.std.specs.Prelude.{List, [], ◌∷◌, length, Option, Some, None, i
 use Rattle.std.specs.FinMap as fin
 use Rattle.lj_clause.specs.LiteralSet.{LiteralSet}
 use Rattle.lj_clause.specs.Memory.{no_memory}
-use Rattle.lj_clause.specs.Walk.{Walk, Closed, Open, Stuck}
+use Rattle.lj_clause.specs.Propagation.{Propagation, Closed, Open, Stuck}
 use Rattle.lj_text.specs.declared.line.Addition.{Addition}
-use Rattle.lj_hint.specs.Case.{CaseValue, walk_of}
+use Rattle.lj_hint.specs.Case.{CaseValue, propagation_of}
 use Rattle.lj_hint.specs.Receipt.{ReceiptValue, receipt_of}
 use Rattle.lj_hint.specs.Tested.{tested_of, IfAnswered, IfNoMemory}
 use Rattle.lj_hint.specs.declared.tested.Tested.{Tested}
@@ -65,10 +65,10 @@ tried_by {A} {B} first call told left reply after P accepted refused short calle
     go (Err e) h = refusal e h
 
 -- A test leaves nothing, a receipt of the case, or the case.
-pub tested_by : (c : CaseValue) (answer : Tested) (P : Pending → Type 0) → P pendings.Nothing → ((n : ℕ) → P (pendings.Receipt (receipt_of c n))) → P (pendings.Case c) → IfAnswered answer (λ a. a ≡ tested_of c (walk_of c)) → IfNoMemory answer (λ d. d ≡ c) → P (pending_after_test answer)
-tested_by c (tests.Closed receipt) P nothing some same answered short = go (walk_of c) answered
+pub tested_by : (c : CaseValue) (answer : Tested) (P : Pending → Type 0) → P pendings.Nothing → ((n : ℕ) → P (pendings.Receipt (receipt_of c n))) → P (pendings.Case c) → IfAnswered answer (λ a. a ≡ tested_of c (propagation_of c)) → IfNoMemory answer (λ d. d ≡ c) → P (pending_after_test answer)
+tested_by c (tests.Closed receipt) P nothing some same answered short = go (propagation_of c) answered
   where
-    go : (w : Walk) → tests.Closed receipt ≡ tested_of c w → P (pendings.Receipt receipt)
+    go : (w : Propagation) → tests.Closed receipt ≡ tested_of c w → P (pendings.Receipt receipt)
     go (Closed used) e = let is : receipt ≡ receipt_of c (length used) = cc in subst (λ (r : ReceiptValue). P (pendings.Receipt r)) (sym is) (some (length used))
     go (Open a) e = absurd (cc)
     go (Stuck place) e = absurd (cc)
@@ -116,7 +116,7 @@ each_set Q (q ∷ ps) (suc seat) p all here (suc k) = each_set (λ n. Q (suc n))
 -- What each world keeps that events lead to from a state in which nothing is pending.
 pub record IsSettled (w : World) : Type 0 where
   pub given : IsGiven w.state
-  pub places : length w.pending ≡ length w.state.tables
+  pub ranges : length w.pending ≡ length w.state.tables
   pub owners : (seat : ℕ) → IsOwnPending seat (pending_at w seat)
 
 length_same : {X : Type 0} (n : ℕ) (x : X) → length (replicate n x) ≡ n
@@ -134,7 +134,7 @@ nothing_at s seat = none_at (length s.tables) seat
 pub IsSettled-nothing : (s : State) → IsGiven s → IsSettled (nothing_pending s)
 IsSettled-nothing s given = record {
   given = given;
-  places = length_same (length s.tables) pendings.Nothing;
+  ranges = length_same (length s.tables) pendings.Nothing;
   owners = λ seat. subst (IsOwnPending seat) (sym (nothing_at s seat)) tt;
 }
 
@@ -154,7 +154,7 @@ leaves_pending k w p settled own = record {
   others = λ seat apart. ap (λ (q : Pending). record { view = view_of w.state seat; pending = q }) (pending-set_other w.pending k seat p apart);
   settled = record {
     given = settled.given;
-    places = length-pending_set w.pending k p ∙ settled.places;
+    ranges = length-pending_set w.pending k p ∙ settled.ranges;
     owners = each_set IsOwnPending w.pending k p settled.owners own;
   };
 }
@@ -165,7 +165,7 @@ leaves_state k w s settled moves = record {
   others = λ seat apart. ap (λ (v : View). record { view = v; pending = pending_at w seat }) (view-same w.state s seat settled.given moves.more (moves.tables seat apart));
   settled = record {
     given = moves.given;
-    places = settled.places ∙ sym moves.seats;
+    ranges = settled.ranges ∙ sym moves.seats;
     owners = settled.owners;
   };
 }
@@ -238,7 +238,7 @@ leaves_tested w w' seat (pendings.Receipt r) reply settled own answered = subst 
 leaves_tested w w' seat (pendings.Case c) reply settled own answered =
     subst (Leaves seat w) (sym answered.leaves)
     (leaves_pending seat w (pending_after_test answered.answer) settled
-    (tested_by c answered.answer (IsOwnPending seat) tt (λ n. own) own answered.walk answered.no_memory))
+    (tested_by c answered.answer (IsOwnPending seat) tt (λ n. own) own answered.propagate answered.no_memory))
 
 leaves_committed : (w w' : World) (seat : ℕ) (p : Pending) (reply : Reply) → IsSettled w → IsOwnPending seat p → IsCommitOf p w seat reply w' → Leaves seat w w'
 leaves_committed w w' seat pendings.Nothing reply settled own answered = subst (Leaves seat w) (sym answered.1) (leaves_all seat w settled)

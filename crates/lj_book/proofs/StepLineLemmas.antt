@@ -17,11 +17,11 @@ use Rattle.lj_clause.proofs.LiteralSets.{holds-no_literals, holds-from_literals}
 use Rattle.lj_text.specs.declared.step.Step.{Step}
 use Rattle.lj_text.specs.StepText.{text_after, written_literals, deletion_text}
 use Rattle.lj_text.specs.Needed.{up_to_empty, if_some}
-use Rattle.lj_text.specs.Writing.{IsCutShort, spaced_word}
-use Rattle.lj_text.specs.inner.Writing.{spaced_words}
-use Rattle.lj_text.specs.WordWriting.{WordState, MayBeGiven, WasGiven}
+use Rattle.lj_text.specs.Writing.{IsCutShort, spaced_token}
+use Rattle.lj_text.specs.inner.Writing.{spaced_tokens}
+use Rattle.lj_text.specs.TokenWriting.{TokenState, MayBeGiven, WasGiven}
 use Rattle.lj_text.proofs.WritingLemmas.{beginning-self, beginning-trans}
-use Rattle.lj_book.specs.inner.Words.{number_in, many_in}
+use Rattle.lj_book.specs.inner.Encoding.{number_in, many_in}
 use Rattle.lj_book.specs.inner.Records.{lemma_lits, kind_in, step_in}
 use Rattle.lj_book.proofs.RecordLaws.{step_at, step_at-is}
 use Rattle.lj_book.specs.inner.StepLines.{kept_as_written, entry_text, entry_greatest, ends_proof, Remains}
@@ -29,7 +29,7 @@ use Rattle.lj_book.specs.inner.StepLines.{kept_as_written, entry_text, entry_gre
 -- ---- calls in a row
 
 -- nothing was given
-pub given_none : (s : WordState) → WasGiven s [] s
+pub given_none : (s : TokenState) → WasGiven s [] s
 given_none s = record {
   whole = λ f. (f, sym (append-nil (s.taken ++ s.left.text)), refl);
   cut_short = λ f g. absurd (false≢true (sym f ∙ g));
@@ -40,14 +40,14 @@ given_none s = record {
 cut_more : (front whole rest : List ℕ) → IsCutShort front whole → IsCutShort front (whole ++ rest)
 cut_more front whole rest c = (c.0, c.1 ++ rest, ap (λ t. t ++ rest) c.2 ∙ append_assoc front (c.0 ∷ c.1) rest)
 
-pub given_then : (s m t : WordState) (x y : List ℕ) → WasGiven s x m → WasGiven m y t → WasGiven s (x ++ y) t
+pub given_then : (s m t : TokenState) (x y : List ℕ) → WasGiven s x m → WasGiven m y t → WasGiven s (x ++ y) t
 given_then s m t x y w v = record {
   whole = λ f.
       let later = v.whole f in
       let first = w.whole later.0 in
       (first.0, later.1 ∙ ap (λ u. u ++ y) first.1 ∙ append_assoc (s.taken ++ s.left.text) x y, later.2 ∙ first.2);
   cut_short = λ f g. by_middle m.left.failed refl f g;
-  stays = λ f. v.stays (ap (λ (u : WordState). u.left.failed) (w.stays f) ∙ f) ∙ w.stays f;
+  stays = λ f. v.stays (ap (λ (u : TokenState). u.left.failed) (w.stays f) ∙ f) ∙ w.stays f;
   onward = beginning-trans s.taken m.taken t.taken w.onward v.onward;
 }
   where
@@ -59,31 +59,31 @@ given_then s m t x y w v = record {
     by_middle true e f g =
         let same : t ≡ m = v.stays e in
         let broke = w.cut_short f e in (
-          subst (λ (u : WordState). IsCutShort u.taken ((s.taken ++ s.left.text) ++ (x ++ y))) (sym same)
+          subst (λ (u : TokenState). IsCutShort u.taken ((s.taken ++ s.left.text) ++ (x ++ y))) (sym same)
               (subst (IsCutShort m.taken) (append_assoc (s.taken ++ s.left.text) x y) (cut_more m.taken _ y broke.0)),
-          ap (λ (u : WordState). u.failures) same ∙ broke.1,
+          ap (λ (u : TokenState). u.failures) same ∙ broke.1,
         )
 
 -- what may be given words may be given more
-pub may_still : (s t : WordState) (x : List ℕ) → WasGiven s x t → MayBeGiven s → MayBeGiven t
+pub may_still : (s t : TokenState) (x : List ℕ) → WasGiven s x t → MayBeGiven s → MayBeGiven t
 may_still s t x w may f = (w.whole f).2 ∙ may (w.whole f).0
 
 -- ---- what is left of a text
 
-pub remains_all : (s : WordState) (whole : List ℕ) → Remains s whole s whole
+pub remains_all : (s : TokenState) (whole : List ℕ) → Remains s whole s whole
 remains_all s whole = record { front = []; given = given_none s; parts = refl }
 
-pub remains_less : (s t u : WordState) (whole all x rest : List ℕ) → Remains s whole t all → all ≡ x ++ rest → WasGiven t x u → Remains s whole u rest
+pub remains_less : (s t u : TokenState) (whole all x rest : List ℕ) → Remains s whole t all → all ≡ x ++ rest → WasGiven t x u → Remains s whole u rest
 remains_less s t u whole all x rest r e w = record {
   front = r.front ++ x;
   given = given_then s t u r.front x r.given w;
   parts = append_assoc r.front x rest ∙ ap (λ y. r.front ++ y) (sym e) ∙ r.parts;
 }
 
-pub remains_none : (s t : WordState) (whole : List ℕ) → Remains s whole t [] → WasGiven s whole t
+pub remains_none : (s t : TokenState) (whole : List ℕ) → Remains s whole t [] → WasGiven s whole t
 remains_none s t whole r = subst (λ y. WasGiven s y t) (sym (append-nil r.front) ∙ r.parts) r.given
 
-pub may_remain : (s t : WordState) (whole rest : List ℕ) → Remains s whole t rest → MayBeGiven s → MayBeGiven t
+pub may_remain : (s t : TokenState) (whole rest : List ℕ) → Remains s whole t rest → MayBeGiven s → MayBeGiven t
 may_remain s t whole rest r may = may_still s t r.front r.given may
 
 -- ---- literals
@@ -113,10 +113,10 @@ pub next_item : {X : Type 0} (xs : List X) (i : ℕ) (x : X) → i < length xs �
 next_item xs i x lt e = drop-cons xs i x lt ∙ (λ j. sym e j ∷ drop (sym (add-one i) j) xs)
 
 -- the same of a text that is written in another way
-pub given_as : (s t : WordState) (x y : List ℕ) → WasGiven s x t → x ≡ y → WasGiven s y t
+pub given_as : (s t : TokenState) (x y : List ℕ) → WasGiven s x t → x ≡ y → WasGiven s y t
 given_as s t x y w e = subst (λ z. WasGiven s z t) e w
 
-pub remains_as : (s t : WordState) (whole x y : List ℕ) → Remains s whole t x → x ≡ y → Remains s whole t y
+pub remains_as : (s t : TokenState) (whole x y : List ℕ) → Remains s whole t x → x ≡ y → Remains s whole t y
 remains_as s t whole x y r e = subst (λ z. Remains s whole t z) e r
 
 -- what is read before a loop
@@ -129,12 +129,12 @@ all_left one n m ws us e f = (λ i. many_in one (none i) (f i))
 -- ---- the literals that a lemma is kept by
 
 -- its pivot, and then the others
-pub kept_first : (ls : List ℤ) (p : ℤ) → 0 < length ls → p ≡ get_or ls 0 p → spaced_word (signed_decimal p) ++ spaced_words (map signed_decimal (filter (λ l. not (eq_by_cmp lit_cmp l p)) (take (length ls - 1) (drop 1 ls)))) ≡ spaced_words (map signed_decimal (kept_as_written ls))
+pub kept_first : (ls : List ℤ) (p : ℤ) → 0 < length ls → p ≡ get_or ls 0 p → spaced_token (signed_decimal p) ++ spaced_tokens (map signed_decimal (filter (λ l. not (eq_by_cmp lit_cmp l p)) (take (length ls - 1) (drop 1 ls)))) ≡ spaced_tokens (map signed_decimal (kept_as_written ls))
 kept_first [] p lt e = absurd (omega (arith, lt))
 kept_first (x ∷ xs) p lt e =
     let n : length (x ∷ xs) - 1 ≡ length xs = omega arith in
-    (λ i. spaced_words (map signed_decimal (e i ∷ filter (λ l. not (eq_by_cmp lit_cmp l (e i))) (take (n i) xs))))
-    ∙ ap (λ ys. spaced_words (map signed_decimal (x ∷ filter (λ l. not (eq_by_cmp lit_cmp l x)) ys))) (take-length xs)
+    (λ i. spaced_tokens (map signed_decimal (e i ∷ filter (λ l. not (eq_by_cmp lit_cmp l (e i))) (take (n i) xs))))
+    ∙ ap (λ ys. spaced_tokens (map signed_decimal (x ∷ filter (λ l. not (eq_by_cmp lit_cmp l x)) ys))) (take-length xs)
 
 -- there is none exactly where the clause is empty
 pub kept_none : (ls : List ℤ) → (length ls == 0) ≡ (fin.len (from_literals ls) == 0)
@@ -157,15 +157,15 @@ deleted n [] h = absurd (h refl)
 deleted n (m ∷ ns) h = refl
 
 -- what is left of the text, by the next entry
-pub entry_next : (lits : List ℤ) (words starts : List ℕ) (i n : ℕ) → i < length starts
-    → text_after n (up_to_empty (filter_map (step_at lits words) (drop i starts)))
-    ≡ text_after n (up_to_empty (cons_option (step_at lits words (get_or starts i 0)) (filter_map (step_at lits words) (drop (i + 1) starts))))
-entry_next lits words starts i n lt = ap (λ xs. text_after n (up_to_empty (filter_map (step_at lits words) xs)))
+pub entry_next : (lits : List ℤ) (encoding starts : List ℕ) (i n : ℕ) → i < length starts
+    → text_after n (up_to_empty (filter_map (step_at lits encoding) (drop i starts)))
+    ≡ text_after n (up_to_empty (cons_option (step_at lits encoding (get_or starts i 0)) (filter_map (step_at lits encoding) (drop (i + 1) starts))))
+entry_next lits encoding starts i n lt = ap (λ xs. text_after n (up_to_empty (filter_map (step_at lits encoding) xs)))
     (drop-cons starts i 0 lt ∙ (λ j. get_or starts i 0 ∷ drop (sym (add-one i) j) starts))
 
 -- the step of an entry, by what stands behind its first number
-pub step_there : (lits : List ℤ) (words ws : List ℕ) (start head : ℕ) (rest : List ℕ) → ws ≡ drop start words → head ≡ (number_in ws).0 → rest ≡ (number_in ws).1 → step_in lits (kind_in head) rest ≡ step_at lits words start
-step_there lits words ws start head rest e f g =
+pub step_there : (lits : List ℤ) (encoding ws : List ℕ) (start head : ℕ) (rest : List ℕ) → ws ≡ drop start encoding → head ≡ (number_in ws).0 → rest ≡ (number_in ws).1 → step_in lits (kind_in head) rest ≡ step_at lits encoding start
+step_there lits encoding ws start head rest e f g =
     (λ i. step_in lits (kind_in (f i)) (g i))
     ∙ ap (λ us. step_in lits (kind_in (number_in us).0) (number_in us).1) e
-    ∙ sym (step_at-is lits words start)
+    ∙ sym (step_at-is lits encoding start)

@@ -14,7 +14,7 @@ use Rattle.lj_clause.specs.declared.memory.NoMemory.{NoMemory}
 use Rattle.lj_clause.proofs.Tests.{turned}
 use Rattle.std.specs.FinMap.Entries.{find, put, by_order}
 use Rattle.std.specs.FinMap.{nat_cmp-IsAntisymmetric}
-use Rattle.lj_book.specs.Tables.{Table, Tables, table_of, is_here, joint_of, is_bound, with_table, is_among, without_keys, holds_joint, is_held, up_to, keys_lost}
+use Rattle.lj_book.specs.Tables.{Table, Tables, table_of, is_here, joint_of, is_bound, with_table, is_among, without_keys, holds_joint, has_holder, up_to, keys_lost}
 use Rattle.lj_book.specs.inner.Holders.{occurrences, count_in, holders_of, count_or_none, count_at, AreHolders, one_if_at, all_up_to}
 use Rattle.lj_book.proofs.NumberMaps.{same_map, entries-retain_keys}
 
@@ -35,9 +35,9 @@ joint_counts None n = refl
 joint_counts (Some t) n = among_occurs (fin.values t) n
 
 -- a number is held where it is held at least once
-pub held_counts : (ts : Tables) (n : ℕ) → is_held ts n ≡ nat_lt 0 (holders_of ts n)
+pub held_counts : (ts : Tables) (n : ℕ) → has_holder ts n ≡ nat_lt 0 (holders_of ts n)
 held_counts [] n = refl
-held_counts (t ∷ ts) n = ap (λ b. b || is_held ts n) (joint_counts t n) ∙ ap (λ b. nat_lt 0 (count_in t n) || b) (held_counts ts n) ∙ either_counts (count_in t n) (holders_of ts n)
+held_counts (t ∷ ts) n = ap (λ b. b || has_holder ts n) (joint_counts t n) ∙ ap (λ b. nat_lt 0 (count_in t n) || b) (held_counts ts n) ∙ either_counts (count_in t n) (holders_of ts n)
 
 values_put : (k v : ℕ) (es : List (ℕ × ℕ)) (n : ℕ) → find nat_cmp k es ≡ None → occurrences (map (λ e. e.1) (put nat_cmp k v es)) n ≡ (if v == n then 1 else 0) + occurrences (map (λ e. e.1) es) n
 values_put k v [] n none = refl
@@ -72,7 +72,7 @@ count-without_keys numbers t n =
     omega arith
 
 -- nothing holds a number that isn't held
-pub none_held : (ts : Tables) (n : ℕ) → is_held ts n ≡ false → holders_of ts n ≡ 0
+pub none_held : (ts : Tables) (n : ℕ) → has_holder ts n ≡ false → holders_of ts n ≡ 0
 none_held ts n h = let e : nat_lt 0 (holders_of ts n) ≡ false = sym (held_counts ts n) ∙ h in grind (arith, nat_tests)
 
 with_table_counts : (change : Table → Table) (ts : Tables) (seat : ℕ) (t : Table) (n : ℕ) → table_of ts seat ≡ Some t → holders_of (with_table change ts seat) n + count_in (Some t) n ≡ holders_of ts n + count_in (Some (change t)) n

@@ -10,13 +10,13 @@ use Rattle.std.specs.FinMap as fin
 use Rattle.lj_clause.specs.LiteralSet.{LiteralSet, negations}
 use Rattle.lj_clause.specs.ClauseMap.{ClauseMap, formula_map}
 use Rattle.lj_clause.specs.Lemma.{LemmaValue}
-use Rattle.lj_clause.specs.Walk.{Walk, Closed, Open, Stuck, hints_in, walk_over}
+use Rattle.lj_clause.specs.Propagation.{Propagation, Closed, Open, Stuck, hints_in, propagate_over}
 use Rattle.lj_text.specs.declared.line.Addition.{Addition}
 use Rattle.lj_text.specs.declared.step.Step.{Step}
 use Rattle.lj_text.specs.declared.step.Step.TheVariants as steps
 use Rattle.lj_hint.specs.declared.pair.Pair.{Pair}
 use Rattle.lj_hint.specs.Hints.{named_hints, numbers}
-use Rattle.lj_hint.specs.Case.{CaseValue, walk_of}
+use Rattle.lj_hint.specs.Case.{CaseValue, propagation_of}
 use Rattle.lj_book.specs.declared.entry.Added.{Added}
 use Rattle.lj_book.specs.declared.entry.Call.{Call}
 use Rattle.lj_book.specs.declared.entry.Call.TheVariants as calls
@@ -28,7 +28,7 @@ use Rattle.lj_book.specs.Lookup.{least_number}
 use Rattle.lj_book.specs.State.{State, next, given_out, live, opening}
 use Rattle.lj_book.specs.History.{tables_after, with_found, some_lives, after_entry, after_entries, IsLegalCall, IsLegal, AreLegal, IsReached}
 use Rattle.lj_book.specs.Calls.{unless_refused, commit_told}
-use Rattle.lj_book.specs.Inside.{joint_addition, walk_refusal, or_full, inside_after, inside_reply}
+use Rattle.lj_book.specs.Inside.{joint_addition, propagation_refusal, or_full, inside_after, inside_reply}
 use Rattle.lj_book.specs.Solo.{View, with_clause, holdings_of, view_of, solo_take}
 use Rattle.lj_book.specs.Views.{with_found_holding, view_after_call, ViewsFollowEntries, HoldsTheFormula, stuck_refusal, decided_by, TakesAreAlone, DecidedAlone, FreeAlone}
 use Rattle.lj_book.proofs.HistoryLaws.{IsSound-reached, has_table, formula_has, past_the_end}
@@ -206,11 +206,11 @@ named_alone s seat own pairs given fit = go (table_of s.tables seat) refl
     go None at = absurd (subst (λ (v : View). IsFit v own pairs) (view_is s seat None at) fit)
     go (Some t) at = let here = subst (λ (v : View). IsFit v own pairs) (view_is s seat (Some t) at) fit in held_named s seat t pairs given at here.1
 
--- what is left to an addition whose walk ends so
-abbrev ended : State → CaseValue → Walk → Result Added Refusal
-ended s c w = unless_refused (or_full s (walk_refusal (live s) (joint_addition (next s) c) w)) (commit_told s)
+-- what is left to an addition whose propagation ends so
+abbrev ended : State → CaseValue → Propagation → Result Added Refusal
+ended s c w = unless_refused (or_full s (propagation_refusal (live s) (joint_addition (next s) c) w)) (commit_told s)
 
-stuck_alone : (s : State) (c : CaseValue) (e : Refusal) (w : Walk) → stuck_refusal w ≡ Some e → ended s c w ≡ Err e
+stuck_alone : (s : State) (c : CaseValue) (e : Refusal) (w : Propagation) → stuck_refusal w ≡ Some e → ended s c w ≡ Err e
 stuck_alone s c e (Closed used) is = absurd (cc)
 stuck_alone s c e (Open a) is = absurd (cc)
 stuck_alone s c e (Stuck place) is = let same : HintNotUnit place ≡ e = cc in ap Err same
@@ -226,5 +226,5 @@ decided s seat a e reached is = go (solo_take (view_of s seat) seat a) refl is
     go (Ok c) at is =
         let fit = (take_fits seat (view_of s seat) a c at).fit in
         ap (inside_after s) (take_alone s seat a given ∙ at)
-        ∙ ap (λ hs. ended s c (walk_over (negations c.lemma.clause) hs)) (named_alone s seat c.own c.hints given fit)
-        ∙ stuck_alone s c e (walk_of c) is
+        ∙ ap (λ hs. ended s c (propagate_over (negations c.lemma.clause) hs)) (named_alone s seat c.own c.hints given fit)
+        ∙ stuck_alone s c e (propagation_of c) is

@@ -58,14 +58,14 @@ with_pair pair (Ok pairs) = Ok (pair ∷ pairs)
 with_pair pair (Err e) = Err e
 
 -- what goes on from the pair of an own number, where the seat holds it
-abbrev pub if_held : {A : Type 0} → ℕ → Option Pair → (Pair → Result A Refusal) → Result A Refusal
-if_held own None onward = Err (UnknownNumber own)
-if_held own (Some pair) onward = onward pair
+abbrev pub if_known : {A : Type 0} → ℕ → Option Pair → (Pair → Result A Refusal) → Result A Refusal
+if_known own None onward = Err (UnknownNumber own)
+if_known own (Some pair) onward = onward pair
 
 -- the pairs of these own numbers, or the first that isn't held
 abbrev pub pairs_of : (ℕ → Option Pair) → List ℕ → Result (List Pair) Refusal
 pairs_of pair [] = Ok []
-pairs_of pair (own ∷ owns) = if_held own (pair own) (λ p. with_pair p (pairs_of pair owns))
+pairs_of pair (own ∷ owns) = if_known own (pair own) (λ p. with_pair p (pairs_of pair owns))
 
 -- the groups and one in front, where none was refused
 abbrev pub with_group_pair : Pair → Result (List Pair) Refusal
@@ -78,7 +78,7 @@ with_group_pair candidate (Ok hints) (Ok groups) = Ok ((candidate, hints) ∷ gr
 abbrev pub group_pairs_of : (ℕ → Option Pair) → List HintGroup
     → Result (List (Pair × List Pair)) Refusal
 group_pairs_of pair [] = Ok []
-group_pairs_of pair (g ∷ gs) = if_held g.candidate (pair g.candidate)
+group_pairs_of pair (g ∷ gs) = if_known g.candidate (pair g.candidate)
     (λ p. with_group_pair p (pairs_of pair g.hints) (group_pairs_of pair gs))
 
 -- whether the joint number is among these

@@ -9,7 +9,7 @@ use Rattle.lj_text.specs.Needed.{if_some}
 use Rattle.lj_book.specs.declared.entry.Call.{Call}
 use Rattle.lj_book.specs.declared.entry.Call.TheVariants as calls
 use Rattle.lj_book.specs.declared.entry.Entry.{Entry}
-use Rattle.lj_book.specs.Tables.{Tables, is_here, is_bound, is_held, with_table, with_binding, without_keys, without_seat}
+use Rattle.lj_book.specs.Tables.{Tables, is_here, is_bound, has_holder, with_table, with_binding, without_keys, without_seat}
 use Rattle.lj_book.specs.Lookup.{least_number}
 use Rattle.lj_book.specs.State.{State, addition_count, next, live, opening}
 
@@ -29,7 +29,7 @@ tables_after s seat calls.Leave = without_seat s.tables seat
 
 -- the numbers that are live and no longer are with these tables, rising
 abbrev pub dead_numbers : State → Tables → List ℕ
-dead_numbers s tables = filter (λ n. not (is_held tables n)) (fin.keys (live s))
+dead_numbers s tables = filter (λ n. not (has_holder tables n)) (fin.keys (live s))
 
 -- whether there is a number, and a clause lives under it
 abbrev pub some_lives : State → Option ℕ → Bool
@@ -58,7 +58,7 @@ pub record IsLegalAddition (s : State) (seat own : ℕ) (lemma : LemmaValue)
     (step : Option Step) : Type 0 where
   pub here : is_here s.tables seat ≡ true
   pub unbound : is_bound s.tables seat own ≡ false
-  pub room : addition_count s.history < s.max_steps
+  pub capacity : addition_count s.history < s.max_steps
   pub addition : IsAdditionOf s lemma step
 
 -- A drop is legal where the seat is there and the step, if there is one, deletes what died.

@@ -2,12 +2,12 @@
 use Rattle.std.specs.Prelude.{ℕ, nat_lt, map, ℤ, Option, Some, None, if◌then◌else◌, Result, Ok, Err}
 use Rattle.lj_clause.specs.LiteralSet.{LiteralSet}
 use Rattle.lj_clause.specs.ClauseMap.{ClauseMap}
-use Rattle.lj_clause.specs.Walk.{Walk, Closed, Open, Stuck}
+use Rattle.lj_clause.specs.Propagation.{Propagation, Closed, Open, Stuck}
 use Rattle.lj_clause.specs.Rat as rats
 use Rattle.lj_text.specs.declared.line.Addition.{Addition}
 use Rattle.lj_text.specs.declared.step.Step.{Step}
 use Rattle.lj_text.specs.declared.step.Step.TheVariants as steps
-use Rattle.lj_text.specs.Steps.{first_walk, recorded_form}
+use Rattle.lj_text.specs.Steps.{first_propagation, recorded_form}
 use Rattle.lj_hint.specs.Hints.{numbers}
 use Rattle.lj_hint.specs.Case.{CaseValue}
 use Rattle.lj_book.specs.declared.entry.Call.TheVariants as calls
@@ -39,11 +39,11 @@ abbrev pub open_refusal : ClauseMap → Addition → LiteralSet → Option ℤ �
 open_refusal p a s None = Some EmptyOpen
 open_refusal p a s (Some q) = rat_refusal (rats.rat p s q a.groups)
 
--- the refusal that the end of the walk over the first list of hints leads to
-abbrev pub walk_refusal : ClauseMap → Addition → Walk → Option Refusal
-walk_refusal p a (Closed used) = None
-walk_refusal p a (Open s) = open_refusal p a s a.lemma.pivot
-walk_refusal p a (Stuck place) = Some (HintNotUnit place)
+-- the refusal that the end of propagation over the first list of hints leads to
+abbrev pub propagation_refusal : ClauseMap → Addition → Propagation → Option Refusal
+propagation_refusal p a (Closed used) = None
+propagation_refusal p a (Open s) = open_refusal p a s a.lemma.pivot
+propagation_refusal p a (Stuck place) = Some (HintNotUnit place)
 
 -- the last refusal: the history holds as many additions as it may
 abbrev pub or_full : State → Option Refusal → Option Refusal
@@ -52,7 +52,7 @@ or_full s (Some e) = Some e
 
 -- the first refusal of an addition in joint numbers that holds
 abbrev pub test_refusal : State → Addition → Option Refusal
-test_refusal s a = or_full s (walk_refusal (live s) a (first_walk (live s) a))
+test_refusal s a = or_full s (propagation_refusal (live s) a (first_propagation (live s) a))
 
 -- the reply to an addition by that to its take
 abbrev pub inside_after : State → Result CaseValue Refusal → Result Added Refusal

@@ -13,5 +13,5 @@ pub mod Solo
 pub mod Views
 pub mod NamedViews
 pub mod RefusalText
-pub mod Telling
+pub mod WithEntry
 pub mod inner

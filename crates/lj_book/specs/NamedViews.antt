@@ -4,18 +4,18 @@ use Rattle.std.specs.FinMap as fin
 use Rattle.lj_clause.specs.Literal.{variable_of}
 use Rattle.lj_clause.specs.LiteralSet.{LiteralSet, holds}
 use Rattle.lj_clause.specs.ClauseMap.{ClauseMap, IsFormula}
-use Rattle.lj_clause.specs.Walk.{Open}
+use Rattle.lj_clause.specs.Propagation.{Open}
 use Rattle.lj_clause.specs.Rat.{HintGroup, candidates, rat}
 use Rattle.lj_clause.specs.Renaming.{Renaming, inverse, literal_image, image, lemma_image, is_named, entry_image}
 use Rattle.lj_text.specs.declared.line.Addition.{Addition}
 use Rattle.lj_hint.specs.declared.pair.Pair.{Pair}
-use Rattle.lj_hint.specs.Case.{CaseValue, case_of, walk_of}
+use Rattle.lj_hint.specs.Case.{CaseValue, case_of, propagation_of}
 use Rattle.lj_hint.specs.Images.{pair_image, hinted_image}
 use Rattle.lj_book.specs.declared.refusal.Refusal.{Refusal}
 use Rattle.lj_book.specs.Variables.{renaming_of, is_own, IsGiven}
 use Rattle.lj_book.specs.State.{live}
 use Rattle.lj_book.specs.Calls.{take_reply}
-use Rattle.lj_book.specs.Inside.{joint_addition, walk_refusal}
+use Rattle.lj_book.specs.Inside.{joint_addition, propagation_refusal}
 use Rattle.lj_book.specs.Solo.{Holdings, View, view_of, solo_take}
 use Rattle.lj_book.specs.Views.{decided_refusal, IsClosedAlone}
 use Rattle.lj_book.specs.Named.{NamedState, top_of, names_of, beneath, given_in, IsNamedReached}
@@ -58,13 +58,13 @@ NamedTakesAreAlone = (s : NamedState) (seat : ℕ) (a : Addition) → IsNamedRea
     → named_take s seat a ≡ solo_take (named_view s seat) seat a
 
 -- what a seat with this view has its own number bound to
-abbrev pub held_at : View → ℕ → Option Pair
-held_at v own = option_and_then (λ h. fin.get h own) v
+abbrev pub pair_at : View → ℕ → Option Pair
+pair_at v own = option_and_then (λ h. fin.get h own) v
 
 -- Each clause that a seat holds in the book beneath is the seat's own.
 abbrev pub SeatsHoldTheirOwn : Type 0
 SeatsHoldTheirOwn = (s : NamedState) (seat own : ℕ) (p : Pair) → IsFormula s.formula
-    → IsNamedReached s → held_at (view_of (beneath s) seat) own ≡ Some p
+    → IsNamedReached s → pair_at (view_of (beneath s) seat) own ≡ Some p
     → is_own (top_of s) s.variables seat p.clause ≡ true
 
 -- What a seat sees in its own variables, renamed to joint ones, is what it sees in the book beneath.
@@ -84,7 +84,7 @@ DecidedBeneath = (s : NamedState) (seat : ℕ) (a : Addition) → IsFormula s.fo
     → decided_refusal (named_view s seat) seat a
     ≡ decided_refusal (view_of (beneath s) seat) seat (addition_beneath s seat a)
 
--- The walk in its own variables closes after so many hints exactly where the one beneath does.
+-- The propagation in its own variables closes after so many hints exactly where the one beneath does.
 abbrev pub ClosedBeneath : Type 0
 ClosedBeneath = (s : NamedState) (seat : ℕ) (a : Addition) (read : ℕ) → IsFormula s.formula
     → IsNamedReached s
@@ -92,22 +92,22 @@ ClosedBeneath = (s : NamedState) (seat : ℕ) (a : Addition) (read : ℕ) → Is
     ↔ IsClosedAlone (view_of (beneath s) seat) seat (addition_beneath s seat a) read
 
 -- The seat holds the clause under the joint number: some own number is bound to both.
-abbrev pub IsHeldAs : NamedState → ℕ → ℕ → LiteralSet → Type 0
-IsHeldAs s seat joint c = (own : ℕ)
-    × (held_at (view_of (beneath s) seat) own ≡ Some (record { joint = joint; clause = c }))
+abbrev pub IsKnownAs : NamedState → ℕ → ℕ → LiteralSet → Type 0
+IsKnownAs s seat joint c = (own : ℕ)
+    × (pair_at (view_of (beneath s) seat) own ≡ Some (record { joint = joint; clause = c }))
 
 -- A live clause with a variable that a seat was given is that seat's own, and the seat holds it.
 abbrev pub PrivateAreHeld : Type 0
 PrivateAreHeld = (s : NamedState) (seat x joint : ℕ) (c : LiteralSet) (l : ℤ)
     → IsFormula s.formula → IsNamedReached s → fin.get (live (beneath s)) joint ≡ Some c
     → holds c l ≡ true → IsGiven s.variables seat x (variable_of l)
-    → (is_own (top_of s) s.variables seat c ≡ true) × IsHeldAs s seat joint c
+    → (is_own (top_of s) s.variables seat c ≡ true) × IsKnownAs s seat joint c
 
--- By what the seat sees, the walk of the addition ends open with these literals.
+-- By what the seat sees, the propagation of the addition ends open with these literals.
 pub record IsOpenAlone (v : View) (seat : ℕ) (a : Addition) (left : LiteralSet) : Type 0 where
   pub case : CaseValue
   pub taken : solo_take v seat a ≡ Ok case
-  pub ends : walk_of case ≡ Open left
+  pub ends : propagation_of case ≡ Open left
 
 -- the clauses that a seat with this view sees, under their joint numbers
 abbrev pub seen_clauses : View → ClauseMap
@@ -119,7 +119,7 @@ seen_clauses (Some h) = fin.from_entries
 abbrev pub names_with : NamedState → ℕ → LiteralSet → Renaming
 names_with s seat c = renaming_of (given_in s seat c) seat
 
--- A walk that ends open in the seat's own variables does so beneath, with the same literals: each has a joint form.
+-- A propagation that ends open in the seat's own variables does so beneath, with the same literals: each has a joint form.
 abbrev pub OpenBeneath : Type 0
 OpenBeneath = (s : NamedState) (seat : ℕ) (a : Addition) (left : LiteralSet)
     → IsFormula s.formula → IsNamedReached s → IsOpenAlone (named_view s seat) seat a left
@@ -163,7 +163,7 @@ TakenHintsAreSeen = (v : View) (seat number : ℕ) (a : Addition) (c : CaseValue
     → solo_take v seat a ≡ Ok c → AreHintsIn (seen_clauses v) (joint_addition number c).groups
 
 -- The test of the candidates of a private pivot, over groups of clauses that the seat sees, ends as that among what the
--- seat sees, for each open walk in its own variables.
+-- seat sees, for each open propagation in its own variables.
 abbrev pub PrivateRat : Type 0
 PrivateRat = (s : NamedState) (seat : ℕ) (c a : LiteralSet) (pivot : ℤ) (groups : List HintGroup)
     → IsFormula s.formula → IsNamedReached s → IsPrivatePivot s seat c pivot
@@ -181,5 +181,6 @@ PrivateRefusals = (s : NamedState) (seat number : ℕ) (a : Addition) (pivot : �
     → a.lemma.pivot ≡ Some pivot → IsPrivatePivot s seat a.lemma.clause pivot
     → solo_take (named_view s seat) seat a ≡ Ok c
     → solo_take (view_of (beneath s) seat) seat (addition_beneath s seat a) ≡ Ok d
-    → walk_refusal (live (beneath s)) (joint_addition number d) (walk_of d)
-    ≡ walk_refusal (seen_clauses (named_view s seat)) (joint_addition number c) (walk_of c)
+    → propagation_refusal (live (beneath s)) (joint_addition number d) (propagation_of d)
+    ≡ propagation_refusal (seen_clauses (named_view s seat)) (joint_addition number c)
+    (propagation_of c)

@@ -7,10 +7,10 @@ use Rattle.lj_clause.specs.LiteralSet.{LiteralSet, no_literals}
 use Rattle.lj_clause.specs.Memory.{no_memory}
 use Rattle.lj_clause.specs.Lemma.{LemmaValue}
 use Rattle.lj_clause.specs.ClauseMap.{ClauseMap}
-use Rattle.lj_clause.specs.Walk.{Walk, Closed, Open, Stuck}
+use Rattle.lj_clause.specs.Propagation.{Propagation, Closed, Open, Stuck}
 use Rattle.lj_text.specs.declared.line.Addition.{Addition}
 use Rattle.lj_hint.specs.declared.pair.Pair.{Pair}
-use Rattle.lj_hint.specs.Case.{CaseValue, walk_of}
+use Rattle.lj_hint.specs.Case.{CaseValue, propagation_of}
 use Rattle.lj_hint.specs.Receipt.{ReceiptValue}
 use Rattle.lj_book.specs.declared.refusal.Refusal.{Refusal}
 use Rattle.lj_book.specs.declared.refusal.Refusal.TheVariants.{SeatGone, NumberTaken, HintNotUnit, EmptyOpen, MissingGroup, GroupStuck, GroupOpen, NoSuchClause, Stale, Full, NoMemory}
@@ -66,8 +66,8 @@ abbrev pub IsRefusedSolo : Refusal → Solo → Reply → Solo → Type 0
 IsRefusedSolo e before reply after = (reply ≡ replies.Refused e) × (after ≡ before)
 
 -- The event is refused with this refusal, or for want of memory, and all stays as it was.
-abbrev pub IsRefusedOrShort : Refusal → Solo → Reply → Solo → Type 0
-IsRefusedOrShort e before reply after = ((reply ≡ replies.Refused e)
+abbrev pub IsRefusedOrNoMemory : Refusal → Solo → Reply → Solo → Type 0
+IsRefusedOrNoMemory e before reply after = ((reply ≡ replies.Refused e)
     ⊎ (reply ≡ replies.Refused (NoMemory no_memory))) × (after ≡ before)
 
 -- Where the seat is gone it is refused so; else the fact of its holdings.
@@ -130,26 +130,31 @@ IsSoloOpen clauses own lemma o h reply after = IsSoloAddition clauses own lemma 
 
 -- the same, where a lemma without a pivot is refused
 abbrev pub IfPivot : Option ℤ → ClauseMap → ℕ → LemmaValue → Solo → Holdings → Reply → Solo → Type 0
-IfPivot None clauses own lemma o h reply after = IsRefusedOrShort EmptyOpen o reply after
+IfPivot None clauses own lemma o h reply after = IsRefusedOrNoMemory EmptyOpen o reply after
 IfPivot (Some pivot) clauses own lemma o h reply after = IsSoloOpen clauses own lemma o h reply
     after
 
--- An addition whose walk over its first list of hints ends so: it is added where that closes.
-abbrev pub IsSoloWalked : Walk → ClauseMap → ℕ → LemmaValue → Solo → Holdings → Reply → Solo
+-- An addition whose propagation over its first list of hints ends so: it is added where that closes.
+abbrev pub IsSoloPropagated : Propagation → ClauseMap → ℕ → LemmaValue → Solo → Holdings → Reply
+    → Solo
     → Type 0
-IsSoloWalked (Closed used) clauses own lemma o h reply after = IsSoloAddition clauses own lemma o h
+IsSoloPropagated (Closed used) clauses own lemma o h reply after = IsSoloAddition clauses own lemma
+    o h
     reply after
-IsSoloWalked (Open a) clauses own lemma o h reply after = IfPivot lemma.pivot clauses own lemma o h
+IsSoloPropagated (Open a) clauses own lemma o h reply after = IfPivot lemma.pivot clauses own lemma
+    o h
     reply after
-IsSoloWalked (Stuck place) clauses own lemma o h reply after = IsRefusedOrShort (HintNotUnit place)
+IsSoloPropagated (Stuck place) clauses own lemma o h reply after = IsRefusedOrNoMemory
+    (HintNotUnit place)
     o reply after
 
--- The refusals of the case's numbers, then what the walk over its hints leads to.
+-- The refusals of the case's numbers, then what propagation over its hints leads to.
 abbrev pub IsSoloInside : Result CaseValue Refusal → ClauseMap → Solo → Holdings → Reply → Solo
     → Type 0
-IsSoloInside (Ok c) clauses o h reply after = IsSoloWalked (walk_of c) clauses c.own c.lemma o h
+IsSoloInside (Ok c) clauses o h reply after = IsSoloPropagated (propagation_of c) clauses c.own
+    c.lemma o h
     reply after
-IsSoloInside (Err e) clauses o h reply after = IsRefusedOrShort e o reply after
+IsSoloInside (Err e) clauses o h reply after = IsRefusedOrNoMemory e o reply after
 
 -- The count of a drop is that of the seat's own numbers among these.
 abbrev pub IsSoloDrop : List ℕ → Solo → Holdings → Reply → Solo → Type 0

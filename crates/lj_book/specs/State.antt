@@ -7,7 +7,7 @@ use Rattle.lj_text.specs.declared.step.Step.TheVariants.{Add, Delete}
 use Rattle.lj_text.specs.Steps.{adds_empty}
 use Rattle.lj_text.specs.Needed.{additions}
 use Rattle.lj_book.specs.declared.entry.Entry.{Entry}
-use Rattle.lj_book.specs.Tables.{Tables, is_held, up_to}
+use Rattle.lj_book.specs.Tables.{Tables, has_holder, up_to}
 
 -- The formula, the greatest number of additions, the tables of the seats, and the history, the oldest entry first.
 pub record State : Type 0 where
@@ -40,7 +40,7 @@ given_out s = with_additions (formula_map s.formula) (steps_of s.history)
 
 -- the clauses that live: those to whose number some seat's own number is bound
 abbrev pub live : State → ClauseMap
-live s = fin.retain_keys (given_out s) (is_held s.tables)
+live s = fin.retain_keys (given_out s) (has_holder s.tables)
 
 -- a new book with this many seats, each of which holds the clauses of the formula under their numbers
 abbrev pub opening : FormulaValue → ℕ → ℕ → State

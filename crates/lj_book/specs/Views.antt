@@ -3,9 +3,9 @@ use Rattle.std.specs.Prelude.{◌≡◌, ◌==◌, ℕ, List, length, Option, So
 use Rattle.std.specs.FinMap as fin
 use Rattle.lj_clause.specs.LiteralSet.{LiteralSet}
 use Rattle.lj_clause.specs.ClauseMap.{FormulaValue, formula_map}
-use Rattle.lj_clause.specs.Walk.{Walk, Closed, Open, Stuck}
+use Rattle.lj_clause.specs.Propagation.{Propagation, Closed, Open, Stuck}
 use Rattle.lj_text.specs.declared.line.Addition.{Addition}
-use Rattle.lj_hint.specs.Case.{CaseValue, walk_of}
+use Rattle.lj_hint.specs.Case.{CaseValue, propagation_of}
 use Rattle.lj_book.specs.declared.entry.Call.{Call}
 use Rattle.lj_book.specs.declared.entry.Call.TheVariants as calls
 use Rattle.lj_book.specs.declared.entry.Entry.{Entry}
@@ -60,8 +60,8 @@ HoldsTheFormula = (f : FormulaValue) (own : ℕ) → fin.get (formula_holdings f
 
 -- ---- what a seat decides alone
 
--- the refusal that the end of a walk leads to whatever other clauses live
-abbrev pub stuck_refusal : Walk → Option Refusal
+-- the refusal that the end of a propagation leads to whatever other clauses live
+abbrev pub stuck_refusal : Propagation → Option Refusal
 stuck_refusal (Closed used) = None
 stuck_refusal (Open a) = None
 stuck_refusal (Stuck place) = Some (HintNotUnit place)
@@ -69,25 +69,25 @@ stuck_refusal (Stuck place) = Some (HintNotUnit place)
 -- the same, of a case or of the refusal of its take
 abbrev pub decided_by : Result CaseValue Refusal → Option Refusal
 decided_by (Err e) = Some e
-decided_by (Ok c) = stuck_refusal (walk_of c)
+decided_by (Ok c) = stuck_refusal (propagation_of c)
 
 -- the refusal of an addition that what the seat sees decides
 abbrev pub decided_refusal : View → ℕ → Addition → Option Refusal
 decided_refusal v seat a = decided_by (solo_take v seat a)
 
--- By what the seat sees, the walk of the addition closes after so many of its hints.
+-- By what the seat sees, the propagation of the addition closes after so many of its hints.
 pub record IsClosedAlone (v : View) (seat : ℕ) (a : Addition) (read : ℕ) : Type 0 where
   pub case : CaseValue
   pub used : List ℕ
   pub taken : solo_take v seat a ≡ Ok case
-  pub closed : walk_of case ≡ Closed used
+  pub closed : propagation_of case ≡ Closed used
   pub read_is : length used ≡ read
 
 -- the history is full, or memory is short
-abbrev pub IsFullOrShort : Refusal → Type 0
-IsFullOrShort Full = Unit {0}
-IsFullOrShort (NoMemory e) = Unit {0}
-IsFullOrShort e = ⊥
+abbrev pub IsFullOrNoMemory : Refusal → Type 0
+IsFullOrNoMemory Full = Unit {0}
+IsFullOrNoMemory (NoMemory e) = Unit {0}
+IsFullOrNoMemory e = ⊥
 
 -- A book answers a take by what the seat sees alone.
 abbrev pub TakesAreAlone : Type 0

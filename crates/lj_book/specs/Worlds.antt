@@ -1,6 +1,6 @@
 -- What a list of events answers and leaves.
 use Rattle.std.specs.Prelude.{◌≡◌, ℕ, List, [], ◌∷◌, length, replicate, slice_index_or, slice_set, Option, IfSome, Result, Ok, Err, IfErr}
-use Rattle.lj_hint.specs.Case.{CaseValue, walk_of}
+use Rattle.lj_hint.specs.Case.{CaseValue, propagation_of}
 use Rattle.lj_hint.specs.Tested.{tested_of, IfAnswered, IfNoMemory}
 use Rattle.lj_hint.specs.declared.tested.Tested.{Tested}
 use Rattle.lj_hint.specs.declared.tested.Tested.TheVariants as tests
@@ -81,18 +81,18 @@ reply_to_test (tests.Open c) = replies.Open
 reply_to_test (tests.Stuck place) = replies.Stuck place
 reply_to_test (tests.NoMemory c e) = replies.Refused (NoMemory e)
 
--- the receipt of a walk that closed, nothing where it didn't, and the case where it wasn't walked for want of memory
+-- the receipt of a propagation that closed, nothing where it didn't, and the case where it wasn't walked for want of memory
 abbrev pub pending_after_test : Tested → Pending
 pending_after_test (tests.Closed receipt) = pendings.Receipt receipt
 pending_after_test (tests.Open c) = pendings.Nothing
 pending_after_test (tests.Stuck place) = pendings.Nothing
 pending_after_test (tests.NoMemory c e) = pendings.Case c
 
--- The test of a case answers how its walk ends, or NoMemory with the case.
+-- The test of a case answers how its propagation ends, or NoMemory with the case.
 pub record IsTested {B : Type 0} (c : CaseValue) (left : Pending → B) (reply : Reply)
     (after : B) : Type 0 where
   pub answer : Tested
-  pub walk : IfAnswered answer (λ a. a ≡ tested_of c (walk_of c))
+  pub propagate : IfAnswered answer (λ a. a ≡ tested_of c (propagation_of c))
   pub no_memory : IfNoMemory answer (λ d. d ≡ c)
   pub tells : reply ≡ reply_to_test answer
   pub leaves : after ≡ left (pending_after_test answer)

@@ -1,5 +1,5 @@
 -- What invariants, private functions and proofs say. No public contract names any of it.
-pub mod Words
+pub mod Encoding
 pub mod Records
 pub mod StepLines
 pub mod Codes
@@ -7,7 +7,7 @@ pub mod Tables
 pub mod Holders
 pub mod JointLines
 pub mod FirstUses
-pub mod Places
+pub mod Ranges
 pub mod Ready
 pub mod Kept
 pub mod Fronts

@@ -16,12 +16,12 @@ mod inside;
 pub mod laws;
 mod leaving;
 mod playing;
-mod telling;
+mod with_entry;
 
+use crate::clause_log::ClauseLog;
 use crate::committing::{enter_addition, first_stale, refuted_at, step_of};
-use crate::dying::{no_longer_held, rising};
+use crate::dying::{rising, without_holder};
 use crate::entry::{Added, Dropped, Entry};
-use crate::ledger::Ledger;
 use crate::lent_addition::LentAddition;
 use crate::refusal::Refusal;
 use crate::seat_tables::SeatTables;
@@ -43,7 +43,7 @@ pub struct Book {
     max_steps: u32,
     tables: SeatTables,
     /// The history, and the clause of each number that some seat holds.
-    ledger: Ledger,
+    clause_log: ClauseLog,
     /// The number of additions in the history.
     added: u32,
     /// The place of the first entry that adds the empty clause.
@@ -67,15 +67,15 @@ impl Model for Book {
       formula = b.formula;
       max_steps = b.max_steps;
       tables = b.tables;
-      history = b.ledger.history.entries;
+      history = b.clause_log.history.entries;
     } };
 
     ghost invariant = { λ b. IsKept (record {
       formula = b.formula;
       max_steps = b.max_steps;
       tables = b.tables;
-      history = b.ledger.history.entries;
-    }) b.ledger.live b.added b.refuted };
+      history = b.clause_log.history.entries;
+    }) b.clause_log.live b.added b.refuted };
 }
 
 impl Book {
@@ -95,16 +95,16 @@ impl Book {
         requires { 0 < seats }
         ensures { IfOk result (λ book. book ≡ opening formula seats max_steps) }
     {
-        let ledger = Ledger::open(alloc, &formula)?;
+        let clause_log = ClauseLog::open(alloc, &formula)?;
         let tables = SeatTables::open(alloc, seats, formula.len() as u64)?;
         Ok(Book {
             formula,
             max_steps,
             tables,
-            ledger,
+            clause_log,
             added: 0,
             refuted: None,
-            joints: Numbers::from_short(Vec::new(alloc)),
+            joints: Numbers::from_u32s(Vec::new(alloc)),
             joint_groups: Groups::new(alloc),
         })
     }
@@ -125,15 +125,15 @@ impl Book {
     pub fn candidates(&self, lit: Lit) -> Result<Vec<u64>, NoMemory>
         ensures { IfOk result (λ numbers. numbers.items ≡ numbers_holding (live self.now) lit) }
     {
-        let alloc = self.ledger.allocator();
-        self.ledger.numbers_holding(alloc, lit)
+        let alloc = self.clause_log.allocator();
+        self.clause_log.numbers_holding(alloc, lit)
     }
 
     /// The live clause of a joint number. Takes O(log n) time.
     pub fn clause(&self, joint: u64) -> Option<ClauseView<'_>>
         ensures { result ≡ fin.get (live self.now) joint }
     {
-        self.ledger.clause(joint)
+        self.clause_log.clause(joint)
     }
 
     /// The joint number that an own number of a seat is bound to, and none for a seat that isn't there. Takes constant time for
@@ -148,7 +148,7 @@ impl Book {
     pub fn history_len(&self) -> u64
         ensures { result ≡ length self.now.history }
     {
-        self.ledger.history().len()
+        self.clause_log.history().len()
     }
 
     /// A copy of the entry at a place of the history, counted from 0. Takes time linear in its contents, but O(n log n) for
@@ -159,14 +159,14 @@ impl Book {
     pub fn entry(&self, place: u64) -> Result<Option<Entry>, NoMemory>
         ensures { IfOk result (λ entry. entry ≡ slice_get self.now.history place) }
     {
-        self.ledger.history().entry(place)
+        self.clause_log.history().entry(place)
     }
 
     /// The seat of the entry at a place of the history, counted from 0. Takes constant time.
     pub fn seat_at(&self, place: u64) -> Option<u32>
         ensures { result ≡ option_map (λ e. e.seat) (slice_get self.now.history place) }
     {
-        self.ledger.history().seat(place)
+        self.clause_log.history().seat(place)
     }
 
     /// Whether the entry at a place of the history, counted from 0, is this one. Takes time linear in its contents, and
@@ -174,7 +174,7 @@ impl Book {
     pub fn is_entry(&self, place: u64, entry: &Entry) -> bool
         ensures { IsTrue result ↔ (slice_get self.now.history place ≡ Some entry.now) }
     {
-        self.ledger.history().is_entry(place, entry)
+        self.clause_log.history().is_entry(place, entry)
     }
 
     /// The place of the first entry that adds the empty clause. Takes constant time.
@@ -199,7 +199,7 @@ impl Book {
         if self.refuted.is_none() {
             return Ok(None);
         }
-        Ok(Some(Verified::new(self.formula.copy()?)))
+        Ok(Some(Verified::new(self.formula.try_clone()?)))
     }
 
     /// The steps of the history, in order, by value. Takes no memory: the tables and the live clauses are let go of. Takes time
@@ -207,7 +207,7 @@ impl Book {
     pub fn into_steps(self) -> Steps
         ensures { result ≡ steps_of self.history }
     {
-        Steps::new(self.ledger.into_history())
+        Steps::new(self.clause_log.into_history())
     }
 
     /// An addition under the seat's numbers as a case in joint numbers, with copies of the clauses that they name. It can be
@@ -227,8 +227,8 @@ impl Book {
         if self.tables.is_bound(seat, addition.number) {
             return Err(Refusal::NumberTaken);
         }
-        let alloc = self.ledger.allocator();
-        case_of(alloc, &self.tables, &self.ledger, seat, addition)
+        let alloc = self.clause_log.allocator();
+        case_of(alloc, &self.tables, &self.clause_log, seat, addition)
     }
 
     /// Enters the lemma of a receipt, while the clauses that it lists still live. Takes O(log n) time for each of them and for
@@ -247,7 +247,7 @@ impl Book {
         if let Some(refusal) = self.commit_refusal(&receipt) {
             return Err((refusal, receipt));
         }
-        let step = match step_of(self.ledger.allocator(), &receipt) {
+        let step = match step_of(self.clause_log.allocator(), &receipt) {
             Ok(step) => step,
             Err(e) => return Err((Refusal::NoMemory(e), receipt)),
         };
@@ -267,7 +267,7 @@ impl Book {
         if self.tables.is_bound(receipt.seat(), receipt.own()) {
             return Some(Refusal::NumberTaken);
         }
-        if let Some(joint) = first_stale(&self.ledger, receipt.listed()) {
+        if let Some(joint) = first_stale(&self.clause_log, receipt.listed()) {
             return Some(Refusal::Stale(joint));
         }
         if self.added >= self.max_steps {
@@ -287,9 +287,9 @@ impl Book {
     {
         let joint = self.formula.len() as u64 + 1 + u64::from(self.added);
         let step = LentAddition::new(joint, &step.lemma, &step.hints, &step.groups);
-        let place = self.ledger.history().len();
+        let place = self.clause_log.history().len();
         let (seat, own) = (receipt.seat(), receipt.own());
-        enter_addition(&mut self.ledger, &mut self.tables, seat, own, &step)?;
+        enter_addition(&mut self.clause_log, &mut self.tables, seat, own, &step)?;
         self.refuted = refuted_at(self.refuted, place, &receipt.lemma().clause().view());
         self.added += 1;
         Ok(Added { place, joint })
@@ -311,13 +311,13 @@ impl Book {
         if !self.tables.is_here(seat) {
             return Err(Refusal::SeatGone);
         }
-        let alloc = self.ledger.allocator();
+        let alloc = self.clause_log.allocator();
         let joints = rising(self.tables.joints(alloc, seat, numbers)?);
-        self.ledger.reserve_deaths(numbers.len(), joints.len())?;
-        let place = self.ledger.history().len();
+        self.clause_log.reserve_deaths(numbers.len(), joints.len())?;
+        let place = self.clause_log.history().len();
         let count = self.tables.unbind_all(seat, numbers);
-        let died = no_longer_held(&self.tables, joints);
-        self.ledger.push_drop(seat, numbers, &died);
+        let died = without_holder(&self.tables, joints);
+        self.clause_log.push_drop(seat, numbers, &died);
         Ok(Dropped { place, count })
     }
 }

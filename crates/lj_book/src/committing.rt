@@ -4,13 +4,13 @@ ghost use Rattle.std.specs.FinMap as fin;
 ghost use Rattle.lj_hint.specs.Hints.{numbers};
 ghost use Rattle.lj_text.specs.declared.step.Step.TheVariants.{Add};
 ghost use Rattle.lj_book.specs.declared.entry.Call.TheVariants as calls;
-ghost use Rattle.lj_book.specs.Tables.{is_here, is_bound, is_held, with_table};
+ghost use Rattle.lj_book.specs.Tables.{is_here, is_bound, has_holder, with_table};
 ghost use Rattle.lj_book.specs.Calls.{is_live_as, first_stale};
 ghost use Rattle.lj_book.specs.inner.Ready.{IsStepOf};
 ghost use Rattle.lj_book.specs.inner.Records.{entry_of};
 ghost use Rattle.lj_book.specs.inner.Kept.{refuted_after};
 
-use crate::ledger::Ledger;
+use crate::clause_log::ClauseLog;
 use crate::lent_addition::LentAddition;
 use crate::seat_tables::SeatTables;
 use lj_clause::{ClauseView, NoMemory};
@@ -20,11 +20,11 @@ use std::alloc::Global;
 
 /// The number of the first pair that doesn't live with that very clause. Takes O(log n) time for each pair, and time linear
 /// in their literals.
-pub(crate) fn first_stale(ledger: &Ledger, listed: &[Pair]) -> Option<u64>
-    ensures { result ≡ first_stale ledger.now.live listed.now }
+pub(crate) fn first_stale(clause_log: &ClauseLog, listed: &[Pair]) -> Option<u64>
+    ensures { result ≡ first_stale clause_log.now.live listed.now }
 {
     for pair in listed {
-        if !is_live_as(ledger, pair) {
+        if !is_live_as(clause_log, pair) {
             return Some(pair.joint);
         }
     }
@@ -32,10 +32,10 @@ pub(crate) fn first_stale(ledger: &Ledger, listed: &[Pair]) -> Option<u64>
 }
 
 /// Whether the pair's number lives with that very clause.
-fn is_live_as(ledger: &Ledger, pair: &Pair) -> bool
-    ensures { result ≡ is_live_as ledger.now.live pair.now }
+fn is_live_as(clause_log: &ClauseLog, pair: &Pair) -> bool
+    ensures { result ≡ is_live_as clause_log.now.live pair.now }
 {
-    match ledger.clause(pair.joint) {
+    match clause_log.clause(pair.joint) {
         Some(clause) => clause.same(&pair.clause),
         None => false,
     }
@@ -50,7 +50,7 @@ pub(crate) fn step_of(alloc: Global, receipt: &Receipt) -> Result<Addition, NoMe
 {
     Ok(Addition {
         number: 0,
-        lemma: receipt.lemma().copy()?,
+        lemma: receipt.lemma().try_clone()?,
         hints: numbers_of(alloc, receipt.listed())?,
         groups: Groups::new(alloc),
     })
@@ -72,7 +72,7 @@ fn numbers_of(alloc: Global, pairs: &[Pair]) -> Result<Numbers, NoMemory>
 /// # Errors
 /// [`NoMemory`] where a growth was refused.
 pub(crate) fn enter_addition(
-    ledger: &mut Ledger,
+    clause_log: &mut ClauseLog,
     tables: &mut SeatTables,
     seat: u32,
     own: u64,
@@ -80,19 +80,20 @@ pub(crate) fn enter_addition(
 ) -> Result<(), NoMemory>
     requires here { is_here tables.old seat ≡ true }
     requires unbound { is_bound tables.old seat own ≡ false }
-    requires unheld { is_held tables.old step.now.number ≡ false }
-    ensures entries { OnOk result (ledger.new.history.entries ≡ ledger.old.history.entries
+    requires no_holder { has_holder tables.old step.now.number ≡ false }
+    ensures entries { OnOk result (clause_log.new.history.entries ≡ clause_log.old.history.entries
         ++ entry_of seat (calls.Add own step.now.lemma) (Some (Add step.now)) ∷ []) }
     ensures live { OnOk result
-        (ledger.new.live ≡ fin.insert ledger.old.live step.now.number step.now.lemma.clause) }
+        (clause_log.new.live ≡ fin.insert clause_log.old.live step.now.number
+        step.now.lemma.clause) }
     ensures tables { OnOk result (tables.new
         ≡ with_table (λ t. fin.insert t own step.now.number) tables.old seat) }
-    ensures same { OnErr result (ledger.new.history.entries ≡ ledger.old.history.entries) }
+    ensures same { OnErr result (clause_log.new.history.entries ≡ clause_log.old.history.entries) }
     ensures err { OnErr result
-        ((ledger.new.live ≡ ledger.old.live) × (tables.new ≡ tables.old)) }
+        ((clause_log.new.live ≡ clause_log.old.live) × (tables.new ≡ tables.old)) }
 {
     tables.bind(seat, own, step.number)?;
-    if let Err(e) = ledger.add(seat, own, step) {
+    if let Err(e) = clause_log.add(seat, own, step) {
         let _ = tables.unbind(seat, own);
         return Err(e);
     }

@@ -2,7 +2,7 @@
 ghost use Rattle.std.specs.Prelude.{◌≡◌, ℕ, filter, not};
 ghost use Rattle.std.specs.List.Sorted.{IsStrictlySortedBy};
 ghost use Rattle.std.specs.Ordering.{nat_cmp};
-ghost use Rattle.lj_book.specs.Tables.{is_among, is_held};
+ghost use Rattle.lj_book.specs.Tables.{is_among, has_holder};
 
 use crate::seat_tables::SeatTables;
 
@@ -17,9 +17,9 @@ pub(crate) fn rising(mut numbers: Vec<u64>) -> Vec<u64>
 }
 
 /// Those of the numbers that no seat holds, in their order. Takes O(log n) time for each number.
-pub(crate) fn no_longer_held(tables: &SeatTables, mut numbers: Vec<u64>) -> Vec<u64>
-    ensures { result.items ≡ filter (λ n. not (is_held tables.now n)) numbers.items }
+pub(crate) fn without_holder(tables: &SeatTables, mut numbers: Vec<u64>) -> Vec<u64>
+    ensures { result.items ≡ filter (λ n. not (has_holder tables.now n)) numbers.items }
 {
-    numbers.retain(|n| !tables.is_held(*n));
+    numbers.retain(|n| !tables.has_holder(*n));
     numbers
 }

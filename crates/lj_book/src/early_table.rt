@@ -25,7 +25,7 @@ impl Model for EarlyTable {
     ghost use Rattle.std.specs.Ordering.{nat_cmp};
     ghost use Rattle.std.specs.Coded.{coded_ℕ};
     ghost use Rattle.std.specs.FinMap as fin;
-    ghost use Rattle.lj_book.specs.inner.Slots.{joined_map, AreApart};
+    ghost use Rattle.lj_book.specs.inner.Slots.{joined_map, AreDisjoint};
 
     ghost Value = { fin.FinMap nat_cmp ℕ };
 
@@ -33,7 +33,7 @@ impl Model for EarlyTable {
 
     ghost view = { λ t. joined_map t.opened t.anew };
 
-    ghost invariant = { λ t. AreApart t.opened t.anew };
+    ghost invariant = { λ t. AreDisjoint t.opened t.anew };
 }
 
 impl EarlyTable {

@@ -33,16 +33,16 @@ impl Call {
     ///
     /// # Errors
     /// [`NoMemory`] where a growth was refused.
-    fn copy(&self) -> Result<Call, NoMemory>
-        ensures { IfOk result (λ copy. copy ≡ self.now) }
+    fn try_clone(&self) -> Result<Call, NoMemory>
+        ensures { IfOk result (λ clone. clone ≡ self.now) }
     {
         Ok(match self {
             Call::Add { own, lemma } => Call::Add {
                 own: *own,
-                lemma: lemma.copy()?,
+                lemma: lemma.try_clone()?,
             },
             Call::Drop { numbers } => Call::Drop {
-                numbers: numbers.copy()?,
+                numbers: numbers.try_clone()?,
             },
             Call::Adopt { own, joint } => Call::Adopt {
                 own: *own,
@@ -50,7 +50,7 @@ impl Call {
             },
             Call::Import { own, clause } => Call::Import {
                 own: *own,
-                clause: clause.copy()?,
+                clause: clause.try_clone()?,
             },
             Call::Leave => Call::Leave,
         })
@@ -62,13 +62,13 @@ impl Entry {
     ///
     /// # Errors
     /// [`NoMemory`] where a growth was refused.
-    pub(crate) fn copy(&self) -> Result<Entry, NoMemory>
-        ensures { IfOk result (λ copy. copy ≡ self.now) }
+    pub(crate) fn try_clone(&self) -> Result<Entry, NoMemory>
+        ensures { IfOk result (λ clone. clone ≡ self.now) }
     {
         Ok(Entry {
             seat: self.seat,
-            call: self.call.copy()?,
-            step: copy_of_step(&self.step)?,
+            call: self.call.try_clone()?,
+            step: clone_of_step(&self.step)?,
         })
     }
 }
@@ -77,8 +77,8 @@ impl Entry {
 ///
 /// # Errors
 /// [`NoMemory`] where a growth was refused.
-fn copy_of_step(step: &Option<Step>) -> Result<Option<Step>, NoMemory>
-    ensures { IfOk result (λ copy. copy ≡ step.now) }
+fn clone_of_step(step: &Option<Step>) -> Result<Option<Step>, NoMemory>
+    ensures { IfOk result (λ clone. clone ≡ step.now) }
 {
     Ok(match step {
         Some(Step::Add(addition)) => {
@@ -88,10 +88,10 @@ fn copy_of_step(step: &Option<Step>) -> Result<Option<Step>, NoMemory>
                 &addition.hints,
                 &addition.groups,
             );
-            Some(Step::Add(lent.copy()?))
+            Some(Step::Add(lent.try_clone()?))
         }
         Some(Step::Delete { numbers }) => Some(Step::Delete {
-            numbers: numbers.copy()?,
+            numbers: numbers.try_clone()?,
         }),
         None => None,
     })

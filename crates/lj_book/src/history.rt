@@ -18,8 +18,8 @@ use crate::entry::Entry;
 use crate::lent_addition::LentAddition;
 use lines::write_entries;
 use lj_clause::{Clause, Lit, NoMemory};
-use lj_text::{Numbers, Sink, SinkFault, Step, WordWriter};
-use reading::{words_at, words_from};
+use lj_text::{Numbers, Sink, SinkFault, Step, TokenWriter};
+use reading::{encoding_at, encoding_from};
 use std::alloc::Global;
 use std::marker::Model;
 use writing::{put_addition, put_adopt, put_drop, put_import, put_leave};
@@ -38,12 +38,12 @@ const IMPORT: u64 = 3;
 const LEAVE: u64 = 4;
 
 /// How many words and literals have room from the opening on: in so much memory, each list stands apart from others.
-const FIRST_WORDS: usize = 33_000;
+const FIRST_ENCODING: usize = 33_000;
 
 /// The entries of a history, the oldest first, as words of four bytes and literals.
 #[derive(Debug, Drop)]
 pub(crate) struct History {
-    words: Vec<u32>,
+    encoding: Vec<u32>,
     lits: Vec<Lit>,
     /// Where the words of each entry begin.
     starts: Vec<u64>,
@@ -59,14 +59,14 @@ impl Model for History {
     ghost coded = { entries_code };
 
     ghost view = { λ h. record {
-      entries = entries_in h.lits.items h.words.items h.starts.items;
+      entries = entries_in h.lits.items h.encoding.items h.starts.items;
       lits = h.lits.items;
-      word_room = vec_capacity h.words - vec_len h.words;
-      lit_room = vec_capacity h.lits - vec_len h.lits;
-      entry_room = vec_capacity h.starts - vec_len h.starts;
+      encoding_capacity = vec_capacity h.encoding - vec_len h.encoding;
+      lit_capacity = vec_capacity h.lits - vec_len h.lits;
+      entry_capacity = vec_capacity h.starts - vec_len h.starts;
     } };
 
-    ghost invariant = { λ h. AreWritten h.lits.items h.words.items h.starts.items };
+    ghost invariant = { λ h. AreWritten h.lits.items h.encoding.items h.starts.items };
 }
 
 impl History {
@@ -76,7 +76,7 @@ impl History {
         ensures lits { result.lits ≡ lits.items }
     {
         History {
-            words: Vec::new(alloc),
+            encoding: Vec::new(alloc),
             lits,
             starts: Vec::new(alloc),
         }
@@ -92,7 +92,7 @@ impl History {
 
     /// What its memory comes from.
     pub(crate) fn allocator(&self) -> Global {
-        *self.words.allocator()
+        *self.encoding.allocator()
     }
 
     /// The number of entries.
@@ -111,12 +111,12 @@ impl History {
     fn reserve(&mut self, numbers: usize, lits: usize) -> Result<(), NoMemory>
         ensures same { self.new.entries ≡ self.old.entries }
         ensures kept { self.new.lits ≡ self.old.lits }
-        ensures words { OnOk result (3 * numbers ≤ self.new.word_room) }
-        ensures few { self.new.word_room < 2 ^ 63 }
-        ensures lits { OnOk result (lits ≤ self.new.lit_room) }
-        ensures room { OnOk result (0 < self.new.entry_room) }
+        ensures encoding { OnOk result (3 * numbers ≤ self.new.encoding_capacity) }
+        ensures few { self.new.encoding_capacity < 2 ^ 63 }
+        ensures lits { OnOk result (lits ≤ self.new.lit_capacity) }
+        ensures capacity { OnOk result (0 < self.new.entry_capacity) }
     {
-        self.words.reserve(numbers.saturating_mul(3))?;
+        self.encoding.reserve(numbers.saturating_mul(3))?;
         self.lits.reserve(lits)?;
         self.starts.reserve(1)?;
         Ok(())
@@ -131,7 +131,7 @@ impl History {
         ensures same { self.new.entries ≡ self.old.entries }
         ensures kept { self.new.lits ≡ self.old.lits }
     {
-        self.reserve(FIRST_WORDS / 3, FIRST_WORDS)
+        self.reserve(FIRST_ENCODING / 3, FIRST_ENCODING)
     }
 
     /// Makes room for an addition.
@@ -141,9 +141,10 @@ impl History {
     pub(crate) fn reserve_addition(&mut self, step: &LentAddition<'_>) -> Result<(), NoMemory>
         ensures same { self.new.entries ≡ self.old.entries }
         ensures kept { self.new.lits ≡ self.old.lits }
-        ensures words { OnOk result (3 * addition_numbers step.now ≤ self.new.word_room) }
-        ensures lits { OnOk result (length (lemma_lits step.now.lemma) ≤ self.new.lit_room) }
-        ensures room { OnOk result (0 < self.new.entry_room) }
+        ensures encoding { OnOk result (3 * addition_numbers step.now ≤
+            self.new.encoding_capacity) }
+        ensures lits { OnOk result (length (lemma_lits step.now.lemma) ≤ self.new.lit_capacity) }
+        ensures capacity { OnOk result (0 < self.new.entry_capacity) }
     {
         let numbers = numbers_of(step);
         self.reserve(
@@ -159,8 +160,8 @@ impl History {
     pub(crate) fn reserve_deaths(&mut self, given: usize, died: usize) -> Result<(), NoMemory>
         ensures same { self.new.entries ≡ self.old.entries }
         ensures kept { self.new.lits ≡ self.old.lits }
-        ensures words { OnOk result (3 * (3 + given + died) ≤ self.new.word_room) }
-        ensures room { OnOk result (0 < self.new.entry_room) }
+        ensures encoding { OnOk result (3 * (3 + given + died) ≤ self.new.encoding_capacity) }
+        ensures capacity { OnOk result (0 < self.new.entry_capacity) }
     {
         self.reserve(given.saturating_add(died).saturating_add(3), 0)
     }
@@ -172,10 +173,10 @@ impl History {
     pub(crate) fn reserve_binding(&mut self, imported: Option<&Clause>) -> Result<(), NoMemory>
         ensures same { self.new.entries ≡ self.old.entries }
         ensures kept { self.new.lits ≡ self.old.lits }
-        ensures words { OnOk result (12 ≤ self.new.word_room) }
+        ensures encoding { OnOk result (12 ≤ self.new.encoding_capacity) }
         ensures lits { OnOk result (IfSome (option_copied imported.entry)
-            (λ clause. length (literals clause) ≤ self.new.lit_room)) }
-        ensures room { OnOk result (0 < self.new.entry_room) }
+            (λ clause. length (literals clause) ≤ self.new.lit_capacity)) }
+        ensures capacity { OnOk result (0 < self.new.entry_capacity) }
     {
         let lits = match imported {
             Some(clause) => clause.lits().len(),
@@ -186,57 +187,58 @@ impl History {
 
     /// Takes a seat's addition behind the others.
     pub(crate) fn push_addition(&mut self, seat: u32, own: u64, step: &LentAddition<'_>)
-        requires words { 3 * addition_numbers step.now ≤ self.old.word_room }
-        requires lits { length (lemma_lits step.now.lemma) ≤ self.old.lit_room }
-        requires room { 0 < self.old.entry_room }
+        requires encoding { 3 * addition_numbers step.now ≤ self.old.encoding_capacity }
+        requires lits { length (lemma_lits step.now.lemma) ≤ self.old.lit_capacity }
+        requires capacity { 0 < self.old.entry_capacity }
         ensures entries { self.new.entries ≡ self.old.entries
             ++ entry_of seat (calls.Add own step.now.lemma) (Some (Add step.now)) ∷ [] }
         ensures lits { self.new.lits ≡ self.old.lits ++ lemma_lits step.now.lemma }
     {
         let _ = step.lemma.pivot();
-        let start = self.words.len() as u64;
-        put_addition(&mut self.words, &mut self.lits, seat, own, step);
+        let start = self.encoding.len() as u64;
+        put_addition(&mut self.encoding, &mut self.lits, seat, own, step);
         self.starts.push_reserved(start);
     }
 
     /// Takes a seat's drop of these numbers behind the others, by which these joint numbers died. Takes time linear in
     /// the numbers of both.
     pub(crate) fn push_drop(&mut self, seat: u32, given: &Numbers, died: &[u64])
-        requires words { 3 * (3 + length given.now + length died.now) ≤ self.old.word_room }
-        requires room { 0 < self.old.entry_room }
+        requires encoding { 3 * (3 + length given.now + length died.now) ≤
+            self.old.encoding_capacity }
+        requires capacity { 0 < self.old.entry_capacity }
         ensures entries { self.new.entries ≡ self.old.entries
             ++ entry_of seat (calls.Drop given.now) (if_some died.now) ∷ [] }
         ensures lits { self.new.lits ≡ self.old.lits }
     {
-        let start = self.words.len() as u64;
-        put_drop(&mut self.words, seat, given, died);
+        let start = self.encoding.len() as u64;
+        put_drop(&mut self.encoding, seat, given, died);
         self.starts.push_reserved(start);
     }
 
     /// Takes a seat's adoption behind the others.
     fn push_adopt(&mut self, seat: u32, own: u64, joint: u64)
-        requires words { 9 ≤ self.old.word_room }
-        requires room { 0 < self.old.entry_room }
+        requires encoding { 9 ≤ self.old.encoding_capacity }
+        requires capacity { 0 < self.old.entry_capacity }
         ensures entries { self.new.entries ≡ self.old.entries
             ++ entry_of seat (calls.Adopt own joint) None ∷ [] }
         ensures lits { self.new.lits ≡ self.old.lits }
     {
-        let start = self.words.len() as u64;
-        put_adopt(&mut self.words, seat, own, joint);
+        let start = self.encoding.len() as u64;
+        put_adopt(&mut self.encoding, seat, own, joint);
         self.starts.push_reserved(start);
     }
 
     /// Takes a seat's import behind the others.
     fn push_import(&mut self, seat: u32, own: u64, clause: &Clause)
-        requires words { 12 ≤ self.old.word_room }
-        requires lits { length (literals clause.now) ≤ self.old.lit_room }
-        requires room { 0 < self.old.entry_room }
+        requires encoding { 12 ≤ self.old.encoding_capacity }
+        requires lits { length (literals clause.now) ≤ self.old.lit_capacity }
+        requires capacity { 0 < self.old.entry_capacity }
         ensures entries { self.new.entries ≡ self.old.entries
             ++ entry_of seat (calls.Import own clause.now) None ∷ [] }
         ensures lits { self.new.lits ≡ self.old.lits ++ literals clause.now }
     {
-        let start = self.words.len() as u64;
-        put_import(&mut self.words, &mut self.lits, seat, own, clause);
+        let start = self.encoding.len() as u64;
+        put_import(&mut self.encoding, &mut self.lits, seat, own, clause);
         self.starts.push_reserved(start);
     }
 
@@ -249,10 +251,10 @@ impl History {
         joint: u64,
         imported: Option<&Clause>,
     )
-        requires words { 12 ≤ self.old.word_room }
+        requires encoding { 12 ≤ self.old.encoding_capacity }
         requires lits { IfSome (option_copied imported)
-            (λ clause. length (literals clause) ≤ self.old.lit_room) }
-        requires room { 0 < self.old.entry_room }
+            (λ clause. length (literals clause) ≤ self.old.lit_capacity) }
+        requires capacity { 0 < self.old.entry_capacity }
         ensures entries { self.new.entries ≡ self.old.entries
             ++ entry_of seat (binding_call own joint (option_copied imported.entry)) None ∷ [] }
         ensures lits { self.new.lits
@@ -266,14 +268,14 @@ impl History {
 
     /// Takes a seat's leave behind the others, by which these joint numbers died. Takes time linear in these numbers.
     pub(crate) fn push_leave(&mut self, seat: u32, died: &[u64])
-        requires words { 3 * (2 + length died.now) ≤ self.old.word_room }
-        requires room { 0 < self.old.entry_room }
+        requires encoding { 3 * (2 + length died.now) ≤ self.old.encoding_capacity }
+        requires capacity { 0 < self.old.entry_capacity }
         ensures entries { self.new.entries ≡ self.old.entries
             ++ entry_of seat calls.Leave (if_some died.now) ∷ [] }
         ensures lits { self.new.lits ≡ self.old.lits }
     {
-        let start = self.words.len() as u64;
-        put_leave(&mut self.words, seat, died);
+        let start = self.encoding.len() as u64;
+        put_leave(&mut self.encoding, seat, died);
         self.starts.push_reserved(start);
     }
 
@@ -285,8 +287,8 @@ impl History {
     pub(crate) fn entry(&self, place: u64) -> Result<Option<Entry>, NoMemory>
         ensures { IfOk result (λ entry. entry ≡ slice_get self.now.entries place) }
     {
-        match words_at(&self.starts, &self.words, place) {
-            Some(words) => Ok(Some(reading::entry(self.allocator(), &self.lits, words)?)),
+        match encoding_at(&self.starts, &self.encoding, place) {
+            Some(encoding) => Ok(Some(reading::entry(self.allocator(), &self.lits, encoding)?)),
             None => Ok(None),
         }
     }
@@ -303,8 +305,8 @@ impl History {
         let alloc = self.allocator();
         let mut steps = Vec::new(alloc);
         for start in &self.starts {
-            let words = words_from(&self.words, *start);
-            if let Some(step) = reading::entry_step(alloc, &self.lits, words)? {
+            let encoding = encoding_from(&self.encoding, *start);
+            if let Some(step) = reading::entry_step(alloc, &self.lits, encoding)? {
                 steps.push(step)?;
             }
         }
@@ -332,13 +334,13 @@ impl History {
         ensures onward { OnErr result (IsBeginning (W.taken sink.old) (W.taken sink.new)) }
         ensures err { OnErr result (W.failures sink.new ≡ W.failures sink.old + 1) }
     {
-        let mut writer = WordWriter::new();
+        let mut writer = TokenWriter::new();
         write_entries(
             &mut writer,
             sink,
             clauses,
             &self.lits,
-            &self.words,
+            &self.encoding,
             &self.starts,
         );
         writer.finish(sink)
@@ -348,8 +350,8 @@ impl History {
     pub(crate) fn seat(&self, place: u64) -> Option<u32>
         ensures { result ≡ option_map (λ e. e.seat) (slice_get self.now.entries place) }
     {
-        match words_at(&self.starts, &self.words, place) {
-            Some(words) => Some(reading::seat(words)),
+        match encoding_at(&self.starts, &self.encoding, place) {
+            Some(encoding) => Some(reading::seat(encoding)),
             None => None,
         }
     }
@@ -358,8 +360,8 @@ impl History {
     pub(crate) fn is_entry(&self, place: u64, entry: &Entry) -> bool
         ensures { IsTrue result ↔ (slice_get self.now.entries place ≡ Some entry.now) }
     {
-        match words_at(&self.starts, &self.words, place) {
-            Some(words) => matching::is_entry(&self.lits, words, entry),
+        match encoding_at(&self.starts, &self.encoding, place) {
+            Some(encoding) => matching::is_entry(&self.lits, encoding, entry),
             None => false,
         }
     }

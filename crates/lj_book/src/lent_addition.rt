@@ -63,14 +63,14 @@ impl<'a> LentAddition<'a> {
     ///
     /// # Errors
     /// [`NoMemory`] where a growth was refused.
-    pub(crate) fn copy(&self) -> Result<Addition, NoMemory>
-        ensures { IfOk result (λ copy. copy ≡ self.now) }
+    pub(crate) fn try_clone(&self) -> Result<Addition, NoMemory>
+        ensures { IfOk result (λ clone. clone ≡ self.now) }
     {
         Ok(Addition {
             number: self.number,
-            lemma: self.lemma.copy()?,
-            hints: self.hints.copy()?,
-            groups: self.groups.copy()?,
+            lemma: self.lemma.try_clone()?,
+            hints: self.hints.try_clone()?,
+            groups: self.groups.try_clone()?,
         })
     }
 }

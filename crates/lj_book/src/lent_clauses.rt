@@ -3,10 +3,10 @@ ghost use Rattle.std.specs.Prelude.{◌≡◌, ◌≤◌, ℕ, IfOk, true};
 ghost use Rattle.std.specs.FinMap as fin;
 ghost use Rattle.lj_book.specs.Lookup.{numbers_holding, least_number};
 ghost use Rattle.lj_book.specs.inner.FirstUses.{IsSince};
-ghost use Rattle.lj_book.specs.inner.Places.{placed, ArePlaces};
+ghost use Rattle.lj_book.specs.inner.Ranges.{stored, AreRanges};
 
+use crate::lit_range::{LitRange, clause_at};
 use crate::own_map::OwnMap;
-use crate::place::{Place, clause_at};
 use lj_clause::{Clause, ClauseView, Lit, NoMemory};
 use std::alloc::Global;
 use std::marker::Model;
@@ -15,31 +15,31 @@ use std::marker::Model;
 #[derive(Drop)]
 pub(crate) struct LentClauses<'a> {
     lits: &'a [Lit],
-    places: &'a OwnMap<Place>,
+    ranges: &'a OwnMap<LitRange>,
 }
 
 impl<'a> Model for LentClauses<'a> {
     ghost use Rattle.lj_clause.specs.ClauseMap.{ClauseMap};
     ghost use Rattle.lj_clause.specs.inner.Codes.{clause_map_code};
-    ghost use Rattle.lj_book.specs.inner.Places.{placed, ArePlaces};
+    ghost use Rattle.lj_book.specs.inner.Ranges.{stored, AreRanges};
 
     ghost Value = { ClauseMap };
 
     ghost coded = { clause_map_code };
 
-    ghost view = { λ l. placed l.lits.now l.places.now };
+    ghost view = { λ l. stored l.lits.now l.ranges.now };
 
-    ghost invariant = { λ l. ArePlaces l.lits.now l.places.now };
+    ghost invariant = { λ l. AreRanges l.lits.now l.ranges.now };
 }
 
 impl<'a> LentClauses<'a> {
     /// The clauses at these places.
     #[inline]
-    pub(crate) fn new(lits: &'a [Lit], places: &'a OwnMap<Place>) -> LentClauses<'a>
-        requires { ArePlaces lits.now places.now }
-        ensures { result ≡ placed lits.now places.now }
+    pub(crate) fn new(lits: &'a [Lit], ranges: &'a OwnMap<LitRange>) -> LentClauses<'a>
+        requires { AreRanges lits.now ranges.now }
+        ensures { result ≡ stored lits.now ranges.now }
     {
-        LentClauses { lits, places }
+        LentClauses { lits, ranges }
     }
 
     /// The clause of a number.
@@ -47,8 +47,8 @@ impl<'a> LentClauses<'a> {
     pub(crate) fn get(&self, number: u64) -> Option<ClauseView<'_>>
         ensures { result ≡ fin.get self.now number }
     {
-        match self.places.get(number) {
-            Some(place) => Some(clause_at(self.lits, *place)),
+        match self.ranges.get(number) {
+            Some(range) => Some(clause_at(self.lits, *range)),
             None => None,
         }
     }
@@ -58,7 +58,7 @@ impl<'a> LentClauses<'a> {
     pub(crate) fn contains_key(&self, number: u64) -> bool
         ensures { result ≡ fin.contains_key self.now number }
     {
-        self.places.contains_key(number)
+        self.ranges.contains_key(number)
     }
 
     /// The numbers whose clause holds the literal, rising, where none does before a number, and no clause is behind the last

@@ -4,37 +4,37 @@
 #![tactic(auto)]
 
 mod book;
+mod clause_log;
 mod committing;
 mod dying;
 mod early_table;
+mod encoding;
 mod entry;
 mod event;
 mod first_uses;
 mod history;
 mod joint_line;
-mod ledger;
 mod lent_addition;
 mod lent_clauses;
 mod line_tests;
+mod lit_range;
 mod number_map;
 mod occurrence_lists;
 mod opened;
 mod own_map;
-mod place;
-mod placed_clauses;
 mod refusal;
 mod same;
 mod seat_table;
 mod seat_tables;
 mod solo_laws;
 mod steps;
+mod stored_clauses;
 mod taking;
 mod tree_map;
 mod variable_laws;
 mod variable_table;
 mod verified;
 mod view_laws;
-mod words;
 
 pub use book::{Book, laws};
 pub use entry::{Added, Call, Dropped, Entry, Imported};

@@ -1,17 +1,17 @@
 //! The test of a line over the live clauses.
 ghost use Rattle.std.specs.Prelude.{◌≡◌, ℕ};
 ghost use Rattle.lj_clause.specs.LiteralSet.{negations};
-ghost use Rattle.lj_clause.specs.Walk.{walk};
+ghost use Rattle.lj_clause.specs.Propagation.{propagate};
 ghost use Rattle.lj_hint.specs.declared.live_line.LineRefusal.TheVariants.{Rat};
 ghost use Rattle.lj_hint.specs.LineTest.{line_reply, IsLineReply};
 ghost use Rattle.lj_book.specs.Calls.{IsReplyBy};
 ghost use Rattle.lj_book.specs.inner.JointLines.{addition_of_parts, tested_line, refusal_of};
 
+use crate::clause_log::ClauseLog;
 use crate::joint_line::clear;
-use crate::ledger::Ledger;
 use crate::refusal::Refusal;
 use lj_clause::{ClauseView, Lemma, Lit, NoMemory};
-use lj_hint::{Clauses, LineRefusal, Live, Marks, Passed, RatRefusal, test_line};
+use lj_hint::{Clauses, LineRefusal, Live, Passed, Propagator, RatRefusal, test_line};
 use lj_text::{Groups, Numbers};
 use std::alloc::Global;
 
@@ -19,21 +19,21 @@ use std::alloc::Global;
 #[derive(Drop)]
 pub(crate) struct LiveClauses<'a> {
     alloc: Global,
-    ledger: &'a Ledger,
+    clause_log: &'a ClauseLog,
 }
 
 impl Clauses for LiveClauses<'_> {
-    ghost clauses = { λ l. l.ledger.now.live };
+    ghost clauses = { λ l. l.clause_log.now.live };
 
     #[inline]
     fn clause(&self, number: u64) -> Option<ClauseView<'_>> {
-        self.ledger.clause(number)
+        self.clause_log.clause(number)
     }
 }
 
 impl Live for LiveClauses<'_> {
     fn candidates(&self, lit: Lit) -> Result<Vec<u64>, NoMemory> {
-        self.ledger.numbers_holding(self.alloc, lit)
+        self.clause_log.numbers_holding(self.alloc, lit)
     }
 }
 
@@ -45,37 +45,37 @@ impl Live for LiveClauses<'_> {
 #[inline]
 pub(crate) fn tested_line(
     alloc: Global,
-    ledger: &mut Ledger,
+    clause_log: &mut ClauseLog,
     lemma: &Lemma,
     hints: &mut Numbers,
     groups: &mut Groups,
-    marks: &mut Marks,
+    propagator: &mut Propagator,
 ) -> Result<(), Refusal>
     ensures reply { (number : ℕ) → IsReplyBy
         (λ _. addition_of_parts number lemma.now (hints.new, groups.new)) result
-        (tested_line ledger.old.live
+        (tested_line clause_log.old.live
         (addition_of_parts number lemma.now (hints.old, groups.old))) }
-    ensures same { ledger.new ≡ ledger.old }
+    ensures same { clause_log.new ≡ clause_log.old }
 {
-    ledger.tend_lists();
-    match test_over(alloc, ledger, lemma, hints, groups, marks) {
+    clause_log.tend_lists();
+    match test_over(alloc, clause_log, lemma, hints, groups, propagator) {
         Ok(Passed::Closed(read)) => {
             hints.truncate(read);
             clear(groups);
             Ok(())
         }
         Ok(Passed::AsGiven) => {
-            ledger.keep_in_mind(lemma);
+            clause_log.keep_in_mind(lemma);
             Ok(())
         }
         Ok(Passed::Covered(covered)) => {
-            ledger.keep_in_mind(lemma);
+            clause_log.keep_in_mind(lemma);
             *groups = covered;
             Ok(())
         }
         Err(LineRefusal::Stuck(place)) => Err(Refusal::HintNotUnit(place)),
         Err(LineRefusal::Rat(refusal)) => {
-            ledger.keep_in_mind(lemma);
+            clause_log.keep_in_mind(lemma);
             Err(refused(refusal))
         }
     }
@@ -88,17 +88,18 @@ pub(crate) fn tested_line(
 #[inline]
 fn test_over(
     alloc: Global,
-    ledger: &Ledger,
+    clause_log: &ClauseLog,
     lemma: &Lemma,
     hints: &Numbers,
     groups: &Groups,
-    marks: &mut Marks,
+    propagator: &mut Propagator,
 ) -> Result<Passed, LineRefusal>
-    ensures { IsLineReply groups.now result (line_reply ledger.now.live lemma.now.pivot groups.now
-        (walk ledger.now.live (negations lemma.now.clause) hints.now)) }
+    ensures { IsLineReply groups.now result
+        (line_reply clause_log.now.live lemma.now.pivot groups.now
+        (propagate clause_log.now.live (negations lemma.now.clause) hints.now)) }
 {
-    let live = LiveClauses { alloc, ledger };
-    test_line(alloc, &live, lemma, hints, groups, marks)
+    let live = LiveClauses { alloc, clause_log };
+    test_line(alloc, &live, lemma, hints, groups, propagator)
 }
 
 /// The book's word for a refusal by the pivot.

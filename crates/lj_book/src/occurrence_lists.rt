@@ -1,10 +1,10 @@
 //! Lists of the clauses that hold a literal.
 ghost use Rattle.std.specs.Prelude.{◌≡◌, ◌<◌, ◌≤◌, ℕ, IfOk, IfSome, true, length, filter, map, slice_get};
 ghost use Rattle.std.specs.FinMap as fin;
-ghost use Rattle.lj_clause.specs.Literal.{place_of};
+ghost use Rattle.lj_clause.specs.Literal.{index_of};
 ghost use Rattle.lj_book.specs.Tables.{is_among};
 ghost use Rattle.lj_book.specs.Lookup.{is_clause};
-ghost use Rattle.lj_book.specs.inner.Occurrences.{AreOccurrences, list_at, places_of, put_if, with_number};
+ghost use Rattle.lj_book.specs.inner.Occurrences.{AreOccurrences, list_at, keys_of, put_if, with_number};
 ghost use Rattle.lj_book.specs.inner.Chains.{AreChains, AreLinked, chain, last_at, with_list};
 
 use crate::lent_clauses::LentClauses;
@@ -14,10 +14,10 @@ use std::alloc::Global;
 use std::marker::Model;
 
 /// The place of the list of the empty clauses, which no literal has.
-const EMPTY_PLACE: u64 = 1;
+const EMPTY_KEY: u64 = 1;
 
 /// A list of so many numbers stays as it is, however many of their clauses have died.
-const FEW: usize = 16;
+const MOST_UNSWEPT: usize = 16;
 
 /// How many links have room from the first on: in so much memory, their list stands apart from others.
 const FIRST_LINKS: usize = 16_500;
@@ -67,7 +67,7 @@ impl OccurrenceLists {
     ///
     /// # Errors
     /// [`NoMemory`] where a growth was refused.
-    pub(crate) fn with_room(alloc: Global) -> Result<Self, NoMemory>
+    pub(crate) fn reserved(alloc: Global) -> Result<Self, NoMemory>
         ensures { IfOk result (λ lists. lists ≡ fin.empty) }
     {
         Ok(OccurrenceLists {
@@ -83,14 +83,14 @@ impl OccurrenceLists {
     #[inline(always)]
     pub(crate) fn add_clause(&mut self, number: u32, clause: &ClauseView<'_>) -> bool
         ensures { result ≡ true → (k : ℕ) → list_at self.new k
-            ≡ put_if (is_among (places_of clause.now) k) (list_at self.old k) number }
+            ≡ put_if (is_among (keys_of clause.now) k) (list_at self.old k) number }
     {
         let lits = clause.lits();
         if lits.is_empty() {
-            return self.add(EMPTY_PLACE, number);
+            return self.add(EMPTY_KEY, number);
         }
         for lit in lits {
-            if !self.add(lit.place() as u64, number) {
+            if !self.add(lit.index() as u64, number) {
                 return false;
             }
         }
@@ -99,18 +99,18 @@ impl OccurrenceLists {
 
     /// Puts a number at the end of a list. Answers whether it could be put there.
     #[inline(always)]
-    fn add(&mut self, place: u64, number: u32) -> bool
-        ensures { result ≡ true → self.new ≡ with_number self.old place number }
+    fn add(&mut self, key: u64, number: u32) -> bool
+        ensures { result ≡ true → self.new ≡ with_number self.old key number }
     {
         let count = self.links.len();
         if count >= MOST_LINKS {
             return false;
         }
-        let before = last_of(&self.lasts, place) as u32;
+        let before = last_of(&self.lasts, key) as u32;
         if self.links.push(Link { number, before }).is_err() {
             return false;
         }
-        self.lasts.set(place, count as u64 + 1).is_ok()
+        self.lasts.set(key, count as u64 + 1).is_ok()
     }
 
     /// The numbers under a place that have a clause. Takes time linear in the numbers there.
@@ -120,57 +120,57 @@ impl OccurrenceLists {
     pub(crate) fn living(
         &self,
         alloc: Global,
-        place: u64,
+        key: u64,
         clauses: &LentClauses<'_>,
     ) -> Result<Vec<u64>, NoMemory>
         ensures { IfOk result
-            (λ v. v.items ≡ filter (λ n. fin.contains_key clauses.now n) (list_at self.now place)) }
+            (λ v. v.items ≡ filter (λ n. fin.contains_key clauses.now n) (list_at self.now key)) }
     {
-        living_before(alloc, &self.links, last_of(&self.lasts, place), clauses)
+        living_before(alloc, &self.links, last_of(&self.lasts, key), clauses)
     }
 
     /// The first number under a place whose clause is this one. Takes time linear in the list, and in the literals of the
     /// clause for each of its numbers.
     pub(crate) fn first_same(
         &self,
-        place: u64,
+        key: u64,
         clauses: &LentClauses<'_>,
         wanted: &Clause,
     ) -> Option<u64>
         ensures { result
             ≡ slice_get
-            (filter (λ n. is_clause wanted.now (fin.get clauses.now n)) (list_at self.now place))
+            (filter (λ n. is_clause wanted.now (fin.get clauses.now n)) (list_at self.now key))
             0 }
     {
-        first_before(&self.links, last_of(&self.lasts, place), clauses, wanted)
+        first_before(&self.links, last_of(&self.lasts, key), clauses, wanted)
     }
 
     /// The place of the shortest list of a clause. Takes time linear in the clause's literals, for each number of that list.
-    pub(crate) fn shortest_place(&self, clause: &Clause) -> u64
-        ensures { is_among (places_of clause.now) result ≡ true }
+    pub(crate) fn shortest_key(&self, clause: &Clause) -> u64
+        ensures { is_among (keys_of clause.now) result ≡ true }
     {
         let lits = clause.lits();
         let Some(first) = lits.first() else {
-            return EMPTY_PLACE;
+            return EMPTY_KEY;
         };
         for power in 0..LIMITS {
-            if let Some(place) = self.shortest_within(lits, 1 << power) {
-                return place;
+            if let Some(key) = self.shortest_within(lits, 1 << power) {
+                return key;
             }
         }
-        first.place() as u64
+        first.index() as u64
     }
 
     /// The place of the shortest of the literals' lists, if it has so many numbers at most.
     fn shortest_within(&self, lits: &[Lit], limit: usize) -> Option<u64>
-        ensures { IfSome result (λ place. is_among (map place_of lits.now) place ≡ true) }
+        ensures { IfSome result (λ key. is_among (map index_of lits.now) key ≡ true) }
     {
         let mut shortest = None;
         let mut most = limit;
         for lit in lits {
-            let place = lit.place() as u64;
-            if let Some(length) = length_within(&self.links, last_of(&self.lasts, place), most) {
-                shortest = Some(place);
+            let key = lit.index() as u64;
+            if let Some(length) = length_within(&self.links, last_of(&self.lasts, key), most) {
+                shortest = Some(key);
                 most = length;
             }
         }
@@ -181,32 +181,34 @@ impl OccurrenceLists {
     /// whether a growth was granted: where it wasn't, the lists are of no use.
     ///
     /// Takes time linear in the numbers of the list, and memory only where some are taken out.
-    pub(crate) fn sweep(&mut self, place: u64, clauses: &LentClauses<'_>) -> bool
+    pub(crate) fn sweep(&mut self, key: u64, clauses: &LentClauses<'_>) -> bool
         ensures { (bound : ℕ) → AreOccurrences self.old (fin.get clauses.now) bound
             → result ≡ true → AreOccurrences self.new (fin.get clauses.now) bound }
     {
-        let last = last_of(&self.lasts, place);
-        if is_within(&self.links, last, FEW) || does_half_live(&self.links, last, clauses) {
+        let last = last_of(&self.lasts, key);
+        if is_within(&self.links, last, MOST_UNSWEPT)
+            || does_half_live(&self.links, last, clauses)
+        {
             return true;
         }
         let Ok(living) = living_before(self.alloc, &self.links, last, clauses) else {
             return false;
         };
-        self.relink(place, &living)
+        self.relink(key, &living)
     }
 
     /// Puts these numbers into a list, in place of what it has. Answers whether a growth was granted. Takes time linear in
     /// the numbers.
-    fn relink(&mut self, place: u64, numbers: &[u64]) -> bool
+    fn relink(&mut self, key: u64, numbers: &[u64]) -> bool
         ensures { result ≡ true → (k : ℕ)
-            → list_at self.new k ≡ with_list self.old place numbers.now k }
+            → list_at self.new k ≡ with_list self.old key numbers.now k }
     {
-        let _ = self.lasts.remove(place);
+        let _ = self.lasts.remove(key);
         for number in numbers {
-            let Ok(short) = u32::try_from(*number) else {
+            let Ok(narrow) = u32::try_from(*number) else {
                 return false;
             };
-            if !self.add(place, short) {
+            if !self.add(key, narrow) {
                 return false;
             }
         }
@@ -216,10 +218,10 @@ impl OccurrenceLists {
 
 /// The last link under a place, and 0 where there is none.
 #[inline]
-fn last_of(lasts: &OwnMap<u64>, place: u64) -> u64
-    ensures { result ≡ last_at lasts.now place }
+fn last_of(lasts: &OwnMap<u64>, key: u64) -> u64
+    ensures { result ≡ last_at lasts.now key }
 {
-    match lasts.get(place) {
+    match lasts.get(key) {
         Some(last) => *last,
         None => 0,
     }

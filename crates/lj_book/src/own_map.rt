@@ -1,7 +1,7 @@
 //! Maps from a seat's own numbers.
 ghost use Rattle.std.specs.Prelude.{◌≡◌, OnOk, OnErr, IfOk, option_copied, None, true, false};
 ghost use Rattle.std.specs.FinMap as fin;
-ghost use Rattle.lj_book.specs.inner.Slots.{AreApart};
+ghost use Rattle.lj_book.specs.inner.Slots.{AreDisjoint};
 
 use crate::dying::rising;
 use crate::number_map::NumberMap;
@@ -19,8 +19,8 @@ const FIRST_SLOTS: u64 = 32;
 /// A call takes constant time for a number that has a slot, amortized, and O(log n) time for others.
 #[derive(Debug, Drop)]
 pub struct OwnMap<V> {
-    near: NumberMap<V>,
-    far: TreeMap<V>,
+    dense: NumberMap<V>,
+    sparse: TreeMap<V>,
     /// How many times a value was set.
     set: u64,
 }
@@ -29,15 +29,15 @@ impl<V> Model for OwnMap<V> {
     ghost use Rattle.std.specs.Ordering.{nat_cmp};
     ghost use Rattle.std.specs.Coded.{coded_ℕ};
     ghost use Rattle.std.specs.FinMap as fin;
-    ghost use Rattle.lj_book.specs.inner.Slots.{joined_map, AreApart};
+    ghost use Rattle.lj_book.specs.inner.Slots.{joined_map, AreDisjoint};
 
     ghost Value = { fin.FinMap nat_cmp V };
 
     ghost coded = { fin.code coded_ℕ V.code };
 
-    ghost view = { λ m. joined_map m.near m.far };
+    ghost view = { λ m. joined_map m.dense m.sparse };
 
-    ghost invariant = { λ m. AreApart m.near m.far };
+    ghost invariant = { λ m. AreDisjoint m.dense m.sparse };
 }
 
 impl<V: Drop> OwnMap<V> {
@@ -46,8 +46,8 @@ impl<V: Drop> OwnMap<V> {
         ensures { result ≡ fin.empty }
     {
         OwnMap {
-            near: NumberMap::new(alloc),
-            far: TreeMap::new(alloc),
+            dense: NumberMap::new(alloc),
+            sparse: TreeMap::new(alloc),
             set: 0,
         }
     }
@@ -57,9 +57,9 @@ impl<V: Drop> OwnMap<V> {
     pub fn get(&self, key: u64) -> Option<&V>
         ensures { option_copied result ≡ fin.get self.now key }
     {
-        match self.near.get(key) {
+        match self.dense.get(key) {
             Some(value) => Some(value),
-            None => self.far.get(key),
+            None => self.sparse.get(key),
         }
     }
 
@@ -94,10 +94,10 @@ impl<V: Drop> OwnMap<V> {
         ensures err { OnErr result (self.new ≡ self.old) }
         ensures absent { OnErr result (fin.get self.old key ≡ None) }
     {
-        if is_far(&self.near, &self.far, self.set, key) {
-            return self.far.insert(key, value);
+        if is_sparse(&self.dense, &self.sparse, self.set, key) {
+            return self.sparse.insert(key, value);
         }
-        self.near.insert(key, value)
+        self.dense.insert(key, value)
     }
 
     /// Sets the value at the key, as [`OwnMap::insert`] does, but moves it into a slot where it has one by now. Where a growth
@@ -109,8 +109,8 @@ impl<V: Drop> OwnMap<V> {
         ensures ok { OnOk result (self.new ≡ fin.insert self.old key value) }
         ensures err { OnErr result (self.new ≡ fin.remove self.old key) }
     {
-        if self.near.contains_key(key) {
-            return self.near.insert(key, value);
+        if self.dense.contains_key(key) {
+            return self.dense.insert(key, value);
         }
         let _ = self.remove(key);
         self.insert(key, value)
@@ -123,9 +123,9 @@ impl<V: Drop> OwnMap<V> {
     pub(crate) fn keys(&self, alloc: Global) -> Result<Vec<u64>, NoMemory>
         ensures { IfOk result (λ keys. keys.items ≡ fin.keys self.now) }
     {
-        let mut keys = self.near.keys(alloc)?;
-        let far = self.far.keys(alloc)?;
-        keys.extend_from_slice(&far)?;
+        let mut keys = self.dense.keys(alloc)?;
+        let sparse = self.sparse.keys(alloc)?;
+        keys.extend_from_slice(&sparse)?;
         Ok(rising(keys))
     }
 
@@ -134,21 +134,21 @@ impl<V: Drop> OwnMap<V> {
         ensures before { result ≡ fin.get self.old key }
         ensures removed { self.new ≡ fin.remove self.old key }
     {
-        match self.near.remove(key) {
+        match self.dense.remove(key) {
             Some(value) => Some(value),
-            None => self.far.remove(key),
+            None => self.sparse.remove(key),
         }
     }
 }
 
 /// Whether a key that is set now belongs to the tree: it is there already, or it has no slot and is beyond the bound.
-fn is_far<V: Drop>(near: &NumberMap<V>, far: &TreeMap<V>, set: u64, key: u64) -> bool
-    requires { AreApart near.now far.now }
-    ensures far { result ≡ true → fin.get near.now key ≡ None }
-    ensures near { result ≡ false → fin.get far.now key ≡ None }
+fn is_sparse<V: Drop>(dense: &NumberMap<V>, sparse: &TreeMap<V>, set: u64, key: u64) -> bool
+    requires { AreDisjoint dense.now sparse.now }
+    ensures sparse { result ≡ true → fin.get dense.now key ≡ None }
+    ensures dense { result ≡ false → fin.get sparse.now key ≡ None }
 {
-    if near.get(key).is_some() {
+    if dense.get(key).is_some() {
         return false;
     }
-    far.contains_key(key) || key / 2 > set.saturating_add(FIRST_SLOTS)
+    sparse.contains_key(key) || key / 2 > set.saturating_add(FIRST_SLOTS)
 }

@@ -19,16 +19,16 @@ pub enum Refusal {
     UnknownNumber(u64),
     /// The own number of the first group whose joint clause has an earlier group.
     GroupRepeated(u64),
-    /// The place of the hint, counted from 1, at which the walk over the first list is stuck.
+    /// The place of the hint, counted from 1, at which propagation over the first list is stuck.
     HintNotUnit(u64),
-    /// The walk of an empty lemma is open.
+    /// The propagation of an empty lemma is open.
     EmptyOpen,
     /// The first candidate whose test isn't closed has no group.
     MissingGroup(u64),
-    /// The first candidate whose test isn't closed, and the place in its group, counted from 1, at which the walk is
+    /// The first candidate whose test isn't closed, and the place in its group, counted from 1, at which the propagation is
     /// stuck.
     GroupStuck(u64, u64),
-    /// The first candidate whose test isn't closed has a group, and its walk is open.
+    /// The first candidate whose test isn't closed has a group, and its propagation is open.
     GroupOpen(u64),
     /// The first joint number that the receipt lists and that doesn't live with that very clause.
     Stale(u64),

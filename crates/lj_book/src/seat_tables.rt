@@ -1,7 +1,7 @@
 //! The tables of the seats.
 ghost use Rattle.std.specs.Prelude.{◌≡◌, ℕ, ◌+◌, ◌^◌, ◌<◌, ◌≤◌, IsTrue, ◌↔◌, OnOk, OnErr, IfOk, is_some, option_copied, filter_map, Some, None, replicate, length, true, false, ◌==◌, ◌||◌};
 ghost use Rattle.std.specs.FinMap as fin;
-ghost use Rattle.lj_book.specs.Tables.{up_to, table_of, is_here, joint_of, is_bound, with_table, without_keys, without_seat, is_among, is_held, keys_lost};
+ghost use Rattle.lj_book.specs.Tables.{up_to, table_of, is_here, joint_of, is_bound, with_table, without_keys, without_seat, is_among, has_holder, keys_lost};
 ghost use Rattle.lj_book.specs.inner.Tables.{own_numbers};
 ghost use Rattle.lj_book.specs.inner.Holders.{count_in, count_at, holders_of, one_if_at, all_up_to};
 
@@ -15,7 +15,7 @@ use std::marker::Model;
 use std::mem::replace;
 
 /// For how many joint numbers a deletion makes room at once.
-const FEW_JOINTS: usize = 1_024;
+const FIRST_JOINTS: usize = 1_024;
 
 /// The table of each seat, from own numbers to joint numbers, and none for a seat that has left.
 ///
@@ -96,8 +96,8 @@ impl SeatTables {
     }
 
     /// Whether some own number of a seat that hasn't left is bound to the joint number.
-    pub(crate) fn is_held(&self, joint: u64) -> bool
-        ensures { result ≡ is_held self.now joint }
+    pub(crate) fn has_holder(&self, joint: u64) -> bool
+        ensures { result ≡ has_holder self.now joint }
     {
         count(&self.holders, joint) > 0
     }
@@ -110,15 +110,15 @@ impl SeatTables {
     pub(crate) fn bind(&mut self, seat: u32, own: u64, joint: u64) -> Result<(), NoMemory>
         requires here { is_here self.old seat ≡ true }
         requires unbound { is_bound self.old seat own ≡ false }
-        requires room { holders_of self.old joint < length self.old + 2 ^ 63 }
+        requires capacity { holders_of self.old joint < length self.old + 2 ^ 63 }
         ensures ok { OnOk result
             (self.new ≡ with_table (λ t. fin.insert t own joint) self.old seat) }
         ensures err { OnErr result (self.new ≡ self.old) }
     {
         let at = seat as usize;
-        let held = count(&self.holders, joint) + 1;
+        let holder_count = count(&self.holders, joint) + 1;
         match &mut self.seats[at] {
-            Some(table) => bind_in(table, &mut self.holders, own, joint, held),
+            Some(table) => bind_in(table, &mut self.holders, own, joint, holder_count),
             None => Ok(()),
         }
     }
@@ -143,14 +143,14 @@ impl SeatTables {
         ensures removed { self.new ≡ with_table (without_keys numbers.now) self.old seat }
         ensures count { result ≡ keys_lost numbers.now (table_of self.old seat) }
     {
-        match numbers.as_short() {
-            Some(owns) => self.unbind_short(seat, owns),
+        match numbers.as_u32s() {
+            Some(owns) => self.unbind_u32s(seat, owns),
             None => self.unbind_each(seat, numbers),
         }
     }
 
     /// The same of numbers of four bytes, for which the table is looked up once.
-    fn unbind_short(&mut self, seat: u32, owns: &[u32]) -> u64
+    fn unbind_u32s(&mut self, seat: u32, owns: &[u32]) -> u64
         requires here { is_here self.old seat ≡ true }
         ensures removed { self.new ≡ with_table (without_keys owns.now) self.old seat }
         ensures count { result ≡ keys_lost owns.now (table_of self.old seat) }
@@ -230,8 +230,8 @@ impl SeatTables {
         let Some(table) = table_in(&self.seats, seat) else {
             return Ok(Vec::new(alloc));
         };
-        match numbers.as_short() {
-            Some(owns) => short_joints(alloc, table, owns),
+        match numbers.as_u32s() {
+            Some(owns) => u32_joints(alloc, table, owns),
             None => each_joint(alloc, table, numbers),
         }
     }
@@ -269,15 +269,15 @@ fn bind_in(
     holders: &mut OwnMap<u64>,
     own: u64,
     joint: u64,
-    held: u64,
+    holder_count: u64,
 ) -> Result<(), NoMemory>
     requires { fin.get table.old own ≡ None }
     ensures table { OnOk result (table.new ≡ fin.insert table.old own joint) }
-    ensures holders { OnOk result (holders.new ≡ fin.insert holders.old joint held) }
+    ensures holders { OnOk result (holders.new ≡ fin.insert holders.old joint holder_count) }
     ensures err { OnErr result ((table.new ≡ table.old) × (holders.new ≡ holders.old)) }
 {
     table.insert(own, joint)?;
-    if let Err(e) = holders.insert(joint, held) {
+    if let Err(e) = holders.insert(joint, holder_count) {
         table.remove(own);
         return Err(e);
     }
@@ -296,8 +296,8 @@ fn unbind_in(table: &mut SeatTable, holders: &mut OwnMap<u64>, own: u64) -> bool
     let Some(joint) = table.remove(own) else {
         return false;
     };
-    let held = count(holders, joint);
-    let _ = holders.insert(joint, held - 1);
+    let holder_count = count(holders, joint);
+    let _ = holders.insert(joint, holder_count - 1);
     true
 }
 
@@ -323,11 +323,11 @@ fn unbind_all_in(table: &mut SeatTable, holders: &mut OwnMap<u64>, owns: &[u32])
 ///
 /// # Errors
 /// [`NoMemory`] where a growth was refused.
-fn short_joints(alloc: Global, table: &SeatTable, owns: &[u32]) -> Result<Vec<u64>, NoMemory>
+fn u32_joints(alloc: Global, table: &SeatTable, owns: &[u32]) -> Result<Vec<u64>, NoMemory>
     ensures { IfOk result (λ joints. (q : ℕ) → is_among joints.items q
         ≡ is_among (filter_map (fin.get table.now) owns.now) q) }
 {
-    let mut joints = Vec::with_capacity(alloc, owns.len().min(FEW_JOINTS))?;
+    let mut joints = Vec::with_capacity(alloc, owns.len().min(FIRST_JOINTS))?;
     for own in owns {
         if let Some(joint) = table.get(u64::from(*own)) {
             put_joint(&mut joints, joint)?;

@@ -4,7 +4,7 @@ ghost use Rattle.lj_hint.specs.Case.{groups_of};
 ghost use Rattle.lj_book.specs.Tables.{joint_of};
 ghost use Rattle.lj_book.specs.Calls.{IsReply, IsReplyBy, case_with, pair_in, pairs_of, group_pairs_of, repeated_after};
 
-use crate::ledger::Ledger;
+use crate::clause_log::ClauseLog;
 use crate::refusal::Refusal;
 use crate::seat_tables::SeatTables;
 use crate::tree_map::TreeMap;
@@ -20,27 +20,27 @@ use std::alloc::Global;
 pub(crate) fn case_of(
     alloc: Global,
     tables: &SeatTables,
-    ledger: &Ledger,
+    clause_log: &ClauseLog,
     seat: u32,
     addition: &Addition,
 ) -> Result<Case, Refusal>
     ensures { IsReply result (case_with seat addition.now
         (repeated_after (joint_of tables.now seat) [] addition.now.groups)
-        (pairs_of (pair_in tables.now ledger.now.live seat) addition.now.hints)
-        (group_pairs_of (pair_in tables.now ledger.now.live seat) addition.now.groups)) }
+        (pairs_of (pair_in tables.now clause_log.now.live seat) addition.now.hints)
+        (group_pairs_of (pair_in tables.now clause_log.now.live seat) addition.now.groups)) }
 {
-    let hints = match pairs_of(alloc, tables, ledger, seat, addition.hints.iter()) {
+    let hints = match pairs_of(alloc, tables, clause_log, seat, addition.hints.iter()) {
         Ok(hints) => hints,
         Err(refusal) => return Err(refusal),
     };
-    let groups = match group_pairs_of(alloc, tables, ledger, seat, &addition.groups) {
+    let groups = match group_pairs_of(alloc, tables, clause_log, seat, &addition.groups) {
         Ok(groups) => groups,
         Err(refusal) => return Err(refusal),
     };
     if let Some(own) = repeated_group(alloc, tables, seat, &addition.groups)? {
         return Err(Refusal::GroupRepeated(own));
     }
-    let lemma = addition.lemma.copy()?;
+    let lemma = addition.lemma.try_clone()?;
     Ok(Case::new(seat, addition.number, lemma, hints, groups))
 }
 
@@ -50,19 +50,19 @@ pub(crate) fn case_of(
 /// [`NoMemory`] where a growth was refused.
 fn pair_in(
     tables: &SeatTables,
-    ledger: &Ledger,
+    clause_log: &ClauseLog,
     seat: u32,
     own: u64,
 ) -> Result<Option<Pair>, NoMemory>
-    ensures { IfOk result (λ pair. pair ≡ pair_in tables.now ledger.now.live seat own) }
+    ensures { IfOk result (λ pair. pair ≡ pair_in tables.now clause_log.now.live seat own) }
 {
     let Some(joint) = tables.joint(seat, own) else {
         return Ok(None);
     };
-    let Some(clause) = ledger.clause(joint) else {
+    let Some(clause) = clause_log.clause(joint) else {
         return Ok(None);
     };
-    let clause = clause.to_clause(ledger.allocator())?;
+    let clause = clause.to_clause(clause_log.allocator())?;
     Ok(Some(Pair { joint, clause }))
 }
 
@@ -74,16 +74,16 @@ fn pair_in(
 fn pairs_of(
     alloc: Global,
     tables: &SeatTables,
-    ledger: &Ledger,
+    clause_log: &ClauseLog,
     seat: u32,
     numbers: NumbersIter<'_>,
 ) -> Result<Vec<Pair>, Refusal>
     ensures { IsReplyBy (λ v. v.items) result
-        (pairs_of (pair_in tables.now ledger.now.live seat) numbers.entry) }
+        (pairs_of (pair_in tables.now clause_log.now.live seat) numbers.entry) }
 {
     let mut pairs = Vec::new(alloc);
     for own in numbers {
-        let Some(pair) = pair_in(tables, ledger, seat, own)? else {
+        let Some(pair) = pair_in(tables, clause_log, seat, own)? else {
             return Err(Refusal::UnknownNumber(own));
         };
         pairs.push(pair)?;
@@ -98,19 +98,19 @@ fn pairs_of(
 fn group_pairs_of(
     alloc: Global,
     tables: &SeatTables,
-    ledger: &Ledger,
+    clause_log: &ClauseLog,
     seat: u32,
     groups: &Groups,
 ) -> Result<Vec<(Pair, Vec<Pair>)>, Refusal>
     ensures { IsReplyBy (λ v. groups_of v.items) result
-        (group_pairs_of (pair_in tables.now ledger.now.live seat) groups.now) }
+        (group_pairs_of (pair_in tables.now clause_log.now.live seat) groups.now) }
 {
     let mut pairs = Vec::new(alloc);
     for group in groups.iter() {
-        let Some(candidate) = pair_in(tables, ledger, seat, group.candidate)? else {
+        let Some(candidate) = pair_in(tables, clause_log, seat, group.candidate)? else {
             return Err(Refusal::UnknownNumber(group.candidate));
         };
-        match pairs_of(alloc, tables, ledger, seat, group.hints) {
+        match pairs_of(alloc, tables, clause_log, seat, group.hints) {
             Ok(hints) => pairs.push((candidate, hints))?,
             Err(refusal) => return Err(refusal),
         }

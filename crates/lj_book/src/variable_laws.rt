@@ -48,7 +48,7 @@ pub fn seats_hold_their_own()
 {}
 
 /// What a seat decides alone is the same in its own variables and in joint ones: the refusal at the take or at a hint that
-/// isn't unit, after how many hints the walk closes, and with which literals it ends open. Takes constant time.
+/// isn't unit, after how many hints the propagation closes, and with which literals it ends open. Takes constant time.
 pub fn decided_beneath()
     ensures decided { DecidedBeneath }
     ensures closed { ClosedBeneath }

@@ -205,7 +205,7 @@ impl VariableTable {
             (λ joint. joint ≡ as_joint self.now.top self.now.variables seat clause.now) }
     {
         if self.is_within(clause) {
-            return Ok(Some(clause.copy()?));
+            return Ok(Some(clause.try_clone()?));
         }
         if !self.is_named(seat, clause) {
             return Ok(None);
@@ -228,7 +228,7 @@ impl VariableTable {
             (λ joint. joint ≡ lemma_as_joint self.now.top self.now.variables seat lemma.now) }
     {
         if self.is_within(lemma.clause()) {
-            return Ok(Some(lemma.copy()?));
+            return Ok(Some(lemma.try_clone()?));
         }
         if !self.is_named(seat, lemma.clause()) {
             return Ok(None);

@@ -4,7 +4,7 @@ ghost use Rattle.lj_clause.specs.Truth.{IsUnsatisfiable};
 
 use lj_book::{Book, Refusal, laws};
 use lj_clause::Formula;
-use lj_hint::Marks;
+use lj_hint::Propagator;
 use lj_text::Addition;
 use std::alloc::Global;
 
@@ -18,9 +18,9 @@ pub fn is_refuted_by(
     ensures { IfOk result (λ yes. yes ≡ true → IsUnsatisfiable formula) }
 {
     let mut book = Book::open(alloc, formula, 1, u32::MAX)?;
-    let mut marks = Marks::new(alloc);
+    let mut propagator = Propagator::new(alloc);
     for addition in additions {
-        book.add_inside(0, addition, &mut marks)?;
+        book.add_inside(0, addition, &mut propagator)?;
     }
     laws::refuted_is_unsatisfiable(&book);
     Ok(book.verdict().is_some())

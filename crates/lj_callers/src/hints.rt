@@ -1,10 +1,10 @@
 //! Lemmas that hints show to follow from the clauses of a formula.
 ghost use Rattle.std.specs.Prelude.{◌≡◌, IfOk};
 ghost use Rattle.lj_clause.specs.ClauseMap.{formula_map};
-ghost use Rattle.lj_clause.specs.Walk.{is_rup};
+ghost use Rattle.lj_clause.specs.Propagation.{is_rup};
 
 use lj_clause::{ClauseView, Formula, Lemma, NoMemory};
-use lj_hint::{Clauses, Ending, Marks, walk_first};
+use lj_hint::{Clauses, Ending, Propagator, propagate_first};
 use lj_text::Numbers;
 use std::alloc::Global;
 
@@ -38,7 +38,7 @@ pub fn is_implied(
         (λ yes. yes ≡ is_rup (formula_map formula.now) lemma.now.clause hints.now) }
 {
     let clauses = FormulaClauses { formula };
-    match walk_first(&clauses, lemma, hints, &mut Marks::new(alloc))? {
+    match propagate_first(&clauses, lemma, hints, &mut Propagator::new(alloc))? {
         Ending::ClosedAfter(_) => Ok(true),
         _ => Ok(false),
     }

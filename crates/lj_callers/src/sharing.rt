@@ -4,7 +4,7 @@ ghost use Rattle.lj_clause.specs.Truth.{IsUnsatisfiable};
 
 use lj_book::laws;
 use lj_clause::{Formula, NoMemory};
-use lj_share::{Blank, NoGate, Numbered, Opening, Seat, Shared};
+use lj_share::{BookId, NoGate, Numbered, OpeningParts, Seat, Shared};
 use std::alloc::Global;
 use std::marker::Brand;
 use std::sync::Wait;
@@ -21,32 +21,32 @@ pub fn is_refuted_by_two<R: Threads + Wait + Sync>(
 ) -> Result<bool, NoMemory>
     ensures { IfOk result (λ yes. yes ≡ true → IsUnsatisfiable formula) }
 {
-    let blank = Blank::new(alloc, 2)?;
-    prove_beside::<Brand, R>(rt, alloc, blank, formula, one, other)
+    let opening_parts = OpeningParts::new(alloc, 2)?;
+    prove_beside::<Brand, R>(rt, alloc, opening_parts, formula, one, other)
 }
 
-fn prove_beside<L: Opening + Send + Sync, R: Threads + Wait + Sync>(
+fn prove_beside<L: BookId + Send + Sync, R: Threads + Wait + Sync>(
     rt: &R,
     alloc: Global,
-    blank: Blank,
+    opening_parts: OpeningParts,
     formula: Formula,
     one: &[Numbered],
     other: &[Numbered],
 ) -> Result<bool, NoMemory>
-    requires name { blank.name ≡ L.name }
-    requires parts { (blank.parts ≡ L.parts) × (blank.parts ≡ 2) }
-    requires lists { blank.lists ≡ L.lists }
+    requires name { opening_parts.name ≡ L.name }
+    requires parts { (opening_parts.parts ≡ L.parts) × (opening_parts.parts ≡ 2) }
+    requires lists { opening_parts.lists ≡ L.lists }
     requires opening { (formula ≡ L.formula) × (L.seats ≡ 2) × (L.max_steps ≡ 4294967295) }
     ensures { IfOk result (λ yes. yes ≡ true → IsUnsatisfiable formula) }
 {
-    let (shared, mut seats) = Shared::<L>::open(alloc, blank, formula, 2, u32::MAX)?;
+    let (shared, mut seats) = Shared::<L>::open(alloc, opening_parts, formula, 2, u32::MAX)?;
     if let [first, second] = seats.as_mut_slice() {
         enter_both(rt, &shared, first, second, one, other);
     }
     Ok(is_refuted(shared, seats))
 }
 
-fn enter_both<L: Opening + Send + Sync, R: Threads + Wait + Sync>(
+fn enter_both<L: BookId + Send + Sync, R: Threads + Wait + Sync>(
     rt: &R,
     shared: &Shared<L>,
     first: &mut Seat<L>,
@@ -61,7 +61,7 @@ fn enter_both<L: Opening + Send + Sync, R: Threads + Wait + Sync>(
     );
 }
 
-fn is_refuted<L: Opening>(shared: Shared<L>, seats: Vec<Seat<L>>) -> bool
+fn is_refuted<L: BookId>(shared: Shared<L>, seats: Vec<Seat<L>>) -> bool
     requires { L.parts ≡ L.seats }
     ensures { result ≡ true → IsUnsatisfiable L.formula }
 {

@@ -12,8 +12,8 @@ use Rattle.lj_clause.specs.Literal.{lit_cmp}
 use Rattle.lj_clause.specs.inner.Literal.{lit_cmp_total}
 use Rattle.lj_clause.specs.LiteralSet.{LiteralSet, no_literals, holds, with_literal, literals, from_literals, with_negations, negations}
 use Rattle.lj_clause.specs.Listed.{ListedClause, clause_of, listed_clauses}
-use Rattle.lj_clause.specs.Walk.{Walk, Closed, Open, Stuck, Hint, rest, is_contradictory, by_rest, by_hint, walk_over, hints_in, walk}
-use Rattle.lj_clause.specs.Rat.{HintGroup, NamedGroup, RatAnswer, Covered, groups_in, group_of, candidates, by_candidate, candidate_walk, rat_over, rat}
+use Rattle.lj_clause.specs.Propagation.{Propagation, Closed, Open, Stuck, Hint, rest, is_contradictory, by_rest, by_hint, propagate_over, hints_in, propagate}
+use Rattle.lj_clause.specs.Rat.{HintGroup, NamedGroup, RatAnswer, Covered, groups_in, group_of, candidates, by_candidate, candidate_propagation, rat_over, rat}
 use Rattle.lj_clause.proofs.LiteralSets.{holds-from_literals}
 
 no_length : {A : Type 0} (es : List A) → length es ≡ 0 → es ≡ []
@@ -76,22 +76,22 @@ ListedHint = ℕ × Option (List ℤ)
 abbrev pub hint_of : ListedHint → Hint
 hint_of h = record { number = h.0; clause = option_map from_literals h.1 }
 
-abbrev pub by_hint_listed : ℕ → Option (List ℤ) → List ℤ → (ℤ → Walk) → Walk
+abbrev pub by_hint_listed : ℕ → Option (List ℤ) → List ℤ → (ℤ → Propagation) → Propagation
 by_hint_listed n None a onward = Stuck 1
 by_hint_listed n (Some d) a onward = by_rest n (rest_listed d a) onward
 
-abbrev pub walk_listed : List ℤ → List ListedHint → Walk
-walk_listed a [] = cond (contradictory_listed a) (Closed []) (Open (from_literals a))
-walk_listed a (h ∷ hs) = cond (contradictory_listed a) (Closed []) (by_hint_listed h.0 h.1 a (λ l. walk_listed (l ∷ a) hs))
+abbrev pub propagate_listed : List ℤ → List ListedHint → Propagation
+propagate_listed a [] = cond (contradictory_listed a) (Closed []) (Open (from_literals a))
+propagate_listed a (h ∷ hs) = cond (contradictory_listed a) (Closed []) (by_hint_listed h.0 h.1 a (λ l. propagate_listed (l ∷ a) hs))
 
-by_hint-listed : (n : ℕ) (d : Option (List ℤ)) (a : List ℤ) (f g : ℤ → Walk) → ((l : ℤ) → f l ≡ g l) → by_hint n (option_map from_literals d) (from_literals a) f ≡ by_hint_listed n d a g
+by_hint-listed : (n : ℕ) (d : Option (List ℤ)) (a : List ℤ) (f g : ℤ → Propagation) → ((l : ℤ) → f l ≡ g l) → by_hint n (option_map from_literals d) (from_literals a) f ≡ by_hint_listed n d a g
 by_hint-listed n None a f g e = refl
 by_hint-listed n (Some d) a f g e = λ i. by_rest n (rest-listed d a i) (λ l. e l i)
 
-pub walk-listed : (a : List ℤ) (hs : List ListedHint) → walk_over (from_literals a) (map hint_of hs) ≡ walk_listed a hs
-unfolding walk_over
-walk-listed a [] = λ i. cond (contradictory-listed a i) (Closed []) (Open (from_literals a))
-walk-listed a (h ∷ hs) = λ i. cond (contradictory-listed a i) (Closed []) (by_hint-listed h.0 h.1 a (λ l. walk_over (with_literal (from_literals a) l) (map hint_of hs)) (λ l. walk_listed (l ∷ a) hs) (λ l. walk-listed (l ∷ a) hs) i)
+pub propagate-listed : (a : List ℤ) (hs : List ListedHint) → propagate_over (from_literals a) (map hint_of hs) ≡ propagate_listed a hs
+unfolding propagate_over
+propagate-listed a [] = λ i. cond (contradictory-listed a i) (Closed []) (Open (from_literals a))
+propagate-listed a (h ∷ hs) = λ i. cond (contradictory-listed a i) (Closed []) (by_hint-listed h.0 h.1 a (λ l. propagate_over (with_literal (from_literals a) l) (map hint_of hs)) (λ l. propagate_listed (l ∷ a) hs) (λ l. propagate-listed (l ∷ a) hs) i)
 
 find-listed : (q : ℕ) (es : List ListedClause) → find nat_cmp q (map clause_of es) ≡ option_map from_literals (find nat_cmp q es)
 find-listed q [] = refl
@@ -107,12 +107,12 @@ pub hints-listed : (es : List ListedClause) (numbers : List ℕ) → hints_in (l
 hints-listed es [] = refl
 hints-listed es (n ∷ ns) = λ i. record { number = n; clause = get-listed es n i } ∷ hints-listed es ns i
 
--- a walk over clauses that are written as lists
-pub walk-evaluated : (es : List ListedClause) (lemma : List ℤ) (numbers : List ℕ) → walk (listed_clauses es) (negations (from_literals lemma)) numbers ≡ walk_listed (negations_listed [] (listed lemma)) (hints_listed es numbers)
-walk-evaluated es lemma numbers =
-    (λ i. walk_over (with_negations no_literals (literals-listed lemma i)) (hints-listed es numbers i))
-    ∙ ap (λ s. walk_over s (map hint_of (hints_listed es numbers))) (with_negations-listed [] (listed lemma))
-    ∙ walk-listed (negations_listed [] (listed lemma)) (hints_listed es numbers)
+-- a propagation over clauses that are written as lists
+pub propagate-evaluated : (es : List ListedClause) (lemma : List ℤ) (numbers : List ℕ) → propagate (listed_clauses es) (negations (from_literals lemma)) numbers ≡ propagate_listed (negations_listed [] (listed lemma)) (hints_listed es numbers)
+propagate-evaluated es lemma numbers =
+    (λ i. propagate_over (with_negations no_literals (literals-listed lemma i)) (hints-listed es numbers i))
+    ∙ ap (λ s. propagate_over s (map hint_of (hints_listed es numbers))) (with_negations-listed [] (listed lemma))
+    ∙ propagate-listed (negations_listed [] (listed lemma)) (hints_listed es numbers)
 
 abbrev ListedGroup : Type 0
 ListedGroup = ℕ × List ListedHint
@@ -140,7 +140,7 @@ others_listed d l = filter (λ m. not (eq_by_cmp lit_cmp m l)) (listed d)
 
 abbrev rat_listed : List ℤ → ℤ → List ListedGroup → List ListedClause → RatAnswer
 rat_listed a pivot groups [] = Covered []
-rat_listed a pivot groups (e ∷ es) = by_candidate e.0 (is_some (group_listed e.0 groups)) (walk_listed (negations_listed a (others_listed e.1 (neg_ℤ pivot))) (unwrap_or (group_listed e.0 groups) [])) (rat_listed a pivot groups es)
+rat_listed a pivot groups (e ∷ es) = by_candidate e.0 (is_some (group_listed e.0 groups)) (propagate_listed (negations_listed a (others_listed e.1 (neg_ℤ pivot))) (unwrap_or (group_listed e.0 groups) [])) (rat_listed a pivot groups es)
 
 unwrapped : (o : Option (List ListedHint)) → unwrap_or (option_map (map hint_of) o) [] ≡ map hint_of (unwrap_or o [])
 unwrapped None = refl
@@ -150,17 +150,17 @@ is_some-mapped : (o : Option (List ListedHint)) → is_some (option_map (map hin
 is_some-mapped None = refl
 is_some-mapped (Some hs) = refl
 
-candidate-listed : (a : List ℤ) (pivot : ℤ) (d : List ℤ) (o : Option (List ListedHint)) → candidate_walk (from_literals a) pivot (from_literals d) (option_map (map hint_of) o) ≡ walk_listed (negations_listed a (others_listed d (neg_ℤ pivot))) (unwrap_or o [])
+candidate-listed : (a : List ℤ) (pivot : ℤ) (d : List ℤ) (o : Option (List ListedHint)) → candidate_propagation (from_literals a) pivot (from_literals d) (option_map (map hint_of) o) ≡ propagate_listed (negations_listed a (others_listed d (neg_ℤ pivot))) (unwrap_or o [])
 candidate-listed a pivot d o =
-    (λ i. walk_over (with_negations (from_literals a) (filter (λ m. not (eq_by_cmp lit_cmp m (neg_ℤ pivot))) (literals-listed d i))) (unwrapped o i))
-    ∙ ap (λ s. walk_over s (map hint_of (unwrap_or o []))) (with_negations-listed a (others_listed d (neg_ℤ pivot)))
-    ∙ walk-listed (negations_listed a (others_listed d (neg_ℤ pivot))) (unwrap_or o [])
+    (λ i. propagate_over (with_negations (from_literals a) (filter (λ m. not (eq_by_cmp lit_cmp m (neg_ℤ pivot))) (literals-listed d i))) (unwrapped o i))
+    ∙ ap (λ s. propagate_over s (map hint_of (unwrap_or o []))) (with_negations-listed a (others_listed d (neg_ℤ pivot)))
+    ∙ propagate-listed (negations_listed a (others_listed d (neg_ℤ pivot))) (unwrap_or o [])
 
 rat-listed : (a : List ℤ) (pivot : ℤ) (groups : List ListedGroup) (es : List ListedClause) → rat_over (from_literals a) pivot (map named_group groups) (map clause_of es) ≡ rat_listed a pivot groups es
 unfolding rat_over
 rat-listed a pivot groups [] = refl
 rat-listed a pivot groups (e ∷ es) =
-    (λ i. by_candidate e.0 (is_some (group-listed e.0 groups i)) (candidate_walk (from_literals a) pivot (from_literals e.1) (group-listed e.0 groups i)) (rat-listed a pivot groups es i))
+    (λ i. by_candidate e.0 (is_some (group-listed e.0 groups i)) (candidate_propagation (from_literals a) pivot (from_literals e.1) (group-listed e.0 groups i)) (rat-listed a pivot groups es i))
     ∙ (λ i. by_candidate e.0 (is_some-mapped (group_listed e.0 groups) i) (candidate-listed a pivot e.1 (group_listed e.0 groups) i) (rat_listed a pivot groups es))
 
 put-listed : (n : ℕ) (c : List ℤ) (es : List ListedClause) → put nat_cmp n (from_literals c) (map clause_of es) ≡ map clause_of (put nat_cmp n c es)

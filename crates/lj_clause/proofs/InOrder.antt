@@ -36,83 +36,83 @@ any-times q (l ∷ ls) =
     ∙ ap (λ n. nat_lt 0 n) (sym (sum_by-cons (λ l. cond (eq_by_cmp lit_cmp q l) 1 0) l ls))
 
 -- what stands before the same fillers is the same set
-pub front-set : (lits room moved : List ℤ) → IsFilledUp lits room → IsPermutation room moved → IsInOrder (length lits) moved → from_literals (take (length lits) moved) ≡ from_literals lits
-front-set lits room moved filled same order =
+pub front-set : (lits scratch moved : List ℤ) → IsFilledUp lits scratch → IsPermutation scratch moved → IsInOrder (length lits) moved → from_literals (take (length lits) moved) ≡ from_literals lits
+front-set lits scratch moved filled same order =
     let front : List ℤ = take (length lits) moved in
-    let fillers : List ℤ = replicate (length room - length lits) filler in
-    let long : length moved ≡ length room = length_permutation room moved same in
+    let fillers : List ℤ = replicate (length scratch - length lits) filler in
+    let long : length moved ≡ length scratch = length_permutation scratch moved same in
     let parts : moved ≡ front ++ fillers =
     sym (take-append-drop (length lits) moved) ∙ ap (λ xs. front ++ xs) (order.1 ∙ ap (λ n. replicate (n - length lits) filler) long) in
     from_literals-same front lits (λ q.
     let f : ℤ → ℕ = λ l. cond (eq_by_cmp lit_cmp q l) 1 0 in
     let counted : times q front + times q fillers ≡ times q lits + times q fillers =
-    sym (sum_by-append f front fillers) ∙ ap (sum_by f) (sym parts) ∙ sum_by-IsPermutation f room moved same ∙ ap (sum_by f) filled ∙ sum_by-append f lits fillers in
+    sym (sum_by-append f front fillers) ∙ ap (sum_by f) (sym parts) ∙ sum_by-IsPermutation f scratch moved same ∙ ap (sum_by f) filled ∙ sum_by-append f lits fillers in
     any-times q front ∙ ap (λ n. nat_lt 0 n) (omega (arith, counted)) ∙ sym (any-times q lits))
 
 -- The literals up to a place: those before the count are in order, the others fillers.
-pub record InOrderTo (place count : ℕ) (room : List ℤ) : Type 0 where
-  pub rises : (k : ℕ) → k + 1 < place → k + 1 < count → lit_cmp (get_or room k filler) (get_or room (k + 1) filler) ≡ Less
-  pub fills : (k : ℕ) → k < place → count ≤ k → get_or room k filler ≡ filler
+pub record InOrderTo (position count : ℕ) (scratch : List ℤ) : Type 0 where
+  pub rises : (k : ℕ) → k + 1 < position → k + 1 < count → lit_cmp (get_or scratch k filler) (get_or scratch (k + 1) filler) ≡ Less
+  pub fills : (k : ℕ) → k < position → count ≤ k → get_or scratch k filler ≡ filler
 
-pub none-yet : (count : ℕ) (room : List ℤ) → InOrderTo 0 count room
-none-yet count room = record { rises = λ k lt. absurd (omega arith); fills = λ k lt. absurd (omega arith) }
+pub none-yet : (count : ℕ) (scratch : List ℤ) → InOrderTo 0 count scratch
+none-yet count scratch = record { rises = λ k lt. absurd (omega arith); fills = λ k lt. absurd (omega arith) }
 
-pub one-more : (place count : ℕ) (room : List ℤ) → (place < count → 0 < place → lit_cmp (get_or room (place - 1) filler) (get_or room place filler) ≡ Less) → (count ≤ place → get_or room place filler ≡ filler)
-    → InOrderTo place count room → InOrderTo (place + 1) count room
-one-more place count room rise fill h = record {
-  rises = λ k lt few. rises k lt few (cases_lt (k + 1) place);
-  fills = λ k lt le. fills k lt le (cases_lt k place);
+pub one-more : (position count : ℕ) (scratch : List ℤ) → (position < count → 0 < position → lit_cmp (get_or scratch (position - 1) filler) (get_or scratch position filler) ≡ Less) → (count ≤ position → get_or scratch position filler ≡ filler)
+    → InOrderTo position count scratch → InOrderTo (position + 1) count scratch
+one-more position count scratch rise fill h = record {
+  rises = λ k lt inline. rises k lt inline (cases_lt (k + 1) position);
+  fills = λ k lt le. fills k lt le (cases_lt k position);
 }
   where
-    rises : (k : ℕ) → k + 1 < place + 1 → k + 1 < count → (k + 1 < place) ⊎ (place ≤ k + 1) → lit_cmp (get_or room k filler) (get_or room (k + 1) filler) ≡ Less
-    rises k lt few (inl less) = h.rises k less few
-    rises k lt few (inr le) =
-        let P : ℕ → Type 0 = λ i. lit_cmp (get_or room (i - 1) filler) (get_or room i filler) ≡ Less in
-        let is : place ≡ k + 1 = omega (arith, lt, le) in
-        let Q : ℕ → Type 0 = λ i. lit_cmp (get_or room i filler) (get_or room (k + 1) filler) ≡ Less in
+    rises : (k : ℕ) → k + 1 < position + 1 → k + 1 < count → (k + 1 < position) ⊎ (position ≤ k + 1) → lit_cmp (get_or scratch k filler) (get_or scratch (k + 1) filler) ≡ Less
+    rises k lt inline (inl less) = h.rises k less inline
+    rises k lt inline (inr le) =
+        let P : ℕ → Type 0 = λ i. lit_cmp (get_or scratch (i - 1) filler) (get_or scratch i filler) ≡ Less in
+        let is : position ≡ k + 1 = omega (arith, lt, le) in
+        let Q : ℕ → Type 0 = λ i. lit_cmp (get_or scratch i filler) (get_or scratch (k + 1) filler) ≡ Less in
         let before : (k + 1) - 1 ≡ k = omega arith in
-        subst Q before (subst P is (rise (omega (arith, is, few)) (omega (arith, is))))
+        subst Q before (subst P is (rise (omega (arith, is, inline)) (omega (arith, is))))
 
-    fills : (k : ℕ) → k < place + 1 → count ≤ k → (k < place) ⊎ (place ≤ k) → get_or room k filler ≡ filler
+    fills : (k : ℕ) → k < position + 1 → count ≤ k → (k < position) ⊎ (position ≤ k) → get_or scratch k filler ≡ filler
     fills k lt le (inl less) = h.fills k less le
     fills k lt le (inr at) =
-        let P : ℕ → Type 0 = λ i. get_or room i filler ≡ filler in
-        let is : place ≡ k = omega (arith, lt, at) in
+        let P : ℕ → Type 0 = λ i. get_or scratch i filler ≡ filler in
+        let is : position ≡ k = omega (arith, lt, at) in
         subst P is (fill (omega (arith, is, le)))
 
-pub in-order : (count : ℕ) (room : List ℤ) → InOrderTo (length room) count room → IsInOrder count room
-in-order count room h = (
-  sorted_from_all_adjacent lit_cmp_total (take count room) filler (λ k lt.
-      let more : k + 1 < count × (k + 1 < length room) = (omega (arith, length-take count room), omega (arith, length-take count room)) in
-      ap (λ l. lit_cmp l (get_or (take count room) (k + 1) filler)) (get_or-take count room k filler (omega (arith, more.0)))
-      ∙ ap (λ l. lit_cmp (get_or room k filler) l) (get_or-take count room (k + 1) filler more.0)
+pub in-order : (count : ℕ) (scratch : List ℤ) → InOrderTo (length scratch) count scratch → IsInOrder count scratch
+in-order count scratch h = (
+  sorted_from_all_adjacent lit_cmp_total (take count scratch) filler (λ k lt.
+      let more : k + 1 < count × (k + 1 < length scratch) = (omega (arith, length-take count scratch), omega (arith, length-take count scratch)) in
+      ap (λ l. lit_cmp l (get_or (take count scratch) (k + 1) filler)) (get_or-take count scratch k filler (omega (arith, more.0)))
+      ∙ ap (λ l. lit_cmp (get_or scratch k filler) l) (get_or-take count scratch (k + 1) filler more.0)
       ∙ h.rises k more.1 more.0),
-  ext_get_or filler (drop count room) (replicate (length room - count) filler) (length-drop count room ∙ sym (length-replicate (length room - count) filler)) (λ i lt.
-      get_or-drop count room i filler ∙ h.fills (count + i) (omega (arith, lt, length-drop count room)) (omega arith)
-      ∙ sym (get_or-replicate (length room - count) i filler filler (omega (arith, lt, length-drop count room)))),
+  ext_get_or filler (drop count scratch) (replicate (length scratch - count) filler) (length-drop count scratch ∙ sym (length-replicate (length scratch - count) filler)) (λ i lt.
+      get_or-drop count scratch i filler ∙ h.fills (count + i) (omega (arith, lt, length-drop count scratch)) (omega arith)
+      ∙ sym (get_or-replicate (length scratch - count) i filler filler (omega (arith, lt, length-drop count scratch)))),
 )
 
 -- a list and fillers behind it, up to so many
-pub filled-front : (lits all room : List ℤ) (n : ℕ) → length lits ≤ n → all ≡ lits ++ replicate n filler → room ≡ take n all → IsFilledUp lits room
-filled-front lits all room n few is cut =
+pub filled-front : (lits all scratch : List ℤ) (n : ℕ) → length lits ≤ n → all ≡ lits ++ replicate n filler → scratch ≡ take n all → IsFilledUp lits scratch
+filled-front lits all scratch n inline is cut =
     let k : ℕ = n - length lits in
     let fillers : List ℤ = replicate n filler in
-    let sum : length lits + k ≡ n = omega (arith, few) in
-    let shape : room ≡ lits ++ replicate k filler =
+    let sum : length lits + k ≡ n = omega (arith, inline) in
+    let shape : scratch ≡ lits ++ replicate k filler =
     cut ∙ ap (take n) is ∙ ap (λ m. take m (lits ++ fillers)) (sym sum) ∙ take-append-add lits fillers k ∙ ap (λ t. lits ++ t) (take-replicate k n filler (omega arith)) in
-    let long : length room ≡ n = omega (arith, ap length shape, length-append lits (replicate k filler), length-replicate k filler, sum) in
+    let long : length scratch ≡ n = omega (arith, ap length shape, length-append lits (replicate k filler), length-replicate k filler, sum) in
     shape ∙ ap (λ m. lits ++ replicate (m - length lits) filler) (sym long)
 
-pub below-at : (room : List ℤ) (i : ℕ) (a b : ℤ) → 0 < i → i < length room → a ≡ get_or room (i - 1) a → b ≡ get_or room i b → lit_cmp a b ≡ Less → lit_cmp (get_or room (i - 1) filler) (get_or room i filler) ≡ Less
-below-at room i a b some lt at-a at-b less =
-    ap (λ l. lit_cmp l (get_or room i filler)) (get_or_default room (i - 1) filler a (omega (arith, lt, some)) ∙ sym at-a)
-    ∙ ap (λ l. lit_cmp a l) (get_or_default room i filler b lt ∙ sym at-b)
+pub below-at : (scratch : List ℤ) (i : ℕ) (a b : ℤ) → 0 < i → i < length scratch → a ≡ get_or scratch (i - 1) a → b ≡ get_or scratch i b → lit_cmp a b ≡ Less → lit_cmp (get_or scratch (i - 1) filler) (get_or scratch i filler) ≡ Less
+below-at scratch i a b some lt at-a at-b less =
+    ap (λ l. lit_cmp l (get_or scratch i filler)) (get_or_default scratch (i - 1) filler a (omega (arith, lt, some)) ∙ sym at-a)
+    ∙ ap (λ l. lit_cmp a l) (get_or_default scratch i filler b lt ∙ sym at-b)
     ∙ less
 
-pub filler-at : (room : List ℤ) (i : ℕ) (a : ℤ) → i < length room → a ≡ get_or room i a → a ≡ filler → get_or room i filler ≡ filler
-filler-at room i a lt at is = get_or_default room i filler a lt ∙ sym at ∙ is
+pub filler-at : (scratch : List ℤ) (i : ℕ) (a : ℤ) → i < length scratch → a ≡ get_or scratch i a → a ≡ filler → get_or scratch i filler ≡ filler
+filler-at scratch i a lt at is = get_or_default scratch i filler a lt ∙ sym at ∙ is
 
-pub copied-front : (lits all : List ℤ) (n : ℕ) (chunk : Option (Bor (List ℤ))) (room : Option (List ℤ)) → length lits ≤ n → all ≡ lits ++ replicate n filler → room ≡ option_copied chunk
-    → MatchOption chunk (length all < n) (λ y. IsFirstChunk all y.now n) → IfSome room (λ room. IsFilledUp lits room)
-copied-front lits all n None room few is copied cut = subst (λ r. IfSome r (λ room. IsFilledUp lits room)) (sym copied) tt
-copied-front lits all n (Some y) room few is copied cut = subst (λ r. IfSome r (λ room. IsFilledUp lits room)) (sym copied) (filled-front lits all y.now n few is cut.same)
+pub copied-front : (lits all : List ℤ) (n : ℕ) (chunk : Option (Bor (List ℤ))) (scratch : Option (List ℤ)) → length lits ≤ n → all ≡ lits ++ replicate n filler → scratch ≡ option_copied chunk
+    → MatchOption chunk (length all < n) (λ y. IsFirstChunk all y.now n) → IfSome scratch (λ scratch. IsFilledUp lits scratch)
+copied-front lits all n None scratch inline is copied cut = subst (λ r. IfSome r (λ scratch. IsFilledUp lits scratch)) (sym copied) tt
+copied-front lits all n (Some y) scratch inline is copied cut = subst (λ r. IfSome r (λ scratch. IsFilledUp lits scratch)) (sym copied) (filled-front lits all y.now n inline is cut.same)

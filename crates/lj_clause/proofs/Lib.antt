@@ -14,5 +14,5 @@ pub mod Among
 pub mod TruthLaws
 pub mod Images
 pub mod Renaming
-pub mod WalkLaws
+pub mod PropagationLaws
 pub mod RatLaws

@@ -41,13 +41,13 @@ pub held_before : (s : LiteralSet) (l q : ℤ) → holds (with_literal s l) q �
 held_before s l q h =
     elim (or_cases (eq_by_cmp lit_cmp q l) (holds s q) (sym (holds-with_literal s l q) ∙ h)) [ inl e ↦ inl (same_literal q l e) | inr e ↦ inr e ]
 
-marks : (x : Option (Unit {0})) → x ≡ cond (is_some x) (Some tt) None
-marks None = refl
-marks (Some u) = refl
+propagator : (x : Option (Unit {0})) → x ≡ cond (is_some x) (Some tt) None
+propagator None = refl
+propagator (Some u) = refl
 
 -- two sets with the same literals are one
 pub same_set : (s t : LiteralSet) → ((q : ℤ) → holds s q ≡ holds t q) → s ≡ t
-same_set s t is = fin.same_map lit_cmp_total lit_cmp-antisymmetric s t (λ q. marks _ ∙ ap (λ b. cond b (Some tt) None) (is q) ∙ sym (marks _))
+same_set s t is = fin.same_map lit_cmp_total lit_cmp-antisymmetric s t (λ q. propagator _ ∙ ap (λ b. cond b (Some tt) None) (is q) ∙ sym (propagator _))
 
 -- and so are two of which each holds what the other does
 pub same_by : (s t : LiteralSet) → ((q : ℤ) → holds s q ≡ true → holds t q ≡ true) → ((q : ℤ) → holds t q ≡ true → holds s q ≡ true) → s ≡ t

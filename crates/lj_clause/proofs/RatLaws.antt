@@ -16,26 +16,26 @@ use Rattle.lj_clause.specs.Literal.{lit_cmp, variable_of}
 use Rattle.lj_clause.specs.LiteralSet.{LiteralSet, holds, literals, with_negations, negations}
 use Rattle.lj_clause.specs.ClauseMap.{ClauseMap}
 use Rattle.lj_clause.specs.Truth.{Assignment, is_true, satisfies, SatisfiesAll, IsSatisfiable}
-use Rattle.lj_clause.specs.Walk.{Walk, Closed, Open, Stuck, hints_in, walk_over, walk}
-use Rattle.lj_clause.specs.Rat.{HintGroup, groups_in, group_of, RatAnswer, Covered, MissingGroup, GroupStuck, GroupOpen, candidates, others, with_group, by_candidate, candidate_walk, rat_over, rat}
+use Rattle.lj_clause.specs.Propagation.{Propagation, Closed, Open, Stuck, hints_in, propagate_over, propagate}
+use Rattle.lj_clause.specs.Rat.{HintGroup, groups_in, group_of, RatAnswer, Covered, MissingGroup, GroupStuck, GroupOpen, candidates, others, with_group, by_candidate, candidate_propagation, rat_over, rat}
 use Rattle.lj_clause.specs.Laws.{hints_given, IsRecordedForm}
 use Rattle.lj_clause.proofs.LiteralSets.{holds-literals}
 use Rattle.lj_clause.proofs.Among.{among, itself, any_at, any_found, passed}
 use Rattle.lj_clause.proofs.TruthLaws.{is_true-neg_ℤ, neg_nonzero, satisfies_by, true_literal, false_literal, holds-with_negations, SatisfiesAll-insert}
-use Rattle.lj_clause.proofs.WalkLaws.{AllTrue, not_all_true, all_true, AllTrue-negations, SatisfiesHints-hints_in, walk-used, used-first, list_all-each, used-all_in}
+use Rattle.lj_clause.proofs.PropagationLaws.{AllTrue, not_all_true, all_true, AllTrue-negations, SatisfiesHints-hints_in, propagate-used, used-first, list_all-each, used-all_in}
 use Rattle.lj_clause.proofs.Tests.{left_of, right_of}
 use Rattle.lj_clause.proofs.SortedEntries.{is_less, is_sorted-filter, none_below}
 
 -- ---- a covered pivot, candidate by candidate
 
--- the walk of a candidate over the hints given for it
-abbrev pub walk_of : ClauseMap → LiteralSet → ℤ → List HintGroup → ℕ × LiteralSet → Walk
-walk_of p s pivot groups e = walk p (with_negations s (others e.1 (neg_ℤ pivot))) (hints_given e.0 groups)
+-- the propagation of a candidate over the hints given for it
+abbrev pub propagation_of : ClauseMap → LiteralSet → ℤ → List HintGroup → ℕ × LiteralSet → Propagation
+propagation_of p s pivot groups e = propagate p (with_negations s (others e.1 (neg_ℤ pivot))) (hints_given e.0 groups)
 
--- the recorded group of a candidate: its number, and the hints that closed its walk
+-- the recorded group of a candidate: its number, and the hints that closed its propagation
 pub record IsRecorded (p : ClauseMap) (s : LiteralSet) (pivot : ℤ) (groups : List HintGroup) (e : ℕ × LiteralSet) (g : HintGroup) : Type 0 where
   pub number : g.candidate ≡ e.0
-  pub closes : walk_of p s pivot groups e ≡ Closed g.hints
+  pub closes : propagation_of p s pivot groups e ≡ Closed g.hints
 
 hints-group_of : (p : ClauseMap) (n : ℕ) (groups : List HintGroup) → unwrap_or (group_of n (groups_in p groups)) [] ≡ hints_in p (hints_given n groups)
 hints-group_of p n [] = refl
@@ -45,11 +45,11 @@ hints-group_of p n (g ∷ gs) =
       | false ↦ hints-group_of p n gs
     ]
 
-walk_of-candidate : (p : ClauseMap) (s : LiteralSet) (pivot : ℤ) (groups : List HintGroup) (e : ℕ × LiteralSet) → candidate_walk s pivot e.1 (group_of e.0 (groups_in p groups)) ≡ walk_of p s pivot groups e
-walk_of-candidate p s pivot groups e = ap (walk_over (with_negations s (others e.1 (neg_ℤ pivot)))) (hints-group_of p e.0 groups)
+propagation_of-candidate : (p : ClauseMap) (s : LiteralSet) (pivot : ℤ) (groups : List HintGroup) (e : ℕ × LiteralSet) → candidate_propagation s pivot e.1 (group_of e.0 (groups_in p groups)) ≡ propagation_of p s pivot groups e
+propagation_of-candidate p s pivot groups e = ap (propagate_over (with_negations s (others e.1 (neg_ℤ pivot)))) (hints-group_of p e.0 groups)
 
 -- what an answer that covers a candidate and those after it came from
-record CoveredFirst (n : ℕ) (w : Walk) (later : RatAnswer) (gs : List HintGroup) : Type 0 where
+record CoveredFirst (n : ℕ) (w : Propagation) (later : RatAnswer) (gs : List HintGroup) : Type 0 where
   used : List ℕ
   others_groups : List HintGroup
   closes : w ≡ Closed used
@@ -62,15 +62,15 @@ same_groups xs ys e = cc
 first_group : (n : ℕ) (used : List ℕ) (later : RatAnswer) (gs : List HintGroup) → with_group n used later ≡ Covered gs → CoveredFirst n (Closed used) later gs
 first_group n used (Covered groups) gs e = record { used = used; others_groups = groups; closes = refl; covers = refl; groups = sym (same_groups (record { candidate = n; hints = used } ∷ groups) gs e) }
 first_group n used (MissingGroup m) gs e = cc
-first_group n used (GroupStuck m place) gs e = cc
+first_group n used (GroupStuck m position) gs e = cc
 first_group n used (GroupOpen m) gs e = cc
 
-covered_first : (n : ℕ) (has : Bool) (w : Walk) (later : RatAnswer) (gs : List HintGroup) → by_candidate n has w later ≡ Covered gs → CoveredFirst n w later gs
+covered_first : (n : ℕ) (has : Bool) (w : Propagation) (later : RatAnswer) (gs : List HintGroup) → by_candidate n has w later ≡ Covered gs → CoveredFirst n w later gs
 covered_first n has (Closed used) later gs e = first_group n used later gs e
 covered_first n true (Open a) later gs e = cc
 covered_first n false (Open a) later gs e = cc
-covered_first n true (Stuck place) later gs e = cc
-covered_first n false (Stuck place) later gs e = cc
+covered_first n true (Stuck position) later gs e = cc
+covered_first n false (Stuck position) later gs e = cc
 
 nothing_covers : (gs : List HintGroup) → Covered [] ≡ Covered gs → AllZip {A = ℕ × LiteralSet} (λ e g. ⊥) [] gs
 nothing_covers [] e = tt
@@ -81,9 +81,9 @@ unfolding rat_over
 recorded_all p s pivot groups [] [] e = tt
 recorded_all p s pivot groups [] (g ∷ gs) e = cc
 recorded_all p s pivot groups (c ∷ cs) gs e =
-    let f = covered_first c.0 (is_some (group_of c.0 (groups_in p groups))) (candidate_walk s pivot c.1 (group_of c.0 (groups_in p groups))) (rat_over s pivot (groups_in p groups) cs) gs e in
+    let f = covered_first c.0 (is_some (group_of c.0 (groups_in p groups))) (candidate_propagation s pivot c.1 (group_of c.0 (groups_in p groups))) (rat_over s pivot (groups_in p groups) cs) gs e in
     subst (λ hs. AllZip (IsRecorded p s pivot groups) (c ∷ cs) hs) (sym f.groups) (
-      record { number = refl; closes = sym (walk_of-candidate p s pivot groups c) ∙ f.closes },
+      record { number = refl; closes = sym (propagation_of-candidate p s pivot groups c) ∙ f.closes },
       recorded_all p s pivot groups cs f.others_groups f.covers,
     )
 
@@ -93,7 +93,7 @@ covers_all p s pivot groups [] [] h = refl
 covers_all p s pivot groups [] (g ∷ gs) h = absurd h
 covers_all p s pivot groups (c ∷ cs) [] h = absurd h
 covers_all p s pivot groups (c ∷ cs) (g ∷ gs) h =
-    λ i. by_candidate (sym h.0.number i) (is_some (group_of c.0 (groups_in p groups))) ((walk_of-candidate p s pivot groups c ∙ h.0.closes) i) (covers_all p s pivot groups cs gs h.1 i)
+    λ i. by_candidate (sym h.0.number i) (is_some (group_of c.0 (groups_in p groups))) ((propagation_of-candidate p s pivot groups c ∙ h.0.closes) i) (covers_all p s pivot groups cs gs h.1 i)
 
 -- a pivot is covered exactly by the groups that record each candidate
 pub recorded-rat : (p : ClauseMap) (s : LiteralSet) (pivot : ℤ) (groups gs : List HintGroup) → rat p s pivot groups ≡ Covered gs → AllZip (IsRecorded p s pivot groups) (candidates p pivot) gs
@@ -203,7 +203,7 @@ rat-again p s pivot groups gs e =
     let back = given_back es gs (Apart-candidates p pivot) (zip_both {U = λ (c : ℕ × LiteralSet) (g : HintGroup). g.candidate ≡ c.0} es gs was was (λ c g h _. h.number)) in
     rat-recorded p s pivot gs gs (zip_both es gs was back (λ c g h is. record {
       number = h.number;
-      closes = ap (λ ns. walk p (with_negations s (others c.1 (neg_ℤ pivot))) ns) is ∙ walk-used p (with_negations s (others c.1 (neg_ℤ pivot))) (hints_given c.0 groups) g.hints h.closes;
+      closes = ap (λ ns. propagate p (with_negations s (others c.1 (neg_ℤ pivot))) ns) is ∙ propagate-used p (with_negations s (others c.1 (neg_ℤ pivot))) (hints_given c.0 groups) g.hints h.closes;
     }))
 
 -- the recorded groups of a covered pivot are in recorded form
@@ -333,15 +333,15 @@ AllTrue-with_negations a s ls all none m nonzero h =
       | inr e ↦ all m nonzero e
     ]
 
--- where the walk of a candidate is closed, one of its other literals is true
-other_true : (a : Assignment) (p : ClauseMap) (s : LiteralSet) (ls : List ℤ) (numbers used : List ℕ) → SatisfiesAll a p → AllTrue a s → walk p (with_negations s ls) numbers ≡ Closed used → list_any (is_true a) ls ≡ true
+-- where the propagation of a candidate is closed, one of its other literals is true
+other_true : (a : Assignment) (p : ClauseMap) (s : LiteralSet) (ls : List ℤ) (numbers used : List ℕ) → SatisfiesAll a p → AllTrue a s → propagate p (with_negations s ls) numbers ≡ Closed used → list_any (is_true a) ls ≡ true
 other_true a p s ls numbers used all true_here e =
     elim (list_any (is_true a) ls) as (λ b. list_any (is_true a) ls ≡ b → b ≡ true) [
       | true ↦ λ f. refl
       | false ↦ λ f. absurd (not_all_true a (with_negations s ls) (hints_in p numbers) used e (SatisfiesHints-hints_in a p numbers all) (AllTrue-with_negations a s ls true_here f))
     ] refl
 
-candidate_kept : (a : Assignment) (p : ClauseMap) (s : LiteralSet) (pivot : ℤ) (d : LiteralSet) (numbers used : List ℕ) → SatisfiesAll a p → AllTrue a s → is_true a pivot ≡ false → walk p (with_negations s (others d (neg_ℤ pivot))) numbers ≡ Closed used → satisfies (flipped a pivot) d ≡ true
+candidate_kept : (a : Assignment) (p : ClauseMap) (s : LiteralSet) (pivot : ℤ) (d : LiteralSet) (numbers used : List ℕ) → SatisfiesAll a p → AllTrue a s → is_true a pivot ≡ false → propagate p (with_negations s (others d (neg_ℤ pivot))) numbers ≡ Closed used → satisfies (flipped a pivot) d ≡ true
 candidate_kept a p s pivot d numbers used all true_here f e =
     let found = any_found (is_true a) (others d (neg_ℤ pivot)) (other_true a p s (others d (neg_ℤ pivot)) numbers used all true_here e) in
     let q : ℤ = found.0 in
@@ -384,7 +384,7 @@ SatisfiesAll-flipped a p s pivot groups gs all true_here f e n d got =
     ] refl
 
 -- some assignment satisfies the map with the clause, where its pivot is covered
-pub IsSatisfiable-rat : (p : ClauseMap) (n : ℕ) (c : LiteralSet) (pivot : ℤ) (numbers : List ℕ) (s : LiteralSet) (groups gs : List HintGroup) → pivot ≢ pos 0 → holds c pivot ≡ true → walk p (negations c) numbers ≡ Open s → rat p s pivot groups ≡ Covered gs → IsSatisfiable p → IsSatisfiable (fin.insert p n c)
+pub IsSatisfiable-rat : (p : ClauseMap) (n : ℕ) (c : LiteralSet) (pivot : ℤ) (numbers : List ℕ) (s : LiteralSet) (groups gs : List HintGroup) → pivot ≢ pos 0 → holds c pivot ≡ true → propagate p (negations c) numbers ≡ Open s → rat p s pivot groups ≡ Covered gs → IsSatisfiable p → IsSatisfiable (fin.insert p n c)
 IsSatisfiable-rat p n c pivot numbers s groups gs nonzero h ends covers some =
     let a : Assignment = some.0 in
     elim (satisfies a c) as (λ b. satisfies a c ≡ b → IsSatisfiable (fin.insert p n c)) [

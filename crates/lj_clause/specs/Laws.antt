@@ -1,4 +1,4 @@
--- The laws of walks and of candidates.
+-- The laws of propagations and of candidates.
 use Rattle.std.specs.Prelude.{◌≡◌, ◌≢◌, ◌==◌, ◌↔◌, ℕ, ℤ, pos, true, List, [], ◌∷◌, map, length, take, option_map, if◌then◌else◌}
 use Rattle.std.specs.List.{list_all, AllByRecursion}
 use Rattle.std.specs.List.Sorted.{IsStrictlyIncreasing}
@@ -9,27 +9,27 @@ use Rattle.lj_clause.specs.LiteralSet.{LiteralSet, holds, with_literal, from_lit
 use Rattle.lj_clause.specs.Lemma.{LemmaValue, IsLemma, lemma_of}
 use Rattle.lj_clause.specs.ClauseMap.{ClauseMap, names_up_to}
 use Rattle.lj_clause.specs.Truth.{Assignment, satisfies, SatisfiesAll, IsSatisfiable}
-use Rattle.lj_clause.specs.Walk.{Closed, Open, walk, is_rup}
+use Rattle.lj_clause.specs.Propagation.{Closed, Open, propagate, is_rup}
 use Rattle.lj_clause.specs.Rat.{HintGroup, Covered, candidates, rat}
 use Rattle.lj_clause.specs.Renaming.{Renaming, renamed, literal_image, image, lemma_image, has_name, is_named, IsOneToOne, IsNewName, inverse, IsPartOf, clauses_image, AreNamed}
 
 -- an assignment that satisfies the clauses of a map satisfies each clause that is RUP in it
-abbrev pub ClosedWalkImplies : Type 0
-ClosedWalkImplies = (p : ClauseMap) (c : LiteralSet) (numbers : List ℕ) (a : Assignment)
+abbrev pub ClosedPropagationImplies : Type 0
+ClosedPropagationImplies = (p : ClauseMap) (c : LiteralSet) (numbers : List ℕ) (a : Assignment)
     → is_rup p c numbers ≡ true → SatisfiesAll a p → satisfies a c ≡ true
 
--- the hints that a closed walk read are the first of those given, and close it alone
+-- the hints that a closed propagation read are the first of those given, and close it alone
 abbrev pub UsedPartCloses : Type 0
 UsedPartCloses = (p : ClauseMap) (s : LiteralSet) (numbers used : List ℕ)
-    → walk p s numbers ≡ Closed used
-    → (take (length used) numbers ≡ used) × (walk p s used ≡ Closed used)
+    → propagate p s numbers ≡ Closed used
+    → (take (length used) numbers ≡ used) × (propagate p s used ≡ Closed used)
 
 -- a clause that is RAT on its pivot can be added to a satisfiable map under any number, and leaves it satisfiable
 abbrev pub RatKeepsSatisfiable : Type 0
 RatKeepsSatisfiable =
     (p : ClauseMap) (n : ℕ) (c : LiteralSet) (pivot : ℤ) (numbers : List ℕ) (s : LiteralSet)
     (groups recorded : List HintGroup) → pivot ≢ pos 0 → holds c pivot ≡ true
-    → walk p (negations c) numbers ≡ Open s → rat p s pivot groups ≡ Covered recorded
+    → propagate p (negations c) numbers ≡ Open s → rat p s pivot groups ≡ Covered recorded
     → IsSatisfiable p → IsSatisfiable (insert p n c)
 
 -- the hints given for a candidate: those of its first group, none if it has no group

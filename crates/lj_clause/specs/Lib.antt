@@ -3,7 +3,7 @@ pub mod LiteralSet
 pub mod Lemma
 pub mod ClauseMap
 pub mod Truth
-pub mod Walk
+pub mod Propagation
 pub mod Rat
 pub mod Renaming
 pub mod Listed

@@ -18,10 +18,10 @@ abbrev pub literal_on : ℕ → Bool → ℤ
 literal_on variable negative = if negative then neg_ℤ (pos variable) else pos variable
 
 -- the place of a literal in the order of literals
-abbrev pub place_of : ℤ → ℕ
-place_of (pos n) = 2 * n
-place_of (negsuc n) = 2 * n + 3
+abbrev pub index_of : ℤ → ℕ
+index_of (pos n) = 2 * n
+index_of (negsuc n) = 2 * n + 3
 
 -- literals are ordered by variable, and for one variable the positive literal comes first
 abbrev pub lit_cmp : ℤ → ℤ → Ordering
-lit_cmp a b = nat_cmp (place_of a) (place_of b)
+lit_cmp a b = nat_cmp (index_of a) (index_of b)

@@ -1,4 +1,4 @@
--- Finite sets of literals: what a clause is, and what a walk holds to be true.
+-- Finite sets of literals: what a clause is, and what a propagation holds to be true.
 use Rattle.std.specs.Prelude.{Bool, List, [], ◌∷◌, ℤ, neg_ℤ}
 use Rattle.std.specs.FinSet.{FinSet}
 use Rattle.std.specs.FinMap as map

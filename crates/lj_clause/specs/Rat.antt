@@ -5,7 +5,7 @@ use Rattle.std.specs.FinMap.{entries}
 use Rattle.lj_clause.specs.Literal.{lit_cmp}
 use Rattle.lj_clause.specs.LiteralSet.{LiteralSet, holds, literals, with_negations}
 use Rattle.lj_clause.specs.ClauseMap.{ClauseMap}
-use Rattle.lj_clause.specs.Walk.{Walk, Closed, Open, Stuck, Hint, hints_in, walk_over}
+use Rattle.lj_clause.specs.Propagation.{Propagation, Closed, Open, Stuck, Hint, hints_in, propagate_over}
 
 -- The hints for one candidate.
 pub record HintGroup : Type 0 where
@@ -29,9 +29,9 @@ group_of n (g ∷ gs) = if g.candidate == n then Some g.hints else group_of n gs
 
 -- how the test of the candidates ends
 pub data RatAnswer : Type 0 where
-  -- each candidate's walk is closed: the groups with the hints that were read, by rising candidate
+  -- each candidate's propagation is closed: the groups with the hints that were read, by rising candidate
   Covered : List HintGroup → RatAnswer
-  -- the first candidate whose walk isn't closed: it has no group, its walk is stuck at a place, or it ends open
+  -- the first candidate whose propagation isn't closed: it has no group, its propagation is stuck at a place, or it ends open
   MissingGroup : ℕ → RatAnswer
   GroupStuck : ℕ → ℕ → RatAnswer
   GroupOpen : ℕ → RatAnswer
@@ -48,34 +48,34 @@ others c l = filter (λ m. not (eq_by_cmp lit_cmp m l)) (literals c)
 abbrev pub with_group : ℕ → List ℕ → RatAnswer → RatAnswer
 with_group n used (Covered groups) = Covered (record { candidate = n; hints = used } ∷ groups)
 with_group n used (MissingGroup m) = MissingGroup m
-with_group n used (GroupStuck m place) = GroupStuck m place
+with_group n used (GroupStuck m position) = GroupStuck m position
 with_group n used (GroupOpen m) = GroupOpen m
 
--- what a candidate's walk gives, by whether it has a group, before the answer for those after it
-abbrev pub by_candidate : ℕ → Bool → Walk → RatAnswer → RatAnswer
+-- what a candidate's propagation gives, by whether it has a group, before the answer for those after it
+abbrev pub by_candidate : ℕ → Bool → Propagation → RatAnswer → RatAnswer
 by_candidate n has_group (Closed used) later = with_group n used later
 by_candidate n has_group (Open a) later = if has_group then GroupOpen n else MissingGroup n
-by_candidate n has_group (Stuck place) later = if has_group then GroupStuck n place
+by_candidate n has_group (Stuck position) later = if has_group then GroupStuck n position
     else MissingGroup n
 
--- the walk of a with the negations of the candidate's literals other than the pivot's negation, over its group
-abbrev pub candidate_walk : LiteralSet → ℤ → LiteralSet → Option (List Hint) → Walk
-candidate_walk a pivot d group = walk_over (with_negations a (others d (neg_ℤ pivot)))
+-- the propagation of a with the negations of the candidate's literals other than the pivot's negation, over its group
+abbrev pub candidate_propagation : LiteralSet → ℤ → LiteralSet → Option (List Hint) → Propagation
+candidate_propagation a pivot d group = propagate_over (with_negations a (others d (neg_ℤ pivot)))
     (unwrap_or group [])
 
 -- the test of these candidates
 unfoldable pub rat_over : LiteralSet → ℤ → List NamedGroup → List (ℕ × LiteralSet) → RatAnswer
 rat_over a pivot groups [] = Covered []
 rat_over a pivot groups (e ∷ es) = by_candidate e.0 (is_some (group_of e.0 groups))
-    (candidate_walk a pivot e.1 (group_of e.0 groups)) (rat_over a pivot groups es)
+    (candidate_propagation a pivot e.1 (group_of e.0 groups)) (rat_over a pivot groups es)
 
--- the test of all candidates of the pivot in a clause map, for a walk that ended open with a
+-- the test of all candidates of the pivot in a clause map, for a propagation that ended open with a
 abbrev pub rat : ClauseMap → LiteralSet → ℤ → List HintGroup → RatAnswer
 rat p a pivot groups = rat_over a pivot (groups_in p groups) (candidates p pivot)
 
--- whether each candidate's walk is closed
+-- whether each candidate's propagation is closed
 abbrev pub is_covered : RatAnswer → Bool
 is_covered (Covered groups) = true
 is_covered (MissingGroup n) = false
-is_covered (GroupStuck n place) = false
+is_covered (GroupStuck n position) = false
 is_covered (GroupOpen n) = false

@@ -1,4 +1,4 @@
--- Renamings of variables, and what becomes of literals, clauses, hints and walks.
+-- Renamings of variables, and what becomes of literals, clauses, hints and propagations.
 use Rattle.std.specs.Prelude.{◌≡◌, ◌<◌, ℕ, suc, ℤ, pos, negsuc, neg_ℤ, Bool, true, ◌||◌, nat_le, List, map, Some, None, option_map, unwrap_or, All, IfSome}
 use Rattle.std.specs.List.{list_all}
 use Rattle.std.specs.Ordering.{nat_cmp}
@@ -7,7 +7,7 @@ use Rattle.lj_clause.specs.Literal.{variable_of}
 use Rattle.lj_clause.specs.LiteralSet.{LiteralSet, literals, from_literals}
 use Rattle.lj_clause.specs.Lemma.{LemmaValue}
 use Rattle.lj_clause.specs.ClauseMap.{ClauseMap}
-use Rattle.lj_clause.specs.Walk.{Walk, Closed, Open, Stuck, Hint}
+use Rattle.lj_clause.specs.Propagation.{Propagation, Closed, Open, Stuck, Hint}
 use Rattle.lj_clause.specs.Rat.{NamedGroup}
 
 -- a renaming of variables: a finite map, which leaves those that it hasn't
@@ -75,11 +75,11 @@ hint_image m h = record { number = h.number; clause = option_map (image m) h.cla
 abbrev pub group_image : Renaming → NamedGroup → NamedGroup
 group_image m g = record { candidate = g.candidate; hints = map (hint_image m) g.hints }
 
--- what the end of a walk becomes: an open one holds other literals
-abbrev pub walk_image : Renaming → Walk → Walk
-walk_image m (Closed used) = Closed used
-walk_image m (Open a) = Open (image m a)
-walk_image m (Stuck place) = Stuck place
+-- what the end of a propagation becomes: an open one holds other literals
+abbrev pub propagation_image : Renaming → Propagation → Propagation
+propagation_image m (Closed used) = Closed used
+propagation_image m (Open a) = Open (image m a)
+propagation_image m (Stuck position) = Stuck position
 
 -- the clauses of a map are named
 abbrev pub AreNamed : ℕ → Renaming → ClauseMap → Type 0

@@ -49,8 +49,8 @@ impl Clause {
     pub fn from_lits(alloc: Global, lits: &[Lit]) -> Result<Clause, NoMemory>
         ensures { IfOk result (λ clause. clause ≡ from_literals lits.now) }
     {
-        let lits = match LiteralList::few(lits) {
-            Some(few) => few,
+        let lits = match LiteralList::inline(lits) {
+            Some(inline) => inline,
             None => many(alloc, &mut Vec::from_slice(alloc, lits)?)?,
         };
         Ok(Clause { lits })
@@ -62,11 +62,11 @@ impl Clause {
     /// # Errors
     /// [`NoMemory`] where a growth was refused.
     #[inline(always)]
-    pub fn from_room(alloc: Global, lits: &mut Vec<Lit>) -> Result<Clause, NoMemory>
+    pub fn from_scratch(alloc: Global, lits: &mut Vec<Lit>) -> Result<Clause, NoMemory>
         ensures { IfOk result (λ clause. clause ≡ from_literals lits.old.items) }
     {
-        let lits = match LiteralList::few(lits) {
-            Some(few) => few,
+        let lits = match LiteralList::inline(lits) {
+            Some(inline) => inline,
             None => many(alloc, lits)?,
         };
         Ok(Clause { lits })
@@ -87,7 +87,7 @@ impl Clause {
             return self.put_more(alloc, lits);
         }
         if let Some(three) = up_to_three(lits) {
-            self.lits.put_few(count, three);
+            self.lits.put_inline(count, three);
             return Ok(());
         }
         self.put_any(alloc, lits)
@@ -126,8 +126,8 @@ impl Clause {
         requires { IsStrictlySortedBy lit_cmp lits.now }
         ensures { IfOk result (λ clause. clause ≡ from_literals lits.now) }
     {
-        let lits = match LiteralList::few(lits) {
-            Some(few) => few,
+        let lits = match LiteralList::inline(lits) {
+            Some(inline) => inline,
             None => LiteralList::many(alloc, lits)?,
         };
         Ok(Clause { lits })
@@ -167,11 +167,11 @@ impl Clause {
     ///
     /// # Errors
     /// [`NoMemory`] where the share was refused.
-    pub fn copy(&self) -> Result<Clause, NoMemory>
+    pub fn try_clone(&self) -> Result<Clause, NoMemory>
         ensures { IfOk result (λ clause. clause ≡ self.now) }
     {
         Ok(Clause {
-            lits: self.lits.copy()?,
+            lits: self.lits.try_clone()?,
         })
     }
 
@@ -194,10 +194,10 @@ impl Clause {
         ensures { IfOk result (λ clause. clause ≡ image (R.renaming renaming.now) self.now) }
     {
         if all_stay(renaming, self.lits()) {
-            return self.copy();
+            return self.try_clone();
         }
         let mut lits = renamed_lits(alloc, renaming, self.lits())?;
-        Clause::from_room(alloc, &mut lits)
+        Clause::from_scratch(alloc, &mut lits)
     }
 }
 

@@ -1,9 +1,9 @@
 //! The definitions at worked examples.
-ghost use Rattle.lj_clause.specs.Examples.{WalkExamples, RatExamples};
+ghost use Rattle.lj_clause.specs.Examples.{PropagationExamples, RatExamples};
 
-/// The walk, at examples computed by hand. Takes constant time.
-pub fn walks()
-    ensures { WalkExamples }
+/// The propagation, at examples computed by hand. Takes constant time.
+pub fn propagations()
+    ensures { PropagationExamples }
 {}
 
 /// The test of candidates, at examples computed by hand. Takes constant time.

@@ -61,8 +61,8 @@ impl Formula {
     pub fn clause(&self, number: u64) -> Option<&Clause>
         ensures { option_copied result ≡ map.get (formula_map self.now) number }
     {
-        let place = number.checked_sub(1)?;
-        self.clauses.get(place as usize)
+        let index = number.checked_sub(1)?;
+        self.clauses.get(index as usize)
     }
 
     /// The number of clauses. Takes constant time.
@@ -84,12 +84,12 @@ impl Formula {
     ///
     /// # Errors
     /// [`NoMemory`] where a growth was refused.
-    pub fn copy(&self) -> Result<Formula, NoMemory>
+    pub fn try_clone(&self) -> Result<Formula, NoMemory>
         ensures { IfOk result (λ formula. formula ≡ self.now) }
     {
         Ok(Formula {
             variables: self.variables,
-            clauses: copies(&self.clauses)?,
+            clauses: try_clones(&self.clauses)?,
         })
     }
 }
@@ -108,12 +108,12 @@ fn names_only_up_to(clause: &Clause, variables: u32) -> bool
 }
 
 /// The clauses once more.
-fn copies(clauses: &Vec<Clause>) -> Result<Vec<Clause>, NoMemory>
+fn try_clones(clauses: &Vec<Clause>) -> Result<Vec<Clause>, NoMemory>
     ensures { IfOk result (λ v. v.items ≡ clauses.now.items) }
 {
     let mut all = Vec::with_capacity(*clauses.allocator(), clauses.len())?;
     for clause in clauses {
-        all.push(clause.copy()?)?;
+        all.push(clause.try_clone()?)?;
     }
     Ok(all)
 }

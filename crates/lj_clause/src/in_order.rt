@@ -20,16 +20,16 @@ fn filler() -> Lit
 #[inline(always)]
 fn filled_up<const N: usize>(lits: &mut Vec<Lit>) -> Option<[Lit; N]>
     requires { length lits.old.items ≤ N }
-    ensures filled { IfSome result (λ room. IsFilledUp lits.old.items room) }
+    ensures filled { IfSome result (λ scratch. IsFilledUp lits.old.items scratch) }
     ensures same { lits.new.items ≡ lits.old.items }
 {
     let count = lits.len();
     if lits.extend_from_slice(&[filler(); N]).is_err() {
         return None;
     }
-    let room = lits.first_chunk::<N>().copied();
+    let scratch = lits.first_chunk::<N>().copied();
     lits.truncate(count);
-    room
+    scratch
 }
 
 /// Puts the smaller of the literals at two places at the first of them.
@@ -76,17 +76,18 @@ fn are_rising(lits: &[Lit; 8]) -> bool {
 pub(crate) fn eight_in_order(lits: &mut Vec<Lit>) -> Option<[Lit; 8]>
     requires { length lits.old.items ≤ 8 }
     ensures rising { IfSome result
-        (λ room. IsStrictlySortedBy lit_cmp (take (length lits.old.items) room)) }
+        (λ scratch. IsStrictlySortedBy lit_cmp (take (length lits.old.items) scratch)) }
     ensures set { IfSome result
-        (λ room. from_literals (take (length lits.old.items) room) ≡ from_literals lits.old.items) }
+        (λ scratch. from_literals (take (length lits.old.items) scratch)
+        ≡ from_literals lits.old.items) }
     ensures same { lits.new.items ≡ lits.old.items }
 {
-    let mut room = filled_up::<8>(lits)?;
-    if !are_rising(&room) {
-        order_eight(&mut room);
+    let mut scratch = filled_up::<8>(lits)?;
+    if !are_rising(&scratch) {
+        order_eight(&mut scratch);
     }
-    if are_in_order(&room, lits.len()) {
-        Some(room)
+    if are_in_order(&scratch, lits.len()) {
+        Some(scratch)
     } else {
         None
     }

@@ -1,19 +1,19 @@
-//! Laws of the walk and of the test of candidates, each for all clause maps: what a checker that computes them may
+//! Laws of the propagation and of the test of candidates, each for all clause maps: what a checker that computes them may
 //! conclude. The functions do nothing.
-ghost use Rattle.lj_clause.specs.Laws.{ClosedWalkImplies, UsedPartCloses, RatKeepsSatisfiable, CoveredIsRecorded, RenamingLaws, NamingLaws, MapImageLaws};
+ghost use Rattle.lj_clause.specs.Laws.{ClosedPropagationImplies, UsedPartCloses, RatKeepsSatisfiable, CoveredIsRecorded, RenamingLaws, NamingLaws, MapImageLaws};
 
-/// An assignment that satisfies every clause of a map satisfies each clause whose negations have a closed walk there
+/// An assignment that satisfies every clause of a map satisfies each clause whose negations have a closed propagation there
 /// (reverse unit propagation). Takes constant time.
-pub fn closed_walk_implies()
-    ensures { ClosedWalkImplies }
+pub fn closed_propagation_implies()
+    ensures { ClosedPropagationImplies }
 {}
 
-/// The hints that a closed walk read are the first of those given, and they close it by themselves. Takes constant time.
+/// The hints that a closed propagation read are the first of those given, and they close it by themselves. Takes constant time.
 pub fn used_part_closes()
     ensures { UsedPartCloses }
 {}
 
-/// A satisfiable map stays satisfiable with a clause more, under any number, where the walk of the clause's negations
+/// A satisfiable map stays satisfiable with a clause more, under any number, where the propagation of the clause's negations
 /// ends open and the candidates of a pivot from the clause are covered (resolution asymmetric tautology). Takes constant
 /// time.
 pub fn rat_keeps_satisfiable()

@@ -81,11 +81,11 @@ impl Lemma {
     ///
     /// # Errors
     /// [`NoMemory`] where a growth was refused.
-    pub fn copy(&self) -> Result<Lemma, NoMemory>
+    pub fn try_clone(&self) -> Result<Lemma, NoMemory>
         ensures { IfOk result (λ lemma. lemma ≡ self.now) }
     {
         Ok(Lemma {
-            clause: self.clause.copy()?,
+            clause: self.clause.try_clone()?,
             pivot: self.pivot,
         })
     }

@@ -1,6 +1,6 @@
 //! Literals.
 ghost use Rattle.std.specs.Prelude.{◌≡◌, ◌+◌, ◌-◌, ◌*◌, ◌%◌, ◌<◌, ◌≤◌, SomeIff, neg_ℤ};
-ghost use Rattle.lj_clause.specs.Literal.{IsLiteral, literal_on, variable_of, place_of};
+ghost use Rattle.lj_clause.specs.Literal.{IsLiteral, literal_on, variable_of, index_of};
 ghost use Rattle.lj_clause.specs.Renaming.{literal_image};
 
 use crate::renames::Renames;
@@ -90,8 +90,8 @@ impl Lit {
     /// The place of the literal in the order of literals, so that it can index an array: twice the variable, and one
     /// more for its negation. Takes constant time.
     #[inline]
-    pub fn place(self) -> usize
-        ensures place { result ≡ place_of self }
+    pub fn index(self) -> usize
+        ensures index { result ≡ index_of self }
         ensures in_range { result ≤ 2 * MAX_VARIABLE + 1 }
     {
         self.code as usize

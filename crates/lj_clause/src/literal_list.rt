@@ -17,7 +17,7 @@ use std::sync::Arc;
 pub enum LiteralList {
     Nothing,
     /// So many of these literals, from the first on.
-    Few { count: u8, lits: [Lit; 3] },
+    Inline { count: u8, lits: [Lit; 3] },
     Eight { count: u8, lits: Arc<[Lit; 8]> },
     Sixteen { count: u8, lits: Arc<[Lit; 16]> },
     Many(Arc<Vec<Lit>>),
@@ -27,7 +27,7 @@ impl LiteralList {
     /// The literals, each once, in strict order, if they are so few that they stand in the list itself. None also where
     /// one stands twice. Takes constant time.
     #[inline(always)]
-    pub fn few(lits: &[Lit]) -> Option<LiteralList>
+    pub fn inline(lits: &[Lit]) -> Option<LiteralList>
         ensures rising { IfSome result (λ list. IsStrictlySortedBy lit_cmp (literals_in list)) }
         ensures same { IfSome result
             (λ list. from_literals (literals_in list) ≡ from_literals lits.now) }
@@ -35,10 +35,10 @@ impl LiteralList {
         if lits.is_empty() {
             return Some(LiteralList::Nothing);
         }
-        let few = up_to_three(lits)?;
-        Some(LiteralList::Few {
+        let inline = up_to_three(lits)?;
+        Some(LiteralList::Inline {
             count: lits.len() as u8,
-            lits: few,
+            lits: inline,
         })
     }
 
@@ -64,20 +64,20 @@ impl LiteralList {
 
     /// Becomes the list of the first of three literals, so many. Takes constant time.
     #[inline(always)]
-    pub fn put_few(&mut self, size: usize, few: [Lit; 3])
+    pub fn put_inline(&mut self, size: usize, inline: [Lit; 3])
         requires { size ≤ 3 }
-        ensures { literals_in self.new ≡ take size few }
+        ensures { literals_in self.new ≡ take size inline }
     {
-        if let LiteralList::Few { lits, .. } = self {
-            *lits = few;
-            if let LiteralList::Few { count, .. } = self {
+        if let LiteralList::Inline { lits, .. } = self {
+            *lits = inline;
+            if let LiteralList::Inline { count, .. } = self {
                 *count = size as u8;
             }
             return;
         }
-        *self = LiteralList::Few {
+        *self = LiteralList::Inline {
             count: size as u8,
-            lits: few,
+            lits: inline,
         };
     }
 
@@ -93,8 +93,8 @@ impl LiteralList {
         ensures err { OnErr result (literals_in self.new ≡ literals_in self.old) }
     {
         if let LiteralList::Eight { count, lits } = self {
-            if let Some(room) = Arc::get_mut(lits) {
-                *room = eight;
+            if let Some(scratch) = Arc::get_mut(lits) {
+                *scratch = eight;
                 *count = size as u8;
                 return Ok(());
             }
@@ -111,12 +111,12 @@ impl LiteralList {
     pub fn as_slice(&self) -> &[Lit]
         ensures { result.now ≡ literals_in self.now }
     {
-        if let LiteralList::Few { count, lits } = self {
+        if let LiteralList::Inline { count, lits } = self {
             return first_lits(*count, lits);
         }
         match self {
             LiteralList::Nothing => &[],
-            LiteralList::Few { count, lits } => first_lits(*count, lits),
+            LiteralList::Inline { count, lits } => first_lits(*count, lits),
             LiteralList::Eight { count, lits } => first_lits(*count, &**lits),
             LiteralList::Sixteen { count, lits } => first_lits(*count, &**lits),
             LiteralList::Many(lits) => lits,
@@ -128,12 +128,12 @@ impl LiteralList {
     /// # Errors
     /// [`NoMemory`] where the share was refused.
     #[inline]
-    pub fn copy(&self) -> Result<LiteralList, NoMemory>
+    pub fn try_clone(&self) -> Result<LiteralList, NoMemory>
         ensures { IfOk result (λ list. literals_in list ≡ literals_in self.now) }
     {
         Ok(match self {
             LiteralList::Nothing => LiteralList::Nothing,
-            LiteralList::Few { count, lits } => LiteralList::Few {
+            LiteralList::Inline { count, lits } => LiteralList::Inline {
                 count: *count,
                 lits: *lits,
             },
@@ -156,9 +156,9 @@ impl LiteralList {
 pub(crate) fn up_to_three(lits: &[Lit]) -> Option<[Lit; 3]>
     ensures count { IfSome result (λ _. length lits.now ≤ 3) }
     ensures rising { IfSome result
-        (λ room. IsStrictlySortedBy lit_cmp (take (length lits.now) room)) }
+        (λ scratch. IsStrictlySortedBy lit_cmp (take (length lits.now) scratch)) }
     ensures same { IfSome result
-        (λ room. from_literals (take (length lits.now) room) ≡ from_literals lits.now) }
+        (λ scratch. from_literals (take (length lits.now) scratch) ≡ from_literals lits.now) }
 {
     match lits {
         [] => Some([Lit::of(1, false); 3]),
@@ -211,9 +211,9 @@ fn filled<const N: usize>(filler: Lit, lits: &[Lit]) -> [Lit; N]
     requires { length lits.now ≤ N }
     ensures { take (length lits.now) result ≡ lits.now }
 {
-    let mut room = [filler; N];
-    room[..lits.len()].copy_from_slice(lits);
-    room
+    let mut scratch = [filler; N];
+    scratch[..lits.len()].copy_from_slice(lits);
+    scratch
 }
 
 /// So many of the literals, from the first on.

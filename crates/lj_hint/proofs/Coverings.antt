@@ -4,7 +4,7 @@ use Rattle.std.proofs.lemmas.List.{take_more, take_all, take_min, get_or-map, le
 use Rattle.std.proofs.lemmas.Bool.{false≢true}
 use Rattle.std.specs.Prelude.{false, is_some, min, List, [], ◌∷◌, ◌++◌, Option, None, Some, option_map}
 use Rattle.lj_clause.specs.ClauseMap.{ClauseMap}
-use Rattle.lj_clause.specs.Walk.{Hint, hints_in}
+use Rattle.lj_clause.specs.Propagation.{Hint, hints_in}
 use Rattle.lj_clause.specs.Rat.{HintGroup, NamedGroup, groups_in}
 use Rattle.lj_hint.specs.inner.Hints.{hint_numbers}
 use Rattle.lj_hint.specs.inner.Groups.{no_group, group_in, group_at, before, lent_hints, read_group}
@@ -26,18 +26,18 @@ next_read gs k n read hs lt is are all =
     (plain_at gs k lt ∙ (λ i. made (sym is i) (sym (whole ∙ are) i)))
 
 -- the next group, where it is that of the next candidate and all its hints were read
-pub given_next : (gs : List NamedGroup) (k n read place : ℕ) → k < length gs → place ≡ k + 1 → n ≡ (group_in gs k).candidate → read ≡ length (group_in gs k).hints
-    → take (k + 1) (plain_groups gs) ≡ take k (plain_groups gs) ++ read_group n (lent_hints (group_at gs (before place))) read ∷ []
-given_next gs k n read place lt at is all =
-    let found : lent_hints (group_at gs (before place)) ≡ (group_in gs k).hints =
+pub given_next : (gs : List NamedGroup) (k n read position : ℕ) → k < length gs → position ≡ k + 1 → n ≡ (group_in gs k).candidate → read ≡ length (group_in gs k).hints
+    → take (k + 1) (plain_groups gs) ≡ take k (plain_groups gs) ++ read_group n (lent_hints (group_at gs (before position))) read ∷ []
+given_next gs k n read position lt at is all =
+    let found : lent_hints (group_at gs (before position)) ≡ (group_in gs k).hints =
     ap (λ (m : ℕ). lent_hints (group_at gs (before m))) (at ∙ add-one k) ∙ ap (λ (o : Option NamedGroup). lent_hints (option_map (λ h. h.hints) o)) (there gs k lt) in
-    next_read gs k n read (lent_hints (group_at gs (before place))) lt is found (all ∙ ap length (sym found))
+    next_read gs k n read (lent_hints (group_at gs (before position))) lt is found (all ∙ ap length (sym found))
 
 -- and where those before it stand as they are given, so do they with it
-pub stays_given : (gs : List NamedGroup) (k n read place : ℕ) (apart : Option (List HintGroup)) → is_some apart ≡ false → k < length gs → place ≡ k + 1 → n ≡ (group_in gs k).candidate → read ≡ length (group_in gs k).hints
-    → covered_before gs (k + 1) apart ≡ covered_before gs k apart ++ read_group n (lent_hints (group_at gs (before place))) read ∷ []
-stays_given gs k n read place None none lt at is all = given_next gs k n read place lt at is all
-stays_given gs k n read place (Some covered) none lt at is all = absurd (false≢true (sym none))
+pub stays_given : (gs : List NamedGroup) (k n read position : ℕ) (apart : Option (List HintGroup)) → is_some apart ≡ false → k < length gs → position ≡ k + 1 → n ≡ (group_in gs k).candidate → read ≡ length (group_in gs k).hints
+    → covered_before gs (k + 1) apart ≡ covered_before gs k apart ++ read_group n (lent_hints (group_at gs (before position))) read ∷ []
+stays_given gs k n read position None none lt at is all = given_next gs k n read position lt at is all
+stays_given gs k n read position (Some covered) none lt at is all = absurd (false≢true (sym none))
 
 -- so many groups, or all
 pub first_of : (gs : List NamedGroup) (count k : ℕ) → k ≡ min count (length gs) → take k (plain_groups gs) ≡ take count (plain_groups gs)

@@ -14,9 +14,9 @@ use Rattle.lj_clause.specs.Literal.{lit_cmp}
 use Rattle.lj_clause.specs.LiteralSet.{LiteralSet, holds, with_literal, literals, from_literals, with_negations, negations}
 use Rattle.lj_clause.specs.Lemma.{LemmaValue, IsLemma}
 use Rattle.lj_clause.specs.ClauseMap.{ClauseMap}
-use Rattle.lj_clause.specs.Walk.{Walk, Closed, Open, Stuck, Hint, hints_in, rest, is_contradictory, after_hint, by_rest, by_hint, walk_over, walk}
-use Rattle.lj_clause.specs.Rat.{HintGroup, NamedGroup, groups_in, group_of, candidates, others, RatAnswer, by_candidate, candidate_walk, rat_over, rat}
-use Rattle.lj_clause.specs.Renaming.{Renaming, literal_image, image, lemma_image, is_named, IsOneToOne, entry_image, clauses_image, hint_image, group_image, walk_image, AreNamed, AreNamedHints}
+use Rattle.lj_clause.specs.Propagation.{Propagation, Closed, Open, Stuck, Hint, hints_in, rest, is_contradictory, after_hint, by_rest, by_hint, propagate_over, propagate}
+use Rattle.lj_clause.specs.Rat.{HintGroup, NamedGroup, groups_in, group_of, candidates, others, RatAnswer, by_candidate, candidate_propagation, rat_over, rat}
+use Rattle.lj_clause.specs.Renaming.{Renaming, literal_image, image, lemma_image, is_named, IsOneToOne, entry_image, clauses_image, hint_image, group_image, propagation_image, AreNamed, AreNamedHints}
 use Rattle.lj_clause.proofs.Tests.{left_of, right_of}
 use Rattle.lj_clause.proofs.Literals.{same_literal}
 use Rattle.lj_clause.proofs.SortedEntries.{none_below}
@@ -27,7 +27,7 @@ use Rattle.lj_clause.proofs.Images.{AllKnown, image-with_literal, image-negation
 use Rattle.lj_clause.proofs.Renaming.{known_by, all_known, named_by, IsRenamer-image, get-clauses_image, entries-clauses_image}
 use Rattle.lj_hint.specs.declared.pair.Pair.{Pair}
 use Rattle.lj_hint.specs.Hints.{named_hints, numbers}
-use Rattle.lj_hint.specs.Case.{CaseValue, walk_of}
+use Rattle.lj_hint.specs.Case.{CaseValue, propagation_of}
 use Rattle.lj_hint.specs.Receipt.{ReceiptValue, IsReceipt, receipt_with}
 use Rattle.lj_hint.specs.Images.{pair_image, case_image, receipt_image, IsNamedCase, IsNamedReceipt}
 use Rattle.lj_hint.specs.RatTest.{rat_told, rat_reply}
@@ -38,20 +38,20 @@ use Rattle.lj_hint.proofs.Contradictions.{is_contradictory-image}
 pub ending_image : EndingOfImage
 ending_image m (Closed used) = refl
 ending_image m (Open a) = refl
-ending_image m (Stuck place) = refl
+ending_image m (Stuck position) = refl
 
--- ---- steps of walks
+-- ---- steps of propagations
 
-after-image : (m : Renaming) (n : ℕ) (w : Walk) → after_hint n (walk_image m w) ≡ walk_image m (after_hint n w)
+after-image : (m : Renaming) (n : ℕ) (w : Propagation) → after_hint n (propagation_image m w) ≡ propagation_image m (after_hint n w)
 after-image m n (Closed used) = refl
 after-image m n (Open a) = refl
-after-image m n (Stuck place) = refl
+after-image m n (Stuck position) = refl
 
 -- what is left of an image leads on to the image, by how many literals it has and which
-by_rest-image : (m : Renaming) (n : ℕ) (ks ls : List ℤ) (far near : ℤ → Walk) → length ks ≡ length ls
+by_rest-image : (m : Renaming) (n : ℕ) (ks ls : List ℤ) (far near : ℤ → Propagation) → length ks ≡ length ls
     → ((q : ℤ) → among q ks ≡ among q (map (literal_image m) ls))
-    → ((l : ℤ) → among l ls ≡ true → far (literal_image m l) ≡ walk_image m (near l))
-    → by_rest n ks far ≡ walk_image m (by_rest n ls near)
+    → ((l : ℤ) → among l ls ≡ true → far (literal_image m l) ≡ propagation_image m (near l))
+    → by_rest n ks far ≡ propagation_image m (by_rest n ls near)
 by_rest-image m n [] [] far near many alike go = refl
 by_rest-image m n [] (l ∷ ls) far near many alike go = absurd (omega arith)
 by_rest-image m n (k ∷ ks) [] far near many alike go = absurd (omega arith)
@@ -66,7 +66,7 @@ by_rest-image m n (k ∷ []) (l ∷ o ∷ ls) far near many alike go = absurd (o
 by_rest-image m n (k ∷ j ∷ ks) (l ∷ []) far near many alike go = absurd (omega arith)
 by_rest-image m n (k ∷ j ∷ ks) (l ∷ o ∷ ls) far near many alike go = refl
 
-if_open : (m : Renaming) (b : Bool) (v w : Walk) → v ≡ walk_image m w → cond b (Closed []) v ≡ walk_image m (cond b (Closed []) w)
+if_open : (m : Renaming) (b : Bool) (v w : Propagation) → v ≡ propagation_image m w → cond b (Closed []) v ≡ propagation_image m (cond b (Closed []) w)
 if_open m true v w e = refl
 if_open m false v w e = e
 
@@ -112,67 +112,67 @@ module _ {v : ℕ} {m : Renaming} (one : IsOneToOne v m) where
   left_known : (d a : LiteralSet) (l : ℤ) → AllKnown (known_by v m) d → among l (rest d a) ≡ true → known_by v m l ≡ true
   left_known d a l all h = all l (holds-literals d l ∙ (passed (λ k. not (holds a (neg_ℤ k))) l (literals d) h).0)
 
-  by_hint-image : (n : ℕ) (d : Option LiteralSet) (a : LiteralSet) (far near : ℤ → Walk) → AllKnown (known_by v m) a
+  by_hint-image : (n : ℕ) (d : Option LiteralSet) (a : LiteralSet) (far near : ℤ → Propagation) → AllKnown (known_by v m) a
       → IfSome d (λ c. is_named v m c ≡ true)
-      → ((l : ℤ) → known_by v m l ≡ true → far (literal_image m l) ≡ walk_image m (near l))
-      → by_hint n (option_map (image m) d) (image m a) far ≡ walk_image m (by_hint n d a near)
+      → ((l : ℤ) → known_by v m l ≡ true → far (literal_image m l) ≡ propagation_image m (near l))
+      → by_hint n (option_map (image m) d) (image m a) far ≡ propagation_image m (by_hint n d a near)
   by_hint-image n None a far near all named go = refl
   by_hint-image n (Some d) a far near all named go =
       let known = all_known v m d named in
       by_rest-image m n (rest (image m d) (image m a)) (rest d a) far near (length-rest d a known all) (among-rest d a known all)
       (λ l h. go l (left_known d a l known h))
 
-  walk-image : (a : LiteralSet) (hs : List Hint) → AllKnown (known_by v m) a → KnownHints hs
-      → walk_over (image m a) (map (hint_image m) hs) ≡ walk_image m (walk_over a hs)
-  unfolding walk_over
-  walk-image a [] all known =
+  propagate-image : (a : LiteralSet) (hs : List Hint) → AllKnown (known_by v m) a → KnownHints hs
+      → propagate_over (image m a) (map (hint_image m) hs) ≡ propagation_image m (propagate_over a hs)
+  unfolding propagate_over
+  propagate-image a [] all known =
       ap (λ b. cond b (Closed []) (Open (image m a))) (is_contradictory-image (IsRenamer-image one) a all)
       ∙ if_open m (is_contradictory a) (Open (image m a)) (Open a) refl
-  walk-image a (h ∷ hs) all known =
-      let far : ℤ → Walk = λ l. walk_over (with_literal (image m a) l) (map (hint_image m) hs) in
-      let near : ℤ → Walk = λ l. walk_over (with_literal a l) hs in
+  propagate-image a (h ∷ hs) all known =
+      let far : ℤ → Propagation = λ l. propagate_over (with_literal (image m a) l) (map (hint_image m) hs) in
+      let near : ℤ → Propagation = λ l. propagate_over (with_literal a l) hs in
       ap (λ b. cond b (Closed []) (by_hint h.number (option_map (image m) h.clause) (image m a) far)) (is_contradictory-image (IsRenamer-image one) a all)
       ∙ if_open m (is_contradictory a) (by_hint h.number (option_map (image m) h.clause) (image m a) far) (by_hint h.number h.clause a near)
       (by_hint-image h.number h.clause a far near all known.0 (λ l k.
-      ap (λ s. walk_over s (map (hint_image m) hs)) (sym (image-with_literal (literal_image m) a l))
-      ∙ walk-image (with_literal a l) hs (known_more a l all k) known.1))
+      ap (λ s. propagate_over s (map (hint_image m) hs)) (sym (image-with_literal (literal_image m) a l))
+      ∙ propagate-image (with_literal a l) hs (known_more a l all k) known.1))
 
-  -- what an open walk ends with is known
-  abbrev KnownAtEnd : Walk → Type 0
+  -- what an open propagation ends with is known
+  abbrev KnownAtEnd : Propagation → Type 0
   KnownAtEnd (Closed used) = Unit {0}
   KnownAtEnd (Open a) = AllKnown (known_by v m) a
-  KnownAtEnd (Stuck place) = Unit {0}
+  KnownAtEnd (Stuck position) = Unit {0}
 
-  after_known : (n : ℕ) (w : Walk) → KnownAtEnd w → KnownAtEnd (after_hint n w)
+  after_known : (n : ℕ) (w : Propagation) → KnownAtEnd w → KnownAtEnd (after_hint n w)
   after_known n (Closed used) h = tt
   after_known n (Open a) h = h
-  after_known n (Stuck place) h = tt
+  after_known n (Stuck position) h = tt
 
-  rest_known : (n : ℕ) (ls : List ℤ) (near : ℤ → Walk) → ((l : ℤ) → among l ls ≡ true → KnownAtEnd (near l)) → KnownAtEnd (by_rest n ls near)
+  rest_known : (n : ℕ) (ls : List ℤ) (near : ℤ → Propagation) → ((l : ℤ) → among l ls ≡ true → KnownAtEnd (near l)) → KnownAtEnd (by_rest n ls near)
   rest_known n [] near go = tt
   rest_known n (l ∷ []) near go = after_known n (near l) (go l (or_left (eq_by_cmp lit_cmp l l) false (itself l)))
   rest_known n (l ∷ k ∷ ls) near go = tt
 
-  hint_known : (n : ℕ) (d : Option LiteralSet) (a : LiteralSet) (near : ℤ → Walk) → IfSome d (λ c. is_named v m c ≡ true)
+  hint_known : (n : ℕ) (d : Option LiteralSet) (a : LiteralSet) (near : ℤ → Propagation) → IfSome d (λ c. is_named v m c ≡ true)
       → ((l : ℤ) → known_by v m l ≡ true → KnownAtEnd (near l)) → KnownAtEnd (by_hint n d a near)
   hint_known n None a near named go = tt
   hint_known n (Some d) a near named go = rest_known n (rest d a) near (λ l h. go l (left_known d a l (all_known v m d named) h))
 
-  walk_known : (a : LiteralSet) (hs : List Hint) → AllKnown (known_by v m) a → KnownHints hs → KnownAtEnd (walk_over a hs)
-  unfolding walk_over
-  walk_known a [] all known = elim (is_contradictory a) as (λ b. KnownAtEnd (cond b (Closed []) (Open a))) [ true ↦ tt | false ↦ all ]
-  walk_known a (h ∷ hs) all known =
-      elim (is_contradictory a) as (λ b. KnownAtEnd (cond b (Closed []) (by_hint h.number h.clause a (λ l. walk_over (with_literal a l) hs)))) [
+  propagation_known : (a : LiteralSet) (hs : List Hint) → AllKnown (known_by v m) a → KnownHints hs → KnownAtEnd (propagate_over a hs)
+  unfolding propagate_over
+  propagation_known a [] all known = elim (is_contradictory a) as (λ b. KnownAtEnd (cond b (Closed []) (Open a))) [ true ↦ tt | false ↦ all ]
+  propagation_known a (h ∷ hs) all known =
+      elim (is_contradictory a) as (λ b. KnownAtEnd (cond b (Closed []) (by_hint h.number h.clause a (λ l. propagate_over (with_literal a l) hs)))) [
         | true ↦ tt
-        | false ↦ hint_known h.number h.clause a (λ l. walk_over (with_literal a l) hs) known.0 (λ l k. walk_known (with_literal a l) hs (known_more a l all k) known.1)
+        | false ↦ hint_known h.number h.clause a (λ l. propagate_over (with_literal a l) hs) known.0 (λ l k. propagation_known (with_literal a l) hs (known_more a l all k) known.1)
       ]
 
 -- ---- candidates
 
-by_candidate-image : (m : Renaming) (n : ℕ) (has : Bool) (w : Walk) (later : RatAnswer) → by_candidate n has (walk_image m w) later ≡ by_candidate n has w later
+by_candidate-image : (m : Renaming) (n : ℕ) (has : Bool) (w : Propagation) (later : RatAnswer) → by_candidate n has (propagation_image m w) later ≡ by_candidate n has w later
 by_candidate-image m n has (Closed used) later = refl
 by_candidate-image m n has (Open a) later = refl
-by_candidate-image m n has (Stuck place) later = refl
+by_candidate-image m n has (Stuck position) later = refl
 
 group_of-image : (m : Renaming) (n : ℕ) (gs : List NamedGroup) → group_of n (map (group_image m) gs) ≡ option_map (map (hint_image m)) (group_of n gs)
 group_of-image m n [] = refl
@@ -243,7 +243,7 @@ module _ {v : ℕ} {m : Renaming} (one : IsOneToOne v m) where
       (λ i. filter (λ (e : ℕ × LiteralSet). holds e.1 (sym (is.turns pivot) i)) (entries-clauses_image m p i))
       ∙ filter-image (neg_ℤ pivot) (fin.entries p) (is.negated pivot k) (entries_known p named)
 
-  -- what a candidate's walk begins with
+  -- what a candidate's propagation begins with
   begun : (a d : LiteralSet) (pivot : ℤ) → AllKnown (known_by v m) d → known_by v m pivot ≡ true
       → with_negations (image m a) (others (image m d) (neg_ℤ (literal_image m pivot))) ≡ image m (with_negations a (others d (neg_ℤ pivot)))
   begun a d pivot all k =
@@ -272,10 +272,10 @@ module _ {v : ℕ} {m : Renaming} (one : IsOneToOne v m) where
 
   candidate-image : (a d : LiteralSet) (pivot : ℤ) (o : Option (List Hint)) → AllKnown (known_by v m) a → AllKnown (known_by v m) d → known_by v m pivot ≡ true
       → KnownHints one (unwrap_or o [])
-      → candidate_walk (image m a) (literal_image m pivot) (image m d) (option_map (map (hint_image m)) o) ≡ walk_image m (candidate_walk a pivot d o)
+      → candidate_propagation (image m a) (literal_image m pivot) (image m d) (option_map (map (hint_image m)) o) ≡ propagation_image m (candidate_propagation a pivot d o)
   candidate-image a d pivot o alla alld k known =
-      (λ i. walk_over (begun a d pivot alld k i) (unwrapped m o i))
-      ∙ walk-image one (with_negations a (others d (neg_ℤ pivot))) (unwrap_or o []) (begun_known a d pivot alla alld) known
+      (λ i. propagate_over (begun a d pivot alld k i) (unwrapped m o i))
+      ∙ propagate-image one (with_negations a (others d (neg_ℤ pivot))) (unwrap_or o []) (begun_known a d pivot alla alld) known
 
   rat-image : (a : LiteralSet) (pivot : ℤ) (gs : List NamedGroup) (es : List (ℕ × LiteralSet)) → AllKnown (known_by v m) a → known_by v m pivot ≡ true
       → KnownGroups gs → KnownEntries es
@@ -284,9 +284,9 @@ module _ {v : ℕ} {m : Renaming} (one : IsOneToOne v m) where
   rat-image a pivot gs [] all k groups known = refl
   rat-image a pivot gs (e ∷ es) all k groups known =
       let o = group_of e.0 gs in
-      (λ i. by_candidate e.0 (is_some (group_of-image m e.0 gs i)) (candidate_walk (image m a) (literal_image m pivot) (image m e.1) (group_of-image m e.0 gs i)) (rat-image a pivot gs es all k groups known.1 i))
+      (λ i. by_candidate e.0 (is_some (group_of-image m e.0 gs i)) (candidate_propagation (image m a) (literal_image m pivot) (image m e.1) (group_of-image m e.0 gs i)) (rat-image a pivot gs es all k groups known.1 i))
       ∙ (λ i. by_candidate e.0 (is_some-mapped m o i) (candidate-image a e.1 pivot o all (all_known v m e.1 known.0) k (group_known e.0 gs groups) i) (rat_over a pivot gs es))
-      ∙ by_candidate-image m e.0 (is_some o) (candidate_walk a pivot e.1 o) (rat_over a pivot gs es)
+      ∙ by_candidate-image m e.0 (is_some o) (candidate_propagation a pivot e.1 o) (rat_over a pivot gs es)
 
   groups_known : (p : ClauseMap) (gs : List HintGroup) → AreNamed v m p → KnownGroups (groups_in p gs)
   groups_known p [] named = tt
@@ -304,28 +304,28 @@ module _ {v : ℕ} {m : Renaming} (one : IsOneToOne v m) where
   open_reply p a None gs named all k = refl
   open_reply p a (Some q) gs named all k = ap rat_told (rat_in p a q gs named all k)
 
-  reply-image : (p : ClauseMap) (pivot : Option ℤ) (gs : List HintGroup) (w : Walk) → AreNamed v m p → KnownAtEnd one w
+  reply-image : (p : ClauseMap) (pivot : Option ℤ) (gs : List HintGroup) (w : Propagation) → AreNamed v m p → KnownAtEnd one w
       → IfSome pivot (λ q. known_by v m q ≡ true)
-      → line_reply (clauses_image m p) (option_map (literal_image m) pivot) gs (walk_image m w) ≡ line_reply p pivot gs w
+      → line_reply (clauses_image m p) (option_map (literal_image m) pivot) gs (propagation_image m w) ≡ line_reply p pivot gs w
   reply-image p pivot gs (Closed used) named all k = refl
   reply-image p pivot gs (Open a) named all k = ap covered_reply (open_reply p a pivot gs named all k)
-  reply-image p pivot gs (Stuck place) named all k = refl
+  reply-image p pivot gs (Stuck position) named all k = refl
 
   pivot_known : (c : LiteralSet) (pivot : Option ℤ) → AllKnown (known_by v m) c → IsLemma (record { clause = c; pivot = pivot }) → IfSome pivot (λ q. known_by v m q ≡ true)
   pivot_known c None all h = tt
   pivot_known c (Some q) all h = all q h
 
   line : (p : ClauseMap) (lemma : LemmaValue) (ns : List ℕ) (gs : List HintGroup) → AreNamed v m p → IsLemma lemma → is_named v m lemma.clause ≡ true
-      → line_reply (clauses_image m p) (option_map (literal_image m) lemma.pivot) gs (walk (clauses_image m p) (negations (image m lemma.clause)) ns)
-      ≡ line_reply p lemma.pivot gs (walk p (negations lemma.clause) ns)
+      → line_reply (clauses_image m p) (option_map (literal_image m) lemma.pivot) gs (propagate (clauses_image m p) (negations (image m lemma.clause)) ns)
+      ≡ line_reply p lemma.pivot gs (propagate p (negations lemma.clause) ns)
   line p lemma ns gs named proper there =
       let all = all_known v m lemma.clause there in
       let begins = negations_known one lemma.clause all in
       let hints = hints_known p ns named in
       ap (line_reply (clauses_image m p) (option_map (literal_image m) lemma.pivot) gs)
-      ((λ i. walk_over (sym (image-negations (IsRenamer-image one) lemma.clause) i) (hints_in-image m p ns i))
-      ∙ walk-image one (negations lemma.clause) (hints_in p ns) begins hints)
-      ∙ reply-image p lemma.pivot gs (walk p (negations lemma.clause) ns) named (walk_known one (negations lemma.clause) (hints_in p ns) begins hints) (pivot_known lemma.clause lemma.pivot all proper)
+      ((λ i. propagate_over (sym (image-negations (IsRenamer-image one) lemma.clause) i) (hints_in-image m p ns i))
+      ∙ propagate-image one (negations lemma.clause) (hints_in p ns) begins hints)
+      ∙ reply-image p lemma.pivot gs (propagate p (negations lemma.clause) ns) named (propagation_known one (negations lemma.clause) (hints_in p ns) begins hints) (pivot_known lemma.clause lemma.pivot all proper)
 
 -- ---- receipts
 
@@ -342,18 +342,18 @@ module _ {v : ℕ} {m : Renaming} (one : IsOneToOne v m) where
   pairs_known [] known = tt
   pairs_known (p ∷ ps) known = (known.0, pairs_known ps known.1)
 
-  case-image : (c : CaseValue) → IsNamedCase v m c → walk_of (case_image m c) ≡ walk_image m (walk_of c)
+  case-image : (c : CaseValue) → IsNamedCase v m c → propagation_of (case_image m c) ≡ propagation_image m (propagation_of c)
   case-image c named =
-      (λ i. walk_over (sym (image-negations (IsRenamer-image one) c.lemma.clause) i) (named_hints-image m c.hints i))
-      ∙ walk-image one (negations c.lemma.clause) (named_hints c.hints) (negations_known one c.lemma.clause (all_known v m c.lemma.clause named.lemma))
+      (λ i. propagate_over (sym (image-negations (IsRenamer-image one) c.lemma.clause) i) (named_hints-image m c.hints i))
+      ∙ propagate-image one (negations c.lemma.clause) (named_hints c.hints) (negations_known one c.lemma.clause (all_known v m c.lemma.clause named.lemma))
       (pairs_known c.hints (recursion_from_All _ c.hints named.hints))
 
   pub receipt-image : (r : ReceiptValue) → IsNamedReceipt v m r → IsReceipt r → IsReceipt (receipt_image m r)
   receipt-image r named is =
-      (λ i. walk_over (sym (image-negations (IsRenamer-image one) r.lemma.clause) i) (named_hints-image m r.listed i))
-      ∙ walk-image one (negations r.lemma.clause) (named_hints r.listed) (negations_known one r.lemma.clause (all_known v m r.lemma.clause named.lemma))
+      (λ i. propagate_over (sym (image-negations (IsRenamer-image one) r.lemma.clause) i) (named_hints-image m r.listed i))
+      ∙ propagate-image one (negations r.lemma.clause) (named_hints r.listed) (negations_known one r.lemma.clause (all_known v m r.lemma.clause named.lemma))
       (pairs_known r.listed (recursion_from_All _ r.listed named.listed))
-      ∙ ap (walk_image m) is
+      ∙ ap (propagation_image m) is
       ∙ ap Closed (sym (numbers-image m r.listed))
 
   known_groups : (gs : List NamedGroup) → AllByRecursion (λ (g : NamedGroup). AreNamedHints v m g.hints) gs → KnownGroups one gs
@@ -363,8 +363,8 @@ module _ {v : ℕ} {m : Renaming} (one : IsOneToOne v m) where
   tests : TestsCommute v m
   tests = record {
     left = left one;
-    walked = λ a hs there known. walk-image one a hs (all_known v m a there) (recursion_from_All _ hs known);
-    open_named = λ a b hs there known opens. named_by v m b (subst (KnownAtEnd one) opens (walk_known one a hs (all_known v m a there) (recursion_from_All _ hs known)));
+    propagated = λ a hs there known. propagate-image one a hs (all_known v m a there) (recursion_from_All _ hs known);
+    open_named = λ a b hs there known opens. named_by v m b (subst (KnownAtEnd one) opens (propagation_known one a hs (all_known v m a there) (recursion_from_All _ hs known)));
     found = found one;
     covered = λ a pivot gs es there k groups known. rat-image one a pivot gs es (all_known v m a there) k (known_groups gs (recursion_from_All _ gs groups)) (recursion_from_All _ es known);
     covered_in = λ p a pivot gs named there k. rat_in one p a pivot gs named (all_known v m a there) k;

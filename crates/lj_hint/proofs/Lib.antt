@@ -1,7 +1,7 @@
 pub mod Contradictions
 pub mod Inserts
 pub mod Rests
-pub mod Walks
+pub mod Propagations
 pub mod Used
 pub mod Receipts
 pub mod Renamings

@@ -2,7 +2,7 @@
 use Rattle.std.proofs.Common.{◌≡◌, ap, refl}
 use Rattle.std.specs.Prelude.{ℕ, zero, suc, List, [], ◌∷◌, take, None, slice_get}
 use Rattle.lj_clause.specs.ClauseMap.{ClauseMap}
-use Rattle.lj_clause.specs.Walk.{hints_in}
+use Rattle.lj_clause.specs.Propagation.{hints_in}
 use Rattle.lj_hint.specs.inner.Hints.{hint_numbers, clause_at}
 
 pub clause_at-none : (p : ClauseMap) (ns : List ℕ) (i : ℕ) → slice_get ns i ≡ None → None ≡ clause_at (hints_in p ns) i

@@ -8,8 +8,8 @@ use Rattle.std.specs.List.{AllByRecursion}
 use Rattle.std.specs.FinMap as fin
 use Rattle.lj_clause.specs.LiteralSet.{LiteralSet, holds}
 use Rattle.lj_clause.specs.ClauseMap.{ClauseMap}
-use Rattle.lj_clause.specs.Walk.{Walk, Closed, Open, Stuck, Hint}
-use Rattle.lj_clause.specs.Rat.{HintGroup, NamedGroup, RatAnswer, candidates, Covered, MissingGroup, GroupStuck, GroupOpen, group_of, by_candidate, candidate_walk, rat_over}
+use Rattle.lj_clause.specs.Propagation.{Propagation, Closed, Open, Stuck, Hint}
+use Rattle.lj_clause.specs.Rat.{HintGroup, NamedGroup, RatAnswer, candidates, Covered, MissingGroup, GroupStuck, GroupOpen, group_of, by_candidate, candidate_propagation, rat_over}
 use Rattle.lj_clause.proofs.RatLaws.{candidates-get}
 use Rattle.lj_hint.specs.declared.rat_refusal.RatRefusal.{RatRefusal}
 use Rattle.lj_hint.specs.declared.rat_refusal.RatRefusal.TheVariants as refusals
@@ -80,15 +80,15 @@ with_first (Ok g) (Ok gs) = Ok (g ∷ gs)
 with_first (Ok g) (Err e) = Err e
 with_first (Err e) later = Err e
 
-told_first : (n : ℕ) (has : Bool) (w : Walk) (later : RatAnswer) → rat_told (by_candidate n has w later) ≡ with_first (candidate_told n has w) (rat_told later)
+told_first : (n : ℕ) (has : Bool) (w : Propagation) (later : RatAnswer) → rat_told (by_candidate n has w later) ≡ with_first (candidate_told n has w) (rat_told later)
 told_first n has (Closed used) (Covered gs) = refl
 told_first n has (Closed used) (MissingGroup m) = refl
-told_first n has (Closed used) (GroupStuck m place) = refl
+told_first n has (Closed used) (GroupStuck m position) = refl
 told_first n has (Closed used) (GroupOpen m) = refl
 told_first n true (Open a) later = refl
 told_first n false (Open a) later = refl
-told_first n true (Stuck place) later = refl
-told_first n false (Stuck place) later = refl
+told_first n true (Stuck position) later = refl
+told_first n false (Stuck position) later = refl
 
 behind-with_first : (front : List HintGroup) (g : HintGroup) (later : Result (List HintGroup) RatRefusal) → behind_groups front (with_first (Ok g) later) ≡ behind_groups (front ++ g ∷ []) later
 behind-with_first front g (Ok gs) = ap Ok (sym (append_assoc front (g ∷ []) gs))
@@ -100,11 +100,11 @@ pub record IsCandidate (es : List (ℕ × LiteralSet)) (i n : ℕ) (d : LiteralS
 
 -- the reply for one candidate
 abbrev pub at_one : LiteralSet → ℤ → List NamedGroup → ℕ → LiteralSet → Result HintGroup RatRefusal
-at_one a q named n d = candidate_told n (is_some (group_of n named)) (candidate_walk a q d (group_of n named))
+at_one a q named n d = candidate_told n (is_some (group_of n named)) (candidate_propagation a q d (group_of n named))
 
 over_next : (a : LiteralSet) (q : ℤ) (named : List NamedGroup) (n : ℕ) (d : LiteralSet) (es : List (ℕ × LiteralSet)) → rat_told (rat_over a q named ((n, d) ∷ es)) ≡ with_first (at_one a q named n d) (rat_told (rat_over a q named es))
 unfolding rat_over
-over_next a q named n d es = told_first n (is_some (group_of n named)) (candidate_walk a q d (group_of n named)) (rat_over a q named es)
+over_next a q named n d es = told_first n (is_some (group_of n named)) (candidate_propagation a q d (group_of n named)) (rat_over a q named es)
 
 over_none : (a : LiteralSet) (q : ℤ) (named : List NamedGroup) → rat_over a q named [] ≡ Covered []
 unfolding rat_over
@@ -161,7 +161,7 @@ candidate_is live q i n d within number lives =
 pub refusal_told : (e : RatRefusal) (one : Result HintGroup RatRefusal) (whole : Result (List HintGroup) RatRefusal) → ((x : RatRefusal) → one ≡ Err x → whole ≡ Err x) → IsCandidateRefusal e one → IsRatRefusal e whole
 refusal_told EmptyOpen one whole f h = f EmptyOpen h
 refusal_told (refusals.MissingGroup n) one whole f h = f (refusals.MissingGroup n) h
-refusal_told (refusals.GroupStuck n place) one whole f h = f (refusals.GroupStuck n place) h
+refusal_told (refusals.GroupStuck n position) one whole f h = f (refusals.GroupStuck n position) h
 refusal_told (refusals.GroupOpen n) one whole f h = f (refusals.GroupOpen n) h
 refusal_told (refusals.NoMemory e) one whole f h = tt
 

@@ -1,8 +1,8 @@
 -- What is left of a clause, seen one literal after the other.
 use Rattle.std.proofs.Common.{◌≡◌, refl}
 use Rattle.std.specs.Prelude.{ℤ, List, [], ◌∷◌}
-use Rattle.lj_hint.specs.declared.walk.Rest.{Rest}
-use Rattle.lj_hint.specs.declared.walk.Rest.TheVariants.{Nothing, One, More}
+use Rattle.lj_hint.specs.declared.propagate.Rest.{Rest}
+use Rattle.lj_hint.specs.declared.propagate.Rest.TheVariants.{Nothing, One, More}
 use Rattle.lj_hint.specs.inner.Rest.{rest_seen}
 
 -- what is seen of these literals after what was seen before

@@ -23,26 +23,26 @@ is_below a b lt = grind (arith, nat_tests)
 is_above : (a b : ℕ) → b ≤ a → nat_lt a b ≡ false
 is_above a b le = grind (arith, nat_tests)
 
-apart : (q place n : ℕ) → n ≤ place → q < n → (q == place) ≡ false
-apart q place n le lt = grind (arith, nat_tests)
+apart : (q index n : ℕ) → n ≤ index → q < n → (q == index) ≡ false
+apart q index n le lt = grind (arith, nat_tests)
 
 -- the stamp at a place in a tree
 abbrev found : List (ℕ × ℕ) → ℕ → ℕ
 found entries q = unwrap_or (lookup (is_at (nat_cmp q)) entries) 0
 
 -- the stamp at a place in the list
-pub dense_stamp : (stamps : Stamped) (place : ℕ) → place < length stamps.0 → stamp_at stamps place ≡ slice_index stamps.0 place
+pub dense_stamp : (stamps : Stamped) (index : ℕ) → index < length stamps.0 → stamp_at stamps index ≡ slice_index stamps.0 index
 unfolding stamp_at
-dense_stamp stamps place lt = ap (λ b. if b then slice_index stamps.0 place else found stamps.1 place) (is_below place (length stamps.0) lt)
+dense_stamp stamps index lt = ap (λ b. if b then slice_index stamps.0 index else found stamps.1 index) (is_below index (length stamps.0) lt)
 
 -- the stamp beyond it
-sparse_stamp : (stamps : Stamped) (place : ℕ) → length stamps.0 ≤ place → stamp_at stamps place ≡ found stamps.1 place
+sparse_stamp : (stamps : Stamped) (index : ℕ) → length stamps.0 ≤ index → stamp_at stamps index ≡ found stamps.1 index
 unfolding stamp_at
-sparse_stamp stamps place le = ap (λ b. if b then slice_index stamps.0 place else found stamps.1 place) (is_above place (length stamps.0) le)
+sparse_stamp stamps index le = ap (λ b. if b then slice_index stamps.0 index else found stamps.1 index) (is_above index (length stamps.0) le)
 
 -- what is looked up there
-pub found_sparse : (dense : List ℕ) (sparse : List (ℕ × ℕ)) (place : ℕ) (o : Option ℕ) → length dense ≤ place → o ≡ lookup (is_at (nat_cmp place)) sparse → unwrap_or o 0 ≡ stamp_at (dense, sparse) place
-found_sparse dense sparse place o le is = ap (λ (o : Option ℕ). unwrap_or o 0) is ∙ sym (sparse_stamp (dense, sparse) place le)
+pub found_sparse : (dense : List ℕ) (sparse : List (ℕ × ℕ)) (index : ℕ) (o : Option ℕ) → length dense ≤ index → o ≡ lookup (is_at (nat_cmp index)) sparse → unwrap_or o 0 ≡ stamp_at (dense, sparse) index
+found_sparse dense sparse index o le is = ap (λ (o : Option ℕ). unwrap_or o 0) is ∙ sym (sparse_stamp (dense, sparse) index le)
 
 -- what holds in the list and beyond it, holds everywhere
 for_all : (stamps : Stamped) (P : ℕ → ℕ → Type 0) → ((q : ℕ) → q < length stamps.0 → P q (slice_index stamps.0 q)) → ((q : ℕ) → length stamps.0 ≤ q → P q (found stamps.1 q)) → (q : ℕ) → P q (stamp_at stamps q)
@@ -69,30 +69,30 @@ none_sparse stamps others same none = for_all others (λ q n. n ≤ stamp_at sta
     (λ q le. let e = nothing others.1 q none in omega arith)
 
 -- a stamp is set in the list
-pub dense_set : (stamps : Stamped) (place v : ℕ) → place < length stamps.0 → (q : ℕ) → stamp_at (slice_set stamps.0 place v, stamps.1) q ≡ (if q == place then v else stamp_at stamps q)
-dense_set stamps place v lt = for_all (slice_set stamps.0 place v, stamps.1) (λ q n. n ≡ (if q == place then v else stamp_at stamps q))
-    (λ q here. elim (q == place) as (λ b. (q == place) ≡ b → slice_index (slice_set stamps.0 place v) q ≡ cond b v (stamp_at stamps q)) [
-      | true ↦ λ e. get_or-set_at stamps.0 place q v 0 (eqb-true q place e) lt
-      | false ↦ λ e. get_or-set_other stamps.0 place q v 0 (eqb-false q place e) ∙ sym (dense_stamp stamps q (omega (arith, length-set stamps.0 place v, here)))
+pub dense_set : (stamps : Stamped) (index v : ℕ) → index < length stamps.0 → (q : ℕ) → stamp_at (slice_set stamps.0 index v, stamps.1) q ≡ (if q == index then v else stamp_at stamps q)
+dense_set stamps index v lt = for_all (slice_set stamps.0 index v, stamps.1) (λ q n. n ≡ (if q == index then v else stamp_at stamps q))
+    (λ q here. elim (q == index) as (λ b. (q == index) ≡ b → slice_index (slice_set stamps.0 index v) q ≡ cond b v (stamp_at stamps q)) [
+      | true ↦ λ e. get_or-set_at stamps.0 index q v 0 (eqb-true q index e) lt
+      | false ↦ λ e. get_or-set_other stamps.0 index q v 0 (eqb-false q index e) ∙ sym (dense_stamp stamps q (omega (arith, length-set stamps.0 index v, here)))
     ] refl)
     (λ q there.
-    let le : length stamps.0 ≤ q = omega (arith, length-set stamps.0 place v, there) in
-    sym (sparse_stamp stamps q le) ∙ ap (λ b. cond b v (stamp_at stamps q)) (sym (other q place (length stamps.0) lt le)))
+    let le : length stamps.0 ≤ q = omega (arith, length-set stamps.0 index v, there) in
+    sym (sparse_stamp stamps q le) ∙ ap (λ b. cond b v (stamp_at stamps q)) (sym (other q index (length stamps.0) lt le)))
   where
-    other : (q place n : ℕ) → place < n → n ≤ q → (q == place) ≡ false
-    other q place n lt le = grind (arith, nat_tests)
+    other : (q index n : ℕ) → index < n → n ≤ q → (q == index) ≡ false
+    other q index n lt le = grind (arith, nat_tests)
 
 -- the value at a key of the tree is set, or taken out
-pub sparse_set : (stamps others : Stamped) (place : ℕ) (o : Option ℕ) → others.0 ≡ stamps.0 → length stamps.0 ≤ place → ((q : ℕ) → lookup (is_at (nat_cmp q)) others.1 ≡ cond (is_at (nat_cmp place) q) o (lookup (is_at (nat_cmp q)) stamps.1)) → (q : ℕ) → stamp_at others q ≡ (if q == place then unwrap_or o 0 else stamp_at stamps q)
-sparse_set stamps others place o same le h = for_all others (λ q n. n ≡ (if q == place then unwrap_or o 0 else stamp_at stamps q))
+pub sparse_set : (stamps others : Stamped) (index : ℕ) (o : Option ℕ) → others.0 ≡ stamps.0 → length stamps.0 ≤ index → ((q : ℕ) → lookup (is_at (nat_cmp q)) others.1 ≡ cond (is_at (nat_cmp index) q) o (lookup (is_at (nat_cmp q)) stamps.1)) → (q : ℕ) → stamp_at others q ≡ (if q == index then unwrap_or o 0 else stamp_at stamps q)
+sparse_set stamps others index o same le h = for_all others (λ q n. n ≡ (if q == index then unwrap_or o 0 else stamp_at stamps q))
     (λ q here.
     let lt : q < length stamps.0 = omega (arith, ap length same, here) in
     ap (λ (xs : List ℕ). slice_index xs q) same
     ∙ sym (dense_stamp stamps q lt)
-    ∙ ap (λ b. cond b (unwrap_or o 0) (stamp_at stamps q)) (sym (apart q place (length stamps.0) le lt)))
+    ∙ ap (λ b. cond b (unwrap_or o 0) (stamp_at stamps q)) (sym (apart q index (length stamps.0) le lt)))
     (λ q there.
-    ap (λ p. unwrap_or p 0) (h q ∙ ap (λ b. cond b o (lookup (is_at (nat_cmp q)) stamps.1)) (tied place q))
-    ∙ elim (q == place) as (λ b. unwrap_or (cond b o (lookup (is_at (nat_cmp q)) stamps.1)) 0 ≡ cond b (unwrap_or o 0) (stamp_at stamps q)) [
+    ap (λ p. unwrap_or p 0) (h q ∙ ap (λ b. cond b o (lookup (is_at (nat_cmp q)) stamps.1)) (tied index q))
+    ∙ elim (q == index) as (λ b. unwrap_or (cond b o (lookup (is_at (nat_cmp q)) stamps.1)) 0 ≡ cond b (unwrap_or o 0) (stamp_at stamps q)) [
       | true ↦ refl
       | false ↦ sym (sparse_stamp stamps q (omega (arith, ap length same, there)))
     ])

@@ -3,7 +3,7 @@ use Rattle.std.specs.Prelude.{ℕ, List, map, Vec}
 use Rattle.std.specs.declared.alloc.Global.{Global}
 use Rattle.lj_clause.specs.LiteralSet.{negations}
 use Rattle.lj_clause.specs.Lemma.{LemmaValue}
-use Rattle.lj_clause.specs.Walk.{Walk, walk_over}
+use Rattle.lj_clause.specs.Propagation.{Propagation, propagate_over}
 use Rattle.lj_hint.specs.declared.pair.Pair.{Pair}
 use Rattle.lj_hint.specs.Hints.{named_hints}
 
@@ -24,6 +24,6 @@ abbrev pub case_of : ℕ → ℕ → LemmaValue → List Pair → List (Pair × 
 case_of seat own lemma hints groups = record
     { seat = seat; own = own; lemma = lemma; hints = hints; groups = groups }
 
--- the walk of the negations of the lemma's literals over the first list of hints
-abbrev pub walk_of : CaseValue → Walk
-walk_of c = walk_over (negations c.lemma.clause) (named_hints c.hints)
+-- the propagation of the negations of the lemma's literals over the first list of hints
+abbrev pub propagation_of : CaseValue → Propagation
+propagation_of c = propagate_over (negations c.lemma.clause) (named_hints c.hints)

@@ -1,6 +1,6 @@
--- The hints of a case, as a walk reads them.
+-- The hints of a case, as a propagation reads them.
 use Rattle.std.specs.Prelude.{ℕ, List, map, Some}
-use Rattle.lj_clause.specs.Walk.{Hint}
+use Rattle.lj_clause.specs.Propagation.{Hint}
 use Rattle.lj_hint.specs.declared.pair.Pair.{Pair}
 
 -- the hints of these pairs: each names its own clause

@@ -6,11 +6,11 @@ use Rattle.lj_clause.specs.LiteralSet.{LiteralSet, from_literals, negations}
 use Rattle.lj_clause.specs.Lemma.{LemmaValue, IsLemma}
 use Rattle.lj_clause.specs.ClauseMap.{ClauseMap}
 use Rattle.lj_clause.specs.Truth.{Assignment, satisfies, SatisfiesAll}
-use Rattle.lj_clause.specs.Walk.{Walk, Closed, Open, Hint, rest, walk, walk_over}
+use Rattle.lj_clause.specs.Propagation.{Propagation, Closed, Open, Hint, rest, propagate, propagate_over}
 use Rattle.lj_clause.specs.Rat.{HintGroup, NamedGroup, candidates, rat_over, rat}
-use Rattle.lj_clause.specs.Renaming.{Renaming, literal_image, image, has_name, is_named, IsOneToOne, entry_image, clauses_image, hint_image, group_image, walk_image, AreNamed, AreNamedHints}
+use Rattle.lj_clause.specs.Renaming.{Renaming, literal_image, image, has_name, is_named, IsOneToOne, entry_image, clauses_image, hint_image, group_image, propagation_image, AreNamed, AreNamedHints}
 use Rattle.lj_hint.specs.Hints.{numbers}
-use Rattle.lj_hint.specs.Case.{CaseValue, walk_of}
+use Rattle.lj_hint.specs.Case.{CaseValue, propagation_of}
 use Rattle.lj_hint.specs.Ending.{ending_of}
 use Rattle.lj_hint.specs.Receipt.{ReceiptValue, IsReceipt, receipt_of}
 use Rattle.lj_hint.specs.Images.{case_image, receipt_image, IsNamedCase, IsNamedReceipt}
@@ -20,10 +20,10 @@ use Rattle.lj_hint.specs.LineTest.{line_reply}
 abbrev pub HasListed : ClauseMap → ReceiptValue → Type 0
 HasListed p r = All (λ h. get p h.joint ≡ Some h.clause) r.listed
 
--- in such a map the listed numbers close the walk of the lemma's negation, and each is read
+-- in such a map the listed numbers close the propagation of the lemma's negation, and each is read
 abbrev pub ReceiptIsRup : Type 0
 ReceiptIsRup = (r : ReceiptValue) (p : ClauseMap) → IsReceipt r → HasListed p r
-    → walk p (negations r.lemma.clause) (numbers r.listed) ≡ Closed (numbers r.listed)
+    → propagate p (negations r.lemma.clause) (numbers r.listed) ≡ Closed (numbers r.listed)
 
 -- in such a map every assignment that satisfies it satisfies the lemma
 abbrev pub ReceiptImplies : Type 0
@@ -34,15 +34,15 @@ ReceiptImplies = (r : ReceiptValue) (p : ClauseMap) (a : Assignment) → IsRecei
 abbrev pub HaveSameClauses : List Hint → List Hint → Type 0
 HaveSameClauses hs gs = map (λ h. h.clause) hs ≡ map (λ h. h.clause) gs
 
--- walks over such hints end alike
-abbrev pub WalksGoByClauses : Type 0
-WalksGoByClauses = (a : LiteralSet) (hs gs : List Hint) → HaveSameClauses hs gs
-    → ending_of (walk_over a hs) ≡ ending_of (walk_over a gs)
+-- propagations over such hints end alike
+abbrev pub PropagationsGoByClauses : Type 0
+PropagationsGoByClauses = (a : LiteralSet) (hs gs : List Hint) → HaveSameClauses hs gs
+    → ending_of (propagate_over a hs) ≡ ending_of (propagate_over a gs)
 
 -- and where they end open, they hold the same literals true
-abbrev pub OpenWalksGoByClauses : Type 0
-OpenWalksGoByClauses = (a b : LiteralSet) (hs gs : List Hint) → HaveSameClauses hs gs
-    → walk_over a hs ≡ Open b → walk_over a gs ≡ Open b
+abbrev pub OpenPropagationsGoByClauses : Type 0
+OpenPropagationsGoByClauses = (a b : LiteralSet) (hs gs : List Hint) → HaveSameClauses hs gs
+    → propagate_over a hs ≡ Open b → propagate_over a gs ≡ Open b
 
 -- Tests under a renaming that has the variables of all that is tested.
 pub record TestsCommute (v : ℕ) (m : Renaming) : Type 0 where
@@ -50,11 +50,12 @@ pub record TestsCommute (v : ℕ) (m : Renaming) : Type 0 where
   pub left : (d a : LiteralSet) → is_named v m d ≡ true → is_named v m a ≡ true
       → (from_literals (rest (image m d) (image m a)) ≡ image m (from_literals (rest d a)))
       × (length (rest (image m d) (image m a)) ≡ length (rest d a))
-  -- the walk of the images is the image of the walk, whose literals are named too
-  pub walked : (a : LiteralSet) (hs : List Hint) → is_named v m a ≡ true → AreNamedHints v m hs
-      → walk_over (image m a) (map (hint_image m) hs) ≡ walk_image m (walk_over a hs)
+  -- the propagation of the images is the image of the propagation, whose literals are named too
+  pub propagated : (a : LiteralSet) (hs : List Hint) → is_named v m a ≡ true → AreNamedHints v m hs
+      → propagate_over (image m a) (map (hint_image m) hs)
+      ≡ propagation_image m (propagate_over a hs)
   pub open_named : (a b : LiteralSet) (hs : List Hint) → is_named v m a ≡ true
-      → AreNamedHints v m hs → walk_over a hs ≡ Open b → is_named v m b ≡ true
+      → AreNamedHints v m hs → propagate_over a hs ≡ Open b → is_named v m b ≡ true
   -- the candidates of a pivot's image are the images of its candidates
   pub found : (p : ClauseMap) (pivot : ℤ) → AreNamed v m p
       → has_name v m (variable_of pivot) ≡ true
@@ -75,11 +76,11 @@ pub record TestsCommute (v : ℕ) (m : Renaming) : Type 0 where
   pub line : (p : ClauseMap) (lemma : LemmaValue) (numbers : List ℕ) (groups : List HintGroup)
       → AreNamed v m p → IsLemma lemma → is_named v m lemma.clause ≡ true
       → line_reply (clauses_image m p) (option_map (literal_image m) lemma.pivot) groups
-      (walk (clauses_image m p) (negations (image m lemma.clause)) numbers)
-      ≡ line_reply p lemma.pivot groups (walk p (negations lemma.clause) numbers)
-  -- the walk of a case's image is the image of its walk, and so are the hints that it read
+      (propagate (clauses_image m p) (negations (image m lemma.clause)) numbers)
+      ≡ line_reply p lemma.pivot groups (propagate p (negations lemma.clause) numbers)
+  -- the propagation of a case's image is the image of its propagation, and so are the hints that it read
   pub case : (c : CaseValue) → IsNamedCase v m c
-      → walk_of (case_image m c) ≡ walk_image m (walk_of c)
+      → propagation_of (case_image m c) ≡ propagation_image m (propagation_of c)
   pub read : (c : CaseValue) (count : ℕ)
       → receipt_of (case_image m c) count ≡ receipt_image m (receipt_of c count)
   -- and the image of a receipt is one
@@ -90,6 +91,6 @@ pub record TestsCommute (v : ℕ) (m : Renaming) : Type 0 where
 abbrev pub TestsCommuteWithRenamings : Type 0
 TestsCommuteWithRenamings = (v : ℕ) (m : Renaming) → IsOneToOne v m → TestsCommute v m
 
--- a walk and its image end alike
+-- a propagation and its image end alike
 abbrev pub EndingOfImage : Type 0
-EndingOfImage = (m : Renaming) (w : Walk) → ending_of (walk_image m w) ≡ ending_of w
+EndingOfImage = (m : Renaming) (w : Propagation) → ending_of (propagation_image m w) ≡ ending_of w

@@ -17,10 +17,10 @@ named_groups groups = map (λ g. record { candidate = g.0.joint; hints = named_h
 abbrev pub rat_told : rats.RatAnswer → Result (List HintGroup) RatRefusal
 rat_told (rats.Covered groups) = Ok groups
 rat_told (rats.MissingGroup n) = Err (MissingGroup n)
-rat_told (rats.GroupStuck n place) = Err (GroupStuck n place)
+rat_told (rats.GroupStuck n position) = Err (GroupStuck n position)
 rat_told (rats.GroupOpen n) = Err (GroupOpen n)
 
--- The reply to a lemma with this pivot, whose walk ended open with a: the candidates are those among the live clauses.
+-- The reply to a lemma with this pivot, whose propagation ended open with a: the candidates are those among the live clauses.
 -- Without a pivot there are none to try.
 abbrev pub rat_reply : ClauseMap → LiteralSet → Option ℤ → List NamedGroup
     → Result (List HintGroup) RatRefusal
@@ -32,7 +32,7 @@ abbrev pub IsRatRefusal : RatRefusal → Result (List HintGroup) RatRefusal → 
 IsRatRefusal (NoMemory e) reply = Unit {0}
 IsRatRefusal EmptyOpen reply = reply ≡ Err EmptyOpen
 IsRatRefusal (MissingGroup n) reply = reply ≡ Err (MissingGroup n)
-IsRatRefusal (GroupStuck n place) reply = reply ≡ Err (GroupStuck n place)
+IsRatRefusal (GroupStuck n position) reply = reply ≡ Err (GroupStuck n position)
 IsRatRefusal (GroupOpen n) reply = reply ≡ Err (GroupOpen n)
 
 -- an answer is the reply, and NoMemory may stand in place of it

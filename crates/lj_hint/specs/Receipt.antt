@@ -1,22 +1,22 @@
--- Receipts: a lemma, and the hints that close the walk of its negation.
+-- Receipts: a lemma, and the hints that close the propagation of its negation.
 use Rattle.std.specs.Prelude.{◌≡◌, ℕ, List, take}
 use Rattle.lj_clause.specs.LiteralSet.{negations}
 use Rattle.lj_clause.specs.Lemma.{LemmaValue}
-use Rattle.lj_clause.specs.Walk.{Closed, walk_over}
+use Rattle.lj_clause.specs.Propagation.{Closed, propagate_over}
 use Rattle.lj_hint.specs.declared.pair.Pair.{Pair}
 use Rattle.lj_hint.specs.Hints.{named_hints, numbers}
 use Rattle.lj_hint.specs.Case.{CaseValue}
 
--- A seat, the own number and the lemma of its addition, and the hints that its walk read.
+-- A seat, the own number and the lemma of its addition, and the hints that its propagation read.
 pub record ReceiptValue : Type 0 where
   pub seat : ℕ
   pub own : ℕ
   pub lemma : LemmaValue
   pub listed : List Pair
 
--- the walk of the lemma's negation over the listed hints is closed, and reads each of them
+-- the propagation of the lemma's negation over the listed hints is closed, and reads each of them
 abbrev pub IsReceipt : ReceiptValue → Type 0
-IsReceipt r = walk_over (negations r.lemma.clause) (named_hints r.listed)
+IsReceipt r = propagate_over (negations r.lemma.clause) (named_hints r.listed)
     ≡ Closed (numbers r.listed)
 
 -- the receipt of these parts
@@ -24,6 +24,6 @@ abbrev pub receipt_with : ℕ → ℕ → LemmaValue → List Pair → ReceiptVa
 receipt_with seat own lemma listed = record
     { seat = seat; own = own; lemma = lemma; listed = listed }
 
--- the receipt of a case whose walk read so many hints
+-- the receipt of a case whose propagation read so many hints
 abbrev pub receipt_of : CaseValue → ℕ → ReceiptValue
 receipt_of c read = receipt_with c.seat c.own c.lemma (take read c.hints)

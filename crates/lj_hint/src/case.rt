@@ -4,11 +4,11 @@ ghost use Rattle.lj_hint.specs.Case.{groups_of};
 ghost use Rattle.lj_hint.specs.Images.{hinted_image};
 
 use crate::hint_list::PairHints;
-use crate::marks::Marks;
 use crate::pair::{Pair, renamed_pairs};
+use crate::propagate::{Ending, propagate_negation};
+use crate::propagator::Propagator;
 use crate::receipt::Receipt;
 use crate::tested::Tested;
-use crate::walk::{Ending, walk_negation};
 use lj_clause::{Lemma, NoMemory, Renames};
 use std::alloc::Global;
 use std::marker::Model;
@@ -36,7 +36,7 @@ impl Model for Case {
 
 impl Case {
     ghost use Rattle.std.specs.Prelude.{◌≡◌, ◌≤◌, length, OnOk, OnErr};
-    ghost use Rattle.lj_hint.specs.Case.{case_of, groups_of, walk_of};
+    ghost use Rattle.lj_hint.specs.Case.{case_of, groups_of, propagation_of};
     ghost use Rattle.lj_hint.specs.Images.{case_image};
     ghost use Rattle.lj_hint.specs.Receipt.{receipt_of, IsReceipt};
     ghost use Rattle.lj_hint.specs.Tested.{tested_of, IfAnswered, IfNoMemory};
@@ -101,18 +101,19 @@ impl Case {
         *self.hints.allocator()
     }
 
-    /// The walk of the lemma's negation over the first list of hints; the groups aren't looked at. The room may
-    /// have served any walk before, and may serve any after, whatever the answer. Takes O(n log n) time for the n
+    /// The propagation of the lemma's negation over the first list of hints; the groups aren't looked at. The room may
+    /// have served any propagation before, and may serve any after, whatever the answer. Takes O(n log n) time for the n
     /// literals that it reads.
-    pub fn test(self, marks: &mut Marks) -> Tested
-        ensures walk { IfAnswered result (λ answer. answer ≡ tested_of self (walk_of self)) }
+    pub fn test(self, propagator: &mut Propagator) -> Tested
+        ensures propagate { IfAnswered result
+            (λ answer. answer ≡ tested_of self (propagation_of self)) }
         ensures no_memory { IfNoMemory result (λ case. case ≡ self) }
     {
         let hints = PairHints { pairs: &self.hints };
-        match walk_negation(&mut marks.lits, self.lemma.clause(), &hints) {
+        match propagate_negation(&mut propagator.lits, self.lemma.clause(), &hints) {
             Ok(Ending::ClosedAfter(read)) => Tested::Closed(self.into_receipt(read)),
             Ok(Ending::StaysOpen) => Tested::Open(self),
-            Ok(Ending::StuckAt(place)) => Tested::Stuck(place),
+            Ok(Ending::StuckAt(position)) => Tested::Stuck(position),
             Err(e) => Tested::NoMemory(self, e),
         }
     }

@@ -18,24 +18,24 @@ pub(crate) fn cover_one<G: GroupList>(
     alloc: Global,
     groups: &G,
     index: usize,
-    place: usize,
+    position: usize,
     candidate: u64,
     read: usize,
-    apart: &mut Option<Groups>,
+    covered: &mut Option<Groups>,
 ) -> Result<(), NoMemory>
-    requires { read ≤ length (lent_hints (group_at (G.groups groups.now) (before place))) }
-    ensures { OnOk result (covered_before (G.groups groups.now) (index + 1) apart.new
-        ≡ covered_before (G.groups groups.now) index apart.old ++ read_group candidate
-        (lent_hints (group_at (G.groups groups.now) (before place))) read ∷ []) }
+    requires { read ≤ length (lent_hints (group_at (G.groups groups.now) (before position))) }
+    ensures { OnOk result (covered_before (G.groups groups.now) (index + 1) covered.new
+        ≡ covered_before (G.groups groups.now) index covered.old ++ read_group candidate
+        (lent_hints (group_at (G.groups groups.now) (before position))) read ∷ []) }
 {
-    if apart.is_none() {
-        if is_as_given(groups, index, place, candidate, read) {
+    if covered.is_none() {
+        if is_as_given(groups, index, position, candidate, read) {
             return Ok(());
         }
-        *apart = Some(first_groups(alloc, groups, index)?);
+        *covered = Some(first_groups(alloc, groups, index)?);
     }
-    if let Some(covered) = apart {
-        put_read(alloc, &hints_at(groups, place), candidate, read, covered)?;
+    if let Some(covered) = covered {
+        put_read(alloc, &hints_at(groups, position), candidate, read, covered)?;
     }
     Ok(())
 }
@@ -44,18 +44,18 @@ pub(crate) fn cover_one<G: GroupList>(
 fn is_as_given<G: GroupList>(
     groups: &G,
     index: usize,
-    place: usize,
+    position: usize,
     candidate: u64,
     read: usize,
 ) -> bool
     ensures within { result ≡ true → index < length (G.groups groups.now) }
-    ensures place { result ≡ true → place ≡ index + 1 }
+    ensures position { result ≡ true → position ≡ index + 1 }
     ensures candidate { result ≡ true
         → candidate ≡ (group_in (G.groups groups.now) index).candidate }
     ensures read { result ≡ true
         → read ≡ length (group_in (G.groups groups.now) index).hints }
 {
-    if index >= groups.count() || place != index + 1 {
+    if index >= groups.count() || position != index + 1 {
         return false;
     }
     groups.candidate(index) == candidate && groups.hints(index).count() == read
@@ -69,15 +69,15 @@ pub(crate) fn covering<G: GroupList>(
     alloc: Global,
     groups: &G,
     count: usize,
-    apart: Option<Groups>,
+    covered: Option<Groups>,
 ) -> Result<Option<Groups>, NoMemory>
     ensures { IfOk result (λ covered. unwrap_or covered (plain_groups (G.groups groups.now))
-        ≡ covered_before (G.groups groups.now) count apart) }
+        ≡ covered_before (G.groups groups.now) count covered) }
 {
-    if apart.is_none() && groups.count() != count {
+    if covered.is_none() && groups.count() != count {
         return Ok(Some(first_groups(alloc, groups, count)?));
     }
-    Ok(apart)
+    Ok(covered)
 }
 
 /// The first groups, so many, or all where there are no more. Takes time linear in these groups and their hints.

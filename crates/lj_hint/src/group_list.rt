@@ -59,11 +59,11 @@ impl<'a> GroupList for PairGroups<'a> {
 }
 
 /// The hints of the group before this index, and none before 0.
-pub(crate) fn hints_at<G: GroupList>(groups: &G, place: usize) -> Option<G::Hints>
-    ensures { option_map G.Hints.hints result ≡ group_at (G.groups groups.now) (before place) }
+pub(crate) fn hints_at<G: GroupList>(groups: &G, position: usize) -> Option<G::Hints>
+    ensures { option_map G.Hints.hints result ≡ group_at (G.groups groups.now) (before position) }
 {
-    if place == 0 || place > groups.count() {
+    if position == 0 || position > groups.count() {
         return None;
     }
-    Some(groups.hints(place - 1))
+    Some(groups.hints(position - 1))
 }

@@ -1,6 +1,6 @@
 //! Lists of hints, wherever their clauses are kept.
 ghost use Rattle.std.specs.Prelude.{◌≡◌, ◌<◌, ◌≤◌, ◌++◌, ◌∷◌, [], List, length, take, IfOk, OnOk};
-ghost use Rattle.lj_clause.specs.Walk.{Hint};
+ghost use Rattle.lj_clause.specs.Propagation.{Hint};
 ghost use Rattle.lj_hint.specs.Hints.{named_hints};
 ghost use Rattle.lj_hint.specs.inner.Hints.{hint_numbers, clause_at};
 ghost use Rattle.lj_hint.specs.inner.Groups.{read_group};

@@ -3,7 +3,7 @@ ghost use Rattle.std.specs.Prelude.{◌≡◌, IfOk, map, filter, List, length};
 ghost use Rattle.std.specs.FinMap as fin;
 ghost use Rattle.lj_clause.specs.LiteralSet.{holds};
 ghost use Rattle.lj_clause.specs.ClauseMap.{ClauseMap};
-ghost use Rattle.lj_clause.specs.Walk.{Hint, hints_in};
+ghost use Rattle.lj_clause.specs.Propagation.{Hint, hints_in};
 ghost use Rattle.lj_clause.specs.Rat.{groups_in};
 
 use crate::group_list::GroupList;
@@ -35,12 +35,12 @@ pub trait Live: Clauses {
 
 /// Hints that name clauses by their numbers, which take four bytes each.
 #[derive(Drop)]
-pub(crate) struct ShortHints<'a, C> {
+pub(crate) struct U32Hints<'a, C> {
     pub clauses: &'a C,
     pub numbers: &'a [u32],
 }
 
-impl<C: Clauses> HintList for ShortHints<'_, C> {
+impl<C: Clauses> HintList for U32Hints<'_, C> {
     ghost hints = { λ h. hints_in (C.clauses h.clauses.now) h.numbers.now };
 
     #[inline]

@@ -1,19 +1,19 @@
 //! The test of a line in joint numbers, over the live clauses.
 ghost use Rattle.std.specs.Prelude.{◌≡◌, false};
 ghost use Rattle.lj_clause.specs.LiteralSet.{from_literals, negations};
-ghost use Rattle.lj_clause.specs.Walk.{walk, is_contradictory};
+ghost use Rattle.lj_clause.specs.Propagation.{propagate, is_contradictory};
 ghost use Rattle.lj_clause.specs.Rat.{groups_in};
 ghost use Rattle.lj_hint.specs.RatTest.{rat_reply};
 ghost use Rattle.lj_hint.specs.inner.Coverings.{IsCovering};
 ghost use Rattle.lj_hint.specs.LineTest.{line_reply, IsLineReply};
 
-use crate::first_walk::walk_numbers;
+use crate::assignment::Assignment;
+use crate::first_propagation::propagate_numbers;
 use crate::live::{Live, LiveGroups};
-use crate::marks::Marks;
+use crate::propagate::Ending;
+use crate::propagator::Propagator;
 use crate::rat::cover;
 use crate::rat_refusal::RatRefusal;
-use crate::true_lits::TrueLits;
-use crate::walk::Ending;
 use lj_clause::{Lemma, Lit, NoMemory};
 use lj_text::{Groups, IndexedGroups, Numbers};
 use std::alloc::Global;
@@ -21,12 +21,12 @@ use std::alloc::Global;
 /// How the test of a line passed.
 #[derive(Debug, Drop)]
 pub enum Passed {
-    /// Its first list closed the walk of the lemma's negation, after so many hints.
+    /// Its first list closed the propagation of the lemma's negation, after so many hints.
     Closed(usize),
-    /// The walk stayed open, and its groups cover the candidates of the pivot as they are given: one for each candidate, by
+    /// The propagation stayed open, and its groups cover the candidates of the pivot as they are given: one for each candidate, by
     /// rising candidate, each of which closes with its last hint.
     AsGiven,
-    /// The walk stayed open, and these groups cover the candidates of the pivot, by rising candidate, each cut after
+    /// The propagation stayed open, and these groups cover the candidates of the pivot, by rising candidate, each cut after
     /// its closing hint.
     Covered(Groups),
 }
@@ -34,17 +34,17 @@ pub enum Passed {
 /// Why a line isn't accepted.
 #[derive(Clone, Copy, Debug, PartialEq, Eq)]
 pub enum LineRefusal {
-    /// The walk over the first list is stuck at the hint of this place, counted from 1.
+    /// The propagation over the first list is stuck at the hint of this place, counted from 1.
     Stuck(u64),
-    /// The walk stays open, and the lemma isn't accepted by its pivot; or a growth was refused.
+    /// The propagation stays open, and the lemma isn't accepted by its pivot; or a growth was refused.
     Rat(RatRefusal),
 }
 
 /// The test of a lemma over live clauses, whose hints and groups are joint numbers: hinted unit propagation over the
-/// first list and, where that stays open, the test of the pivot's candidates. The room may have served any walk before.
+/// first list and, where that stays open, the test of the pivot's candidates. The propagator may have served any propagation before.
 ///
-/// Each hint is looked up once. Takes constant time for each literal that a walk reads, or O(log n) where its variable is
-/// beyond 2,047 and walks have held less than half so many literals. Where the first walk stays open, takes the candidates'
+/// Each hint is looked up once. Takes constant time for each literal that a propagation reads, or O(log n) where its variable is
+/// beyond 2,047 and propagations have held less than half so many literals. Where the first propagation stays open, takes the candidates'
 /// look-up, constant time for each of them and O(log c) for each group, with c candidates. Room for the groups of a line and
 /// of its candidates, by eight bytes a candidate, or sixteen with more than eight groups, and four a group, is freed at its
 /// end.
@@ -58,18 +58,18 @@ pub fn test_line<L: Live>(
     lemma: &Lemma,
     hints: &Numbers,
     groups: &Groups,
-    marks: &mut Marks,
+    propagator: &mut Propagator,
 ) -> Result<Passed, LineRefusal>
     ensures { IsLineReply groups.now result
         (line_reply (L.clauses live.now) lemma.now.pivot groups.now
-        (walk (L.clauses live.now) (negations lemma.now.clause) hints.now)) }
+        (propagate (L.clauses live.now) (negations lemma.now.clause) hints.now)) }
 {
-    let held = &mut marks.lits;
-    match walk_numbers(held, live, lemma.clause(), hints) {
+    let assigned = &mut propagator.lits;
+    match propagate_numbers(assigned, live, lemma.clause(), hints) {
         Ok(Ending::ClosedAfter(read)) => Ok(Passed::Closed(read)),
-        Ok(Ending::StuckAt(place)) => Err(LineRefusal::Stuck(place)),
+        Ok(Ending::StuckAt(position)) => Err(LineRefusal::Stuck(position)),
         Ok(Ending::StaysOpen) => {
-            match test_open(alloc, live, lemma.pivot(), groups, held) {
+            match test_open(alloc, live, lemma.pivot(), groups, assigned) {
                 Ok(Some(groups)) => Ok(Passed::Covered(groups)),
                 Ok(None) => Ok(Passed::AsGiven),
                 Err(refusal) => Err(LineRefusal::Rat(refusal)),
@@ -79,7 +79,7 @@ pub fn test_line<L: Live>(
     }
 }
 
-/// The test of the candidates of a pivot, if there is one, for a walk that ended open with what is held. None stands for the
+/// The test of the candidates of a pivot, if there is one, for a propagation that ended open with what is held. None stands for the
 /// groups as they are given.
 ///
 /// # Errors
@@ -89,11 +89,11 @@ fn test_open<L: Live>(
     live: &L,
     pivot: Option<Lit>,
     groups: &Groups,
-    held: &mut TrueLits,
+    assigned: &mut Assignment,
 ) -> Result<Option<Groups>, RatRefusal>
-    requires { is_contradictory (from_literals held.old) ≡ false }
+    requires { is_contradictory (from_literals assigned.old) ≡ false }
     ensures { IsCovering groups.now result
-        (rat_reply (L.clauses live.now) (from_literals held.old) pivot
+        (rat_reply (L.clauses live.now) (from_literals assigned.old) pivot
         (groups_in (L.clauses live.now) groups.now)) }
 {
     let Some(pivot) = pivot else {
@@ -103,5 +103,5 @@ fn test_open<L: Live>(
         Ok(groups) => LiveGroups { live, groups },
         Err(refused) => return Err(RatRefusal::NoMemory(NoMemory::from(refused))),
     };
-    cover(alloc, live, held, pivot, &groups)
+    cover(alloc, live, assigned, pivot, &groups)
 }

@@ -4,17 +4,17 @@ ghost use Rattle.lj_hint.specs.declared.rat_refusal.RatRefusal.TheVariants.{NoMe
 
 use lj_clause::NoMemory;
 
-/// Why a lemma whose walk stays open isn't accepted.
+/// Why a lemma whose propagation stays open isn't accepted.
 #[derive(Clone, Copy, Debug, PartialEq, Eq)]
 pub enum RatRefusal {
     /// The lemma is empty, so that it has no pivot.
     EmptyOpen,
-    /// The first candidate whose walk isn't closed has no group.
+    /// The first candidate whose propagation isn't closed has no group.
     MissingGroup(u64),
-    /// The walk over the group of the first candidate whose walk isn't closed is stuck at the hint of this place,
+    /// The propagation over the group of the first candidate whose propagation isn't closed is stuck at the hint of this place,
     /// counted from 1.
     GroupStuck(u64, u64),
-    /// The walk over the group of the first candidate whose walk isn't closed is open.
+    /// The propagation over the group of the first candidate whose propagation isn't closed is open.
     GroupOpen(u64),
     /// A growth was refused.
     NoMemory(NoMemory),

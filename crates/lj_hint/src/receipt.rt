@@ -1,9 +1,9 @@
-//! Receipts of closed walks.
+//! Receipts of closed propagations.
 use crate::pair::{Pair, renamed_pairs};
 use lj_clause::{Lemma, NoMemory, Renames};
 use std::marker::Model;
 
-/// The receipt of a test: a lemma, and the hints that close the walk of its negation, all of them read.
+/// The receipt of a test: a lemma, and the hints that close the propagation of its negation, all of them read.
 ///
 /// Only [`Case::test`](crate::Case::test) makes one, and it can't be copied.
 #[derive(Debug, Drop)]
@@ -11,7 +11,7 @@ pub struct Receipt {
     seat: u32,
     own: u64,
     lemma: Lemma,
-    /// The part of the case's hints that the walk read.
+    /// The part of the case's hints that the propagation read.
     listed: Vec<Pair>,
 }
 
@@ -34,7 +34,7 @@ impl Receipt {
     ghost use Rattle.lj_hint.specs.Receipt.{receipt_with, IsReceipt};
     ghost use Rattle.lj_hint.specs.Images.{receipt_image, IsNamedReceipt};
 
-    /// The receipt of a walk that closed at the last of these hints.
+    /// The receipt of a propagation that closed at the last of these hints.
     pub(crate) fn new(seat: u32, own: u64, lemma: Lemma, listed: Vec<Pair>) -> Receipt
         requires { IsReceipt (receipt_with seat own lemma listed.items) }
         ensures { result ≡ receipt_with seat own lemma listed.items }
@@ -69,7 +69,7 @@ impl Receipt {
         &self.lemma
     }
 
-    /// The hints that the walk read, in their order: none where it closed before the first. Takes constant time.
+    /// The hints that the propagation read, in their order: none where it closed before the first. Takes constant time.
     pub fn listed(&self) -> &[Pair]
         ensures listed { result.now ≡ self.now.listed }
         ensures receipt { IsReceipt self.now }

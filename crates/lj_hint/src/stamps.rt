@@ -11,13 +11,13 @@ use std::marker::Model;
 const FIRST: usize = 4096;
 
 /// A stamp for each place of a literal, 0 where none was set. Those of the first places stand in a list, the others in a tree.
-/// The list has at most 4,096 places, or eight for each literal that a walk has held.
+/// The list has at most 4,096 places, or eight for each literal that a propagation has held.
 #[derive(Drop)]
 pub(crate) struct Stamps {
     dense: Vec<u32>,
     sparse: BTreeMap<usize, u32>,
-    /// How many literals the walks have held so far. It decides how long the list gets, and no stamp.
-    held: usize,
+    /// How many literals the propagations have held so far. It decides how long the list gets, and no stamp.
+    assigned: usize,
 }
 
 impl Model for Stamps {
@@ -36,7 +36,7 @@ impl Stamps {
         Stamps {
             dense: Vec::new(alloc),
             sparse: BTreeMap::new(alloc),
-            held: 0,
+            assigned: 0,
         }
     }
 
@@ -54,11 +54,11 @@ impl Stamps {
     /// Whether this is the stamp at a place beyond the list. Takes O(log n) time.
     #[cold]
     #[inline(never)]
-    fn is_sparse(&self, place: usize, stamp: u32) -> bool
-        requires { length self.now.0 ≤ place }
-        ensures { result ≡ (stamp_at self.now place == stamp) }
+    fn is_sparse(&self, index: usize, stamp: u32) -> bool
+        requires { length self.now.0 ≤ index }
+        ensures { result ≡ (stamp_at self.now index == stamp) }
     {
-        match self.sparse.get(&place) {
+        match self.sparse.get(&index) {
             Some(found) => *found == stamp,
             None => stamp == 0,
         }
@@ -69,16 +69,16 @@ impl Stamps {
     /// # Errors
     /// [`NoMemory`] where a growth was refused.
     #[inline(always)]
-    pub(crate) fn set(&mut self, place: usize, stamp: u32) -> Result<(), NoMemory>
+    pub(crate) fn set(&mut self, index: usize, stamp: u32) -> Result<(), NoMemory>
         ensures ok { OnOk result ((q : ℕ) → stamp_at self.new q
-            ≡ (if q == place then stamp else stamp_at self.old q)) }
+            ≡ (if q == index then stamp else stamp_at self.old q)) }
         ensures err { OnErr result ((q : ℕ) → stamp_at self.new q ≡ stamp_at self.old q) }
     {
-        if place < self.dense.len() {
-            self.dense[place] = stamp;
+        if index < self.dense.len() {
+            self.dense[index] = stamp;
             return Ok(());
         }
-        self.set_sparse(place, stamp)
+        self.set_sparse(index, stamp)
     }
 
     /// Sets the stamp at a place beyond the list. Takes O(log n) time.
@@ -87,35 +87,35 @@ impl Stamps {
     /// [`NoMemory`] where a growth was refused.
     #[cold]
     #[inline(never)]
-    fn set_sparse(&mut self, place: usize, stamp: u32) -> Result<(), NoMemory>
-        requires { length self.old.0 ≤ place }
+    fn set_sparse(&mut self, index: usize, stamp: u32) -> Result<(), NoMemory>
+        requires { length self.old.0 ≤ index }
         ensures ok { OnOk result ((q : ℕ) → stamp_at self.new q
-            ≡ (if q == place then stamp else stamp_at self.old q)) }
+            ≡ (if q == index then stamp else stamp_at self.old q)) }
         ensures err { OnErr result ((q : ℕ) → stamp_at self.new q ≡ stamp_at self.old q) }
     {
-        self.sparse.insert(place, stamp)?;
+        self.sparse.insert(index, stamp)?;
         Ok(())
     }
 
     /// Sets the stamp at a place to 0. Takes constant time, and O(log n) beyond the list.
     #[inline]
-    pub(crate) fn erase(&mut self, place: usize)
-        ensures { (q : ℕ) → stamp_at self.new q ≡ (if q == place then 0 else stamp_at self.old q) }
+    pub(crate) fn erase(&mut self, index: usize)
+        ensures { (q : ℕ) → stamp_at self.new q ≡ (if q == index then 0 else stamp_at self.old q) }
     {
-        if place < self.dense.len() {
-            self.dense[place] = 0;
+        if index < self.dense.len() {
+            self.dense[index] = 0;
         } else {
-            let _ = self.sparse.remove(&place);
+            let _ = self.sparse.remove(&index);
         }
     }
 
-    /// Begins a walk, for which no older stamp means anything, after one that held so many literals. No stamp becomes
+    /// Begins a propagation, for which no older stamp means anything, after one that held so many literals. No stamp becomes
     /// greater. Takes constant time, amortized, and linear time in the stamps beyond the list.
     #[inline]
-    pub(crate) fn begin_walk(&mut self, held: usize)
+    pub(crate) fn begin_propagation(&mut self, assigned: usize)
         ensures { (q : ℕ) → stamp_at self.new q ≤ stamp_at self.old q }
     {
-        self.held = self.held.saturating_add(held);
+        self.assigned = self.assigned.saturating_add(assigned);
         if !self.sparse.is_empty() {
             self.widen();
         }
@@ -128,7 +128,7 @@ impl Stamps {
         ensures { (q : ℕ) → stamp_at self.new q ≤ stamp_at self.old q }
     {
         self.sparse.clear();
-        if self.dense.len() / 4 <= self.held {
+        if self.dense.len() / 4 <= self.assigned {
             lengthen(&mut self.dense);
         }
     }
@@ -174,12 +174,12 @@ impl<'a> Model for LentStamps<'a> {
 impl<'a> LentStamps<'a> {
     /// Whether this is the stamp at a place. Takes constant time, and O(log n) beyond the list.
     #[inline(always)]
-    pub(crate) fn is(&self, place: usize, stamp: u32) -> bool
-        ensures { result ≡ (stamp_at self.now place == stamp) }
+    pub(crate) fn is(&self, index: usize, stamp: u32) -> bool
+        ensures { result ≡ (stamp_at self.now index == stamp) }
     {
-        match self.dense.get(place) {
+        match self.dense.get(index) {
             Some(found) => *found == stamp,
-            None => self.stamps.is_sparse(place, stamp),
+            None => self.stamps.is_sparse(index, stamp),
         }
     }
 }

@@ -6,11 +6,11 @@ use lj_clause::NoMemory;
 /// How the test of a case ended.
 #[derive(Debug, Drop)]
 pub enum Tested {
-    /// The walk closed: the receipt of the hints that it read.
+    /// The propagation closed: the receipt of the hints that it read.
     Closed(Receipt),
-    /// The walk is open after the last hint: the case as it was.
+    /// The propagation is open after the last hint: the case as it was.
     Open(Case),
-    /// The walk is stuck at the hint of this place, counted from 1: its clause has two or more literals left.
+    /// The propagation is stuck at the hint of this place, counted from 1: its clause has two or more literals left.
     Stuck(u64),
     /// A growth was refused: the case as it was.
     NoMemory(Case, NoMemory),

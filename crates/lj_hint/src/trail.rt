@@ -19,13 +19,13 @@ pub(crate) struct Trail {
 
 impl Model for Trail {
     ghost use Rattle.std.specs.Prelude.{List, ℤ};
-    ghost use Rattle.lj_hint.specs.inner.Stamps.{AreMarks};
+    ghost use Rattle.lj_hint.specs.inner.Stamps.{AreAssigned};
 
     ghost Value = { List ℤ };
 
     ghost view = { λ t. t.lits.items };
 
-    ghost invariant = { λ t. AreMarks t.stamps t.stamp t.lits.items };
+    ghost invariant = { λ t. AreAssigned t.stamps t.stamp t.lits.items };
 }
 
 impl Trail {
@@ -46,7 +46,7 @@ impl Trail {
     pub(crate) fn clear(&mut self)
         ensures { self.new ≡ [] }
     {
-        self.stamps.begin_walk(self.lits.len());
+        self.stamps.begin_propagation(self.lits.len());
         if self.stamp == u32::MAX {
             self.stamps.clear();
             self.stamp = 1;
@@ -95,8 +95,8 @@ impl Trail {
         ensures ok { OnOk result (self.new ≡ self.old ++ lit ∷ []) }
         ensures err { OnErr result (self.new ≡ self.old) }
     {
-        make_room(&mut self.lits)?;
-        self.stamps.set(lit.negated().place(), self.stamp)?;
+        reserve_one(&mut self.lits)?;
+        self.stamps.set(lit.negated().index(), self.stamp)?;
         self.lits.push_reserved(lit);
         Ok(())
     }
@@ -107,7 +107,7 @@ impl Trail {
         ensures { self.new ≡ take (length self.old - 1) self.old }
     {
         if let Some(lit) = self.lits.pop() {
-            self.stamps.erase(lit.negated().place());
+            self.stamps.erase(lit.negated().index());
         }
     }
 }
@@ -117,8 +117,8 @@ impl Trail {
 /// # Errors
 /// [`NoMemory`] where a growth was refused.
 #[inline(always)]
-fn make_room(lits: &mut Vec<Lit>) -> Result<(), NoMemory>
-    ensures room { OnOk result (vec_len lits.new < vec_capacity lits.new) }
+fn reserve_one(lits: &mut Vec<Lit>) -> Result<(), NoMemory>
+    ensures capacity { OnOk result (vec_len lits.new < vec_capacity lits.new) }
     ensures same { lits.new.items ≡ lits.old.items }
 {
     if lits.len() < lits.capacity() {
@@ -127,14 +127,14 @@ fn make_room(lits: &mut Vec<Lit>) -> Result<(), NoMemory>
     grow(lits)
 }
 
-/// Makes room for one literal more, as [`make_room`] does: where there is none.
+/// Makes room for one literal more, as [`reserve_one`] does: where there is none.
 ///
 /// # Errors
 /// [`NoMemory`] where a growth was refused.
 #[cold]
 #[inline(never)]
 fn grow(lits: &mut Vec<Lit>) -> Result<(), NoMemory>
-    ensures room { OnOk result (vec_len lits.new < vec_capacity lits.new) }
+    ensures capacity { OnOk result (vec_len lits.new < vec_capacity lits.new) }
     ensures same { lits.new.items ≡ lits.old.items }
 {
     lits.reserve(1)?;
@@ -151,13 +151,13 @@ pub(crate) struct LentTrail<'a> {
 
 impl<'a> Model for LentTrail<'a> {
     ghost use Rattle.std.specs.Prelude.{List, ℤ};
-    ghost use Rattle.lj_hint.specs.inner.Stamps.{AreMarks};
+    ghost use Rattle.lj_hint.specs.inner.Stamps.{AreAssigned};
 
     ghost Value = { List ℤ };
 
     ghost view = { λ t. t.trail.now };
 
-    ghost invariant = { λ t. AreMarks t.stamps t.stamp t.trail.now };
+    ghost invariant = { λ t. AreAssigned t.stamps t.stamp t.trail.now };
 }
 
 impl<'a> LentTrail<'a> {
@@ -166,6 +166,6 @@ impl<'a> LentTrail<'a> {
     pub(crate) fn holds(&self, lit: Lit) -> bool
         ensures { result ≡ holds (from_literals self.now) lit }
     {
-        self.stamps.is(lit.negated().place(), self.stamp)
+        self.stamps.is(lit.negated().index(), self.stamp)
     }
 }

@@ -116,13 +116,13 @@ block_faulty max fed handed old new before after lines fault max_is b answer pla
     }
 
 -- there was no memory for a line that was read
-pub line_without_room : (max : ℕ) (fed : List ℕ) (handed : ℕ) (reader : LinesRead) (before after : SourceState) (line : Line) (e : NoMemory) → LineRead max fed handed reader before after (nexts.Line line)
+pub line_without_memory : (max : ℕ) (fed : List ℕ) (handed : ℕ) (reader : LinesRead) (before after : SourceState) (line : Line) (e : NoMemory) → LineRead max fed handed reader before after (nexts.Line line)
     → LineMissed max fed handed reader.at before after (AtFault (record { kind = kinds.NoMemory e; line = reader.at }))
-line_without_room max fed handed reader before after line e read = record {
+line_without_memory max fed handed reader before after line e read = record {
   piece = read.piece;
   gave = read.gave;
   same = read.same;
   is = λ memory. absurd (false≢true (sym memory));
-  no_room = λ memory. inl (record { line = line; next = read.is });
+  no_memory_left = λ memory. inl (record { line = line; next = read.is });
   whole = whole_before max (fed ++ read.piece) after handed (handed + 1) (omega arith) read.whole;
 }

@@ -91,7 +91,7 @@ use_single again a values rows =
     (range_single (unwrap_or_range a.range).start_inclusive (most_values a) (length values))
     (action_single (action_of a) again a (values_or_missing a values) rows)
 
--- ---- the walk
+-- ---- the propagation
 
 by_rule : (r : Option Rule) (again : Bool) (values : List Text) (rows : List Row) → IsSingle (option_map_or (λ a. use_fault again a values rows) r [])
 by_rule None again values rows = tt
@@ -191,7 +191,7 @@ walk_single s w (word ∷ rest) leaf =
     first_single (turn_fault s [] w word) (walk_fault s [] (walked s.rules [] w word) rest) (turn_single s w word leaf)
     (walk_single s (walked s.rules [] w word) rest leaf)
 
--- ---- after the walk
+-- ---- after the propagation
 
 default_single : (rows : List Row) (a : Rule) → IsSingle (default_fault rows a)
 default_single rows a =

@@ -21,5 +21,5 @@ pub given_failed : (a b : SourceState) → b.given ≡ a.given → Keeps a.rest 
 given_failed a b same keeps = record { given = same ∙ sym (append-nil a.given); rest = Consumes-kept a.rest a.rest b.rest [] (Consumes-nil a.rest) keeps }
 
 -- a pull that gave nothing
-pub given_at_end : (a b : SourceState) (n : ℕ) (room : List ℕ) → HasGiven a b (take n room) → n ≡ 0 → HasGiven a b []
-given_at_end a b n room h none = subst (λ k. HasGiven a b (take k room)) none h
+pub given_at_end : (a b : SourceState) (n : ℕ) (scratch : List ℕ) → HasGiven a b (take n scratch) → n ≡ 0 → HasGiven a b []
+given_at_end a b n scratch h none = subst (λ k. HasGiven a b (take k scratch)) none h

@@ -91,7 +91,7 @@ module _ {S : Type 0} (seen : S → SourceState) (seat seat' : ℕ) (s next : St
     ends = subst (λ n. StreamEnds (λ line e. IsRefusedLine n line e next) (has_verdict next ≡ true) (has_verdict next ≡ false) (drop run.count (all_said MAX_VARIABLE run.text)) report.end) run.enters.1 run.ends;
     kept = run.kept;
     failed_read = run.failed_read;
-    no_room = run.no_room;
+    no_memory_left = run.no_memory_left;
     ended = run.ended;
     failures = run.failures;
     whole = run.whole;

@@ -133,7 +133,7 @@ module _ {S : Type 0} (seen : S → SourceState) (refuses : SeatValue → Line �
     ends = end_confirmed (refuses seat) refuted (Unit {0}) verdict _ report.end r.ends is;
     kept = r.kept;
     failed_read = r.failed_read;
-    no_room = r.no_room;
+    no_memory_left = r.no_memory_left;
     ended = r.ended;
     failures = r.failures;
     whole = r.whole;

@@ -15,4 +15,4 @@ mod StartLemmas
 mod StreamLemmas
 mod TextLemmas
 mod WayLemmas
-mod WordsLemmas
+mod ArgsLemmas

@@ -15,8 +15,8 @@ use Rattle.lj_run.specs.declared.reading.Miss.{Miss}
 use Rattle.lj_run.specs.declared.reading.Miss.TheVariants.{Failed, AtFault}
 use Rattle.lj_run.specs.declared.reading.Next.{Next}
 use Rattle.lj_run.specs.declared.reading.Next.TheVariants as nexts
-use Rattle.lj_run.specs.inner.Reading.{PieceRead, IsNext, LineRead, IsMiss, IfOutOfRoom, LineMissed, IsPieceOf, PieceMissed, with_handed, with_missed}
-use Rattle.lj_run.specs.Reading.{IsRightLine, IsRoomRefused, FailsAt, AreWhole}
+use Rattle.lj_run.specs.inner.Reading.{PieceRead, IsNext, LineRead, IsMiss, IfOutOfMemory, LineMissed, IsPieceOf, PieceMissed, with_handed, with_missed}
+use Rattle.lj_run.specs.Reading.{IsRightLine, IsMemoryRefused, FailsAt, AreWhole}
 use Rattle.lj_run.proofs.GivenLemmas.{given_none, given_on}
 
 told_line : (n : ℕ) (r : Result Line LineFaultKind) (line : Line) → Ok (Some line) ≡ answer_of_line n r → r ≡ Ok line
@@ -215,7 +215,7 @@ pub line_faulty : (max : ℕ) (fed : List ℕ) (handed at : ℕ) (old : LinesRea
     → (is_line_no_memory fault.kind ≡ false → slice_get (all_said max (fed ++ f.piece)) handed ≡ Some (record { line = fault.line; says = Err fault.kind }))
     → (is_line_no_memory fault.kind ≡ true → IsRightLine max (fed ++ f.piece) handed fault.line) → AreWhole max (fed ++ f.piece) after (handed + 1) → LineMissed max fed handed at start after (AtFault fault)
 line_faulty max fed handed at old start after fault f is right whole =
-    record { piece = f.piece; gave = f.gave; same = f.same; is = is; no_room = λ memory. inl (right memory); whole = known (is_line_no_memory fault.kind) }
+    record { piece = f.piece; gave = f.gave; same = f.same; is = is; no_memory_left = λ memory. inl (right memory); whole = known (is_line_no_memory fault.kind) }
   where
     known : (b : Bool) → AreWhole max (fed ++ f.piece) after (cond b handed (handed + 1))
     known true = elim whole [
@@ -237,7 +237,7 @@ piece_missed max fed handed old mid new start before after miss max_is goes mid_
       gave = given_on start before after f.piece p.piece f.gave p.gave;
       same = ap (λ t. take handed (all_said max t)) (sym (append_assoc fed f.piece p.piece)) ∙ on ∙ f.same;
       is = missed miss p.is;
-      no_room = out_of_room miss p.is;
+      no_memory_left = out_of_memory miss p.is;
       whole = known miss p.is;
     }
   where
@@ -263,9 +263,9 @@ piece_missed max fed handed old mid new start before after miss max_is goes mid_
     missed Failed is = failed p.piece is
     missed (AtFault fault) is = λ memory. absurd (false≢true (sym memory ∙ is.0))
 
-    out_of_room : (m : Miss) → IsPieceOf mid.line after.ended m p.piece → IfOutOfRoom m (IsRoomRefused max (fed ++ (f.piece ++ p.piece)) after.ended handed)
-    out_of_room Failed is = tt
-    out_of_room (AtFault fault) is = λ memory. inr (record {
+    out_of_memory : (m : Miss) → IsPieceOf mid.line after.ended m p.piece → IfOutOfMemory m (IsMemoryRefused max (fed ++ (f.piece ++ p.piece)) after.ended handed)
+    out_of_memory Failed is = tt
+    out_of_memory (AtFault fault) is = λ memory. inr (record {
       front = fed ++ f.piece;
       piece = p.piece;
       text_is = sym (append_assoc fed f.piece p.piece);

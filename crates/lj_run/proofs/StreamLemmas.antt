@@ -22,13 +22,13 @@ use Rattle.lj_run.specs.declared.reading.Miss.{Miss}
 use Rattle.lj_run.specs.declared.reading.Miss.TheVariants.{Failed, AtFault}
 use Rattle.lj_run.specs.declared.reading.Next.TheVariants as nexts
 use Rattle.lj_run.specs.declared.stream.Tally.{Tally}
-use Rattle.lj_run.specs.Reading.{IsRoomRefused, FailsAt, AreWhole}
-use Rattle.lj_run.specs.Run.{says_addition, says_deletion, says_import, how_many, AreCountsOf, MeetsFault, IfReadFailed, IfRoomRefused, failed_reads, judged_count, KeepsRefused, StreamEnds, IsStreamRun}
+use Rattle.lj_run.specs.Reading.{IsMemoryRefused, FailsAt, AreWhole}
+use Rattle.lj_run.specs.Run.{says_addition, says_deletion, says_import, how_many, AreCountsOf, MeetsFault, IfReadFailed, IfMemoryRefused, failed_reads, judged_count, KeepsRefused, StreamEnds, IsStreamRun}
 use Rattle.lj_run.specs.inner.Block.{said_in_block, AreNext, BlockRead, EndsInBlock, BlockEntered}
 use Rattle.lj_run.specs.inner.Joint.{report_of}
-use Rattle.lj_run.specs.inner.Reading.{LineRead, LineMissed, IsMiss, IfOutOfRoom, reads_failed, with_missed}
+use Rattle.lj_run.specs.inner.Reading.{LineRead, LineMissed, IsMiss, IfOutOfMemory, reads_failed, with_missed}
 use Rattle.lj_run.specs.inner.Tally.{with_count, with_lines, with_end, missed_at}
-use Rattle.lj_run.proofs.BlockLemmas.{line_without_room, whole_before}
+use Rattle.lj_run.proofs.BlockLemmas.{line_without_memory, whole_before}
 use Rattle.lj_run.proofs.GivenLemmas.{given_none, given_on}
 
 -- ---- places in lists
@@ -210,11 +210,11 @@ meets_fault kinds.Syntax n lines given h = first_left lines given ∙ h refl
 meets_fault kinds.Truncated n lines given h = first_left lines given ∙ h refl
 
 -- want of memory while the next line was read
-room_missed : (at : ℕ) (miss : Miss) (P : ℕ → Type 0) → IfOutOfRoom miss P → IfRoomRefused (missed_at at miss) P
-room_missed at Failed P h = tt
-room_missed at (AtFault fault) P h = by_kind fault.kind fault.line h
+memory_missed : (at : ℕ) (miss : Miss) (P : ℕ → Type 0) → IfOutOfMemory miss P → IfMemoryRefused (missed_at at miss) P
+memory_missed at Failed P h = tt
+memory_missed at (AtFault fault) P h = by_kind fault.kind fault.line h
   where
-    by_kind : (kind : LineFaultKind) (n : ℕ) → (is_line_no_memory kind ≡ true → P n) → IfRoomRefused (AtLine n (Fault kind)) P
+    by_kind : (kind : LineFaultKind) (n : ℕ) → (is_line_no_memory kind ≡ true → P n) → IfMemoryRefused (AtLine n (Fault kind)) P
     by_kind (kinds.NoMemory e) n h = h refl
     by_kind kinds.BadNumber n h = tt
     by_kind kinds.NumberRange n h = tt
@@ -258,7 +258,7 @@ module _ {S : Type 0} (seen : S → SourceState) (entered : List Said → Type 0
     ends = told;
     kept = refl;
     failed_read = tt;
-    no_room = tt;
+    no_memory_left = tt;
     ended = λ e. cc;
     failures = unfailed;
     whole = r.whole;
@@ -275,7 +275,7 @@ module _ {S : Type 0} (seen : S → SourceState) (entered : List Said → Type 0
     ends = (none_left (all_said MAX_VARIABLE (r.text ++ read.piece)) r.handed read.is, on);
     kept = refl;
     failed_read = tt;
-    no_room = tt;
+    no_memory_left = tt;
     ended = λ e. read.ended refl;
     failures = unfailed;
     whole = read.whole;
@@ -300,7 +300,7 @@ module _ {S : Type 0} (seen : S → SourceState) (entered : List Said → Type 0
     ends = ends_missed at (r.text ++ m.piece) r.handed miss m.is on;
     kept = none_kept at miss (drop r.handed (all_said MAX_VARIABLE (r.text ++ m.piece)));
     failed_read = fails_missed at (r.text ++ m.piece) r.handed miss m.is;
-    no_room = room_missed at miss (IsRoomRefused MAX_VARIABLE (r.text ++ m.piece) (seen next).ended r.handed) m.no_room;
+    no_memory_left = memory_missed at miss (IsMemoryRefused MAX_VARIABLE (r.text ++ m.piece) (seen next).ended r.handed) m.no_memory_left;
     ended = λ e. absurd (no_end_missed at miss e);
     failures = failures ∙ sym (reads_missed at miss);
     whole = subst (λ n. AreWhole MAX_VARIABLE (r.text ++ m.piece) (seen next) n) (judged_missed r.handed at miss) m.whole;
@@ -316,18 +316,18 @@ module _ {S : Type 0} (seen : S → SourceState) (entered : List Said → Type 0
         gave = m.gave;
         same = m.same;
         is = m.is;
-        no_room = m.no_room;
+        no_memory_left = m.no_memory_left;
         whole = m.whole;
       } in
       run_missed stream source source tally reader r.so_far at (AtFault fault) missed unfailed on
 
   -- there was no memory for the next line
-  pub run_without_room : (stream source next : S) (tally : Tally) (reader new : LinesRead) (r : EnteredTo entered (seen stream) (seen source) tally reader) (line : Line) (e : NoMemory) (at : ℕ) → at ≡ new.at
+  pub run_without_memory : (stream source next : S) (tally : Tally) (reader new : LinesRead) (r : EnteredTo entered (seen stream) (seen source) tally reader) (line : Line) (e : NoMemory) (at : ℕ) → at ≡ new.at
       → LineRead MAX_VARIABLE r.text r.handed new (seen source) (seen next) (nexts.Line line) → (seen next).failures ≡ 0 → goes_on
       → IsStreamRun entered refused stopped goes_on seen stream (report_of (with_end tally (AtLine at (Fault (kinds.NoMemory e))) None) next)
-  run_without_room stream source next tally reader new r line e at at_is read unfailed on =
+  run_without_memory stream source next tally reader new r line e at at_is read unfailed on =
       subst (λ n. IsStreamRun entered refused stopped goes_on seen stream (report_of (with_end tally (AtLine n (Fault (kinds.NoMemory e))) None) next)) (sym at_is)
-      (run_missed stream source next tally reader r new.at (AtFault (record { kind = kinds.NoMemory e; line = new.at })) (line_without_room MAX_VARIABLE r.text r.handed new (seen source) (seen next) line e read) unfailed on)
+      (run_missed stream source next tally reader r new.at (AtFault (record { kind = kinds.NoMemory e; line = new.at })) (line_without_memory MAX_VARIABLE r.text r.handed new (seen source) (seen next) line e read) unfailed on)
 
   -- it ended within a block
   pub run_ended_within : (was : List Said → Type 0) (stream source next : S) (tally more : Tally) (reader new : LinesRead) (r : EnteredTo was (seen stream) (seen source) tally reader) (lines : List Numbered) (fault : Option LineFault) (b : BlockRead MAX_VARIABLE r.text r.handed new (seen source) (seen next) lines fault)
@@ -345,7 +345,7 @@ module _ {S : Type 0} (seen : S → SourceState) (entered : List Said → Type 0
     ends = h.0;
     kept = h.1;
     failed_read = tt;
-    no_room = tt;
+    no_memory_left = tt;
     ended = λ e. cc;
     failures = unfailed;
     whole = whole_before MAX_VARIABLE (r.text ++ b.piece) (seen next) (r.handed + count) (r.handed + length lines) (omega (arith, below)) b.whole;
@@ -373,7 +373,7 @@ module _ {S : Type 0} (seen : S → SourceState) (entered : List Said → Type 0
         );
         kept = (line.line, h.5, first);
         failed_read = tt;
-        no_room = tt;
+        no_memory_left = tt;
         ended = λ e. cc;
         failures = unfailed;
         whole = whole_before MAX_VARIABLE (r.text ++ b.piece) (seen next) ((r.handed + count) + 1) (r.handed + length lines) (omega (arith, place)) b.whole;

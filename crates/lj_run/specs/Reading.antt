@@ -28,6 +28,6 @@ pub record IsPieceRefused (max : ℕ) (text : List ℕ) (ended : Bool) (handed n
   pub goes_on : ended ≡ false
 
 -- memory was refused in this line: it is the next one and right, or a piece behind its beginning wasn't taken
-abbrev pub IsRoomRefused : ℕ → List ℕ → Bool → ℕ → ℕ → Type 0
-IsRoomRefused max text ended handed n = IsRightLine max text handed n
+abbrev pub IsMemoryRefused : ℕ → List ℕ → Bool → ℕ → ℕ → Type 0
+IsMemoryRefused max text ended handed n = IsRightLine max text handed n
     ⊎ IsPieceRefused max text ended handed n

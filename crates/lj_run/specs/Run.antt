@@ -11,7 +11,7 @@ use Rattle.lj_book.specs.State.{State, verdict}
 use Rattle.lj_book.specs.History.{after_entry}
 use Rattle.lj_book.specs.Calls.{drop_reply, drop_entry, import_reply, import_entry}
 use Rattle.lj_book.specs.Inside.{inside_reply, inside_entry}
-use Rattle.lj_run.specs.Reading.{FailsAt, IsRoomRefused, AreWhole}
+use Rattle.lj_run.specs.Reading.{FailsAt, IsMemoryRefused, AreWhole}
 use Rattle.lj_run.specs.declared.outcome.End.{End}
 use Rattle.lj_run.specs.declared.outcome.End.TheVariants.{Ended, Stopped, Line as AtLine}
 use Rattle.lj_run.specs.declared.outcome.LineEnd.{LineEnd}
@@ -54,7 +54,7 @@ state_after_lines seat s (said ∷ more) = if has_verdict s then None else optio
 
 -- ---- how a stream ends
 
--- the first of the lines is this one, and its text has this fault; of the want of memory see IsRoomRefused
+-- the first of the lines is this one, and its text has this fault; of the want of memory see IsMemoryRefused
 abbrev pub MeetsFault : ℕ → LineFaultKind → List Said → Type 0
 MeetsFault n (kinds.NoMemory _) rest = Unit {0}
 MeetsFault n kind rest = slice_get rest 0 ≡ Some (record { line = n; says = Err kind })
@@ -89,11 +89,11 @@ failed_reads (AtLine n ReadFailed) = 1
 failed_reads (AtLine n end) = 0
 
 -- what holds where a stream ended for want of memory while its next line was read
-abbrev pub IfRoomRefused : End → (ℕ → Type 0) → Type 0
-IfRoomRefused Ended P = Unit {0}
-IfRoomRefused Stopped P = Unit {0}
-IfRoomRefused (AtLine n (Fault (kinds.NoMemory _))) P = P n
-IfRoomRefused (AtLine n end) P = Unit {0}
+abbrev pub IfMemoryRefused : End → (ℕ → Type 0) → Type 0
+IfMemoryRefused Ended P = Unit {0}
+IfMemoryRefused Stopped P = Unit {0}
+IfMemoryRefused (AtLine n (Fault (kinds.NoMemory _))) P = P n
+IfMemoryRefused (AtLine n end) P = Unit {0}
 
 -- how many lines were judged of a stream that ended so after so many were entered: those, and the one that is at fault or refused
 abbrev pub judged_count : ℕ → End → ℕ
@@ -144,7 +144,7 @@ StreamEnds refused stopped goes_on rest (AtLine n ReadFailed) = goes_on
 -- The report is right of this stream. What its source gave meanwhile are its lines: all of them where it ended, as the source has
 -- then, and the first ones else. The first of them were entered, in this way, and the counts are theirs; the next one was not. No line
 -- is entered or judged that isn't whole, unless the source has ended. A read failed exactly where that is how it ended. Where memory was
--- refused to the reading of a line see IsRoomRefused. The line that was refused is kept.
+-- refused to the reading of a line see IsMemoryRefused. The line that was refused is kept.
 pub record IsStreamRun {S : Type 0} (entered : List Said → Type 0)
     (refused : Line → Refusal → Type 0) (stopped goes_on : Type 0) (seen : S → SourceState)
     (stream : S) (report : Report S) : Type 0 where
@@ -157,8 +157,8 @@ pub record IsStreamRun {S : Type 0} (entered : List Said → Type 0)
   pub ends : StreamEnds refused stopped goes_on (drop count (all_said MAX_VARIABLE text)) report.end
   pub kept : KeepsRefused report.end report.refused (drop count (all_said MAX_VARIABLE text))
   pub failed_read : IfReadFailed report.end (FailsAt MAX_VARIABLE text count)
-  pub no_room : IfRoomRefused report.end
-      (IsRoomRefused MAX_VARIABLE text (seen report.source).ended count)
+  pub no_memory_left : IfMemoryRefused report.end
+      (IsMemoryRefused MAX_VARIABLE text (seen report.source).ended count)
   pub ended : report.end ≡ Ended → HasEnded (seen report.source)
   pub failures : (seen report.source).failures ≡ failed_reads report.end
   pub whole : AreWhole MAX_VARIABLE text (seen report.source) (judged_count count report.end)

@@ -22,11 +22,11 @@ impl Assigned {
     }
 
     fn is_false(&self, lit: Lit) -> bool {
-        self.lits.contains_key(lit.negated().place() as u64)
+        self.lits.contains_key(lit.negated().index() as u64)
     }
 
     fn put(&mut self, lit: Lit) -> Result<(), NoMemory> {
-        self.lits.insert(lit.place() as u64, ())
+        self.lits.insert(lit.index() as u64, ())
     }
 
     /// Makes these literals false, but for one.
@@ -58,12 +58,12 @@ impl Assigned {
 
     /// The literals of a clause that aren't false, in words.
     pub(crate) fn left_of(&self, lits: &[Lit]) -> Result<String, AllocError> {
-        let mut words = CutList::new(self.alloc, " and ");
+        let mut tokens = CutList::new(self.alloc, " and ");
         for lit in lits {
             if !self.is_false(*lit) {
-                put_literal(&mut words, *lit)?;
+                put_literal(&mut tokens, *lit)?;
             }
         }
-        Ok(words.into_text())
+        Ok(tokens.into_text())
     }
 }

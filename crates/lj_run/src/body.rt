@@ -10,6 +10,7 @@ ghost use Rattle.lj_run.specs.Proof.{sink_state};
 ghost use Rattle.lj_run.specs.declared.fault.Fault.TheVariants as faults;
 ghost use Rattle.lj_run.specs.declared.status.Status.TheVariants as statuses;
 
+use crate::args::read_args;
 use crate::checking::{Checked, check_with_steps};
 use crate::command_line::{CommandLine, Request};
 use crate::fault::{Fault, fault_of};
@@ -18,7 +19,6 @@ use crate::opening::{create, open, open_all, open_closing};
 use crate::outcome::{Options, ProofEnd};
 use crate::progress::Progress;
 use crate::status::Status;
-use crate::words::read_words;
 use lj_text::{Sink, Source, write_all};
 use std::alloc::Global;
 use std::convert::AsStr;
@@ -34,7 +34,7 @@ use std::time::Clock;
 pub fn program<R: Threads + Wait + Clock + Eprint + Sync, S: AsStr, F: Files, O: Sink, E: Sink>(
     rt: &R,
     alloc: Global,
-    words: &[S],
+    args: &[S],
     files: &mut F,
     out: &mut O,
     err: &mut E,
@@ -42,43 +42,43 @@ pub fn program<R: Threads + Wait + Clock + Eprint + Sync, S: AsStr, F: Files, O:
     requires out { O.failures out.old ≡ 0 }
     requires err { E.failures err.old ≡ 0 }
 
-    ensures status { MayEnd (asked_by (map S.text words.now)) result }
-    ensures printed { result < 2 → IfRun (asked_by (map S.text words.now)) (λ run. IsRunAnswered
+    ensures status { MayEnd (asked_by (map S.text args.now)) result }
+    ensures printed { result < 2 → IfRun (asked_by (map S.text args.now)) (λ run. IsRunAnswered
         (source_state F.Input.given F.Input.ended F.Input.rest F.Input.failures)
         (sink_state F.Output.taken F.Output.failures) (λ path. F.content files.old path) run
         (O.taken out.old) (O.taken out.new) result) }
-    ensures same_report { result < 2 → IfRun (asked_by (map S.text words.now)) (λ run.
+    ensures same_report { result < 2 → IfRun (asked_by (map S.text args.now)) (λ run.
         IsReportOfAll (source_state F.Input.given F.Input.ended F.Input.rest F.Input.failures)
         (sink_state F.Output.taken F.Output.failures) (λ path. F.content files.old path) run
         (O.taken out.old) (O.taken out.new) result) }
-    ensures refuted { result ≡ 0 → IfRun (asked_by (map S.text words.now)) (λ run.
+    ensures refuted { result ≡ 0 → IfRun (asked_by (map S.text args.now)) (λ run.
         IfSome (F.content files.old run.formula) SpellsUnsatisfiable) }
     ensures told { result < 2 → O.failures out.new ≡ 0 }
-    ensures quiet { result < 2 → asks_why (asked_by (map S.text words.now)) ≡ false
+    ensures quiet { result < 2 → asks_why (asked_by (map S.text args.now)) ≡ false
         → err.new ≡ err.old }
     ensures explained { result < 2 → E.failures err.new ≡ 0
-        → IfRun (asked_by (map S.text words.now)) (λ run. IsExplained F.Input run.explains
+        → IfRun (asked_by (map S.text args.now)) (λ run. IsExplained F.Input run.explains
         (O.taken out.old) (O.taken out.new) (E.taken err.old) (E.taken err.new)) }
 
     ensures untouched { 2 ≤ result → O.failures out.new ≡ 0 → (out.new ≡ out.old) ⊎ IsProofLost
         (source_state F.Input.given F.Input.ended F.Input.rest F.Input.failures)
         (sink_state F.Output.taken F.Output.failures) (λ path. F.content files.old path)
-        (asked_by (map S.text words.now)) (O.taken out.old) (O.taken out.new) }
-    ensures cut { O.failures out.new ≢ 0 → IfRun (asked_by (map S.text words.now)) (λ run. IsRunCut
+        (asked_by (map S.text args.now)) (O.taken out.old) (O.taken out.new) }
+    ensures cut { O.failures out.new ≢ 0 → IfRun (asked_by (map S.text args.now)) (λ run. IsRunCut
         (source_state F.Input.given F.Input.ended F.Input.rest F.Input.failures)
         (λ path. F.content files.old path) run (O.taken out.old) (O.taken out.new)) }
     ensures fault { 2 ≤ result → E.failures err.new ≡ 0
         → IsFaultTold (source_state F.Input.given F.Input.ended F.Input.rest F.Input.failures)
-        (sink_state F.Output.taken F.Output.failures) (asked_by (map S.text words.now))
+        (sink_state F.Output.taken F.Output.failures) (asked_by (map S.text args.now))
         (λ path. F.content files.old path) (F.tried files.old) (F.tried files.new)
         (O.failures out.new) (E.taken err.old) (E.taken err.new) result }
 
-    ensures same_files { (path : List ℕ) → IsOther (asked_by (map S.text words.now)) path
+    ensures same_files { (path : List ℕ) → IsOther (asked_by (map S.text args.now)) path
         → F.content files.new path ≡ F.content files.old path }
-    ensures created { CreatesAtMost (asked_by (map S.text words.now)) (F.tried files.old)
+    ensures created { CreatesAtMost (asked_by (map S.text args.now)) (F.tried files.old)
         (F.tried files.new) }
 {
-    match answer(rt, alloc, words, files, out, err) {
+    match answer(rt, alloc, args, files, out, err) {
         Ok(status) => status.code(),
         Err(fault) => {
             // That standard error fails changes nothing.
@@ -92,44 +92,44 @@ pub fn program<R: Threads + Wait + Clock + Eprint + Sync, S: AsStr, F: Files, O:
 fn answer<'a, R: Threads + Wait + Clock + Eprint + Sync, S: AsStr, F: Files, O: Sink, E: Sink>(
     rt: &R,
     alloc: Global,
-    words: &'a [S],
+    args: &'a [S],
     files: &mut F,
     out: &mut O,
     err: &mut E,
 ) -> Result<Status, Fault<'a>>
     requires out { O.failures out.old ≡ 0 }
     requires err { E.failures err.old ≡ 0 }
-    ensures quiet { asks_why (asked_by (map S.text words.entry.now)) ≡ false → err.new ≡ err.old }
+    ensures quiet { asks_why (asked_by (map S.text args.entry.now)) ≡ false → err.new ≡ err.old }
     ensures explained { OnOk result (E.failures err.new ≡ 0
-        → IfRun (asked_by (map S.text words.entry.now)) (λ run. IsExplained F.Input run.explains
+        → IfRun (asked_by (map S.text args.entry.now)) (λ run. IsExplained F.Input run.explains
         (O.taken out.old) (O.taken out.new) (E.taken err.old) (E.taken err.new))) }
     ensures unsaid { OnErr result (err.new ≡ err.old) }
     ensures answered { IfOk result (IsAnswerTo
         (source_state F.Input.given F.Input.ended F.Input.rest F.Input.failures)
         (sink_state F.Output.taken F.Output.failures) (λ path. F.content files.old path)
-        (asked_by (map S.text words.entry.now)) (O.taken out.old) (O.taken out.new)) }
+        (asked_by (map S.text args.entry.now)) (O.taken out.old) (O.taken out.new)) }
     ensures ok { OnOk result (O.failures out.new ≡ 0) }
     ensures ended { IfOk result (λ status. status_code status < 2) }
     ensures fault { IfErr result (IsFaultOf
         (source_state F.Input.given F.Input.ended F.Input.rest F.Input.failures)
-        (sink_state F.Output.taken F.Output.failures) (asked_by (map S.text words.entry.now))
+        (sink_state F.Output.taken F.Output.failures) (asked_by (map S.text args.entry.now))
         (λ path. F.content files.old path) (F.tried files.old) (F.tried files.new)) }
     ensures output { IfErr result (λ fault. O.failures out.new ≡ failed_outputs fault) }
     ensures untouched { IfErr result (λ fault. is_told_late fault ≡ false → out.new ≡ out.old) }
     ensures lost { IfErr result (λ fault. is_lost fault ≡ true → IsProofLost
         (source_state F.Input.given F.Input.ended F.Input.rest F.Input.failures)
         (sink_state F.Output.taken F.Output.failures) (λ path. F.content files.old path)
-        (asked_by (map S.text words.entry.now)) (O.taken out.old) (O.taken out.new)) }
+        (asked_by (map S.text args.entry.now)) (O.taken out.old) (O.taken out.new)) }
     ensures cut { IfErr result (λ fault. fault ≡ faults.CannotWrite
-        → IfRun (asked_by (map S.text words.entry.now)) (λ run. IsRunCut
+        → IfRun (asked_by (map S.text args.entry.now)) (λ run. IsRunCut
         (source_state F.Input.given F.Input.ended F.Input.rest F.Input.failures)
         (λ path. F.content files.old path) run (O.taken out.old) (O.taken out.new))) }
-    ensures same_files { (path : List ℕ) → IsOther (asked_by (map S.text words.entry.now)) path
+    ensures same_files { (path : List ℕ) → IsOther (asked_by (map S.text args.entry.now)) path
         → F.content files.new path ≡ F.content files.old path }
-    ensures created { CreatesAtMost (asked_by (map S.text words.entry.now)) (F.tried files.old)
+    ensures created { CreatesAtMost (asked_by (map S.text args.entry.now)) (F.tried files.old)
         (F.tried files.new) }
 {
-    match read_words(alloc, words)? {
+    match read_args(alloc, args)? {
         Request::Run(line) => run(rt, alloc, &line, files, out, err),
         Request::Help(text) | Request::Version(text) => print(text.as_str(), out),
         Request::Usage(misuse) => Err(Fault::Usage(misuse)),

@@ -5,7 +5,7 @@ ghost use Rattle.lj_run.specs.Run.{state_after_line};
 
 use crate::entering::Entering;
 use lj_book::{Book, Refusal};
-use lj_hint::Marks;
+use lj_hint::Propagator;
 use lj_share::Numbered;
 use lj_text::Line;
 use std::alloc::Global;
@@ -16,7 +16,7 @@ use std::sync::Wait;
 pub(crate) struct BookSeat {
     pub book: Book,
     pub number: u32,
-    marks: Marks,
+    propagator: Propagator,
 }
 
 impl BookSeat {
@@ -27,7 +27,7 @@ impl BookSeat {
         BookSeat {
             book,
             number: 0,
-            marks: Marks::new(alloc),
+            propagator: Propagator::new(alloc),
         }
     }
 
@@ -42,7 +42,10 @@ impl BookSeat {
     {
         match line {
             Line::Add(addition) => {
-                match self.book.add_inside(self.number, addition, &mut self.marks) {
+                match self
+                    .book
+                    .add_inside(self.number, addition, &mut self.propagator)
+                {
                     Ok(_) => Ok(()),
                     Err(refusal) => Err(refusal),
                 }

@@ -32,8 +32,8 @@ impl CutList {
         } else {
             self.between
         };
-        let room = MOST.saturating_sub(self.text.len());
-        if word.len() > room.saturating_sub(between.len()) {
+        let scratch = MOST.saturating_sub(self.text.len());
+        if word.len() > scratch.saturating_sub(between.len()) {
             self.is_cut = true;
             return self.text.push_str(" ..");
         }

@@ -4,11 +4,11 @@ ghost use Rattle.lj_run.specs.inner.Program.{fault_at, IsNoMemory};
 ghost use Rattle.lj_run.specs.Program.{fault_text, formula_fault_text, lost_text, status_of_fault, usage_text};
 ghost use Rattle.lj_run.specs.declared.fault.Fault.TheVariants as faults;
 
+use crate::args::ArgsFault;
 use crate::checking::CheckFault;
 use crate::misuse::Misuse;
 use crate::outcome::{ProofFault, RunFault};
 use crate::status::Status;
-use crate::words::WordsFault;
 use itoa::Buffer;
 use lj_clause::NoMemory;
 use lj_text::{CnfFault, Sink, SinkFault, write_all};
@@ -142,13 +142,13 @@ impl<T: Drop> From<AllocFailed<T>> for Fault<'_> {
     }
 }
 
-impl From<WordsFault> for Fault<'_> {
+impl From<ArgsFault> for Fault<'_> {
     ghost from_gives = { λ _ fault. IsNoMemory fault };
 
-    fn from(fault: WordsFault) -> Self {
+    fn from(fault: ArgsFault) -> Self {
         match fault {
-            WordsFault::NoMemory(e) => Fault::NoMemory(e),
-            WordsFault::OutOfMemory => Fault::OutOfMemory,
+            ArgsFault::NoMemory(e) => Fault::NoMemory(e),
+            ArgsFault::OutOfMemory => Fault::OutOfMemory,
         }
     }
 }

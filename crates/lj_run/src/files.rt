@@ -226,7 +226,7 @@ impl MemoryFiles {
     pub fn written(&self, path: &str) -> Option<Vec<u8>>
         ensures { OnSome result (IsTrue (is_file self.now path.now)) }
     {
-        copy_of(self.alloc, self.created.get(path)?).ok()
+        clone_of(self.alloc, self.created.get(path)?).ok()
     }
 
     /// A copy of the bytes of the file at a path.
@@ -239,7 +239,7 @@ impl MemoryFiles {
         let bytes = match self.added.get(path) {
             Some(bytes) => bytes.as_slice().to_vec(self.alloc)?,
             None => match self.created.get(path) {
-                Some(slot) => copy_of(self.alloc, slot)?,
+                Some(slot) => clone_of(self.alloc, slot)?,
                 None => return Err(FileFault::CannotOpen),
             },
         };
@@ -247,7 +247,7 @@ impl MemoryFiles {
     }
 }
 
-fn copy_of(alloc: Global, slot: &Rc<RefCell<Vec<u8>>>) -> Result<Vec<u8>, FileFault> {
+fn clone_of(alloc: Global, slot: &Rc<RefCell<Vec<u8>>>) -> Result<Vec<u8>, FileFault> {
     match slot.try_borrow() {
         Ok(bytes) => Ok(bytes.as_slice().to_vec(alloc)?),
         Err(_) => Err(FileFault::CannotOpen),

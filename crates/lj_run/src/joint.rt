@@ -19,7 +19,7 @@ use crate::proving::prove;
 use crate::reading::read_formula;
 use crate::watch::Watch;
 use lj_book::laws::{history_is_legal, live_is_the_replay};
-use lj_share::{Blank, Gate};
+use lj_share::{Gate, OpeningParts};
 use lj_text::{Sink, Source};
 use std::alloc::Global;
 use std::marker::Brand;
@@ -78,11 +78,11 @@ pub fn run_joint<
     let formula = read_formula(rt, alloc, formula)?;
     let clauses = formula.len() as u64;
     let seats = streams.len() + usize::from(closing.is_some());
-    let blank = Blank::new(alloc, seats as u32)?;
+    let opening_parts = OpeningParts::new(alloc, seats as u32)?;
     let (reports, book) = run_opened::<Brand, _, _, _, _>(
         rt,
         alloc,
-        blank,
+        opening_parts,
         formula,
         streams,
         closing,

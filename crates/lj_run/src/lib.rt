@@ -3,6 +3,7 @@
 //! A call takes constant time where neither it nor its type tells a cost.
 #![tactic(auto)]
 
+mod args;
 mod assigned;
 mod block;
 mod body;
@@ -31,7 +32,6 @@ mod starting;
 mod status;
 mod stream;
 mod watch;
-mod words;
 
 pub use body::program;
 pub use checking::{CheckFault, Checked, Verdict, check};

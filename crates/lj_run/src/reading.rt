@@ -34,9 +34,9 @@ pub(crate) fn read_formula<R: Wait, F: Source>(
         (source_state F.given F.ended F.rest F.failures source.new)) }
 {
     let mut reader = CnfReader::new(alloc, MAX_VARIABLE);
-    let mut room = [0; PIECE];
+    let mut scratch = [0; PIECE];
     for _ in rt.forever() {
-        match pull_formula(source, &mut reader, &mut room) {
+        match pull_formula(source, &mut reader, &mut scratch) {
             Ok(true) => return finish_formula(reader),
             Ok(false) => {}
             Err(SourceFault) => return Err(RunFault::FormulaRead),
@@ -49,9 +49,9 @@ pub(crate) fn read_formula<R: Wait, F: Source>(
 fn pull_formula<F: Source>(
     source: &mut F,
     reader: &mut CnfReader,
-    room: &mut [u8],
+    scratch: &mut [u8],
 ) -> Result<bool, SourceFault>
-    requires room { 0 < length room.old }
+    requires scratch { 0 < length scratch.old }
     requires unfailed { F.failures source.old ≡ 0 }
 
     ensures onward { OnOk result (FormulaReadOn reader.old reader.new
@@ -66,11 +66,11 @@ fn pull_formula<F: Source>(
     ensures kept { OnErr result (Keeps (F.rest source.old) (F.rest source.new)) }
     ensures max { reader.new.max ≡ reader.old.max }
 {
-    let count = source.pull(room)?;
+    let count = source.pull(scratch)?;
     if count == 0 {
         return Ok(true);
     }
-    let _ = reader.feed(&room[..count]);
+    let _ = reader.feed(&scratch[..count]);
     Ok(false)
 }
 
@@ -114,9 +114,9 @@ pub(crate) fn next_line<S: Source, V: Watch>(
     source: &mut S,
     reader: &mut LineReader,
     ended: &mut bool,
-    room: &mut [u8],
+    scratch: &mut [u8],
 ) -> Result<Next, Miss>
-    requires room { 0 < length room.old }
+    requires scratch { 0 < length scratch.old }
     requires unfailed { S.failures source.old ≡ 0 }
     requires may_read { MayRead reader.old ended.old }
     requires ended { ended.old ≡ true
@@ -148,7 +148,7 @@ pub(crate) fn next_line<S: Source, V: Watch>(
     match reader.next() {
         Ok(Some(line)) => Ok(Next::Line(line)),
         Ok(None) => {
-            pull_piece(watch, source, reader, ended, room)?;
+            pull_piece(watch, source, reader, ended, scratch)?;
             Ok(Next::More)
         }
         Err(fault) => Err(Miss::AtFault(fault)),
@@ -162,9 +162,9 @@ fn pull_piece<S: Source, V: Watch>(
     source: &mut S,
     reader: &mut LineReader,
     ended: &mut bool,
-    room: &mut [u8],
+    scratch: &mut [u8],
 ) -> Result<(), Miss>
-    requires room { 0 < length room.old }
+    requires scratch { 0 < length scratch.old }
     requires unfailed { S.failures source.old ≡ 0 }
     requires may_read { MayRead reader.old ended.old }
     requires goes_on { ended.old ≡ false }
@@ -185,14 +185,14 @@ fn pull_piece<S: Source, V: Watch>(
     ensures max { reader.new.max ≡ reader.old.max }
     ensures at { reader.new.at ≡ reader.old.at }
 {
-    match source.pull(room) {
+    match source.pull(scratch) {
         Ok(0) => {
             *ended = true;
             Ok(())
         }
         Ok(count) => {
             watch.read(count);
-            match reader.feed(&room[..count]) {
+            match reader.feed(&scratch[..count]) {
                 Ok(()) => Ok(()),
                 Err(fault) => Err(Miss::AtFault(fault)),
             }

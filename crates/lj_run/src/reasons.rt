@@ -23,14 +23,14 @@ impl ClosedSeat<'_> {
         match (line, refusal) {
             (Line::Add(addition), Refusal::NumberTaken) => self.number_taken(addition.number),
             (Line::Import { number, .. }, Refusal::NumberTaken) => self.number_taken(*number),
-            (Line::Add(addition), Refusal::HintNotUnit(place)) => {
-                self.hint_not_unit(addition, place)
+            (Line::Add(addition), Refusal::HintNotUnit(position)) => {
+                self.hint_not_unit(addition, position)
             }
             (Line::Add(addition), Refusal::MissingGroup(joint)) => {
                 self.missing_group(addition, joint)
             }
-            (Line::Add(addition), Refusal::GroupStuck(joint, place)) => {
-                self.group_stuck(addition, joint, place)
+            (Line::Add(addition), Refusal::GroupStuck(joint, position)) => {
+                self.group_stuck(addition, joint, position)
             }
             (Line::Import { clause, .. }, Refusal::NoSuchClause) => {
                 let clause = clause_text(self.alloc, clause.lits())?;
@@ -110,10 +110,10 @@ impl ClosedSeat<'_> {
     }
 
     /// The hint at a place of the first list isn't unit.
-    fn hint_not_unit(&self, addition: &Addition, place: u64) -> Result<String, NoMemory> {
+    fn hint_not_unit(&self, addition: &Addition, position: u64) -> Result<String, NoMemory> {
         let mut assigned = Assigned::new(self.alloc);
         assigned.deny(addition.lemma.clause().lits(), None)?;
-        self.stuck_at(&mut assigned, addition.hints.iter(), place)
+        self.stuck_at(&mut assigned, addition.hints.iter(), position)
     }
 
     /// A candidate needs a group of hints.
@@ -128,11 +128,16 @@ impl ClosedSeat<'_> {
     }
 
     /// The hint at a place of the group of a candidate isn't unit.
-    fn group_stuck(&self, addition: &Addition, joint: u64, place: u64) -> Result<String, NoMemory> {
+    fn group_stuck(
+        &self,
+        addition: &Addition,
+        joint: u64,
+        position: u64,
+    ) -> Result<String, NoMemory> {
         let candidate = self.candidate(joint)?;
         let Some(clause) = self.book.clause(joint) else {
             return Ok(format!(in self.alloc;
-                "in the group of {candidate} hint {place} isn't unit"
+                "in the group of {candidate} hint {position} isn't unit"
             )?);
         };
         let mut assigned = Assigned::new(self.alloc);
@@ -144,7 +149,7 @@ impl ClosedSeat<'_> {
         };
         assigned.deny(clause.lits(), opposite)?;
         let hints = self.group_of(addition, joint);
-        let stuck = self.stuck_at(&mut assigned, hints, place)?;
+        let stuck = self.stuck_at(&mut assigned, hints, position)?;
         Ok(format!(in self.alloc; "in the group of {candidate} {stuck}")?)
     }
 
@@ -173,9 +178,9 @@ impl ClosedSeat<'_> {
         &self,
         assigned: &mut Assigned,
         hints: NumbersIter<'_>,
-        place: u64,
+        position: u64,
     ) -> Result<String, NoMemory> {
-        let before = place.saturating_sub(1) as usize;
+        let before = position.saturating_sub(1) as usize;
         self.follow(assigned, hints.first(before))?;
         let alloc = self.alloc;
         let own = hints.get(before).unwrap_or(0);
@@ -185,7 +190,7 @@ impl ClosedSeat<'_> {
             None => String::new(alloc),
         };
         Ok(format!(in alloc;
-            "hint {place} names {named}, of which {left} are left, so it is not unit"
+            "hint {position} names {named}, of which {left} are left, so it is not unit"
         )?)
     }
 }

@@ -47,8 +47,8 @@ pub fn start<R: Threads + Wait + Clock + Eprint + Sync, F: Files, O: Sink, E: Si
 {
     match arguments {
         Ok(arguments) => {
-            let words = words_of(&arguments);
-            ExitCode::from(program(rt, alloc, words, files, out, err))
+            let args = args_of(&arguments);
+            ExitCode::from(program(rt, alloc, args, files, out, err))
         }
         Err(error) => {
             let (text, status) = unread(error.kind());
@@ -59,7 +59,7 @@ pub fn start<R: Threads + Wait + Clock + Eprint + Sync, F: Files, O: Sink, E: Si
 }
 
 /// The arguments behind the program's own name.
-fn words_of(arguments: &[String]) -> &[String]
+fn args_of(arguments: &[String]) -> &[String]
     ensures { result.now ≡ drop 1 arguments.now }
 {
     &arguments[arguments.len().min(1)..]

@@ -73,7 +73,7 @@ fn run_lines<E: Entering, R: Wait, S: Source, V: Watch>(
         (report_of result source.new) }
 {
     let mut reader = LineReader::new(alloc, MAX_VARIABLE);
-    let mut room = [0; PIECE];
+    let mut scratch = [0; PIECE];
     let mut ended = false;
     let mut lines = Vec::new(alloc);
     // Of the next line, where the reader has met it behind a block.
@@ -92,7 +92,7 @@ fn run_lines<E: Entering, R: Wait, S: Source, V: Watch>(
         if let Some(behind) = fault {
             return tally.ending(missed(Miss::AtFault(behind), reader.at()));
         }
-        let line = match next_line(watch, source, &mut reader, &mut ended, &mut room) {
+        let line = match next_line(watch, source, &mut reader, &mut ended, &mut scratch) {
             Ok(Next::Line(line)) => line,
             Ok(Next::More) => continue,
             Ok(Next::End) => return tally.ending(End::Ended),

@@ -49,18 +49,18 @@ impl<S: Source> Source for FailingSource<S> {
 pub struct FailingSink<S> {
     pub sink: S,
     /// How many bytes are still taken.
-    pub room: usize,
+    pub capacity: usize,
     pub failed: bool,
 }
 
 impl<S> FailingSink<S> {
-    /// Takes `room` bytes, and fails at the next.
-    pub fn new(sink: S, room: usize) -> Self
-        ensures { result ≡ record { sink = sink; room = room; failed = false } }
+    /// Takes `capacity` bytes, and fails at the next.
+    pub fn new(sink: S, capacity: usize) -> Self
+        ensures { result ≡ record { sink = sink; capacity = capacity; failed = false } }
     {
         FailingSink {
             sink,
-            room,
+            capacity,
             failed: false,
         }
     }
@@ -74,13 +74,13 @@ impl<S: Sink> Sink for FailingSink<S> {
     ghost failures = { λ failing. S.failures failing.sink + (if failing.failed then 1 else 0) };
 
     fn put(&mut self, piece: &[u8]) -> Result<usize, SinkFault> {
-        if self.room == 0 && !piece.is_empty() {
+        if self.capacity == 0 && !piece.is_empty() {
             self.failed = true;
             return Err(SinkFault);
         }
-        let count = piece.len().min(self.room);
+        let count = piece.len().min(self.capacity);
         let count = self.sink.put(&piece[..count])?;
-        self.room -= count;
+        self.capacity -= count;
         Ok(count)
     }
 }

@@ -54,7 +54,7 @@ fn portfolio_of(alloc: Global, first: &str) -> Result<FailingFiles, Fail> {
 fn assert_told<R: Abort + Threads + Wait + Clock + Eprint + Sync>(
     rt: &R,
     alloc: Global,
-    words: &[&str],
+    args: &[&str],
     first: &str,
     (out, err): (&str, &str),
     status: u8,
@@ -62,7 +62,7 @@ fn assert_told<R: Abort + Threads + Wait + Clock + Eprint + Sync>(
     let mut files = portfolio_of(alloc, first)?;
     let mut told = MemorySink::new(alloc);
     let mut faults = MemorySink::new(alloc);
-    assert!(rt; program(rt, alloc, words, &mut files, &mut told, &mut faults) == status);
+    assert!(rt; program(rt, alloc, args, &mut files, &mut told, &mut faults) == status);
     assert_eq!(rt; told.bytes(), out.as_bytes(), "standard output");
     assert_eq!(rt; faults.bytes(), err.as_bytes(), "standard error");
     Ok(())
@@ -85,16 +85,16 @@ s NOT VERIFIED
 #[test]
 fn reads_fail(rt: HostRuntime) -> Result<(), Fail> {
     let alloc = rt.alloc();
-    let words = ["--in-turn", "cnf", "fails", "second", "--close", "closing"];
+    let args = ["--in-turn", "cnf", "fails", "second", "--close", "closing"];
     for (first, out, status) in [
         ("5 2 0 1 2 0\n", BETWEEN_LINES, 0),
         ("5 2 0 1", INSIDE_A_LINE, 1),
     ] {
-        assert_told(&rt, alloc, &words, first, (out, ""), status)?;
-        assert_told(&rt, alloc, &words[1..], first, (out, ""), status)?;
+        assert_told(&rt, alloc, &args, first, (out, ""), status)?;
+        assert_told(&rt, alloc, &args[1..], first, (out, ""), status)?;
     }
     let out = "c stream 0: 1 added, 0 deleted, 0 imported, line 2: ReadFailed\ns NOT VERIFIED\n";
-    assert_told(&rt, alloc, &words[1..3], "5 2 0 1 2 0\n6 0 5", (out, ""), 1)?;
+    assert_told(&rt, alloc, &args[1..3], "5 2 0 1 2 0\n6 0 5", (out, ""), 1)?;
     let err = "lratjoin: fails: cannot read\n";
     assert_told(&rt, alloc, &["fails", "cnf"], BINARY_TEXT, ("", err), 2)
 }

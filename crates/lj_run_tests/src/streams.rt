@@ -115,10 +115,10 @@ fn assert_written(rt: &impl Abort, alloc: Global) -> Result<(), Fail> {
     write_all(&mut sink, b"345")?;
     assert_eq!(rt; sink.put(b"")?, 0);
     assert_eq!(rt; sink.into_writer().as_slice(), b"12345".as_slice());
-    let mut room = [0; 2];
-    let mut sink = WriterSink::new(&mut room[..]);
+    let mut capacity = [0; 2];
+    let mut sink = WriterSink::new(&mut capacity[..]);
     assert_eq!(rt; write_all(&mut sink, b"123"), Err(SinkFault));
-    assert_eq!(rt; room, *b"12");
+    assert_eq!(rt; capacity, *b"12");
     Ok(())
 }
 
@@ -141,10 +141,10 @@ fn bytes_come_up_to_an_end_or_a_failure(rt: HostRuntime) -> Result<(), Fail> {
         assert_drained(&rt, alloc, &mut source, &all[..length], fails)?;
     }
     assert_written(&rt, alloc)?;
-    for room in 0..=6 {
-        let mut sink = FailingSink::new(MemorySink::new(alloc), room);
-        assert!(rt; write_all(&mut sink, all).is_ok() == (room >= 5));
-        assert_eq!(rt; sink.sink.bytes(), &all[..room.min(5)]);
+    for capacity in 0..=6 {
+        let mut sink = FailingSink::new(MemorySink::new(alloc), capacity);
+        assert!(rt; write_all(&mut sink, all).is_ok() == (capacity >= 5));
+        assert_eq!(rt; sink.sink.bytes(), &all[..capacity.min(5)]);
     }
     Ok(())
 }

@@ -34,37 +34,38 @@ impl<S: Sink> Sink for NarrowSink<S> {
 }
 
 /// A sink over memory that takes so many bytes in all, no more than `most` of them a call.
-fn small_sink(alloc: Global, room: usize, most: usize) -> NarrowSink<FailingSink<MemorySink>>
-    ensures room { result.sink ≡ record { sink = ([], 0); room = room; failed = false } }
+fn small_sink(alloc: Global, capacity: usize, most: usize) -> NarrowSink<FailingSink<MemorySink>>
+    ensures capacity { result.sink ≡ record
+        { sink = ([], 0); capacity = capacity; failed = false } }
 {
-    let sink = FailingSink::new(MemorySink::new(alloc), room);
+    let sink = FailingSink::new(MemorySink::new(alloc), capacity);
     NarrowSink { sink, most }
 }
 
 /// How many bytes a sink takes a call: one, a part of a line, and as many as there are.
 const WIDTHS: [usize; 3] = [1, 5, 24];
 
-/// Asserts what a writer of the two steps answers, into a sink that takes `room` bytes, `most` a call.
+/// Asserts what a writer of the two steps answers, into a sink that takes `capacity` bytes, `most` a call.
 fn assert_fails(
     rt: &impl Abort,
     alloc: Global,
     steps: &[Step],
-    room: usize,
+    capacity: usize,
     most: usize,
 ) -> Result<(), Fail> {
-    let mut writer = ProofWriter::new(small_sink(alloc, room, most), 4);
+    let mut writer = ProofWriter::new(small_sink(alloc, capacity, most), 4);
     for step in steps {
-        assert!(rt; writer.step(step).is_ok(), "with room for {room}");
+        assert!(rt; writer.step(step).is_ok(), "with room for {capacity}");
     }
-    let (first, again) = match room {
+    let (first, again) = match capacity {
         24 => (Ok(()), Ok(())),
         _ => (Err(WriteFault::Device), Err(WriteFault::Failed)),
     };
     let is_right = writer.finish() == first && writer.finish() == again;
-    assert!(rt; is_right, "with room for {room}, {most} a call");
+    assert!(rt; is_right, "with room for {capacity}, {most} a call");
     let taken = TWO_STEPS
         .as_bytes()
-        .get(..room)
+        .get(..capacity)
         .ok_or("more room than bytes")?;
     assert!(rt; writer.into_sink().sink.sink.bytes() == taken);
     Ok(())
@@ -107,19 +108,19 @@ fn proof_into(
 fn a_writer_fails_where_its_sink_is_full(rt: HostRuntime) -> Result<(), Fail> {
     let steps = steps_of(rt.alloc(), TWO_STEPS)?;
     for most in WIDTHS {
-        for room in 0..=24 {
-            assert_fails(&rt, rt.alloc(), &steps, room, most)?;
-            let sink = small_sink(rt.alloc(), room, most);
+        for capacity in 0..=24 {
+            assert_fails(&rt, rt.alloc(), &steps, capacity, most)?;
+            let sink = small_sink(rt.alloc(), capacity, most);
             let (verified, end, bytes) = proof_into(&rt, rt.alloc(), sink)?;
-            let wanted = match room {
+            let wanted = match capacity {
                 24 => ProofEnd::Written,
                 _ => ProofEnd::Failed(ProofFault::Device),
             };
             assert!(rt;
                 verified && end == wanted,
-                "with room for {room}, {most} a call"
+                "with room for {capacity}, {most} a call"
             );
-            assert_eq!(rt; bytes.as_slice(), &TWO_STEPS.as_bytes()[..room]);
+            assert_eq!(rt; bytes.as_slice(), &TWO_STEPS.as_bytes()[..capacity]);
         }
     }
     Ok(())

@@ -5,13 +5,13 @@ mod asking;
 mod event;
 mod out;
 mod pending;
+mod propagations;
 mod script;
 mod sharing;
 mod stage;
 mod stop;
 mod table;
 mod texts;
-mod walks;
 mod words;
 
 use out::Out;

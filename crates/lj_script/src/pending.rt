@@ -1,6 +1,6 @@
 //! What stands between a seat's calls.
 use lj_book::Reply;
-use lj_hint::{Case, Marks, Receipt, Tested};
+use lj_hint::{Case, Propagator, Receipt, Tested};
 use std::mem;
 
 /// What stands between a seat's calls.
@@ -26,10 +26,10 @@ impl Pending {
     }
 
     /// The reply to the test of the case, if there is one.
-    pub fn test(&mut self, marks: &mut Marks) -> Reply {
+    pub fn test(&mut self, propagator: &mut Propagator) -> Reply {
         match mem::replace(self, Pending::Nothing) {
             Pending::Case(case) => {
-                let (reply, after) = tested(case, marks);
+                let (reply, after) = tested(case, propagator);
                 *self = after;
                 reply
             }
@@ -42,8 +42,8 @@ impl Pending {
 }
 
 /// The reply to the test of a case, and what is pending after it.
-fn tested(case: Case, marks: &mut Marks) -> (Reply, Pending) {
-    match case.test(marks) {
+fn tested(case: Case, propagator: &mut Propagator) -> (Reply, Pending) {
+    match case.test(propagator) {
         Tested::Closed(receipt) => (Reply::Closed, Pending::Receipt(receipt)),
         Tested::Open(_) => (Reply::Open, Pending::Nothing),
         Tested::Stuck(place) => (Reply::Stuck(place), Pending::Nothing),

@@ -9,8 +9,8 @@ use crate::stop::Stop;
 use crate::words::{addition_of, line_of, only_number, only_seat, split_number, split_word};
 use lj_book::{Book, Refusal, Reply};
 use lj_clause::{Formula, NoMemory};
-use lj_hint::{Marks, Receipt};
-use lj_share::{Blank, Closed, NoGate, Opening, Seat, Shared, Told};
+use lj_hint::{Propagator, Receipt};
+use lj_share::{BookId, Closed, NoGate, OpeningParts, Seat, Shared, Told};
 use lj_text::Line;
 use std::alloc::Global;
 use std::sync::Wait;
@@ -28,7 +28,7 @@ struct Caller {
 struct Callers {
     alloc: Global,
     all: Vec<Caller>,
-    marks: Marks,
+    propagator: Propagator,
     greatest: u64,
 }
 
@@ -45,7 +45,7 @@ impl Callers {
         Ok(Callers {
             alloc,
             all,
-            marks: Marks::new(alloc),
+            propagator: Propagator::new(alloc),
             greatest,
         })
     }
@@ -62,7 +62,7 @@ impl Callers {
 
     fn test(&mut self, seat: usize) -> Reply {
         match self.all.get_mut(seat) {
-            Some(caller) => caller.pending.test(&mut self.marks),
+            Some(caller) => caller.pending.test(&mut self.propagator),
             None => Reply::Nothing,
         }
     }
@@ -118,26 +118,26 @@ impl Answer {
 }
 
 /// Opens a shared book, makes the calls up to `close`, and gives the closed book, unless the script ends before.
-pub fn play_shared<L: Opening, R: Wait>(
+pub fn play_shared<L: BookId, R: Wait>(
     rt: &R,
     alloc: Global,
-    blank: Blank,
+    opening_parts: OpeningParts,
     formula: Formula,
     number: u32,
     limit: u32,
     script: &mut Script<'_>,
     out: &mut Out,
 ) -> Result<Option<Book>, Stop>
-    requires name { blank.name ≡ L.name }
-    requires parts { (blank.parts ≡ L.parts) × (blank.parts ≡ number) }
-    requires lists { blank.lists ≡ L.lists }
+    requires name { opening_parts.name ≡ L.name }
+    requires parts { (opening_parts.parts ≡ L.parts) × (opening_parts.parts ≡ number) }
+    requires lists { opening_parts.lists ≡ L.lists }
     requires formula { formula ≡ L.formula }
     requires seats { (0 < number) × (number ≡ L.seats) }
     requires limit { limit ≡ L.max_steps }
 {
     let greatest = formula.len() as u64;
     let mut callers = Callers::new(alloc, number as usize, greatest)?;
-    let (shared, mut seats) = Shared::<L>::open(alloc, blank, formula, number, limit)?;
+    let (shared, mut seats) = Shared::<L>::open(alloc, opening_parts, formula, number, limit)?;
     if make_calls(rt, &shared, &mut seats, &mut callers, script, out)? {
         return close(shared, seats, &callers, out);
     }
@@ -145,7 +145,7 @@ pub fn play_shared<L: Opening, R: Wait>(
 }
 
 /// Makes the calls up to `close`. The answer is whether it came.
-fn make_calls<L: Opening, R: Wait>(
+fn make_calls<L: BookId, R: Wait>(
     rt: &R,
     shared: &Shared<L>,
     seats: &mut [Seat<L>],
@@ -169,7 +169,7 @@ fn make_calls<L: Opening, R: Wait>(
     Ok(false)
 }
 
-fn make_call<L: Opening, R: Wait>(
+fn make_call<L: BookId, R: Wait>(
     rt: &R,
     shared: &Shared<L>,
     seats: &mut [Seat<L>],
@@ -202,7 +202,7 @@ fn make_call<L: Opening, R: Wait>(
 }
 
 /// Makes a call, once more where it was refused memory.
-fn call<L: Opening, R: Wait>(
+fn call<L: BookId, R: Wait>(
     rt: &R,
     shared: &Shared<L>,
     seat: &mut Seat<L>,
@@ -217,7 +217,7 @@ fn call<L: Opening, R: Wait>(
     Ok(answer)
 }
 
-fn call_once<L: Opening, R: Wait>(
+fn call_once<L: BookId, R: Wait>(
     rt: &R,
     shared: &Shared<L>,
     seat: &mut Seat<L>,
@@ -238,7 +238,7 @@ fn call_once<L: Opening, R: Wait>(
 }
 
 /// Prints what came of a call: a token by its entry, and keeps it.
-fn show<L: Opening>(
+fn show<L: BookId>(
     shared: &Shared<L>,
     callers: &mut Callers,
     seat: usize,
@@ -262,7 +262,7 @@ fn show<L: Opening>(
 }
 
 /// Prints the entry that a token shows. The answer is the greatest number behind it.
-fn show_entry<L: Opening>(
+fn show_entry<L: BookId>(
     shared: &Shared<L>,
     told: &Told,
     greatest: u64,
@@ -273,7 +273,7 @@ fn show_entry<L: Opening>(
     Ok(greatest_after(greatest, entry.step.as_ref()))
 }
 
-fn submit<L: Opening, R: Wait>(
+fn submit<L: BookId, R: Wait>(
     rt: &R,
     shared: &Shared<L>,
     seat: &mut Seat<L>,
@@ -287,7 +287,7 @@ fn submit<L: Opening, R: Wait>(
     Ok(Answer::of(word, shared.submit(rt, seat, line)))
 }
 
-fn enter<L: Opening, R: Wait>(
+fn enter<L: BookId, R: Wait>(
     rt: &R,
     shared: &Shared<L>,
     seat: &mut Seat<L>,
@@ -306,7 +306,7 @@ fn is_addition(line: &Line) -> bool {
     }
 }
 
-fn take<L: Opening>(
+fn take<L: BookId>(
     shared: &Shared<L>,
     seat: &mut Seat<L>,
     callers: &mut Callers,
@@ -321,7 +321,7 @@ fn take<L: Opening>(
     Ok(Answer::Reply(reply))
 }
 
-fn commit<L: Opening, R: Wait>(
+fn commit<L: BookId, R: Wait>(
     rt: &R,
     shared: &Shared<L>,
     seat: &mut Seat<L>,
@@ -342,7 +342,7 @@ fn commit<L: Opening, R: Wait>(
     }
 }
 
-fn adopt<L: Opening, R: Wait>(
+fn adopt<L: BookId, R: Wait>(
     rt: &R,
     shared: &Shared<L>,
     seat: &mut Seat<L>,
@@ -361,7 +361,7 @@ fn show_count(count: u64, out: &mut Out) -> Result<(), NoMemory> {
 }
 
 /// The entries that a seat's tokens show.
-fn show_told<L: Opening>(
+fn show_told<L: BookId>(
     shared: &Shared<L>,
     callers: &Callers,
     seat: usize,
@@ -376,7 +376,7 @@ fn show_told<L: Opening>(
 }
 
 /// Closes the book, and says for each seat whether its tokens are its entries.
-fn close<L: Opening>(
+fn close<L: BookId>(
     shared: Shared<L>,
     seats: Vec<Seat<L>>,
     callers: &Callers,
@@ -391,7 +391,7 @@ fn close<L: Opening>(
     Ok(Some(closed.into_book()))
 }
 
-fn confirm_all<L: Opening>(
+fn confirm_all<L: BookId>(
     closed: &Closed<L>,
     callers: &Callers,
     out: &mut Out,

@@ -9,11 +9,11 @@ use crate::stop::Stop;
 use crate::table::Table;
 use crate::texts::{self, Grammar};
 use crate::words::{only_seat, split_seat, split_word};
-use crate::{asking, walks};
+use crate::{asking, propagations};
 use lj_book::Event;
 use lj_clause::{Formula, MAX_VARIABLE, NoMemory};
-use lj_hint::Marks;
-use lj_share::Blank;
+use lj_hint::Propagator;
+use lj_share::OpeningParts;
 use lj_text::CnfReader;
 use std::alloc::Global;
 use std::marker::Brand;
@@ -28,7 +28,7 @@ struct Stage {
     formula: Option<Formula>,
     table: Option<Table>,
     events: Option<Vec<Event>>,
-    marks: Marks,
+    propagator: Propagator,
 }
 
 /// Plays a script.
@@ -44,7 +44,7 @@ pub fn play<R: Wait>(
         formula: None,
         table: None,
         events: None,
-        marks: Marks::new(alloc),
+        propagator: Propagator::new(alloc),
     };
     play_lines(rt, &mut stage, script, out)
 }
@@ -121,23 +121,29 @@ impl Stage {
             "shared" => self.share(rt, rest, script, out),
             "cnf" => texts::show(self.alloc, Grammar::Formula, rest, out),
             "lrat" => texts::show(self.alloc, Grammar::Proof, rest, out),
-            "formula" | "walk" | "rat" | "walks" => self.play_test(word, rest, out),
+            "formula" | "propagate" | "rat" | "propagations" => self.play_test(word, rest, out),
             _ => self.play_book(word, rest, out),
         }
     }
 
     /// The commands on a formula alone.
     fn play_test(&mut self, word: &str, rest: &str, out: &mut Out) -> Result<(), Stop> {
-        if word == "walks" {
-            self.marks = Marks::after(self.alloc, only_seat(rest)?);
+        if word == "propagations" {
+            self.propagator = Propagator::after(self.alloc, only_seat(rest)?);
             return Ok(());
         }
         let Some(formula) = &self.formula else {
             return Err(Stop::NotACommand);
         };
         match word {
-            "walk" => walks::walk(self.alloc, formula, rest, &mut self.marks, out),
-            "rat" => walks::rat(self.alloc, formula, rest, out),
+            "propagate" => propagations::propagate(
+                self.alloc,
+                formula,
+                rest,
+                &mut self.propagator,
+                out,
+            ),
+            "rat" => propagations::rat(self.alloc, formula, rest, out),
             _ => {
                 out.formula(formula)?;
                 Ok(out.put("\n")?)
@@ -152,7 +158,7 @@ impl Stage {
         if seats == 0 {
             return Err(Stop::NotACommand);
         }
-        let formula = self.formula()?.copy()?;
+        let formula = self.formula()?.try_clone()?;
         self.table = Some(Table::open(self.alloc, formula, seats, limit)?);
         self.events = (word == "events").then_some(Vec::new(self.alloc));
         Ok(())
@@ -171,9 +177,18 @@ impl Stage {
         if seats == 0 {
             return Err(Stop::NotACommand);
         }
-        let (alloc, formula) = (self.alloc, self.formula()?.copy()?);
-        let blank = Blank::new(alloc, seats)?;
-        let closed = play_shared::<Brand, _>(rt, alloc, blank, formula, seats, limit, script, out)?;
+        let (alloc, formula) = (self.alloc, self.formula()?.try_clone()?);
+        let opening_parts = OpeningParts::new(alloc, seats)?;
+        let closed = play_shared::<Brand, _>(
+            rt,
+            alloc,
+            opening_parts,
+            formula,
+            seats,
+            limit,
+            script,
+            out,
+        )?;
         self.events = None;
         self.table = match closed {
             Some(book) => Some(Table::new(alloc, book, seats)?),

@@ -4,7 +4,7 @@ ghost use Rattle.std.specs.Prelude.{◌<◌};
 use crate::pending::Pending;
 use lj_book::{Book, Event, Refusal, Reply};
 use lj_clause::{Clause, Formula, NoMemory};
-use lj_hint::{Marks, Receipt};
+use lj_hint::{Propagator, Receipt};
 use lj_text::{Addition, Numbers};
 use std::alloc::Global;
 
@@ -13,7 +13,7 @@ use std::alloc::Global;
 pub struct Table {
     pub book: Book,
     pending: Vec<Pending>,
-    marks: Marks,
+    propagator: Propagator,
 }
 
 impl Table {
@@ -34,7 +34,7 @@ impl Table {
         Ok(Table {
             book,
             pending,
-            marks: Marks::new(alloc),
+            propagator: Propagator::new(alloc),
         })
     }
 
@@ -85,7 +85,7 @@ impl Table {
 
     fn test(&mut self, seat: u32) -> Reply {
         match self.pending.get_mut(seat as usize) {
-            Some(pending) => pending.test(&mut self.marks),
+            Some(pending) => pending.test(&mut self.propagator),
             None => Reply::Nothing,
         }
     }
@@ -113,7 +113,7 @@ impl Table {
     }
 
     fn inside(&mut self, seat: u32, addition: &Addition) -> Reply {
-        match self.book.add_inside(seat, addition, &mut self.marks) {
+        match self.book.add_inside(seat, addition, &mut self.propagator) {
             Ok(added) => Reply::Added(added),
             Err(refusal) => Reply::Refused(refusal),
         }

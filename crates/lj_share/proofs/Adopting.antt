@@ -15,10 +15,10 @@ use Rattle.lj_book.specs.Views.{ViewsFollowEntries, view_after_call}
 use Rattle.lj_share.specs.Seats.{SeatValue, seat_of_book, with_bound}
 
 -- an adoption that was accepted is of a live clause
-pub adopted : (s : State) (seat own joint place : ℕ) → adopt_reply s seat own joint ≡ Ok place → (c : LiteralSet) × (fin.get (live s) joint ≡ Some c)
-adopted s seat own joint place is = go (free_refusal s seat own) (fin.get (live s) joint) refl is
+pub adopted : (s : State) (seat own joint account : ℕ) → adopt_reply s seat own joint ≡ Ok account → (c : LiteralSet) × (fin.get (live s) joint ≡ Some c)
+adopted s seat own joint account is = go (free_refusal s seat own) (fin.get (live s) joint) refl is
   where
-    go : (f : Option Refusal) (o : Option LiteralSet) → fin.get (live s) joint ≡ o → if_free f (if is_some o then Ok (length s.history) else Err NoSuchClause) ≡ Ok place → (c : LiteralSet) × (fin.get (live s) joint ≡ Some c)
+    go : (f : Option Refusal) (o : Option LiteralSet) → fin.get (live s) joint ≡ o → if_free f (if is_some o then Ok (length s.history) else Err NoSuchClause) ≡ Ok account → (c : LiteralSet) × (fin.get (live s) joint ≡ Some c)
     go (Some e) o at none = absurd cc
     go None None at none = absurd cc
     go None (Some c) at accepted = (c, at)

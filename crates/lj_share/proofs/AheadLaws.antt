@@ -10,8 +10,8 @@ use Rattle.lj_text.specs.declared.line.Line.TheVariants as lines
 use Rattle.lj_book.specs.declared.refusal.Refusal.{Refusal}
 use Rattle.lj_book.specs.Solo.{View}
 use Rattle.lj_book.specs.Views.{IsClosedAlone, decided_refusal}
-use Rattle.lj_share.specs.declared.seat.Alone.{Alone}
-use Rattle.lj_share.specs.declared.seat.Alone.TheVariants.{Closed, Open}
+use Rattle.lj_share.specs.declared.seat.Unlocked.{Unlocked}
+use Rattle.lj_share.specs.declared.seat.Unlocked.TheVariants.{Closed, Open}
 use Rattle.lj_share.specs.Refusals.{IsDecided}
 use Rattle.lj_share.specs.inner.Seats.{IfClosed, IsTestedAs}
 use Rattle.lj_share.specs.declared.numbered.Numbered.{Numbered}
@@ -85,13 +85,13 @@ tested_next m ls reads after k l read so_far at within here set j x r below x_at
 -- ---- what a seat sees that entered all lines before
 
 -- the ends of a test
-pub closed_seen : (m : ClauseMap) (view : View) (seat : ℕ) (a : Addition) (r : Result Alone Refusal) → AreSeen m view → IfOk r (λ alone. IfClosed alone (IsClosedBy m a)) → IfOk r (λ alone. IfClosed alone (IsClosedAlone view seat a))
+pub closed_seen : (m : ClauseMap) (view : View) (seat : ℕ) (a : Addition) (r : Result Unlocked Refusal) → AreSeen m view → IfOk r (λ unlocked. IfClosed unlocked (IsClosedBy m a)) → IfOk r (λ unlocked. IfClosed unlocked (IsClosedAlone view seat a))
 closed_seen m view seat a (Ok (Closed read)) seen by = by view seat seen
 closed_seen m view seat a (Ok Open) seen by = tt
 closed_seen m view seat a (Err e) seen by = tt
 
-pub refused_seen : (m : ClauseMap) (view : View) (seat : ℕ) (a : Addition) (r : Result Alone Refusal) → AreSeen m view → IfErr r (IsRefusedBy m a) → IfErr r (IsDecided (decided_refusal view seat a))
-refused_seen m view seat a (Ok alone) seen by = tt
+pub refused_seen : (m : ClauseMap) (view : View) (seat : ℕ) (a : Addition) (r : Result Unlocked Refusal) → AreSeen m view → IfErr r (IsRefusedBy m a) → IfErr r (IsDecided (decided_refusal view seat a))
+refused_seen m view seat a (Ok unlocked) seen by = tt
 refused_seen m view seat a (Err e) seen by = by view seat seen
 
 -- the end of a test is that of its line

@@ -2,13 +2,13 @@
 use Rattle.std.proofs.Common.{◌≡◌, ap, refl, sym, ◌∙◌, ℕ, zero, suc}
 use Rattle.std.specs.Prelude.{List, [], ◌∷◌, length, map, take, Some, Ok}
 use Rattle.lj_clause.specs.LiteralSet.{negations}
-use Rattle.lj_clause.specs.Walk as walks
-use Rattle.lj_clause.proofs.WalkLaws.{used-numbers}
+use Rattle.lj_clause.specs.Propagation as propagations
+use Rattle.lj_clause.proofs.PropagationLaws.{used-numbers}
 use Rattle.lj_text.specs.declared.line.Addition.{Addition}
 use Rattle.lj_hint.specs.declared.pair.Pair.{Pair}
 use Rattle.lj_hint.specs.declared.tested.Tested.TheVariants as tests
 use Rattle.lj_hint.specs.Hints.{named_hints}
-use Rattle.lj_hint.specs.Case.{CaseValue, walk_of}
+use Rattle.lj_hint.specs.Case.{CaseValue, propagation_of}
 use Rattle.lj_hint.specs.Receipt.{ReceiptValue, receipt_of}
 use Rattle.lj_hint.specs.Tested.{tested_of}
 use Rattle.lj_book.specs.declared.refusal.Refusal.{Refusal}
@@ -24,40 +24,40 @@ take_decided v seat a SeatGone is = ap decided_by is
 take_decided v seat a NumberTaken is = ap decided_by is
 take_decided v seat a (UnknownNumber n) is = ap decided_by is
 take_decided v seat a (GroupRepeated n) is = ap decided_by is
-take_decided v seat a (HintNotUnit place) is = ap decided_by is
+take_decided v seat a (HintNotUnit position) is = ap decided_by is
 take_decided v seat a EmptyOpen is = ap decided_by is
 take_decided v seat a (MissingGroup n) is = ap decided_by is
-take_decided v seat a (GroupStuck n place) is = ap decided_by is
+take_decided v seat a (GroupStuck n position) is = ap decided_by is
 take_decided v seat a (GroupOpen n) is = ap decided_by is
 take_decided v seat a NoSuchClause is = ap decided_by is
 take_decided v seat a (Stale n) is = ap decided_by is
 take_decided v seat a Full is = ap decided_by is
 take_decided v seat a (NoMemory m) is = tt
 
--- as many hints are listed as the walk read
-named : (n : ℕ) (ps : List Pair) → length (map (λ (h : walks.Hint). h.number) (take n (named_hints ps))) ≡ length (take n ps)
+-- as many hints are listed as the propagation read
+named : (n : ℕ) (ps : List Pair) → length (map (λ (h : propagations.Hint). h.number) (take n (named_hints ps))) ≡ length (take n ps)
 named zero [] = refl
 named zero (p ∷ ps) = refl
 named (suc n) [] = refl
 named (suc n) (p ∷ ps) = ap suc (named n ps)
 
-read_are : (c : CaseValue) (used : List ℕ) → walk_of c ≡ walks.Closed used → length (take (length used) c.hints) ≡ length used
+read_are : (c : CaseValue) (used : List ℕ) → propagation_of c ≡ propagations.Closed used → length (take (length used) c.hints) ≡ length used
 read_are c used is = sym (named (length used) c.hints) ∙ ap length (used-numbers (negations c.lemma.clause) (named_hints c.hints) used is)
 
-pub closed_case : (v : View) (seat : ℕ) (a : Addition) (c : CaseValue) (receipt : ReceiptValue) → solo_take v seat a ≡ Ok c → tests.Closed receipt ≡ tested_of c (walk_of c) → IsClosedAlone v seat a (length receipt.listed)
-closed_case v seat a c receipt taken is = go (walk_of c) refl is
+pub closed_case : (v : View) (seat : ℕ) (a : Addition) (c : CaseValue) (receipt : ReceiptValue) → solo_take v seat a ≡ Ok c → tests.Closed receipt ≡ tested_of c (propagation_of c) → IsClosedAlone v seat a (length receipt.listed)
+closed_case v seat a c receipt taken is = go (propagation_of c) refl is
   where
-    go : (w : walks.Walk) → walk_of c ≡ w → tests.Closed receipt ≡ tested_of c w → IsClosedAlone v seat a (length receipt.listed)
-    go (walks.Closed used) at same =
+    go : (w : propagations.Propagation) → propagation_of c ≡ w → tests.Closed receipt ≡ tested_of c w → IsClosedAlone v seat a (length receipt.listed)
+    go (propagations.Closed used) at same =
         let one : receipt ≡ receipt_of c (length used) = cc in
         record { case = c; used = used; taken = taken; closed = at; read_is = sym (ap (λ (r : ReceiptValue). length r.listed) one ∙ read_are c used at) }
-    go (walks.Open lits) at same = absurd cc
-    go (walks.Stuck place) at same = absurd cc
+    go (propagations.Open lits) at same = absurd cc
+    go (propagations.Stuck position) at same = absurd cc
 
-pub stuck_case : (v : View) (seat : ℕ) (a : Addition) (c : CaseValue) (place : ℕ) → solo_take v seat a ≡ Ok c → tests.Stuck place ≡ tested_of c (walk_of c) → decided_refusal v seat a ≡ Some (HintNotUnit place)
-stuck_case v seat a c place taken is = ap decided_by taken ∙ go (walk_of c) is
+pub stuck_case : (v : View) (seat : ℕ) (a : Addition) (c : CaseValue) (position : ℕ) → solo_take v seat a ≡ Ok c → tests.Stuck position ≡ tested_of c (propagation_of c) → decided_refusal v seat a ≡ Some (HintNotUnit position)
+stuck_case v seat a c position taken is = ap decided_by taken ∙ go (propagation_of c) is
   where
-    go : (w : walks.Walk) → tests.Stuck place ≡ tested_of c w → stuck_refusal w ≡ Some (HintNotUnit place)
-    go (walks.Closed used) same = absurd cc
-    go (walks.Open lits) same = absurd cc
-    go (walks.Stuck at) same = let one : at ≡ place = cc in ap (λ (n : ℕ). Some (HintNotUnit n)) one
+    go : (w : propagations.Propagation) → tests.Stuck position ≡ tested_of c w → stuck_refusal w ≡ Some (HintNotUnit position)
+    go (propagations.Closed used) same = absurd cc
+    go (propagations.Open lits) same = absurd cc
+    go (propagations.Stuck at) same = let one : at ≡ position = cc in ap (λ (n : ℕ). Some (HintNotUnit n)) one

@@ -8,41 +8,41 @@ use Rattle.std.specs.Prelude.{slice_index_or, option_map}
 use Rattle.lj_book.specs.State.{State}
 use Rattle.lj_share.specs.Seats.{AreSeatsIn, SeatValue, seat_of_book}
 use Rattle.lj_share.specs.inner.Seats.{AreShown}
-use Rattle.lj_share.specs.declared.copies.DeskCopy.{DeskCopy}
+use Rattle.lj_share.specs.declared.copies.BookCopy.{BookCopy}
 use Rattle.lj_share.proofs.Confirming.{some_same}
 
 same_head : {A : Type 0} (x y : A) (xs ys : List A) → x ∷ xs ≡ y ∷ ys → x ≡ y
 same_head x y xs ys is = cc
 
-abbrev names_of : List DeskCopy → List ℕ
-names_of cs = map (λ (c : DeskCopy). c.name) cs
+abbrev names_of : List BookCopy → List ℕ
+names_of cs = map (λ (c : BookCopy). c.name) cs
 
-abbrev pub seats_shown : List DeskCopy → List SeatValue
-seats_shown cs = map (λ (c : DeskCopy). c.seat) cs
+abbrev pub seats_shown : List BookCopy → List SeatValue
+seats_shown cs = map (λ (c : BookCopy). c.seat) cs
 
 -- a place that has a name has a copy
-pub place_within : (cs : List DeskCopy) (names : List ℕ) (k n : ℕ) → names_of cs ≡ names → slice_get names k ≡ Some n → k < length cs
-place_within cs names k n are at = let within = slice_get_within names k n at in let long = sym (ap length are) ∙ length-map cs (λ (c : DeskCopy). c.name) in omega (arith, within, long)
+pub place_within : (cs : List BookCopy) (names : List ℕ) (k n : ℕ) → names_of cs ≡ names → slice_get names k ≡ Some n → k < length cs
+place_within cs names k n are at = let within = slice_get_within names k n at in let long = sym (ap length are) ∙ length-map cs (λ (c : BookCopy). c.name) in omega (arith, within, long)
 
 -- the copy at a place has its name
-pub name_at : (cs : List DeskCopy) (names : List ℕ) (k n : ℕ) (c : DeskCopy) → names_of cs ≡ names → slice_get names k ≡ Some n → c ≡ slice_index_or cs k c → n ≡ c.name
+pub name_at : (cs : List BookCopy) (names : List ℕ) (k n : ℕ) (c : BookCopy) → names_of cs ≡ names → slice_get names k ≡ Some n → c ≡ slice_index_or cs k c → n ≡ c.name
 name_at cs names k n c are at here =
     let found = slice_get_read cs (length cs) k c refl (place_within cs names k n are at) here in
-    some_same n c.name (sym at ∙ ap (λ (ns : List ℕ). slice_get ns k) (sym are) ∙ slice_get-map (λ (c : DeskCopy). c.name) cs k ∙ ap (option_map (λ (c : DeskCopy). c.name)) found)
+    some_same n c.name (sym at ∙ ap (λ (ns : List ℕ). slice_get ns k) (sym are) ∙ slice_get-map (λ (c : BookCopy). c.name) cs k ∙ ap (option_map (λ (c : BookCopy). c.name)) found)
 
 -- the list at a place is that of its copy
-pub list_at : (cs : List DeskCopy) (names : List ℕ) (k n : ℕ) (c : DeskCopy) → names_of cs ≡ names → slice_get names k ≡ Some n → c ≡ slice_index_or cs k c → slice_get (seats_shown cs) k ≡ Some c.seat
+pub list_at : (cs : List BookCopy) (names : List ℕ) (k n : ℕ) (c : BookCopy) → names_of cs ≡ names → slice_get names k ≡ Some n → c ≡ slice_index_or cs k c → slice_get (seats_shown cs) k ≡ Some c.seat
 list_at cs names k n c are at here =
-    slice_get-map (λ (c : DeskCopy). c.seat) cs k ∙ ap (option_map (λ (c : DeskCopy). c.seat)) (slice_get_read cs (length cs) k c refl (place_within cs names k n are at) here)
+    slice_get-map (λ (c : BookCopy). c.seat) cs k ∙ ap (option_map (λ (c : BookCopy). c.seat)) (slice_get_read cs (length cs) k c refl (place_within cs names k n are at) here)
 
 -- a copy under the same name in its place leaves all names
-pub names_kept : (cs : List DeskCopy) (names : List ℕ) (k : ℕ) (c d : DeskCopy) → names_of cs ≡ names → c ≡ slice_index_or cs k c → d.name ≡ c.name → names_of (slice_set cs k d) ≡ names
+pub names_kept : (cs : List BookCopy) (names : List ℕ) (k : ℕ) (c d : BookCopy) → names_of cs ≡ names → c ≡ slice_index_or cs k c → d.name ≡ c.name → names_of (slice_set cs k d) ≡ names
 names_kept cs names k c d are here same =
-    map-set_same (λ (c : DeskCopy). c.name) cs k d c (same ∙ ap (λ (c : DeskCopy). c.name) here) ∙ are
+    map-set_same (λ (c : BookCopy). c.name) cs k d c (same ∙ ap (λ (c : BookCopy). c.name) here) ∙ are
 
 -- the lists with another one in a copy's place
-pub list_set : (cs : List DeskCopy) (k : ℕ) (d : DeskCopy) → seats_shown (slice_set cs k d) ≡ slice_set (seats_shown cs) k d.seat
-list_set cs k d = map-set (λ (c : DeskCopy). c.seat) cs k d
+pub list_set : (cs : List BookCopy) (k : ℕ) (d : BookCopy) → seats_shown (slice_set cs k d) ≡ slice_set (seats_shown cs) k d.seat
+list_set cs k d = map-set (λ (c : BookCopy). c.seat) cs k d
 
 -- ---- where both copies agree
 

@@ -6,13 +6,13 @@ use Rattle.std.specs.FinMap as fin
 use Rattle.lj_clause.specs.LiteralSet.{LiteralSet, negations}
 use Rattle.lj_clause.specs.ClauseMap.{ClauseMap, FormulaValue}
 use Rattle.lj_clause.specs.Rat as rats
-use Rattle.lj_clause.specs.Walk.{Walk, Closed, Open, Stuck, Hint, hints_in, walk_over}
+use Rattle.lj_clause.specs.Propagation.{Propagation, Closed, Open, Stuck, Hint, hints_in, propagate_over}
 use Rattle.lj_text.specs.declared.line.Addition.{Addition}
 use Rattle.lj_text.specs.declared.line.Line.{Line}
 use Rattle.lj_text.specs.declared.line.Line.TheVariants as lines
 use Rattle.lj_hint.specs.declared.pair.Pair.{Pair}
 use Rattle.lj_hint.specs.Hints.{named_hints, numbers}
-use Rattle.lj_hint.specs.Case.{CaseValue, walk_of}
+use Rattle.lj_hint.specs.Case.{CaseValue, propagation_of}
 use Rattle.lj_book.specs.declared.entry.Added.{Added}
 use Rattle.lj_book.specs.declared.entry.Dropped.{Dropped}
 use Rattle.lj_book.specs.declared.refusal.Refusal.{Refusal}
@@ -22,78 +22,78 @@ use Rattle.lj_book.specs.State.{State, addition_count, live, next}
 use Rattle.lj_book.specs.History.{IsReached}
 use Rattle.lj_book.specs.Tables.{Table, is_here, is_bound, table_of}
 use Rattle.lj_book.specs.Calls.{IsRefusal, commit_told, drop_reply, free_refusal, if_free, import_reply, imported_at, unless_refused}
-use Rattle.lj_book.specs.Inside.{inside_after, inside_reply, joint_addition, open_refusal, or_full, rat_refusal, walk_refusal}
+use Rattle.lj_book.specs.Inside.{inside_after, inside_reply, joint_addition, open_refusal, or_full, rat_refusal, propagation_refusal}
 use Rattle.lj_book.specs.Solo.{View, solo_refusal, solo_take, view_of}
 use Rattle.lj_book.specs.Views.{FreeAlone, decided_by, decided_refusal, stuck_refusal}
 use Rattle.lj_book.proofs.HistoryLaws.{IsSound-reached}
 use Rattle.lj_book.proofs.SoloStates.{IsGiven, IsGiven-sound}
 use Rattle.lj_book.proofs.SoloSteps.{held_named, view_is}
 use Rattle.lj_book.proofs.SoloTakes.{IsFit, take_alone, take_fits}
-use Rattle.lj_share.specs.Refusals.{IsDecided, IsLineRefused, IsNotFound, IsOpenRefusal, IsRatOrFull, IsRefusedLine, IsShort, gone_refusal, line_refusal}
+use Rattle.lj_share.specs.Refusals.{IsDecided, IsLineRefused, IsNotFound, IsOpenRefusal, IsRatOrFull, IsRefusedLine, IsWantOfMemory, gone_refusal, line_refusal}
 use Rattle.lj_share.specs.Seats.{SeatValue, seat_of_book}
 
 -- what is told is the reply's refusal, or that memory is short
-told_by : (P : Refusal → Type 0) → ((e : Refusal) → IsShort e → P e) → {A : Type 0} (reply : Result A Refusal) → IfErr reply P → (told : Refusal) → IsRefusal told reply → P told
+told_by : (P : Refusal → Type 0) → ((e : Refusal) → IsWantOfMemory e → P e) → {A : Type 0} (reply : Result A Refusal) → IfErr reply P → (told : Refusal) → IsRefusal told reply → P told
 told_by P short reply of SeatGone is = subst (λ r. IfErr r P) is of
 told_by P short reply of NumberTaken is = subst (λ r. IfErr r P) is of
 told_by P short reply of (UnknownNumber n) is = subst (λ r. IfErr r P) is of
 told_by P short reply of (GroupRepeated n) is = subst (λ r. IfErr r P) is of
-told_by P short reply of (HintNotUnit place) is = subst (λ r. IfErr r P) is of
+told_by P short reply of (HintNotUnit position) is = subst (λ r. IfErr r P) is of
 told_by P short reply of EmptyOpen is = subst (λ r. IfErr r P) is of
 told_by P short reply of (MissingGroup n) is = subst (λ r. IfErr r P) is of
-told_by P short reply of (GroupStuck n place) is = subst (λ r. IfErr r P) is of
+told_by P short reply of (GroupStuck n position) is = subst (λ r. IfErr r P) is of
 told_by P short reply of (GroupOpen n) is = subst (λ r. IfErr r P) is of
 told_by P short reply of NoSuchClause is = subst (λ r. IfErr r P) is of
 told_by P short reply of (Stale n) is = subst (λ r. IfErr r P) is of
 told_by P short reply of Full is = subst (λ r. IfErr r P) is of
 told_by P short reply of (NoMemory m) is = short (NoMemory m) tt
 
-undecided : (P : Refusal → Type 0) → ((e : Refusal) → IsShort e → P e) → (told : Refusal) → IsDecided None told → P told
+undecided : (P : Refusal → Type 0) → ((e : Refusal) → IsWantOfMemory e → P e) → (told : Refusal) → IsDecided None told → P told
 undecided P short SeatGone is = absurd (false≢true (ap is_some is))
 undecided P short NumberTaken is = absurd (false≢true (ap is_some is))
 undecided P short (UnknownNumber n) is = absurd (false≢true (ap is_some is))
 undecided P short (GroupRepeated n) is = absurd (false≢true (ap is_some is))
-undecided P short (HintNotUnit place) is = absurd (false≢true (ap is_some is))
+undecided P short (HintNotUnit position) is = absurd (false≢true (ap is_some is))
 undecided P short EmptyOpen is = absurd (false≢true (ap is_some is))
 undecided P short (MissingGroup n) is = absurd (false≢true (ap is_some is))
-undecided P short (GroupStuck n place) is = absurd (false≢true (ap is_some is))
+undecided P short (GroupStuck n position) is = absurd (false≢true (ap is_some is))
 undecided P short (GroupOpen n) is = absurd (false≢true (ap is_some is))
 undecided P short NoSuchClause is = absurd (false≢true (ap is_some is))
 undecided P short (Stale n) is = absurd (false≢true (ap is_some is))
 undecided P short Full is = absurd (false≢true (ap is_some is))
 undecided P short (NoMemory m) is = short (NoMemory m) tt
 
-short_full : (e : Refusal) → IsShort e → IsRatOrFull e
+short_full : (e : Refusal) → IsWantOfMemory e → IsRatOrFull e
 short_full SeatGone is = absurd is
 short_full NumberTaken is = absurd is
 short_full (UnknownNumber n) is = absurd is
 short_full (GroupRepeated n) is = absurd is
-short_full (HintNotUnit place) is = absurd is
+short_full (HintNotUnit position) is = absurd is
 short_full EmptyOpen is = absurd is
 short_full (MissingGroup n) is = absurd is
-short_full (GroupStuck n place) is = absurd is
+short_full (GroupStuck n position) is = absurd is
 short_full (GroupOpen n) is = absurd is
 short_full NoSuchClause is = absurd is
 short_full (Stale n) is = absurd is
 short_full Full is = absurd is
 short_full (NoMemory m) is = tt
 
-short_found : (e : Refusal) → IsShort e → IsNotFound e
+short_found : (e : Refusal) → IsWantOfMemory e → IsNotFound e
 short_found SeatGone is = absurd is
 short_found NumberTaken is = absurd is
 short_found (UnknownNumber n) is = absurd is
 short_found (GroupRepeated n) is = absurd is
-short_found (HintNotUnit place) is = absurd is
+short_found (HintNotUnit position) is = absurd is
 short_found EmptyOpen is = absurd is
 short_found (MissingGroup n) is = absurd is
-short_found (GroupStuck n place) is = absurd is
+short_found (GroupStuck n position) is = absurd is
 short_found (GroupOpen n) is = absurd is
 short_found NoSuchClause is = absurd is
 short_found (Stale n) is = absurd is
 short_found Full is = absurd is
 short_found (NoMemory m) is = tt
 
-short_line : (line : Line) (e : Refusal) → IsShort e → IsOpenRefusal line e
+short_line : (line : Line) (e : Refusal) → IsWantOfMemory e → IsOpenRefusal line e
 short_line (lines.Add a) e is = short_full e is
 short_line (lines.Delete numbers) e is = is
 short_line (lines.Import own c) e is = short_found e is
@@ -111,17 +111,17 @@ full_told s None is = by (nat_lt (addition_count s.history) s.max_steps)
 rat_told : (answer : rats.RatAnswer) → IfSome (rat_refusal answer) IsRatOrFull
 rat_told (rats.Covered groups) = tt
 rat_told (rats.MissingGroup n) = tt
-rat_told (rats.GroupStuck n place) = tt
+rat_told (rats.GroupStuck n position) = tt
 rat_told (rats.GroupOpen n) = tt
 
 open_told : (p : ClauseMap) (a : Addition) (held : LiteralSet) (pivot : Option ℤ) → IfSome (open_refusal p a held pivot) IsRatOrFull
 open_told p a held None = tt
 open_told p a held (Some q) = rat_told (rats.rat p held q a.groups)
 
-walk_told : (p : ClauseMap) (a : Addition) (w : Walk) → stuck_refusal w ≡ None → IfSome (walk_refusal p a w) IsRatOrFull
-walk_told p a (Closed used) is = tt
-walk_told p a (Open held) is = open_told p a held a.lemma.pivot
-walk_told p a (Stuck place) is = absurd (false≢true (sym (ap is_some is)))
+propagation_told : (p : ClauseMap) (a : Addition) (w : Propagation) → stuck_refusal w ≡ None → IfSome (propagation_refusal p a w) IsRatOrFull
+propagation_told p a (Closed used) is = tt
+propagation_told p a (Open held) is = open_told p a held a.lemma.pivot
+propagation_told p a (Stuck position) is = absurd (false≢true (sym (ap is_some is)))
 
 unless_told : (o : Option Refusal) (x : Added) → IfSome o IsRatOrFull → IfErr (unless_refused o x) IsRatOrFull
 unless_told None x is = tt
@@ -135,9 +135,9 @@ named_alike s seat own pairs given fit = go (table_of s.tables seat) refl
     go None at = absurd (subst (λ (v : View). IsFit v own pairs) (view_is s seat None at) fit)
     go (Some t) at = let here = subst (λ (v : View). IsFit v own pairs) (view_is s seat (Some t) at) fit in held_named s seat t pairs given at here.1
 
--- what is left to an addition whose walk ends so
-abbrev ended : State → CaseValue → Walk → Result Added Refusal
-ended s c w = unless_refused (or_full s (walk_refusal (live s) (joint_addition (next s) c) w)) (commit_told s)
+-- what is left to an addition whose propagation ends so
+abbrev ended : State → CaseValue → Propagation → Result Added Refusal
+ended s c w = unless_refused (or_full s (propagation_refusal (live s) (joint_addition (next s) c) w)) (commit_told s)
 
 added_open : (s : State) (seat : ℕ) (a : Addition) → IsReached s → decided_refusal (view_of s seat) seat a ≡ None → IfErr (inside_reply s seat a) IsRatOrFull
 added_open s seat a reached clear = go (solo_take (view_of s seat) seat a) refl clear
@@ -149,22 +149,22 @@ added_open s seat a reached clear = go (solo_take (view_of s seat) seat a) refl 
     go (Err x) at is = absurd (false≢true (sym (ap is_some is)))
     go (Ok c) at is =
         let fit = (take_fits seat (view_of s seat) a c at).fit in
-        let reply : inside_reply s seat a ≡ ended s c (walk_of c) =
-        ap (inside_after s) (take_alone s seat a given ∙ at) ∙ ap (λ (hs : List Hint). ended s c (walk_over (negations c.lemma.clause) hs)) (named_alike s seat c.own c.hints given fit) in
+        let reply : inside_reply s seat a ≡ ended s c (propagation_of c) =
+        ap (inside_after s) (take_alone s seat a given ∙ at) ∙ ap (λ (hs : List Hint). ended s c (propagate_over (negations c.lemma.clause) hs)) (named_alike s seat c.own c.hints given fit) in
         subst (λ (r : Result Added Refusal). IfErr r IsRatOrFull) (sym reply)
-        (unless_told (or_full s (walk_refusal (live s) (joint_addition (next s) c) (walk_of c))) (commit_told s)
-        (full_told s (walk_refusal (live s) (joint_addition (next s) c) (walk_of c)) (walk_told (live s) (joint_addition (next s) c) (walk_of c) is)))
+        (unless_told (or_full s (propagation_refusal (live s) (joint_addition (next s) c) (propagation_of c))) (commit_told s)
+        (full_told s (propagation_refusal (live s) (joint_addition (next s) c) (propagation_of c)) (propagation_told (live s) (joint_addition (next s) c) (propagation_of c) is)))
 
 -- ---- deletions and imports
 
-dropped_open : FreeAlone → (s : State) (seat : ℕ) (numbers : List ℕ) → gone_refusal (view_of s seat) ≡ None → IfErr (drop_reply s seat numbers) IsShort
+dropped_open : FreeAlone → (s : State) (seat : ℕ) (numbers : List ℕ) → gone_refusal (view_of s seat) ≡ None → IfErr (drop_reply s seat numbers) IsWantOfMemory
 dropped_open laws s seat dropped clear = by (is_here s.tables seat) (view_of s seat) (laws s seat 0) clear _
   where
     there : (h : View) (b : Bool) → Some SeatGone ≡ (if b then Some NumberTaken else None) → ⊥
     there h true is = cc
     there h false is = cc
 
-    by : (here : Bool) (v : View) → (if here then (if is_bound s.tables seat 0 then Some NumberTaken else None) else Some SeatGone) ≡ solo_refusal v 0 → gone_refusal v ≡ None → (x : Dropped) → IfErr (if here then Ok x else Err SeatGone) IsShort
+    by : (here : Bool) (v : View) → (if here then (if is_bound s.tables seat 0 then Some NumberTaken else None) else Some SeatGone) ≡ solo_refusal v 0 → gone_refusal v ≡ None → (x : Dropped) → IfErr (if here then Ok x else Err SeatGone) IsWantOfMemory
     by true v same is x = tt
     by false None same is x = absurd (false≢true (sym (ap is_some is)))
     by false (Some h) same is x = absurd (there (Some h) (fin.contains_key h 0) same)
@@ -185,7 +185,7 @@ line_open free s seat line told reached is clear refused =
   where
     by : (l : Line) → line_refusal (seat_of_book s seat.number) l ≡ None → IsRefusedLine seat.number l told s → IsOpenRefusal l told
     by (lines.Add a) there r = told_by IsRatOrFull short_full (inside_reply s seat.number a) (added_open s seat.number a reached there) told r
-    by (lines.Delete dropped) there r = told_by IsShort (λ e short. short) (drop_reply s seat.number dropped) (dropped_open free s seat.number dropped there) told r
+    by (lines.Delete dropped) there r = told_by IsWantOfMemory (λ e short. short) (drop_reply s seat.number dropped) (dropped_open free s seat.number dropped there) told r
     by (lines.Import own c) there r = told_by IsNotFound short_found (import_reply s seat.number own c) (imported_open free s seat.number own c there) told r
 
 pub told_if_open : FreeAlone → (f : FormulaValue) (seats max : ℕ) (seat : SeatValue) (line : Line) {A : Type 0} (r : Result A Refusal) → IfErr r (IsLineRefused f seats max seat line) → line_refusal seat line ≡ None → IfErr r (IsOpenRefusal line)

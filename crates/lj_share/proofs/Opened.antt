@@ -26,7 +26,7 @@ use Rattle.lj_book.specs.Views.{ViewsFollowEntries, view_after_call, with_found_
 use Rattle.lj_book.specs.Tables.{Table, Tables, with_table, without_seat}
 use Rattle.lj_share.specs.Entries.{entries_of, calls_of}
 use Rattle.lj_share.specs.Seats.{IsMaking, IsOpenedAs, IsViewAfter, SeatValue, seat_of_book, with_bound}
-use Rattle.lj_share.specs.inner.Seats.{AreShown, IsDesk, IsSeatOf}
+use Rattle.lj_share.specs.inner.Seats.{AreShown, IsLockedBook, IsSeatOf}
 use Rattle.lj_share.proofs.Confirming.{is_other, some_same}
 
 length-with_table : (change : Table → Table) (ts : Tables) (seat : ℕ) → length (with_table change ts seat) ≡ length ts
@@ -123,9 +123,9 @@ shown_on views s t e shown after before reached is set are seat value at =
     ]
 
 -- what lies under the lock after an entry that its ledger and its copies count
-pub desk_on : ViewsFollowEntries → (f : FormulaValue) (seats max : ℕ) (s t : State) (e : Entry) (seat : ℕ) (shown after : List SeatValue) (before total parts amount : ℕ) → IsReached s → IsReached t → e.seat ≡ seat → t ≡ after_entry s e → total ≡ length t.history → after ≡ slice_set shown seat (seat_of_book t seat)
-    → IsDesk f seats max s shown before parts amount → IsDesk f seats max t after total parts amount
-desk_on views f seats max s t e seat shown after before total parts amount reached next same is counted set d = record {
+pub locked_book_on : ViewsFollowEntries → (f : FormulaValue) (seats max : ℕ) (s t : State) (e : Entry) (seat : ℕ) (shown after : List SeatValue) (before total parts amount : ℕ) → IsReached s → IsReached t → e.seat ≡ seat → t ≡ after_entry s e → total ≡ length t.history → after ≡ slice_set shown seat (seat_of_book t seat)
+    → IsLockedBook f seats max s shown before parts amount → IsLockedBook f seats max t after total parts amount
+locked_book_on views f seats max s t e seat shown after before total parts amount reached next same is counted set d = record {
   opened = opened_on f seats max s t e is d.opened;
   counted = sym counted;
   no_part = d.no_part;
@@ -134,9 +134,9 @@ desk_on views f seats max s t e seat shown after before total parts amount reach
 }
 
 -- what lies under the lock where the book and the copies stayed
-pub desk_agreed : (f : FormulaValue) (seats max : ℕ) (s t : State) (shown after : List SeatValue) (total parts amount : ℕ) → t ≡ s → after ≡ shown → IsDesk f seats max s shown total parts amount → IsDesk f seats max t after total parts amount
-desk_agreed f seats max s t shown after total parts amount is same d =
-    subst (λ vs. IsDesk f seats max t vs total parts amount) (sym same) (subst (λ b. IsDesk f seats max b shown total parts amount) (sym is) d)
+pub locked_book_agreed : (f : FormulaValue) (seats max : ℕ) (s t : State) (shown after : List SeatValue) (total parts amount : ℕ) → t ≡ s → after ≡ shown → IsLockedBook f seats max s shown total parts amount → IsLockedBook f seats max t after total parts amount
+locked_book_agreed f seats max s t shown after total parts amount is same d =
+    subst (λ vs. IsLockedBook f seats max t vs total parts amount) (sym same) (subst (λ b. IsLockedBook f seats max b shown total parts amount) (sym is) d)
 
 -- ---- what a seat is after its own entry
 
@@ -184,10 +184,10 @@ pub made_in : ViewsFollowEntries → (s t : State) (e : Entry) (v u w : SeatValu
 made_in views s t e v u w reached next same is before kept after found =
     making_of views s t e v w reached next (same ∙ ap (λ (x : SeatValue). x.number) kept) is before (after ∙ ap (λ (x : SeatValue). seat_of_book t x.number) kept) found
 
-pub desk_in : ViewsFollowEntries → (f : FormulaValue) (seats max : ℕ) (s t : State) (e : Entry) (seat : ℕ) (shown again after : List SeatValue) (before total parts amount : ℕ) → IsReached s → IsReached t → e.seat ≡ seat → t ≡ after_entry s e → total ≡ length t.history → again ≡ shown → after ≡ slice_set again seat (seat_of_book t seat)
-    → IsDesk f seats max s shown before parts amount → IsDesk f seats max t after total parts amount
-desk_in views f seats max s t e seat shown again after before total parts amount reached next same is counted kept set d =
-    desk_on views f seats max s t e seat shown after before total parts amount reached next same is counted (set ∙ ap (λ (vs : List SeatValue). slice_set vs seat (seat_of_book t seat)) kept) d
+pub locked_book_in : ViewsFollowEntries → (f : FormulaValue) (seats max : ℕ) (s t : State) (e : Entry) (seat : ℕ) (shown again after : List SeatValue) (before total parts amount : ℕ) → IsReached s → IsReached t → e.seat ≡ seat → t ≡ after_entry s e → total ≡ length t.history → again ≡ shown → after ≡ slice_set again seat (seat_of_book t seat)
+    → IsLockedBook f seats max s shown before parts amount → IsLockedBook f seats max t after total parts amount
+locked_book_in views f seats max s t e seat shown again after before total parts amount reached next same is counted kept set d =
+    locked_book_on views f seats max s t e seat shown after before total parts amount reached next same is counted (set ∙ ap (λ (vs : List SeatValue). slice_set vs seat (seat_of_book t seat)) kept) d
 
 -- ---- what the seat sees then
 

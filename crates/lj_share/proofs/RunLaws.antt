@@ -342,9 +342,9 @@ kept_after f (Some o) (Some p) d e v m ls (lines.Delete numbers) dead is gone ar
 kept_after f (Some o) (Some p) d e v m ls (lines.Import own c) dead is gone are one = absurd is
 
 -- what is kept before any line
-pub kept_opening : (f : FormulaValue) (o : Option OwnValue) (d : DeadValue) (v : View) → AreNone d → IsOwnOf f o v → AreKept f o d v (clauses_seen v)
-kept_opening f None d v none are = tt
-kept_opening f (Some o) d v none are = kept_init f o d v none are
+pub kept_id : (f : FormulaValue) (o : Option OwnValue) (d : DeadValue) (v : View) → AreNone d → IsOwnOf f o v → AreKept f o d v (clauses_seen v)
+kept_id f None d v none are = tt
+kept_id f (Some o) d v none are = kept_init f o d v none are
 
 -- what a seat sees behind one line more, whose joint number is noted
 pub view_set : (v : View) (ls : List Numbered) (js : List ℕ) (k : ℕ) (l : Numbered) (joint : ℕ) → slice_get ls k ≡ Some l → k < length js → views_behind v ls (slice_set js k joint) (k + 1) ≡ view_behind l.line joint (views_behind v ls js k)

@@ -58,28 +58,28 @@ IsToldIfDecided decided answer = IfSome decided (λ e. MatchResult answer (λ _.
     (IsDecided (Some e)))
 
 -- memory is short
-abbrev pub IsShort : Refusal → Type 0
-IsShort (NoMemory e) = Unit {0}
-IsShort e = ⊥
+abbrev pub IsWantOfMemory : Refusal → Type 0
+IsWantOfMemory (NoMemory e) = Unit {0}
+IsWantOfMemory e = ⊥
 
 -- the addition isn't RAT by its groups, the history is full, or memory is short
 abbrev pub IsRatOrFull : Refusal → Type 0
 IsRatOrFull EmptyOpen = Unit {0}
 IsRatOrFull (MissingGroup joint) = Unit {0}
-IsRatOrFull (GroupStuck joint place) = Unit {0}
+IsRatOrFull (GroupStuck joint position) = Unit {0}
 IsRatOrFull (GroupOpen joint) = Unit {0}
 IsRatOrFull Full = Unit {0}
-IsRatOrFull e = IsShort e
+IsRatOrFull e = IsWantOfMemory e
 
 -- no such clause lives, or memory is short
 abbrev pub IsNotFound : Refusal → Type 0
 IsNotFound NoSuchClause = Unit {0}
-IsNotFound e = IsShort e
+IsNotFound e = IsWantOfMemory e
 
 -- how a line can be refused where what the seat sees decides no refusal
 abbrev pub IsOpenRefusal : Line → Refusal → Type 0
 IsOpenRefusal (lines.Add a) e = IsRatOrFull e
-IsOpenRefusal (lines.Delete numbers) e = IsShort e
+IsOpenRefusal (lines.Delete numbers) e = IsWantOfMemory e
 IsOpenRefusal (lines.Import own clause) e = IsNotFound e
 
 -- in such a state the reply to the seat's line is this refusal, or what the seat sees decides it so

@@ -93,7 +93,7 @@ pub record IsOpenedAs (formula : FormulaValue) (seats max_steps : ℕ) (book : S
 
 -- What a new opening is made of: the name of its ledger, into how many parts that is cut, and the names of its seats' halves, by
 -- seat.
-pub record BlankValue : Type 0 where
+pub record OpeningPartsValue : Type 0 where
   pub name : ℕ
   pub parts : ℕ
   pub lists : List ℕ
@@ -101,8 +101,9 @@ pub record BlankValue : Type 0 where
 -- What a reader's note knows: which book's verdict it is for, by the name of its cell, and the place of the verdict that it has seen.
 pub record NoteValue : Type 0 where
   pub cell : ℕ
-  pub place : Option ℕ
+  pub position : Option ℕ
 
 -- A verdict was seen: it is the one that had been seen before, if one had.
 abbrev pub IsSeen : Option ℕ → Option ℕ → Type 0
-IsSeen before after = (place : ℕ) × (after ≡ Some place) × IfSome before (λ seen. seen ≡ place)
+IsSeen before after = (position : ℕ) × (after ≡ Some position)
+    × IfSome before (λ seen. seen ≡ position)

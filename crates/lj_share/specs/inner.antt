@@ -4,7 +4,7 @@ pub mod Seats
 pub mod Codes
 pub mod OwnCode
 pub mod Copies
-pub mod Telling
+pub mod WithEntry
 pub mod Dead
 pub mod Ahead
 pub mod Runs

@@ -9,7 +9,7 @@ use lj_hint::Pair;
 use std::alloc::Global;
 use std::marker::Model;
 
-/// Clauses under numbers, each with its joint number. The joint numbers stand apart, so that a walk reads the clauses alone.
+/// Clauses under numbers, each with its joint number. The joint numbers stand apart, so that a propagation reads the clauses alone.
 ///
 /// A call takes the time of [`OwnMap`]'s.
 #[derive(Drop)]
@@ -65,7 +65,7 @@ impl Bindings {
         };
         Ok(Some(Pair {
             joint: *joint,
-            clause: clause.copy()?,
+            clause: clause.try_clone()?,
         }))
     }
 

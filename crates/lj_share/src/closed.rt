@@ -3,19 +3,19 @@ ghost use Rattle.std.specs.Prelude.{◌≡◌, ◌↔◌, IsTrue};
 ghost use Rattle.lj_share.specs.Entries.{entries_of};
 ghost use Rattle.lj_share.specs.Seats.{IsOpenedAs};
 
-use crate::opening::Opening;
+use crate::book_id::BookId;
 use crate::told::Told;
 use lj_book::Book;
 use std::marker::{Model, PhantomData};
 
 /// A book that was shared, and whose seats were all handed in. Its formula, its seats' number and its limit are the opening's.
 #[derive(Drop)]
-pub struct Closed<L: Opening> {
+pub struct Closed<L: BookId> {
     book: Book,
     opening: PhantomData<L>,
 }
 
-impl<L: Opening> Model for Closed<L> {
+impl<L: BookId> Model for Closed<L> {
     ghost use Rattle.lj_book.specs.State.{State};
     ghost use Rattle.lj_book.specs.inner.Codes.{state_code};
     ghost use Rattle.lj_share.specs.Seats.{IsOpenedAs};
@@ -29,7 +29,7 @@ impl<L: Opening> Model for Closed<L> {
     ghost invariant = { λ c. IsOpenedAs L.formula L.seats L.max_steps c.book };
 }
 
-impl<L: Opening> Closed<L> {
+impl<L: BookId> Closed<L> {
     /// The closed book of this one.
     pub(crate) fn new(book: Book) -> Closed<L>
         requires { IsOpenedAs L.formula L.seats L.max_steps book }
@@ -63,11 +63,11 @@ impl<L: Opening> Closed<L> {
         ensures { IsTrue result ↔ (entries_of seat self.now.history ≡ told.now) }
     {
         let mut rest = told;
-        for place in 0..self.book.history_len() {
-            if let Some(by) = self.book.seat_at(place) {
+        for position in 0..self.book.history_len() {
+            if let Some(by) = self.book.seat_at(position) {
                 if by == seat {
                     match rest.split_first() {
-                        Some((first, others)) if self.book.is_entry(place, &first.entry) => {
+                        Some((first, others)) if self.book.is_entry(position, &first.entry) => {
                             rest = others;
                         }
                         _ => return false,

@@ -6,7 +6,7 @@ ghost use Rattle.lj_share.specs.inner.Dead.{AreDeleted, AreNone, AreWith, AreWit
 use crate::numbered::Numbered;
 use lj_book::OwnMap;
 use lj_clause::NoMemory;
-use lj_hint::Marks;
+use lj_hint::Propagator;
 use lj_text::{Line, Numbers};
 use std::alloc::Global;
 use std::marker::Model;
@@ -120,10 +120,10 @@ fn take_all(set: &mut OwnMap<()>, numbers: &Numbers)
     }
 }
 
-/// The working room of a seat. Between calls no number is dead.
+/// The working memory of a seat. Between calls no number is dead.
 #[derive(Drop)]
 pub(crate) struct Room {
-    pub(crate) marks: Marks,
+    pub(crate) propagator: Propagator,
     pub(crate) dead: Dead,
 }
 
@@ -141,7 +141,7 @@ impl Room {
     /// No room so far.
     pub(crate) fn new(alloc: Global) -> Room {
         Room {
-            marks: Marks::new(alloc),
+            propagator: Propagator::new(alloc),
             dead: Dead::new(alloc),
         }
     }

@@ -3,33 +3,33 @@
 //! A call takes constant time where neither it nor its type tells a cost.
 #![tactic(auto)]
 
+mod account;
 mod bindings;
-mod blank;
+mod book_id;
 mod closed;
 mod copies;
 mod dead;
-mod desk;
 mod gate;
 mod kept;
 pub mod laws;
 mod lists;
+mod locked_book;
 mod numbered;
-mod opening;
+mod opening_parts;
 mod own_clauses;
-mod place;
 mod runs;
 mod seat;
 mod shared;
 mod taking;
-mod telling;
 mod told;
 mod verdict;
+mod with_entry;
 
-pub use blank::Blank;
+pub use book_id::BookId;
 pub use closed::Closed;
 pub use gate::{Gate, NoGate};
 pub use numbered::Numbered;
-pub use opening::Opening;
+pub use opening_parts::OpeningParts;
 pub use seat::Seat;
 pub use shared::{SeatsOut, Shared};
 pub use told::Told;

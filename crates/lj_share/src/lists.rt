@@ -2,19 +2,19 @@
 ghost use Rattle.std.specs.Prelude.{◌≡◌, [], map, All, Some, slice_get, slice_set};
 ghost use Rattle.lj_share.specs.Seats.{seat_of_book};
 
-use crate::copies::{DeskCopy, SeatCopy};
-use crate::opening::Opening;
+use crate::book_id::BookId;
+use crate::copies::{BookCopy, SeatCopy};
 use lj_book::Book;
 use std::marker::{Model, PhantomData};
 
 /// The desk's copy of each seat, by seat. They take no memory.
 #[derive(Drop)]
-pub(crate) struct Lists<L: Opening> {
-    copies: Vec<DeskCopy>,
+pub(crate) struct Lists<L: BookId> {
+    copies: Vec<BookCopy>,
     opening: PhantomData<L>,
 }
 
-impl<L: Opening> Model for Lists<L> {
+impl<L: BookId> Model for Lists<L> {
     ghost use Rattle.std.specs.Prelude.{◌≡◌, List, map};
     ghost use Rattle.std.specs.Coded.{coded_list};
     ghost use Rattle.lj_share.specs.Seats.{SeatValue};
@@ -29,9 +29,9 @@ impl<L: Opening> Model for Lists<L> {
     ghost invariant = { λ l. map (λ c. c.name) l.copies.items ≡ L.lists };
 }
 
-impl<L: Opening> Lists<L> {
+impl<L: BookId> Lists<L> {
     /// These copies, which are those of the opening.
-    pub(crate) fn new(copies: Vec<DeskCopy>) -> Lists<L>
+    pub(crate) fn new(copies: Vec<BookCopy>) -> Lists<L>
         requires { map (λ c. c.name) copies.items ≡ L.lists }
         ensures { result ≡ map (λ c. c.seat) copies.items }
     {
@@ -45,7 +45,7 @@ impl<L: Opening> Lists<L> {
     pub(crate) fn follow(&mut self, copy: &mut SeatCopy, book: &Book, seat: u32)
         requires { slice_get L.lists seat ≡ Some copy.old.name }
         ensures agree { slice_get self.old seat ≡ Some copy.old.seat }
-        ensures desk { self.new ≡ slice_set self.old seat (seat_of_book book.now seat) }
+        ensures locked_book { self.new ≡ slice_set self.old seat (seat_of_book book.now seat) }
         ensures seat { copy.new.seat ≡ seat_of_book book.now seat }
         ensures name { copy.new.name ≡ copy.old.name }
     {

@@ -109,7 +109,7 @@ impl OwnClauses {
             (Some (record { joint = 0; clause = clause.now })) self.new) }
         ensures err { OnErr result (AreSamePairs self.old self.new) }
     {
-        let clause = clause.copy()?;
+        let clause = clause.try_clone()?;
         let end = self.given_up.len() as u64;
         if own >= end {
             return self.late.insert(own - end, clause);
@@ -162,7 +162,7 @@ fn first_pair(formula: &Formula, own: u64) -> Result<Option<Pair>, NoMemory>
     match formula.clause(own) {
         Some(clause) => Ok(Some(Pair {
             joint: own,
-            clause: clause.copy()?,
+            clause: clause.try_clone()?,
         })),
         None => Ok(None),
     }

@@ -9,33 +9,33 @@ ghost use Rattle.lj_share.specs.inner.Ahead.{AreKept, AreTested, IsClosedBy, IsT
 ghost use Rattle.lj_share.specs.inner.Dead.{AreDead, AreDeadBehind, AreDeleted, AreNone, is_deleted};
 ghost use Rattle.lj_share.specs.inner.Runs.{AreBegun, IsAheadOf, IsBehind, views_behind};
 
+use crate::account::Account;
+use crate::book_id::BookId;
 use crate::dead::{Dead, Room};
 use crate::kept::{bind_ahead, finish, take_back};
 use crate::numbered::Numbered;
-use crate::opening::Opening;
 use crate::own_clauses::OwnClauses;
-use crate::place::Place;
-use crate::seat::{Alone, SeenClauses};
+use crate::seat::{SeenClauses, Unlocked};
 use lj_clause::Formula;
-use lj_hint::Marks;
+use lj_hint::Propagator;
 use lj_text::{Addition, Line};
 
 /// Begins the run that these lines start with; gives how many lines are in it. How many hints each addition reads is put into the
 /// list.
-pub(crate) fn begin_run<L: Opening>(
-    place: &Place<L>,
+pub(crate) fn begin_run<L: BookId>(
+    account: &Account<L>,
     kept: &mut Option<OwnClauses>,
     formula: &Formula,
-    room: &mut Room,
+    scratch: &mut Room,
     lines: &[Numbered],
     reads: &mut [usize],
 ) -> usize
     requires formula { formula.now ≡ L.formula }
-    requires own { IsOwnOf L.formula kept.old place.now.view }
-    ensures tested { AreTested (clauses_seen place.now.view) lines.now reads.new result }
-    ensures begun { AreBegun (pairs_seen place.now.view) (take result lines.now)
+    requires own { IsOwnOf L.formula kept.old account.now.view }
+    ensures tested { AreTested (clauses_seen account.now.view) lines.now reads.new result }
+    ensures begun { AreBegun (pairs_seen account.now.view) (take result lines.now)
         (pairs_kept L.formula kept.new) }
-    ensures there { is_some kept.new ≡ is_some place.now.view }
+    ensures there { is_some kept.new ≡ is_some account.now.view }
     ensures here { 0 < result → IsSome kept.new }
     ensures lines { result ≤ length lines.now }
     ensures reads { length reads.new ≡ length reads.old }
@@ -44,31 +44,31 @@ pub(crate) fn begin_run<L: Opening>(
     if kept.is_none() {
         return 0;
     }
-    let Room { marks, dead } = room;
-    let count = begin_lines(place, kept, formula, marks, dead, lines, reads);
+    let Room { propagator, dead } = scratch;
+    let count = begin_lines(account, kept, formula, propagator, dead, lines, reads);
     dead.clear(&lines[..count]);
     count
 }
 
 /// Begins the lines of the run that these lines start with; gives how many they are. No number is dead before.
-fn begin_lines<L: Opening>(
-    place: &Place<L>,
+fn begin_lines<L: BookId>(
+    account: &Account<L>,
     kept: &mut Option<OwnClauses>,
     formula: &Formula,
-    marks: &mut Marks,
+    propagator: &mut Propagator,
     dead: &mut Dead,
     lines: &[Numbered],
     reads: &mut [usize],
 ) -> usize
     requires formula { formula.now ≡ L.formula }
-    requires own { IsOwnOf L.formula kept.old place.now.view }
+    requires own { IsOwnOf L.formula kept.old account.now.view }
     requires here { IsSome kept.old }
     requires none { AreNone dead.old }
-    ensures tested { AreTested (clauses_seen place.now.view) lines.now reads.new result }
-    ensures begun { AreBegun (pairs_seen place.now.view) (take result lines.now)
+    ensures tested { AreTested (clauses_seen account.now.view) lines.now reads.new result }
+    ensures begun { AreBegun (pairs_seen account.now.view) (take result lines.now)
         (pairs_kept L.formula kept.new) }
     ensures named { AreDeleted (take result lines.now) dead.new }
-    ensures there { is_some kept.new ≡ is_some place.now.view }
+    ensures there { is_some kept.new ≡ is_some account.now.view }
     ensures here { IsSome kept.new }
     ensures lines { result ≤ length lines.now }
     ensures reads { length reads.new ≡ length reads.old }
@@ -77,10 +77,10 @@ fn begin_lines<L: Opening>(
     let end = lines.len().min(reads.len());
     for k in 0..end {
         match begin_next(
-            place,
+            account,
             kept,
             formula,
-            marks,
+            propagator,
             dead,
             &lines[..k],
             &lines[k].line,
@@ -93,11 +93,11 @@ fn begin_lines<L: Opening>(
 }
 
 /// Begins the line that comes next, if it is in the run; gives how many hints it reads.
-fn begin_next<L: Opening>(
-    place: &Place<L>,
+fn begin_next<L: BookId>(
+    account: &Account<L>,
     kept: &mut Option<OwnClauses>,
     formula: &Formula,
-    marks: &mut Marks,
+    propagator: &mut Propagator,
     dead: &mut Dead,
     ahead: &[Numbered],
     line: &Line,
@@ -105,10 +105,10 @@ fn begin_next<L: Opening>(
     requires formula { formula.now ≡ L.formula }
     requires here { IsSome kept.old }
     requires dead { AreDead ahead.now dead.old }
-    requires kept { AreKept L.formula kept.old dead.old place.now.view
-        (clauses_behind (clauses_seen place.now.view) ahead.now) }
+    requires kept { AreKept L.formula kept.old dead.old account.now.view
+        (clauses_behind (clauses_seen account.now.view) ahead.now) }
     ensures tested { IfSome result
-        (IsTestedLine (clauses_behind (clauses_seen place.now.view) ahead.now) line.now) }
+        (IsTestedLine (clauses_behind (clauses_seen account.now.view) ahead.now) line.now) }
     ensures behind { OnSome result (IsBehind ahead.now line.now) }
     ensures begun { OnSome result (IsLineBegun L.formula line.now kept.old kept.new) }
     ensures dead { OnSome result (AreDeadBehind line.now dead.old dead.new) }
@@ -118,7 +118,7 @@ fn begin_next<L: Opening>(
 {
     match line {
         Line::Add(addition) => {
-            begin_addition(place, kept, formula, marks, dead, ahead, addition)
+            begin_addition(account, kept, formula, propagator, dead, ahead, addition)
         }
         Line::Delete(numbers) => match dead.put(numbers) {
             Ok(()) => Some(0),
@@ -130,21 +130,21 @@ fn begin_next<L: Opening>(
 
 /// Begins an addition, if no deletion of the run names its number, and what the seat sees behind the lines ahead closes it; gives how
 /// many hints it reads.
-fn begin_addition<L: Opening>(
-    place: &Place<L>,
+fn begin_addition<L: BookId>(
+    account: &Account<L>,
     kept: &mut Option<OwnClauses>,
     formula: &Formula,
-    marks: &mut Marks,
+    propagator: &mut Propagator,
     dead: &Dead,
     ahead: &[Numbered],
     addition: &Addition,
 ) -> Option<usize>
     requires formula { formula.now ≡ L.formula }
     requires dead { AreDead ahead.now dead.now }
-    requires kept { AreKept L.formula kept.old dead.now place.now.view
-        (clauses_behind (clauses_seen place.now.view) ahead.now) }
+    requires kept { AreKept L.formula kept.old dead.now account.now.view
+        (clauses_behind (clauses_seen account.now.view) ahead.now) }
     ensures tested { IfSome result
-        (IsClosedBy (clauses_behind (clauses_seen place.now.view) ahead.now) addition.now) }
+        (IsClosedBy (clauses_behind (clauses_seen account.now.view) ahead.now) addition.now) }
     ensures behind { OnSome result (is_deleted ahead.now addition.now.number ≡ false) }
     ensures begun { OnSome result
         (IsLineBegun L.formula (lines.Add addition.now) kept.old kept.new) }
@@ -158,13 +158,13 @@ fn begin_addition<L: Opening>(
         return None;
     };
     let seen = SeenClauses {
-        place,
+        account,
         ahead,
         dead,
         own,
         formula,
     };
-    let Ok(Alone::Closed(read)) = seen.test(addition, marks) else {
+    let Ok(Unlocked::Closed(read)) = seen.test(addition, propagator) else {
         return None;
     };
     match bind_ahead(kept, formula, addition.number, addition.lemma.clause()) {

@@ -4,20 +4,22 @@ ghost use Rattle.lj_book.specs.Calls.{IsReply};
 ghost use Rattle.lj_book.specs.Solo.{solo_refusal, solo_take};
 ghost use Rattle.lj_book.specs.Views.{IsClosedAlone, decided_refusal};
 ghost use Rattle.lj_share.specs.Refusals.{IsDecided, line_refusal};
-ghost use Rattle.lj_hint.specs.declared.walk.Ending.TheVariants.{ClosedAfter, StuckAt};
-ghost use Rattle.lj_share.specs.inner.Ahead.{IsClosedBy, IsRefusedBy, IsWalkedTo, first_unseen};
+ghost use Rattle.lj_hint.specs.declared.propagate.Ending.TheVariants.{ClosedAfter, StuckAt};
+ghost use Rattle.lj_share.specs.inner.Ahead.{IsClosedBy, IsRefusedBy, IsPropagatedTo, first_unseen};
 ghost use Rattle.lj_share.specs.inner.Seats.{IfClosed, IsOwnOf, IsSeatOf, IsTestedAs, clauses_seen};
 
+use crate::account::Account;
+use crate::book_id::BookId;
 use crate::copies::SeatCopy;
 use crate::dead::{Dead, Room};
 use crate::numbered::Numbered;
-use crate::opening::Opening;
 use crate::own_clauses::OwnClauses;
-use crate::place::Place;
 use crate::taking::case_of;
 use lj_book::Refusal;
 use lj_clause::{ClauseView, Formula};
-use lj_hint::{Case, Clauses, Ending, Marks, Tested, walk_first, walks_go_by_clauses};
+use lj_hint::{
+    Case, Clauses, Ending, Propagator, Tested, propagate_first, propagations_go_by_clauses,
+};
 use lj_text::{Addition, Line, Numbers};
 use std::alloc::Global;
 use std::marker::Model;
@@ -26,14 +28,14 @@ use std::sync::ledger::Share;
 /// A place at a shared book, for one prover. It can't be copied. Contracts see the calls whose entries were made through it, and
 /// what it sees of the book.
 #[derive(Drop)]
-pub struct Seat<L: Opening> {
-    pub(crate) place: Place<L>,
+pub struct Seat<L: BookId> {
+    pub(crate) account: Account<L>,
     /// What its own numbers are bound to; nothing once it has left.
     pub(crate) own: Option<OwnClauses>,
-    pub(crate) room: Room,
+    pub(crate) scratch: Room,
 }
 
-impl<L: Opening> Model for Seat<L> {
+impl<L: BookId> Model for Seat<L> {
     ghost use Rattle.lj_share.specs.Seats.{SeatValue};
     ghost use Rattle.lj_share.specs.inner.Codes.{seat_code};
     ghost use Rattle.lj_share.specs.inner.Seats.{IsOwnOf};
@@ -42,30 +44,30 @@ impl<L: Opening> Model for Seat<L> {
 
     ghost coded = { seat_code };
 
-    ghost view = { λ s. s.place };
+    ghost view = { λ s. s.account };
 
-    ghost invariant = { λ s. IsOwnOf L.formula s.own s.place.view };
+    ghost invariant = { λ s. IsOwnOf L.formula s.own s.account.view };
 }
 
 /// How far an addition is decided by what its seat sees.
 #[derive(Clone, Copy, Debug)]
-pub(crate) enum Alone {
-    /// Its first list closes the walk, after so many hints.
+pub(crate) enum Unlocked {
+    /// Its first list closes the propagation, after so many hints.
     Closed(usize),
     /// Other clauses may have a say.
     Open,
 }
 
-impl<L: Opening> Seat<L> {
+impl<L: BookId> Seat<L> {
     /// The seat of this place, with the clauses that it sees.
-    pub(crate) fn new(alloc: Global, place: Place<L>, own: OwnClauses) -> Seat<L>
-        requires { IsOwnOf L.formula (Some own) place.view }
-        ensures { result ≡ place }
+    pub(crate) fn new(alloc: Global, account: Account<L>, own: OwnClauses) -> Seat<L>
+        requires { IsOwnOf L.formula (Some own) account.view }
+        ensures { result ≡ account }
     {
         Seat {
-            place,
+            account,
             own: Some(own),
-            room: Room::new(alloc),
+            scratch: Room::new(alloc),
         }
     }
 
@@ -73,14 +75,14 @@ impl<L: Opening> Seat<L> {
     pub fn number(&self) -> u32
         ensures { result ≡ self.now.number }
     {
-        self.place.number()
+        self.account.number()
     }
 
     /// How many entries were made through it. Takes constant time.
     pub fn count(&self) -> u64
         ensures { result ≡ length self.now.calls }
     {
-        self.place.count()
+        self.account.count()
     }
 
     /// The test of a line by what the seat sees. Only an addition is tested.
@@ -93,10 +95,10 @@ impl<L: Opening> Seat<L> {
         alloc: Global,
         formula: &Formula,
         line: &Line,
-    ) -> Result<Alone, Refusal>
+    ) -> Result<Unlocked, Refusal>
         requires { formula.now ≡ L.formula }
-        ensures tested { IfOk result (λ alone.
-            IsTestedAs self.old.view self.old.number line.now alone) }
+        ensures tested { IfOk result (λ unlocked.
+            IsTestedAs self.old.view self.old.number line.now unlocked) }
         ensures refusal { IfErr result (IsDecided (line_refusal self.old line.now)) }
         ensures kept { self.new ≡ self.old }
     {
@@ -105,7 +107,7 @@ impl<L: Opening> Seat<L> {
                 self.test_addition(formula, addition)
             }
             Line::Add(addition) => self.test_case(alloc, formula, addition),
-            Line::Delete(_) | Line::Import { .. } => Ok(Alone::Open),
+            Line::Delete(_) | Line::Import { .. } => Ok(Unlocked::Open),
         }
     }
 
@@ -113,9 +115,9 @@ impl<L: Opening> Seat<L> {
     ///
     /// # Errors
     /// As [`Seat::test`].
-    fn test_addition(&mut self, formula: &Formula, addition: &Addition) -> Result<Alone, Refusal>
+    fn test_addition(&mut self, formula: &Formula, addition: &Addition) -> Result<Unlocked, Refusal>
         requires { formula.now ≡ L.formula }
-        ensures closed { IfOk result (λ alone. IfClosed alone
+        ensures closed { IfOk result (λ unlocked. IfClosed unlocked
             (IsClosedAlone self.old.view self.old.number addition.now)) }
         ensures refusal { IfErr result
             (IsDecided (decided_refusal self.old.view self.old.number addition.now)) }
@@ -124,7 +126,7 @@ impl<L: Opening> Seat<L> {
         let Some(own) = &self.own else {
             return Err(Refusal::SeatGone);
         };
-        test_alone(&self.place, own, formula, &mut self.room, addition)
+        test_alone(&self.account, own, formula, &mut self.scratch, addition)
     }
 
     /// The test of an addition as a case, which looks its groups up too.
@@ -136,9 +138,9 @@ impl<L: Opening> Seat<L> {
         alloc: Global,
         formula: &Formula,
         addition: &Addition,
-    ) -> Result<Alone, Refusal>
+    ) -> Result<Unlocked, Refusal>
         requires { formula.now ≡ L.formula }
-        ensures closed { IfOk result (λ alone. IfClosed alone
+        ensures closed { IfOk result (λ unlocked. IfClosed unlocked
             (IsClosedAlone self.old.view self.old.number addition.now)) }
         ensures refusal { IfErr result
             (IsDecided (decided_refusal self.old.view self.old.number addition.now)) }
@@ -148,10 +150,10 @@ impl<L: Opening> Seat<L> {
             Ok(case) => case,
             Err(refusal) => return Err(refusal),
         };
-        match case.test(&mut self.room.marks) {
-            Tested::Closed(receipt) => Ok(Alone::Closed(receipt.listed().len())),
-            Tested::Open(_) => Ok(Alone::Open),
-            Tested::Stuck(place) => Err(Refusal::HintNotUnit(place)),
+        match case.test(&mut self.scratch.propagator) {
+            Tested::Closed(receipt) => Ok(Unlocked::Closed(receipt.listed().len())),
+            Tested::Open(_) => Ok(Unlocked::Open),
+            Tested::Stuck(position) => Err(Refusal::HintNotUnit(position)),
             Tested::NoMemory(_, refused) => Err(Refusal::NoMemory(refused)),
         }
     }
@@ -168,20 +170,20 @@ impl<L: Opening> Seat<L> {
         addition: &Addition,
     ) -> Result<Case, Refusal>
         requires { formula.now ≡ L.formula }
-        ensures alone { IsReply result
+        ensures unlocked { IsReply result
             (solo_take self.now.view self.now.number addition.now) }
         ensures refused { IfSome (solo_refusal self.now.view addition.now.number)
             (λ e. result ≡ Err e) }
         ensures state { IsSeatOf L.formula L.seats L.max_steps self.now }
     {
-        self.place.has_state();
+        self.account.has_state();
         let Some(own) = &self.own else {
             return Err(Refusal::SeatGone);
         };
         if own.get(formula, addition.number).is_some() {
             return Err(Refusal::NumberTaken);
         }
-        case_of(alloc, own, formula, self.place.number(), addition)
+        case_of(alloc, own, formula, self.account.number(), addition)
     }
 
     /// The seat's number, its share of the ledger, and its copy of itself.
@@ -192,7 +194,7 @@ impl<L: Opening> Seat<L> {
         ensures seat { result.2.seat ≡ self }
         ensures named { slice_get L.lists self.number ≡ Some result.2.name }
     {
-        self.place.into_parts()
+        self.account.into_parts()
     }
 }
 
@@ -200,40 +202,40 @@ impl<L: Opening> Seat<L> {
 ///
 /// # Errors
 /// As [`Seat::test`].
-fn test_alone<L: Opening>(
-    place: &Place<L>,
+fn test_alone<L: BookId>(
+    account: &Account<L>,
     own: &OwnClauses,
     formula: &Formula,
-    room: &mut Room,
+    scratch: &mut Room,
     addition: &Addition,
-) -> Result<Alone, Refusal>
+) -> Result<Unlocked, Refusal>
     requires formula { formula.now ≡ L.formula }
-    requires own { IsOwnOf L.formula (Some own.now) place.now.view }
-    ensures closed { IfOk result (λ alone. IfClosed alone
-        (IsClosedBy (clauses_seen place.now.view) addition.now)) }
-    ensures refusal { IfErr result (IsRefusedBy (clauses_seen place.now.view) addition.now) }
+    requires own { IsOwnOf L.formula (Some own.now) account.now.view }
+    ensures closed { IfOk result (λ unlocked. IfClosed unlocked
+        (IsClosedBy (clauses_seen account.now.view) addition.now)) }
+    ensures refusal { IfErr result (IsRefusedBy (clauses_seen account.now.view) addition.now) }
 {
     let seen = SeenClauses {
-        place,
+        account,
         ahead: &[],
-        dead: &room.dead,
+        dead: &scratch.dead,
         own,
         formula,
     };
-    seen.test(addition, &mut room.marks)
+    seen.test(addition, &mut scratch.propagator)
 }
 
 /// The clauses that a seat sees behind lines that aren't entered yet, lent.
 #[derive(Drop)]
-pub(crate) struct SeenClauses<'a, L: Opening> {
-    pub(crate) place: &'a Place<L>,
+pub(crate) struct SeenClauses<'a, L: BookId> {
+    pub(crate) account: &'a Account<L>,
     pub(crate) ahead: &'a [Numbered],
     pub(crate) dead: &'a Dead,
     pub(crate) own: &'a OwnClauses,
     pub(crate) formula: &'a Formula,
 }
 
-impl<'a, L: Opening> Model for SeenClauses<'a, L> {
+impl<'a, L: BookId> Model for SeenClauses<'a, L> {
     ghost use Rattle.std.specs.Prelude.{◌≡◌, Some};
     ghost use Rattle.lj_clause.specs.ClauseMap.{ClauseMap};
     ghost use Rattle.lj_clause.specs.inner.Codes.{clause_map_code};
@@ -244,14 +246,14 @@ impl<'a, L: Opening> Model for SeenClauses<'a, L> {
 
     ghost coded = { clause_map_code };
 
-    ghost view = { λ s. clauses_behind (clauses_seen s.place.now.view) s.ahead.now };
+    ghost view = { λ s. clauses_behind (clauses_seen s.account.now.view) s.ahead.now };
 
     ghost invariant = { λ s. (s.formula.now ≡ L.formula)
-        × AreKept L.formula (Some s.own.now) s.dead.now s.place.now.view
-        (clauses_behind (clauses_seen s.place.now.view) s.ahead.now) };
+        × AreKept L.formula (Some s.own.now) s.dead.now s.account.now.view
+        (clauses_behind (clauses_seen s.account.now.view) s.ahead.now) };
 }
 
-impl<L: Opening> Clauses for SeenClauses<'_, L> {
+impl<L: BookId> Clauses for SeenClauses<'_, L> {
     ghost clauses = { λ s. s };
 
     #[inline]
@@ -263,57 +265,62 @@ impl<L: Opening> Clauses for SeenClauses<'_, L> {
     }
 }
 
-impl<L: Opening> SeenClauses<'_, L> {
+impl<L: BookId> SeenClauses<'_, L> {
     /// The test of an addition. Each hint is looked up once.
     ///
     /// # Errors
     /// As [`Seat::test`].
-    pub(crate) fn test(&self, addition: &Addition, marks: &mut Marks) -> Result<Alone, Refusal>
-        ensures closed { IfOk result (λ alone. IfClosed alone
+    pub(crate) fn test(
+        &self,
+        addition: &Addition,
+        propagator: &mut Propagator,
+    ) -> Result<Unlocked, Refusal>
+        ensures closed { IfOk result (λ unlocked. IfClosed unlocked
             (IsClosedBy self.now addition.now)) }
         ensures refusal { IfErr result (IsRefusedBy self.now addition.now) }
     {
-        let _ = &self.place;
+        let _ = &self.account;
         let _ = &self.ahead;
         if self.clause(addition.number).is_some() {
             return Err(Refusal::NumberTaken);
         }
         if !addition.groups.is_empty() {
-            return Ok(Alone::Open);
+            return Ok(Unlocked::Open);
         }
-        match walk_first(self, &addition.lemma, &addition.hints, marks) {
+        match propagate_first(self, &addition.lemma, &addition.hints, propagator) {
             Ok(Ending::ClosedAfter(read)) => self.closed_after(addition, read),
-            Ok(Ending::StaysOpen) => Ok(Alone::Open),
-            Ok(Ending::StuckAt(place)) => Err(self.stuck_at(addition, place)),
+            Ok(Ending::StaysOpen) => Ok(Unlocked::Open),
+            Ok(Ending::StuckAt(position)) => Err(self.stuck_at(addition, position)),
             Err(refused) => Err(Refusal::NoMemory(refused)),
         }
     }
 
-    /// The answer where the walk closed after so many hints: those that weren't read have to be bound too.
+    /// The answer where the propagation closed after so many hints: those that weren't read have to be bound too.
     ///
     /// # Errors
     /// [`Refusal::UnknownNumber`].
-    fn closed_after(&self, addition: &Addition, read: usize) -> Result<Alone, Refusal>
-        requires { IsWalkedTo self.now addition.now (ClosedAfter read) }
-        ensures closed { IfOk result (λ alone. IfClosed alone (IsClosedBy self.now addition.now)) }
+    fn closed_after(&self, addition: &Addition, read: usize) -> Result<Unlocked, Refusal>
+        requires { IsPropagatedTo self.now addition.now (ClosedAfter read) }
+        ensures closed { IfOk result (λ unlocked. IfClosed unlocked
+            (IsClosedBy self.now addition.now)) }
         ensures refusal { IfErr result (IsRefusedBy self.now addition.now) }
     {
-        walks_go_by_clauses();
+        propagations_go_by_clauses();
         if let Some(own) = self.first_unseen(&addition.hints, read) {
             return Err(Refusal::UnknownNumber(own));
         }
-        Ok(Alone::Closed(read))
+        Ok(Unlocked::Closed(read))
     }
 
-    /// The refusal where the walk is stuck at a place: the hint there, or one behind it, may be bound to no clause.
-    fn stuck_at(&self, addition: &Addition, place: u64) -> Refusal
-        requires { IsWalkedTo self.now addition.now (StuckAt place) }
+    /// The refusal where the propagation is stuck at a place: the hint there, or one behind it, may be bound to no clause.
+    fn stuck_at(&self, addition: &Addition, position: u64) -> Refusal
+        requires { IsPropagatedTo self.now addition.now (StuckAt position) }
         ensures { IsRefusedBy self.now addition.now result }
     {
-        walks_go_by_clauses();
-        match self.first_unseen(&addition.hints, place.saturating_sub(1) as usize) {
+        propagations_go_by_clauses();
+        match self.first_unseen(&addition.hints, position.saturating_sub(1) as usize) {
             Some(own) => Refusal::UnknownNumber(own),
-            None => Refusal::HintNotUnit(place),
+            None => Refusal::HintNotUnit(position),
         }
     }
 

@@ -12,21 +12,21 @@ ghost use Rattle.lj_share.specs.Refusals.{HoldsInAState, IsLineRefused, IsBindin
 ghost use Rattle.lj_share.specs.Seats.{AreSeatsIn, IsMaking, IsOpenedAs, IsSeen, entries_made, new_seats};
 ghost use Rattle.lj_share.specs.inner.Seats.{AreShown, IsTestedAs};
 ghost use Rattle.lj_share.specs.declared.numbered.Numbered.{Numbered};
-ghost use Rattle.lj_share.specs.inner.Telling.{IsTokenOf};
+ghost use Rattle.lj_share.specs.inner.WithEntry.{IsTokenOf};
 
-use crate::blank::Blank;
+use crate::account::Account;
+use crate::book_id::BookId;
 use crate::closed::Closed;
 use crate::copies::SeatCopy;
-use crate::desk::Desk;
 use crate::gate::{Gate, NoGate};
 use crate::kept::{begin, bind_ahead, finish, free, settle, take_back, unbind};
 use crate::lists::Lists;
+use crate::locked_book::LockedBook;
 use crate::numbered::Numbered;
-use crate::opening::Opening;
+use crate::opening_parts::OpeningParts;
 use crate::own_clauses::OwnClauses;
-use crate::place::Place;
 use crate::runs::{begin_run, finish_run, take_back_run};
-use crate::seat::{Alone, Seat};
+use crate::seat::{Seat, Unlocked};
 use crate::told::Told;
 use crate::verdict::{Note, Verdict};
 use lj_book::laws::history_is_legal;
@@ -52,8 +52,8 @@ const LOOKS: u32 = 64;
 /// A book that its seats share, on as many threads as they are on. A line is tested outside its lock as far as what its seat
 /// sees decides it.
 #[derive(Drop)]
-pub struct Shared<L: Opening> {
-    desk: Mutex<Desk<L>>,
+pub struct Shared<L: BookId> {
+    locked_book: Mutex<LockedBook<L>>,
     /// The verdict, once an entry has added the empty clause and it was published.
     verdict: OnceBox<Verdict<L>>,
     seats: u32,
@@ -62,7 +62,7 @@ pub struct Shared<L: Opening> {
     alloc: Global,
 }
 
-impl<L: Opening> Model for Shared<L> {
+impl<L: BookId> Model for Shared<L> {
     ghost use Rattle.std.specs.Prelude.{◌≡◌, ℕ};
     ghost use Rattle.once_cell.specs.Once.{cell_name};
 
@@ -75,12 +75,12 @@ impl<L: Opening> Model for Shared<L> {
 
 /// Not all seats were handed in: the shared book, and those that were.
 #[derive(Drop)]
-pub struct SeatsOut<L: Opening> {
+pub struct SeatsOut<L: BookId> {
     pub shared: Shared<L>,
     pub seats: Vec<Seat<L>>,
 }
 
-impl<L: Opening> Shared<L> {
+impl<L: BookId> Shared<L> {
     /// A new book for so many seats, and the seats, by rising number. Each holds the clauses of the formula under their
     /// numbers. The history takes at most `max_steps` additions. The blank is the opening's, for so many seats. Takes the time
     /// of [`Book::open`], and for each seat a byte for each clause of the formula.
@@ -89,31 +89,31 @@ impl<L: Opening> Shared<L> {
     /// [`NoMemory`] where a growth was refused.
     pub fn open(
         alloc: Global,
-        blank: Blank,
+        opening_parts: OpeningParts,
         formula: Formula,
         seats: u32,
         max_steps: u32,
     ) -> Result<(Shared<L>, Vec<Seat<L>>), NoMemory>
-        requires name { blank.name ≡ L.name }
-        requires parts { (blank.parts ≡ L.parts) × (blank.parts ≡ seats) }
-        requires lists { blank.lists ≡ L.lists }
+        requires name { opening_parts.name ≡ L.name }
+        requires parts { (opening_parts.parts ≡ L.parts) × (opening_parts.parts ≡ seats) }
+        requires lists { opening_parts.lists ≡ L.lists }
         requires formula { formula ≡ L.formula }
         requires seats { (0 < seats) × (seats ≡ L.seats) }
         requires limit { max_steps ≡ L.max_steps }
         ensures seats { IfOk result (λ opened. opened.1.items ≡ new_seats formula seats) }
     {
-        let shown = formula.copy()?;
+        let shown = formula.try_clone()?;
         let book = Book::open(alloc, formula, seats, max_steps)?;
-        let Blank {
+        let OpeningParts {
             ledger,
-            desk,
+            locked_book,
             seats: copies,
-        } = blank;
+        } = opening_parts;
         let (entries, mut rest) = ledger.open::<L>();
-        let mut lists = Lists::new(desk);
+        let mut lists = Lists::new(locked_book);
         let out = seats_of(alloc, &mut rest, &mut lists, copies, &book, &shown)?;
         let shared = Shared {
-            desk: Mutex::new(Desk::new(alloc, book, entries, lists, rest)),
+            locked_book: Mutex::new(LockedBook::new(alloc, book, entries, lists, rest)),
             verdict: OnceBox::new(alloc),
             seats,
             formula: shown,
@@ -123,7 +123,7 @@ impl<L: Opening> Shared<L> {
     }
 
     /// Hands a line of the seat's prover to the book, and gives the token of its entry. An addition is tested outside the lock, by
-    /// what the seat sees, and then entered; one whose walk over its first list stays open is tested and entered under the lock. Takes constant time for each number of the line and each literal of its hints, amortized, or O(log n) for numbers
+    /// what the seat sees, and then entered; one whose propagation over its first list stays open is tested and entered under the lock. Takes constant time for each number of the line and each literal of its hints, amortized, or O(log n) for numbers
     /// beyond the slots; under the lock, the time of [`Book::add_closed`], [`Book::add_inside`], [`Book::import`] or
     /// [`Book::drop_numbers`].
     ///
@@ -217,7 +217,7 @@ impl<L: Opening> Shared<L> {
             × (slice_get lines.now result.0 ≡ Some line)
             × IsLineRefused L.formula L.seats L.max_steps seat.new line.line e) }
     {
-        let (mut reads, mut joints) = self.room(lines.len());
+        let (mut reads, mut joints) = self.scratch(lines.len());
         let mut done = 0;
         for _ in 0..lines.len() {
             let rest = &lines[done..];
@@ -234,7 +234,7 @@ impl<L: Opening> Shared<L> {
     }
 
     /// Room for how many hints each of so many lines reads, and for their joint numbers; none where memory for it was refused.
-    fn room(&self, lines: usize) -> (Vec<usize>, Vec<u64>)
+    fn scratch(&self, lines: usize) -> (Vec<usize>, Vec<u64>)
         ensures { length result.0.items ≡ length result.1.items }
     {
         let reads = Vec::from_elem(self.alloc, 0, lines);
@@ -302,17 +302,21 @@ impl<L: Opening> Shared<L> {
             × IsLineRefused L.formula L.seats L.max_steps seat.new line.line e) }
     {
         let number = seat.number();
-        let Seat { place, own, room } = seat;
-        let count = begin_run(place, own, &self.formula, room, lines, reads);
+        let Seat {
+            account,
+            own,
+            scratch,
+        } = seat;
+        let count = begin_run(account, own, &self.formula, scratch, lines, reads);
         if count == 0 {
             return (0, None);
         }
         let run = &lines[..count];
         pass_all(gate, number, run);
-        let mut desk = self.desk(rt);
-        held_all(gate, number, run);
-        let (entered, refusal) = desk.enter_run(place, lines, reads, joints, count);
-        self.release(desk);
+        let mut locked_book = self.locked_book(rt);
+        locked_all(gate, number, run);
+        let (entered, refusal) = locked_book.enter_run(account, lines, reads, joints, count);
+        self.release(locked_book);
         answered_all(gate, number, run);
         finish_run(own, run, joints, entered);
         take_back_run(own, run, entered);
@@ -327,9 +331,9 @@ impl<L: Opening> Shared<L> {
         line: &Line,
         at: u64,
         gate: &G,
-        telling: bool,
+        with_entry: bool,
     ) -> Result<Option<Told>, Refusal>
-        ensures told { IfOk result (IsTokenOf telling seat.old.number (call_of line.now)) }
+        ensures told { IfOk result (IsTokenOf with_entry seat.old.number (call_of line.now)) }
         ensures made { OnOk result (IsMaking (call_of line.now) seat.old seat.new) }
         ensures free { OnOk result (line_refusal seat.old line.now ≡ None) }
         ensures decided { IsToldIfDecided (line_refusal seat.old line.now) result }
@@ -341,7 +345,7 @@ impl<L: Opening> Shared<L> {
     {
         decided_alone();
         free_alone();
-        self.test_and_hand_over(rt, seat, line, at, gate, telling)
+        self.test_and_hand_over(rt, seat, line, at, gate, with_entry)
     }
 
     /// As [`Shared::hand_in`]: a line that what the seat sees refuses doesn't reach the book.
@@ -352,17 +356,17 @@ impl<L: Opening> Shared<L> {
         line: &Line,
         at: u64,
         gate: &G,
-        telling: bool,
+        with_entry: bool,
     ) -> Result<Option<Told>, Refusal>
-        ensures told { IfOk result (IsTokenOf telling seat.old.number (call_of line.now)) }
+        ensures told { IfOk result (IsTokenOf with_entry seat.old.number (call_of line.now)) }
         ensures made { OnOk result (IsMaking (call_of line.now) seat.old seat.new) }
         ensures free { OnOk result (line_refusal seat.old line.now ≡ None) }
         ensures kept { OnErr result (seat.new ≡ seat.old) }
         ensures refusal { IfErr result (IsLineRefused L.formula L.seats L.max_steps seat.old
             line.now) }
     {
-        let alone = seat.test(self.alloc, &self.formula, line)?;
-        self.hand_over(rt, seat, line, at, gate, alone, telling)
+        let unlocked = seat.test(self.alloc, &self.formula, line)?;
+        self.hand_over(rt, seat, line, at, gate, unlocked, with_entry)
     }
 
     /// Hands a line over that was tested, and gives its token where one is asked for.
@@ -373,11 +377,11 @@ impl<L: Opening> Shared<L> {
         line: &Line,
         at: u64,
         gate: &G,
-        alone: Alone,
-        telling: bool,
+        unlocked: Unlocked,
+        with_entry: bool,
     ) -> Result<Option<Told>, Refusal>
-        requires { IsTestedAs seat.old.view seat.old.number line.now alone }
-        ensures told { IfOk result (IsTokenOf telling seat.old.number (call_of line.now)) }
+        requires { IsTestedAs seat.old.view seat.old.number line.now unlocked }
+        ensures told { IfOk result (IsTokenOf with_entry seat.old.number (call_of line.now)) }
         ensures made { OnOk result (IsMaking (call_of line.now) seat.old seat.new) }
         ensures free { OnOk result (line_refusal seat.old line.now ≡ None) }
         ensures kept { OnErr result (seat.new ≡ seat.old) }
@@ -386,18 +390,18 @@ impl<L: Opening> Shared<L> {
     {
         let number = seat.number();
         let Seat {
-            place,
+            account,
             own,
-            room: _,
+            scratch: _,
         } = seat;
         if let Err(refusal) = begin(own, &self.formula, line) {
             return Err(refusal);
         }
         gate.pass(number, at);
-        let mut desk = self.desk(rt);
-        gate.held(number, at);
-        let answer = desk.enter(place, line, alone, telling);
-        self.release(desk);
+        let mut locked_book = self.locked_book(rt);
+        gate.locked(number, at);
+        let answer = locked_book.enter(account, line, unlocked, with_entry);
+        self.release(locked_book);
         gate.answered(number, at);
         match answer {
             Ok((told, joint)) => {
@@ -418,7 +422,7 @@ impl<L: Opening> Shared<L> {
     /// # Errors
     /// As [`Book::take`].
     pub fn take(&self, seat: &mut Seat<L>, addition: &Addition) -> Result<Case, Refusal>
-        ensures alone { IsReply result
+        ensures unlocked { IsReply result
             (solo_take seat.old.view seat.old.number addition.now) }
         ensures refused { IfSome (solo_refusal seat.old.view addition.now.number)
             (λ e. result ≡ Err e) }
@@ -457,16 +461,16 @@ impl<L: Opening> Shared<L> {
     {
         let own = receipt.own();
         let Seat {
-            place,
+            account,
             own: kept,
-            room: _,
+            scratch: _,
         } = seat;
         if let Err(refusal) = bind_ahead(kept, &self.formula, own, receipt.lemma().clause()) {
             return Err((refusal, receipt));
         }
-        let mut desk = self.desk.lock(rt);
-        let answer = desk.commit(place, receipt);
-        self.release(desk);
+        let mut locked_book = self.locked_book.lock(rt);
+        let answer = locked_book.commit(account, receipt);
+        self.release(locked_book);
         match answer {
             Ok((told, joint)) => {
                 settle(kept, own, joint);
@@ -499,16 +503,16 @@ impl<L: Opening> Shared<L> {
             (λ s. adopt_reply s seat.old.number own joint)) }
     {
         let Seat {
-            place,
+            account,
             own: kept,
-            room: _,
+            scratch: _,
         } = seat;
         if let Err(refusal) = free(kept, &self.formula, own) {
             return Err(refusal);
         }
-        let mut desk = self.desk.lock(rt);
-        let told = desk.adopt(self.alloc, &self.formula, place, kept, own, joint);
-        self.release(desk);
+        let mut locked_book = self.locked_book.lock(rt);
+        let told = locked_book.adopt(self.alloc, &self.formula, account, kept, own, joint);
+        self.release(locked_book);
         told
     }
 
@@ -526,13 +530,13 @@ impl<L: Opening> Shared<L> {
             (λ s. leave_reply s seat.old.number)) }
     {
         let Seat {
-            place,
+            account,
             own,
-            room: _,
+            scratch: _,
         } = seat;
-        let mut desk = self.desk.lock(rt);
-        let told = desk.leave(place);
-        self.release(desk);
+        let mut locked_book = self.locked_book.lock(rt);
+        let told = locked_book.leave(account);
+        self.release(locked_book);
         if told.is_ok() {
             *own = None;
         }
@@ -555,13 +559,13 @@ impl<L: Opening> Shared<L> {
     {
         let verdict = self.verdict.get()?;
         let _verified = verdict.verified();
-        Some(verdict.place())
+        Some(verdict.position())
     }
 
     /// A note that has seen no verdict yet, to look for the verdict with. Takes constant time, and no memory.
     pub fn note(&self) -> Note<L>
         ensures cell { result.cell ≡ self.now }
-        ensures fresh { result.place ≡ None }
+        ensures fresh { result.position ≡ None }
     {
         Note::new(self.verdict.note())
     }
@@ -574,22 +578,22 @@ impl<L: Opening> Shared<L> {
         ensures cell { note.new.cell ≡ note.old.cell }
         ensures formula { IfSome result (λ verified. verified.now ≡ L.formula) }
         ensures unsatisfiable { OnSome result (IsUnsatisfiable L.formula) }
-        ensures seen { OnSome result (IsSeen note.old.place note.new.place) }
-        ensures unseen { result ≡ None → (note.old.place ≡ None) × (note.new.place ≡ None) }
+        ensures seen { OnSome result (IsSeen note.old.position note.new.position) }
+        ensures unseen { result ≡ None → (note.old.position ≡ None) × (note.new.position ≡ None) }
     {
         let verdict = self.verdict.get_as(&mut note.seen)?;
         Some(verdict.verified())
     }
 
     /// What lies under the lock. It is held for about a microsecond, so it is tried for a while before a thread sleeps for it.
-    fn desk<R: Wait>(&self, rt: &R) -> MutexGuard<'_, Desk<L>> {
+    fn locked_book<R: Wait>(&self, rt: &R) -> MutexGuard<'_, LockedBook<L>> {
         for _ in 0..TRIES {
-            if let Some(desk) = self.desk.try_lock() {
-                return desk;
+            if let Some(locked_book) = self.locked_book.try_lock() {
+                return locked_book;
             }
             self.pause();
         }
-        self.desk.lock(rt)
+        self.locked_book.lock(rt)
     }
 
     /// Lets a few hundred cycles pass, in which nothing is written that others read.
@@ -601,12 +605,12 @@ impl<L: Opening> Shared<L> {
 
     /// Gives the lock back, and then lets all see the verdict of the book, if it has one. Where memory for it is refused, the next
     /// call that makes an entry tries again.
-    fn release(&self, desk: MutexGuard<'_, Desk<L>>) {
+    fn release(&self, locked_book: MutexGuard<'_, LockedBook<L>>) {
         let verdict = match self.verdict.get() {
             Some(_) => None,
-            None => desk.verdict(self.alloc),
+            None => locked_book.verdict(self.alloc),
         };
-        drop(desk);
+        drop(locked_book);
         if let Some(verdict) = verdict {
             let _ = self.verdict.set(verdict);
         }
@@ -631,7 +635,7 @@ impl<L: Opening> Shared<L> {
                 seats,
             });
         }
-        let (book, mut entries, mut lists, rest) = self.desk.into_inner().into_parts();
+        let (book, mut entries, mut lists, rest) = self.locked_book.into_inner().into_parts();
         let mut all = gathered(&book, &mut lists, rest, seats);
         entries.audit(&mut all);
         history_is_legal(&book);
@@ -647,9 +651,9 @@ fn pass_all<G: Gate>(gate: &G, seat: u32, lines: &[Numbered]) {
 }
 
 /// Calls the gate for lines that the lock is held for.
-fn held_all<G: Gate>(gate: &G, seat: u32, lines: &[Numbered]) {
+fn locked_all<G: Gate>(gate: &G, seat: u32, lines: &[Numbered]) {
     for line in lines {
-        gate.held(seat, line.at);
+        gate.locked(seat, line.at);
     }
 }
 
@@ -664,7 +668,7 @@ fn answered_all<G: Gate>(gate: &G, seat: u32, lines: &[Numbered]) {
 ///
 /// # Errors
 /// [`NoMemory`] where a growth was refused.
-fn seats_of<L: Opening>(
+fn seats_of<L: BookId>(
     alloc: Global,
     rest: &mut Share<L>,
     lists: &mut Lists<L>,
@@ -693,15 +697,15 @@ fn seats_of<L: Opening>(
     for copy in copies {
         let mut shown = copy;
         lists.follow(&mut shown, book, number);
-        let place = Place::new(number, rest.split_off(1, 0), shown);
-        out.push(Seat::new(alloc, place, OwnClauses::new(alloc, formula)?))?;
+        let account = Account::new(number, rest.split_off(1, 0), shown);
+        out.push(Seat::new(alloc, account, OwnClauses::new(alloc, formula)?))?;
         number += 1;
     }
     Ok(out)
 }
 
 /// The shares of these seats, put together with the rest. Their copies agree with those of the desk.
-fn gathered<L: Opening>(
+fn gathered<L: BookId>(
     book: &Book,
     lists: &mut Lists<L>,
     mut rest: Share<L>,

@@ -35,7 +35,7 @@ pub(crate) fn case_of(
     if let Some(repeated) = repeated_group(alloc, own, formula, &addition.groups)? {
         return Err(Refusal::GroupRepeated(repeated));
     }
-    let lemma = addition.lemma.copy()?;
+    let lemma = addition.lemma.try_clone()?;
     Ok(Case::new(seat, addition.number, lemma, hints, groups))
 }
 

@@ -2,47 +2,47 @@
 ghost use Rattle.std.specs.Prelude.{◌≡◌, None};
 ghost use Rattle.lj_clause.specs.Truth.{IsUnsatisfiable};
 
-use crate::opening::Opening;
+use crate::book_id::BookId;
 use lj_book::Verified;
 use once_cell::race;
 use std::marker::{Model, PhantomData};
 
 /// The verdict of an opening: that no assignment satisfies its formula, and the place of the entry that shows it.
 #[derive(Drop)]
-pub(crate) struct Verdict<L: Opening> {
-    place: u64,
+pub(crate) struct Verdict<L: BookId> {
+    position: u64,
     verified: Verified,
     opening: PhantomData<L>,
 }
 
-impl<L: Opening> Model for Verdict<L> {
+impl<L: BookId> Model for Verdict<L> {
     ghost use Rattle.std.specs.Prelude.{◌≡◌, ℕ};
 
     ghost Value = { ℕ };
 
-    ghost view = { λ v. v.place };
+    ghost view = { λ v. v.position };
 
     ghost invariant = { λ v. v.verified ≡ L.formula };
 }
 
-impl<L: Opening> Verdict<L> {
+impl<L: BookId> Verdict<L> {
     /// The verdict of an opening's formula by the entry at a place.
-    pub(crate) fn new(place: u64, verified: Verified) -> Verdict<L>
+    pub(crate) fn new(position: u64, verified: Verified) -> Verdict<L>
         requires { verified ≡ L.formula }
-        ensures { result ≡ place }
+        ensures { result ≡ position }
     {
         Verdict {
-            place,
+            position,
             verified,
             opening: PhantomData,
         }
     }
 
     /// The place of the entry.
-    pub(crate) fn place(&self) -> u64
+    pub(crate) fn position(&self) -> u64
         ensures { result ≡ self.now }
     {
-        self.place
+        self.position
     }
 
     /// The formula, which no assignment satisfies.
@@ -58,11 +58,11 @@ impl<L: Opening> Verdict<L> {
 /// What a reader has seen of the verdict of one shared book. It takes no memory, and a reader on another thread has one of its
 /// own. Once it gave a verdict, it gives the same one for good.
 #[derive(Drop)]
-pub struct Note<L: Opening> {
+pub struct Note<L: BookId> {
     pub(crate) seen: race::Note<Verdict<L>>,
 }
 
-impl<L: Opening> Model for Note<L> {
+impl<L: BookId> Model for Note<L> {
     ghost use Rattle.lj_share.specs.Seats.{NoteValue};
     ghost use Rattle.lj_share.specs.inner.Codes.{note_code};
 
@@ -70,13 +70,13 @@ impl<L: Opening> Model for Note<L> {
 
     ghost coded = { note_code };
 
-    ghost view = { λ n. record { cell = n.seen.cell; place = n.seen.known } };
+    ghost view = { λ n. record { cell = n.seen.cell; position = n.seen.known } };
 }
 
-impl<L: Opening> Note<L> {
+impl<L: BookId> Note<L> {
     /// The note of this one.
     pub(crate) fn new(seen: race::Note<Verdict<L>>) -> Note<L>
-        ensures { (result.cell ≡ seen.cell) × (result.place ≡ seen.known) }
+        ensures { (result.cell ≡ seen.cell) × (result.position ≡ seen.known) }
     {
         Note { seen }
     }

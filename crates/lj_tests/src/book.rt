@@ -2,7 +2,7 @@
 use crate::tables::{BINARY, Line, addition, formula};
 use lj_book::{Book, Refusal};
 use lj_clause::{ClauseView, Lit, NoMemory};
-use lj_hint::{Case, Clauses, Live, Marks, Receipt, Tested, rat_test};
+use lj_hint::{Case, Clauses, Live, Propagator, Receipt, Tested, rat_test};
 use std::alloc::Global;
 use std::process::Abort;
 use std::test::Fail;
@@ -20,7 +20,7 @@ fn case_of(alloc: Global, book: &Book, line: &Line) -> Result<Case, Fail> {
 /// The receipt of an addition that is taken and tested.
 fn receipt_of(rt: &impl Abort, alloc: Global, book: &Book, line: &Line) -> Result<Receipt, Fail> {
     let case = case_of(alloc, book, line)?;
-    match case.test(&mut Marks::new(alloc)) {
+    match case.test(&mut Propagator::new(alloc)) {
         Tested::Closed(receipt) => Ok(receipt),
         _ => panic!(rt; "not closed"),
     }
@@ -73,11 +73,11 @@ impl Live for NothingLives {
 
 /// How many groups a case that stays open takes over no clauses, where none is missing.
 fn groups_over_nothing(alloc: Global, case: Case) -> Option<usize> {
-    let mut marks = Marks::new(alloc);
-    let Tested::Open(case) = case.test(&mut marks) else {
+    let mut propagator = Propagator::new(alloc);
+    let Tested::Open(case) = case.test(&mut propagator) else {
         return None;
     };
-    match rat_test(&NothingLives { alloc }, &case, &mut marks) {
+    match rat_test(&NothingLives { alloc }, &case, &mut propagator) {
         Ok(groups) => Some(groups.len()),
         Err(_) => None,
     }

@@ -7,6 +7,8 @@ mod book;
 #[cfg(test)]
 mod numbers;
 #[cfg(test)]
+mod propagations;
+#[cfg(test)]
 mod readers;
 #[cfg(test)]
 mod shared;
@@ -14,5 +16,3 @@ mod shared;
 mod tables;
 #[cfg(test)]
 mod waiting;
-#[cfg(test)]
-mod walks;

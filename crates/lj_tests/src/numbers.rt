@@ -10,13 +10,13 @@ use std::test::Fail;
 const LONG: u64 = 4_294_967_296;
 
 /// The numbers as they are pushed into a list whose room is used again, and a copy of its own of them.
-fn pushed(rt: &impl Abort, room: &mut Numbers, numbers: &[u64]) -> Result<Numbers, Fail> {
-    room.clear();
-    assert!(rt; room.is_empty());
+fn pushed(rt: &impl Abort, scratch: &mut Numbers, numbers: &[u64]) -> Result<Numbers, Fail> {
+    scratch.clear();
+    assert!(rt; scratch.is_empty());
     for number in numbers {
-        room.push(*number)?;
+        scratch.push(*number)?;
     }
-    Ok(room.copy()?)
+    Ok(scratch.try_clone()?)
 }
 
 fn assert_are(rt: &impl Abort, numbers: &Numbers, wanted: &[u64; 3]) {
@@ -25,17 +25,17 @@ fn assert_are(rt: &impl Abort, numbers: &Numbers, wanted: &[u64; 3]) {
 }
 
 fn assert_widths(rt: &impl Abort, alloc: Global) -> Result<(), Fail> {
-    let mut room = Numbers::with_capacity(alloc, 9)?;
+    let mut scratch = Numbers::with_capacity(alloc, 9)?;
     for wanted in [
         [1, 7, LONG - 1],
         [1, LONG, 7],
         [LONG / 2, LONG, LONG - 1],
         [7, 1, 1],
     ] {
-        let pushed = pushed(rt, &mut room, &wanted)?;
+        let pushed = pushed(rt, &mut scratch, &wanted)?;
         assert_are(rt, &pushed, &wanted);
         assert_are(rt, &Numbers::from_slice(alloc, &wanted)?, &wanted);
-        assert_are(rt, &Numbers::new(pushed.to_vec()?).copy()?, &wanted);
+        assert_are(rt, &Numbers::new(pushed.to_vec()?).try_clone()?, &wanted);
     }
     Ok(())
 }

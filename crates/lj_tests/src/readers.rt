@@ -28,7 +28,7 @@ fn assert_line_reader(rt: &impl Abort, alloc: Global) -> Result<(), Fail> {
     let mut reader = LineReader::new(alloc, MAX_VARIABLE);
     reader.feed(b"5 2 0 1")?;
     assert!(rt; next_addition(&mut reader).is_none());
-    assert!(rt; reader.at() == 1 && reader.held() == 7);
+    assert!(rt; reader.at() == 1 && reader.buffered() == 7);
     reader.feed(b"2 0\n5 x\n6 d 1 0\n")?;
     assert!(rt; next_addition(&mut reader) == Some((5, 1)));
     let fault = next_fault(&mut reader);

@@ -3,7 +3,7 @@ ghost use Rattle.std.specs.Prelude.{◌≡◌};
 
 use crate::tables::{self, BINARY, formula};
 use lj_clause::{Formula, NoMemory};
-use lj_share::{Blank, Opening, Seat, SeatsOut, Shared, Told};
+use lj_share::{BookId, OpeningParts, Seat, SeatsOut, Shared, Told};
 use lj_text::{Boxed, Line};
 use std::alloc::Global;
 use std::marker::Brand;
@@ -21,23 +21,23 @@ fn addition(alloc: Global, number: u64, lemma: &[i32], hints: &[u64]) -> Result<
 #[test]
 fn two_provers_on_threads_close_their_book_together(rt: HostRuntime) -> Result<(), Fail> {
     let formula = formula(&rt, rt.alloc(), &BINARY)?;
-    prove_beside::<Brand, _>(&rt, rt.alloc(), Blank::new(rt.alloc(), 2)?, formula)
+    prove_beside::<Brand, _>(&rt, rt.alloc(), OpeningParts::new(rt.alloc(), 2)?, formula)
 }
 
-fn prove_beside<L: Opening + Send + Sync, R: Threads + Wait + Abort + Sync>(
+fn prove_beside<L: BookId + Send + Sync, R: Threads + Wait + Abort + Sync>(
     rt: &R,
     alloc: Global,
-    blank: Blank,
+    opening_parts: OpeningParts,
     formula: Formula,
 ) -> Result<(), Fail>
-    requires name { blank.name ≡ L.name }
-    requires parts { (blank.parts ≡ L.parts) × (blank.parts ≡ 2) }
-    requires lists { blank.lists ≡ L.lists }
+    requires name { opening_parts.name ≡ L.name }
+    requires parts { (opening_parts.parts ≡ L.parts) × (opening_parts.parts ≡ 2) }
+    requires lists { opening_parts.lists ≡ L.lists }
     requires formula { formula ≡ L.formula }
     requires seats { L.seats ≡ 2 }
     requires limit { L.max_steps ≡ 9 }
 {
-    let (shared, mut seats) = Shared::<L>::open(alloc, blank, formula, 2, 9)?;
+    let (shared, mut seats) = Shared::<L>::open(alloc, opening_parts, formula, 2, 9)?;
     let Some(mut second) = seats.pop() else {
         panic!(rt; "no second seat");
     };
@@ -52,7 +52,7 @@ fn prove_beside<L: Opening + Send + Sync, R: Threads + Wait + Abort + Sync>(
 }
 
 /// Lines of two provers at once, and their tokens.
-fn submit_both<L: Opening + Send + Sync, R: Threads + Wait + Sync>(
+fn submit_both<L: BookId + Send + Sync, R: Threads + Wait + Sync>(
     rt: &R,
     alloc: Global,
     shared: &Shared<L>,
@@ -74,7 +74,7 @@ fn submit_both<L: Opening + Send + Sync, R: Threads + Wait + Sync>(
 }
 
 /// A book that isn't closed with one seat of two comes back.
-fn with_one<L: Opening>(
+fn with_one<L: BookId>(
     rt: &impl Abort,
     shared: Shared<L>,
     seats: Vec<Seat<L>>,
@@ -88,7 +88,7 @@ fn with_one<L: Opening>(
     (shared, seats)
 }
 
-fn assert_closed<L: Opening>(
+fn assert_closed<L: BookId>(
     rt: &impl Abort,
     shared: Shared<L>,
     seats: Vec<Seat<L>>,

@@ -4,8 +4,8 @@ ghost use Rattle.std.specs.Prelude.{◌≡◌};
 use crate::tables::{self, BINARY, formula};
 use lj_book::Refusal;
 use lj_clause::{Formula, NoMemory};
-use lj_hint::{Marks, Tested};
-use lj_share::{Blank, Gate, Opening, Seat, Shared, Told};
+use lj_hint::{Propagator, Tested};
+use lj_share::{BookId, Gate, OpeningParts, Seat, Shared, Told};
 use lj_text::{Boxed, Line};
 use std::alloc::Global;
 use std::marker::Brand;
@@ -56,7 +56,7 @@ fn line(alloc: Global, number: u64, lemma: &[i32], hints: &[u64]) -> Result<Line
 }
 
 /// Whether a take, and the test of its case, answer as they should.
-fn takes<L: Opening>(
+fn takes<L: BookId>(
     alloc: Global,
     shared: &Shared<L>,
     seat: &mut Seat<L>,
@@ -65,11 +65,11 @@ fn takes<L: Opening>(
     let Ok(case) = shared.take(seat, &addition) else {
         return Ok(false);
     };
-    Ok(matches!(case.test(&mut Marks::new(alloc)), Tested::Closed(_)))
+    Ok(matches!(case.test(&mut Propagator::new(alloc)), Tested::Closed(_)))
 }
 
 /// Whether a line that is stuck by its first list is refused so.
-fn is_stuck<L: Opening, R: Wait>(
+fn is_stuck<L: BookId, R: Wait>(
     rt: &R,
     alloc: Global,
     shared: &Shared<L>,
@@ -83,7 +83,7 @@ fn is_stuck<L: Opening, R: Wait>(
 }
 
 /// Whether all of a seat's calls that wait for nobody answer as they should, once the lock is held.
-fn answers<L: Opening, R: Wait>(
+fn answers<L: BookId, R: Wait>(
     rt: &R,
     alloc: Global,
     shared: &Shared<L>,
@@ -91,7 +91,7 @@ fn answers<L: Opening, R: Wait>(
     told: &Told,
     gate: &Locked,
 ) -> Result<bool, NoMemory> {
-    if !is_set_in_time(&gate.held) {
+    if !is_set_in_time(&gate.locked) {
         return Ok(false);
     }
     let taken = takes(alloc, shared, seat)?;
@@ -100,7 +100,7 @@ fn answers<L: Opening, R: Wait>(
 }
 
 /// The same, after which the gate lets go.
-fn answers_then_done<L: Opening, R: Wait>(
+fn answers_then_done<L: BookId, R: Wait>(
     rt: &R,
     alloc: Global,
     shared: &Shared<L>,
@@ -114,7 +114,7 @@ fn answers_then_done<L: Opening, R: Wait>(
 }
 
 /// Asserts that the second seat's calls answer while a line of the first one holds the lock.
-fn assert_answers<L: Opening + Send + Sync, R: Threads + Wait + Abort + Sync>(
+fn assert_answers<L: BookId + Send + Sync, R: Threads + Wait + Abort + Sync>(
     rt: &R,
     alloc: Global,
     shared: &Shared<L>,
@@ -138,20 +138,20 @@ fn assert_answers<L: Opening + Send + Sync, R: Threads + Wait + Abort + Sync>(
     Ok(())
 }
 
-fn wait_beside<L: Opening + Send + Sync, R: Threads + Wait + Abort + Sync>(
+fn wait_beside<L: BookId + Send + Sync, R: Threads + Wait + Abort + Sync>(
     rt: &R,
     alloc: Global,
-    blank: Blank,
+    opening_parts: OpeningParts,
     formula: Formula,
 ) -> Result<(), Fail>
-    requires name { blank.name ≡ L.name }
-    requires parts { (blank.parts ≡ L.parts) × (blank.parts ≡ 2) }
-    requires lists { blank.lists ≡ L.lists }
+    requires name { opening_parts.name ≡ L.name }
+    requires parts { (opening_parts.parts ≡ L.parts) × (opening_parts.parts ≡ 2) }
+    requires lists { opening_parts.lists ≡ L.lists }
     requires formula { formula ≡ L.formula }
     requires seats { L.seats ≡ 2 }
     requires limit { L.max_steps ≡ 9 }
 {
-    let (shared, mut seats) = Shared::<L>::open(alloc, blank, formula, 2, 9)?;
+    let (shared, mut seats) = Shared::<L>::open(alloc, opening_parts, formula, 2, 9)?;
     let Some(mut second) = seats.pop() else {
         panic!(rt; "no second seat");
     };
@@ -165,5 +165,5 @@ fn wait_beside<L: Opening + Send + Sync, R: Threads + Wait + Abort + Sync>(
 #[test]
 fn take_while_locked(rt: HostRuntime) -> Result<(), Fail> {
     let formula = formula(&rt, rt.alloc(), &BINARY)?;
-    wait_beside::<Brand, _>(&rt, rt.alloc(), Blank::new(rt.alloc(), 2)?, formula)
+    wait_beside::<Brand, _>(&rt, rt.alloc(), OpeningParts::new(rt.alloc(), 2)?, formula)
 }

@@ -15,21 +15,21 @@ use Rattle.lj_clause.specs.ClauseMap.{formula_of, names_up_to}
 use Rattle.lj_text.specs.declared.cnf.fault.CnfFault.{CnfFault}
 use Rattle.lj_text.specs.declared.cnf.fault.CnfFaultKind.TheVariants.{NoHeader, BadHeader, BadNumber, VariableRange, ClauseCount, Truncated, NoMemory}
 use Rattle.lj_text.specs.Lines.{with_read, then_read}
-use Rattle.lj_text.specs.Cnf.{Place, Percent, NoNumber, Number, number_at, fault_in, literals_up_to, clauses_of}
+use Rattle.lj_text.specs.Cnf.{BodyToken, Percent, NoNumber, Number, number_at, fault_in, literals_up_to, clauses_of}
 use Rattle.lj_text.specs.CnfReading.{Begun, formula_after, clauses_after, is_literal_kept, keeps_first}
-use Rattle.lj_text.specs.inner.CnfReading.{IsCnfTold, IsNumberUpTo, is_up_to, Goes, places_behind}
+use Rattle.lj_text.specs.inner.CnfReading.{IsCnfTold, IsNumberUpTo, is_up_to, Goes, body_tokens_behind}
 use Rattle.lj_text.specs.declared.cnf.fault.CnfFaultKind.{CnfFaultKind}
 
 pub not_zero : (n : ℕ) → 0 < n → (n == 0) ≡ false
 not_zero n h = grind (arith, nat_tests)
 
 -- behind a literal
-literals-more : (v last line : ℕ) (n : ℤ) (rest : List Place) → unsigned_abs n ≤ v → 0 < unsigned_abs n → literals_up_to v last (Number line n ∷ rest) ≡ with_read (λ r. (n ∷ r.0, r.1)) (literals_up_to v last rest)
+literals-more : (v last line : ℕ) (n : ℤ) (rest : List BodyToken) → unsigned_abs n ≤ v → 0 < unsigned_abs n → literals_up_to v last (Number line n ∷ rest) ≡ with_read (λ r. (n ∷ r.0, r.1)) (literals_up_to v last rest)
 literals-more v last line n rest le some =
     ap (λ b. cond b (cond (unsigned_abs n == 0) (Ok ([], rest)) (with_read (λ r. (n ∷ r.0, r.1)) (literals_up_to v last rest))) (fault_in line VariableRange)) (le-leb (unsigned_abs n) v le)
     ∙ ap (λ b. cond b (Ok ([], rest)) (with_read (λ r. (n ∷ r.0, r.1)) (literals_up_to v last rest))) (not_zero (unsigned_abs n) some)
 
-literals-closed : (v last line : ℕ) (rest : List Place) → literals_up_to v last (Number line (pos 0) ∷ rest) ≡ Ok ([], rest)
+literals-closed : (v last line : ℕ) (rest : List BodyToken) → literals_up_to v last (Number line (pos 0) ∷ rest) ≡ Ok ([], rest)
 literals-closed v last line rest = ap (λ b. cond b (Ok ([], rest)) (fault_in line VariableRange)) (le-leb 0 v (omega arith))
 
 then-with : {A B C E : Type 0} (f : A → B) (g : B → Result C E) (read : Result A E) → then_read (with_read f read) g ≡ then_read read (λ x. g (f x))
@@ -40,35 +40,35 @@ with-with : {A B C E : Type 0} (f : A → B) (g : B → C) (read : Result A E) �
 with-with f g (Ok x) = refl
 with-with f g (Err e) = refl
 
-begin_literal : (v last line left : ℕ) (n : ℤ) (rest : List Place) → unsigned_abs n ≤ v → 0 < unsigned_abs n → 0 < left → clauses_of v last left (Number line n ∷ rest) ≡ clauses_after v last left (n ∷ []) rest
+begin_literal : (v last line left : ℕ) (n : ℤ) (rest : List BodyToken) → unsigned_abs n ≤ v → 0 < unsigned_abs n → 0 < left → clauses_of v last left (Number line n ∷ rest) ≡ clauses_after v last left (n ∷ []) rest
 begin_literal v last line zero n rest le some h = absurd (omega arith)
 begin_literal v last line (suc m) n rest le some h =
     let one : suc m - 1 ≡ m = omega arith in
     ap (λ read. then_read read (λ r. with_read (λ cs. from_literals r.0 ∷ cs) (clauses_of v last m r.1))) (literals-more v last line n rest le some)
-    ∙ then-with (λ (r : List ℤ × List Place). (n ∷ r.0, r.1)) (λ r. with_read (λ cs. from_literals r.0 ∷ cs) (clauses_of v last m r.1)) (literals_up_to v last rest)
+    ∙ then-with (λ (r : List ℤ × List BodyToken). (n ∷ r.0, r.1)) (λ r. with_read (λ cs. from_literals r.0 ∷ cs) (clauses_of v last m r.1)) (literals_up_to v last rest)
     ∙ ap (λ k. then_read (literals_up_to v last rest) (λ r. with_read (λ cs. from_literals (n ∷ r.0) ∷ cs) (clauses_of v last k r.1))) (sym one)
 
-regroup : (v last left : ℕ) (o : ℤ) (os : List ℤ) (n : ℤ) (read : Result (List ℤ × List Place) CnfFault)
+regroup : (v last left : ℕ) (o : ℤ) (os : List ℤ) (n : ℤ) (read : Result (List ℤ × List BodyToken) CnfFault)
     → then_read read (λ r. with_read (λ cs. from_literals (o ∷ os ++ (n ∷ r.0)) ∷ cs) (clauses_of v last (left - 1) r.1))
     ≡ then_read read (λ r. with_read (λ cs. from_literals (o ∷ (os ++ n ∷ []) ++ r.0) ∷ cs) (clauses_of v last (left - 1) r.1))
 regroup v last left o os n (Ok r) = ap (λ ls. with_read (λ cs. from_literals (o ∷ ls) ∷ cs) (clauses_of v last (left - 1) r.1)) (sym (append_assoc os (n ∷ []) r.0))
 regroup v last left o os n (Err e) = refl
 
-after_literal : (v last line left : ℕ) (ls : List ℤ) (n : ℤ) (rest : List Place) → unsigned_abs n ≤ v → 0 < unsigned_abs n → 0 < left
+after_literal : (v last line left : ℕ) (ls : List ℤ) (n : ℤ) (rest : List BodyToken) → unsigned_abs n ≤ v → 0 < unsigned_abs n → 0 < left
     → clauses_after v last left ls (Number line n ∷ rest) ≡ clauses_after v last left (ls ++ n ∷ []) rest
 after_literal v last line left [] n rest le some h = begin_literal v last line left n rest le some h
 after_literal v last line left (o ∷ os) n rest le some h =
     ap (λ read. then_read read (λ r. with_read (λ cs. from_literals (o ∷ os ++ r.0) ∷ cs) (clauses_of v last (left - 1) r.1))) (literals-more v last line n rest le some)
-    ∙ then-with (λ (r : List ℤ × List Place). (n ∷ r.0, r.1)) (λ r. with_read (λ cs. from_literals (o ∷ os ++ r.0) ∷ cs) (clauses_of v last (left - 1) r.1)) (literals_up_to v last rest)
+    ∙ then-with (λ (r : List ℤ × List BodyToken). (n ∷ r.0, r.1)) (λ r. with_read (λ cs. from_literals (o ∷ os ++ r.0) ∷ cs) (clauses_of v last (left - 1) r.1)) (literals_up_to v last rest)
     ∙ regroup v last left o os n (literals_up_to v last rest)
 
-pub completed-literal : (b : Begun) (last line : ℕ) (n : ℤ) (rest : List Place) → unsigned_abs n ≤ b.variables → 0 < unsigned_abs n → 0 < b.left
+pub completed-literal : (b : Begun) (last line : ℕ) (n : ℤ) (rest : List BodyToken) → unsigned_abs n ≤ b.variables → 0 < unsigned_abs n → 0 < b.left
     → formula_after b last (Number line n ∷ rest) ≡ formula_after (record b { literals = b.literals ++ n ∷ [] }) last rest
 completed-literal b last line n rest le some h =
     ap (with_read (λ cs. formula_of b.variables (b.clauses ++ cs))) (after_literal b.variables last line b.left b.literals n rest le some h)
 
 -- behind the 0 that closes a clause
-after_zero : (v last line left : ℕ) (ls : List ℤ) (rest : List Place) → 0 < left → clauses_after v last left ls (Number line (pos 0) ∷ rest) ≡ with_read (λ cs. from_literals ls ∷ cs) (clauses_of v last (left - 1) rest)
+after_zero : (v last line left : ℕ) (ls : List ℤ) (rest : List BodyToken) → 0 < left → clauses_after v last left ls (Number line (pos 0) ∷ rest) ≡ with_read (λ cs. from_literals ls ∷ cs) (clauses_of v last (left - 1) rest)
 after_zero v last line zero ls rest h = absurd (omega arith)
 after_zero v last line (suc m) [] rest h =
     let one : suc m - 1 ≡ m = omega arith in
@@ -83,68 +83,68 @@ add_clause : (v : ℕ) (done : List LiteralSet) (c : LiteralSet) (read : Result 
 add_clause v done c (Ok cs) = ap (λ l. Ok (formula_of v l)) (sym (append_assoc done (c ∷ []) cs))
 add_clause v done c (Err e) = refl
 
-pub completed-zero : (b : Begun) (last line : ℕ) (rest : List Place) → 0 < b.left
+pub completed-zero : (b : Begun) (last line : ℕ) (rest : List BodyToken) → 0 < b.left
     → formula_after b last (Number line (pos 0) ∷ rest) ≡ formula_after (record b { left = b.left - 1; clauses = b.clauses ++ from_literals b.literals ∷ []; literals = [] }) last rest
 completed-zero b last line rest h =
     ap (with_read (λ cs. formula_of b.variables (b.clauses ++ cs))) (after_zero b.variables last line b.left b.literals rest h)
     ∙ add_clause b.variables b.clauses (from_literals b.literals) (clauses_of b.variables last (b.left - 1) rest)
 
 -- faults
-no_number : (v last line left : ℕ) (ls : List ℤ) (rest : List Place) → clauses_after v last left ls (NoNumber line ∷ rest) ≡ fault_in line BadNumber
+no_number : (v last line left : ℕ) (ls : List ℤ) (rest : List BodyToken) → clauses_after v last left ls (NoNumber line ∷ rest) ≡ fault_in line BadNumber
 no_number v last line zero [] rest = refl
 no_number v last line (suc m) [] rest = refl
 no_number v last line left (o ∷ os) rest = refl
 
-pub completed-no_number : (b : Begun) (last line : ℕ) (rest : List Place) → formula_after b last (NoNumber line ∷ rest) ≡ fault_in line BadNumber
+pub completed-no_number : (b : Begun) (last line : ℕ) (rest : List BodyToken) → formula_after b last (NoNumber line ∷ rest) ≡ fault_in line BadNumber
 completed-no_number b last line rest = ap (with_read (λ cs. formula_of b.variables (b.clauses ++ cs))) (no_number b.variables last line b.left b.literals rest)
 
-literals-beyond : (v last line : ℕ) (n : ℤ) (rest : List Place) → v < unsigned_abs n → literals_up_to v last (Number line n ∷ rest) ≡ fault_in line VariableRange
+literals-beyond : (v last line : ℕ) (n : ℤ) (rest : List BodyToken) → v < unsigned_abs n → literals_up_to v last (Number line n ∷ rest) ≡ fault_in line VariableRange
 literals-beyond v last line n rest above =
     ap (λ b. cond b (cond (unsigned_abs n == 0) (Ok ([], rest)) (with_read (λ r. (n ∷ r.0, r.1)) (literals_up_to v last rest))) (fault_in line VariableRange)) (lt-leb (unsigned_abs n) v above)
 
-beyond : (v last line left : ℕ) (ls : List ℤ) (n : ℤ) (rest : List Place) → v < unsigned_abs n → clauses_after v last left ls (Number line n ∷ rest) ≡ fault_in line VariableRange
+beyond : (v last line left : ℕ) (ls : List ℤ) (n : ℤ) (rest : List BodyToken) → v < unsigned_abs n → clauses_after v last left ls (Number line n ∷ rest) ≡ fault_in line VariableRange
 beyond v last line zero [] n rest above = ap (λ b. cond b (fault_in line ClauseCount) (fault_in line VariableRange)) (lt-leb (unsigned_abs n) v above)
 beyond v last line (suc m) [] n rest above = ap (λ read. then_read read (λ r. with_read (λ cs. from_literals r.0 ∷ cs) (clauses_of v last m r.1))) (literals-beyond v last line n rest above)
 beyond v last line left (o ∷ os) n rest above = ap (λ read. then_read read (λ r. with_read (λ cs. from_literals (o ∷ os ++ r.0) ∷ cs) (clauses_of v last (left - 1) r.1))) (literals-beyond v last line n rest above)
 
-pub completed-beyond : (b : Begun) (last line : ℕ) (n : ℤ) (rest : List Place) → b.variables < unsigned_abs n → formula_after b last (Number line n ∷ rest) ≡ fault_in line VariableRange
+pub completed-beyond : (b : Begun) (last line : ℕ) (n : ℤ) (rest : List BodyToken) → b.variables < unsigned_abs n → formula_after b last (Number line n ∷ rest) ≡ fault_in line VariableRange
 completed-beyond b last line n rest above = ap (with_read (λ cs. formula_of b.variables (b.clauses ++ cs))) (beyond b.variables last line b.left b.literals n rest above)
 
-too_many : (v last line left : ℕ) (ls : List ℤ) (n : ℤ) (rest : List Place) → left ≡ 0 → ls ≡ [] → unsigned_abs n ≤ v → clauses_after v last left ls (Number line n ∷ rest) ≡ fault_in line ClauseCount
+too_many : (v last line left : ℕ) (ls : List ℤ) (n : ℤ) (rest : List BodyToken) → left ≡ 0 → ls ≡ [] → unsigned_abs n ≤ v → clauses_after v last left ls (Number line n ∷ rest) ≡ fault_in line ClauseCount
 too_many v last line zero [] n rest h e le = ap (λ b. cond b (fault_in line ClauseCount) (fault_in line VariableRange)) (le-leb (unsigned_abs n) v le)
 too_many v last line (suc m) [] n rest h e le = absurd (omega arith)
 too_many v last line left (o ∷ os) n rest h e le = cc
 
-pub completed-too_many : (b : Begun) (last line : ℕ) (n : ℤ) (rest : List Place) → b.left ≡ 0 → b.literals ≡ [] → unsigned_abs n ≤ b.variables → formula_after b last (Number line n ∷ rest) ≡ fault_in line ClauseCount
+pub completed-too_many : (b : Begun) (last line : ℕ) (n : ℤ) (rest : List BodyToken) → b.left ≡ 0 → b.literals ≡ [] → unsigned_abs n ≤ b.variables → formula_after b last (Number line n ∷ rest) ≡ fault_in line ClauseCount
 completed-too_many b last line n rest h e le = ap (with_read (λ cs. formula_of b.variables (b.clauses ++ cs))) (too_many b.variables last line b.left b.literals n rest h e le)
 
 -- a percent
-percent_open : (v last line left : ℕ) (ls : List ℤ) (rest : List Place) → 0 < length ls → clauses_after v last left ls (Percent line ∷ rest) ≡ fault_in line BadNumber
+percent_open : (v last line left : ℕ) (ls : List ℤ) (rest : List BodyToken) → 0 < length ls → clauses_after v last left ls (Percent line ∷ rest) ≡ fault_in line BadNumber
 percent_open v last line left [] rest h = absurd (omega arith)
 percent_open v last line left (o ∷ os) rest h = refl
 
-pub completed-percent_open : (b : Begun) (last line : ℕ) (rest : List Place) → 0 < length b.literals → formula_after b last (Percent line ∷ rest) ≡ fault_in line BadNumber
+pub completed-percent_open : (b : Begun) (last line : ℕ) (rest : List BodyToken) → 0 < length b.literals → formula_after b last (Percent line ∷ rest) ≡ fault_in line BadNumber
 completed-percent_open b last line rest h = ap (with_read (λ cs. formula_of b.variables (b.clauses ++ cs))) (percent_open b.variables last line b.left b.literals rest h)
 
-percent_early : (v last line left : ℕ) (ls : List ℤ) (rest : List Place) → 0 < left → ls ≡ [] → clauses_after v last left ls (Percent line ∷ rest) ≡ fault_in line ClauseCount
+percent_early : (v last line left : ℕ) (ls : List ℤ) (rest : List BodyToken) → 0 < left → ls ≡ [] → clauses_after v last left ls (Percent line ∷ rest) ≡ fault_in line ClauseCount
 percent_early v last line zero [] rest h e = absurd (omega arith)
 percent_early v last line (suc m) [] rest h e = refl
 percent_early v last line left (o ∷ os) rest h e = cc
 
-pub completed-percent_early : (b : Begun) (last line : ℕ) (rest : List Place) → 0 < b.left → b.literals ≡ [] → formula_after b last (Percent line ∷ rest) ≡ fault_in line ClauseCount
+pub completed-percent_early : (b : Begun) (last line : ℕ) (rest : List BodyToken) → 0 < b.left → b.literals ≡ [] → formula_after b last (Percent line ∷ rest) ≡ fault_in line ClauseCount
 completed-percent_early b last line rest h e = ap (with_read (λ cs. formula_of b.variables (b.clauses ++ cs))) (percent_early b.variables last line b.left b.literals rest h e)
 
-percent_end : (v last line left : ℕ) (ls : List ℤ) (rest : List Place) → left ≡ 0 → ls ≡ [] → clauses_after v last left ls (Percent line ∷ rest) ≡ Ok []
+percent_end : (v last line left : ℕ) (ls : List ℤ) (rest : List BodyToken) → left ≡ 0 → ls ≡ [] → clauses_after v last left ls (Percent line ∷ rest) ≡ Ok []
 percent_end v last line zero [] rest h e = refl
 percent_end v last line (suc m) [] rest h e = absurd (omega arith)
 percent_end v last line left (o ∷ os) rest h e = cc
 
-pub completed-percent_end : (b : Begun) (last line : ℕ) (rest : List Place) → b.left ≡ 0 → b.literals ≡ [] → formula_after b last (Percent line ∷ rest) ≡ Ok (formula_of b.variables b.clauses)
+pub completed-percent_end : (b : Begun) (last line : ℕ) (rest : List BodyToken) → b.left ≡ 0 → b.literals ≡ [] → formula_after b last (Percent line ∷ rest) ≡ Ok (formula_of b.variables b.clauses)
 completed-percent_end b last line rest h e =
     ap (with_read (λ cs. formula_of b.variables (b.clauses ++ cs))) (percent_end b.variables last line b.left b.literals rest h e)
     ∙ ap (λ l. Ok (formula_of b.variables l)) (append-nil b.clauses)
 
-pub completed-refused : (b : Begun) (last line : ℕ) (number : Option ℤ) (kind : CnfFaultKind) (rest : List Place) → IsNumberUpTo b.variables number (Err kind) → IsCnfTold kind line (formula_after b last (number_at line number ∷ rest))
+pub completed-refused : (b : Begun) (last line : ℕ) (number : Option ℤ) (kind : CnfFaultKind) (rest : List BodyToken) → IsNumberUpTo b.variables number (Err kind) → IsCnfTold kind line (formula_after b last (number_at line number ∷ rest))
 completed-refused b last line number NoHeader rest h = absurd h
 completed-refused b last line number BadHeader rest h = absurd h
 completed-refused b last line number BadNumber rest h = ap (λ o. formula_after b last (number_at line o ∷ rest)) h ∙ completed-no_number b last line rest
@@ -158,11 +158,11 @@ empty_from [] h = refl
 empty_from (l ∷ ls) h = absurd (omega arith)
 
 -- the tokens of a line, one after the other
-pub goes-true : (b : Bool) (last line : ℕ) (tokens : List (List ℕ)) (rest : List Place) (old new : Begun) → b ≡ true → Goes last line tokens rest old new (Ok b) → formula_after old last (places_behind line tokens rest) ≡ Ok (formula_of new.variables new.clauses)
+pub goes-true : (b : Bool) (last line : ℕ) (tokens : List (List ℕ)) (rest : List BodyToken) (old new : Begun) → b ≡ true → Goes last line tokens rest old new (Ok b) → formula_after old last (body_tokens_behind line tokens rest) ≡ Ok (formula_of new.variables new.clauses)
 goes-true true last line tokens rest old new h g = g
 goes-true false last line tokens rest old new h g = cc
 
-pub goes-false : (b : Bool) (last line : ℕ) (tokens : List (List ℕ)) (rest : List Place) (old new : Begun) → b ≡ false → Goes last line tokens rest old new (Ok b) → formula_after old last (places_behind line tokens rest) ≡ formula_after new last rest
+pub goes-false : (b : Bool) (last line : ℕ) (tokens : List (List ℕ)) (rest : List BodyToken) (old new : Begun) → b ≡ false → Goes last line tokens rest old new (Ok b) → formula_after old last (body_tokens_behind line tokens rest) ≡ formula_after new last rest
 goes-false true last line tokens rest old new h g = cc
 goes-false false last line tokens rest old new h g = g
 

@@ -6,10 +6,10 @@ use Rattle.std.specs.List.{list_all}
 use Rattle.std.specs.Char.{is_ascii_digit}
 use Rattle.std.proofs.Math.Nat.{pow-succ'}
 use Rattle.std.specs.Prelude.{Option, Some, ℤ, pos, negsuc, option_map, option_and_then}
-use Rattle.lj_text.specs.declared.bytes.digits.Word.TheVariants as words
+use Rattle.lj_text.specs.declared.bytes.digits.TokenNumber.TheVariants as values
 use Rattle.lj_text.specs.Bytes.{decimal_value, digits_value, negative}
 use Rattle.lj_text.specs.Lines.{greatest}
-use Rattle.lj_text.specs.inner.HeldNumbers.{Counts, IsWord}
+use Rattle.lj_text.specs.inner.TokenNumbers.{Counts, IsTokenNumber}
 
 -- some of the digits were read, and value is held of them
 pub record IsRead (all rest : List ℕ) (value : ℕ) : Type 0 where
@@ -22,9 +22,9 @@ pub read-none : (all : List ℕ) → IsRead all all 0
 read-none all = record { digits = refl; read = 0; total = omega arith; counts = (λ h. refl, λ h. absurd (omega arith)) }
 
 goes_on : (value read next d : ℕ) → Counts value read → Counts next (10 * value + d) → Counts next (10 * read + d)
-goes_on value read next d held c =
-    let here : value ≤ greatest → read ≡ value = held.0 in
-    let above : greatest < value → greatest < read = held.1 in
+goes_on value read next d buffer c =
+    let here : value ≤ greatest → read ≡ value = buffer.0 in
+    let above : greatest < value → greatest < read = buffer.1 in
     let then : next ≤ greatest → 10 * value + d ≡ next = c.0 in
     let beyond : greatest < next → greatest < 10 * value + d = c.1 in
     elim (cases_lt greatest value) [
@@ -56,23 +56,23 @@ read-step all (b ∷ rest) value next p d c so_far =
     let P : List ℕ → Type 0 = λ r. IsRead all r next in
     subst P (sym same) (read-more all rest b value next d c so_far)
 
-pub held-unsigned_beyond : (digits : List ℕ) (n value : ℕ) → digits_value digits ≡ Some n → Counts value n → greatest < value → IsWord words.Beyond (option_map pos (digits_value digits))
-held-unsigned_beyond digits n value e c above = (pos n, ap (option_map pos) e, c.1 above)
+pub buffer-unsigned_beyond : (digits : List ℕ) (n value : ℕ) → digits_value digits ≡ Some n → Counts value n → greatest < value → IsTokenNumber values.Beyond (option_map pos (digits_value digits))
+buffer-unsigned_beyond digits n value e c above = (pos n, ap (option_map pos) e, c.1 above)
 
-beyond_negative : (n : ℕ) → greatest < n → IsWord words.Beyond (negative n)
+beyond_negative : (n : ℕ) → greatest < n → IsTokenNumber values.Beyond (negative n)
 beyond_negative zero above = absurd (omega arith)
 beyond_negative (suc k) above = (negsuc k, refl, above)
 
-pub held-negative_beyond : (digits : List ℕ) (n value : ℕ) → digits_value digits ≡ Some n → Counts value n → greatest < value → IsWord words.Beyond (option_and_then negative (digits_value digits))
-held-negative_beyond digits n value e c above =
-    let P : Option ℤ → Type 0 = λ o. IsWord words.Beyond o in
+pub buffer-negative_beyond : (digits : List ℕ) (n value : ℕ) → digits_value digits ≡ Some n → Counts value n → greatest < value → IsTokenNumber values.Beyond (option_and_then negative (digits_value digits))
+buffer-negative_beyond digits n value e c above =
+    let P : Option ℤ → Type 0 = λ o. IsTokenNumber values.Beyond o in
     subst P (sym (ap (option_and_then negative) e)) (beyond_negative n (c.1 above))
 
-within_negative : (n value : ℕ) → n ≡ value → 0 < value → value ≤ greatest → IsWord (words.Negative value) (negative n)
+within_negative : (n value : ℕ) → n ≡ value → 0 < value → value ≤ greatest → IsTokenNumber (values.Negative value) (negative n)
 within_negative zero value e some le = absurd (omega arith)
 within_negative (suc k) value e some le = (k, refl, sym e, le)
 
-pub held-negative : (digits : List ℕ) (n value : ℕ) → digits_value digits ≡ Some n → Counts value n → 0 < value → value ≤ greatest → IsWord (words.Negative value) (option_and_then negative (digits_value digits))
-held-negative digits n value e c some le =
-    let P : Option ℤ → Type 0 = λ o. IsWord (words.Negative value) o in
+pub buffer-negative : (digits : List ℕ) (n value : ℕ) → digits_value digits ≡ Some n → Counts value n → 0 < value → value ≤ greatest → IsTokenNumber (values.Negative value) (option_and_then negative (digits_value digits))
+buffer-negative digits n value e c some le =
+    let P : Option ℤ → Type 0 = λ o. IsTokenNumber (values.Negative value) o in
     subst P (sym (ap (option_and_then negative) e)) (within_negative n value (c.0 le) some le)

@@ -10,14 +10,14 @@ use Rattle.lj_clause.specs.LiteralSet.{from_literals}
 use Rattle.lj_clause.specs.Lemma.{lemma_of}
 use Rattle.lj_clause.specs.ClauseMap.{FormulaValue}
 use Rattle.lj_clause.specs.Listed.{ListedClause, listed_clauses}
-use Rattle.lj_clause.specs.Walk.{Closed, is_closed}
+use Rattle.lj_clause.specs.Propagation.{Closed, is_closed}
 use Rattle.lj_clause.specs.Rat.{HintGroup}
-use Rattle.lj_clause.proofs.Evaluation.{get-listed, entries-from_literals, in_order, walk_listed, walk-evaluated, negations_listed, listed, hints_listed}
+use Rattle.lj_clause.proofs.Evaluation.{get-listed, entries-from_literals, in_order, propagate_listed, propagate-evaluated, negations_listed, listed, hints_listed}
 use Rattle.lj_clause.proofs.Tests.{marked}
 use Rattle.lj_text.specs.declared.line.Addition.{Addition}
 use Rattle.lj_text.specs.declared.step.Step.{Step}
 use Rattle.lj_text.specs.declared.step.Step.TheVariants.{Add, Delete}
-use Rattle.lj_text.specs.Steps.{names, is_in_place, are_distinct, is_accepted, adds_empty, first_walk, is_rat_after}
+use Rattle.lj_text.specs.Steps.{names, is_in_place, are_distinct, is_accepted, adds_empty, first_propagation, is_rat_after}
 use Rattle.lj_text.specs.Needed.{NumberSet, has, with_numbers, up_to_empty, additions, all_hints, pick, with_other, by_pick, closure, added_number, empty_numbers, trimmed_step, if_some, trimmed_steps}
 
 is_some-mapped : {A B : Type 0} (f : A → B) (o : Option A) → is_some (option_map f o) ≡ is_some o
@@ -44,7 +44,7 @@ in_place-listed es a = λ i.
 
 -- an addition that isn't in place isn't accepted
 pub not_in_place : (es : List ListedClause) (a : Addition) → in_place_listed es a ≡ false → is_accepted (listed_clauses es) (Add a) ≡ false
-not_in_place es a e = λ i. (in_place-listed es a ∙ e) i && (is_closed (first_walk (listed_clauses es) a) || is_rat_after (listed_clauses es) a (first_walk (listed_clauses es) a))
+not_in_place es a e = λ i. (in_place-listed es a ∙ e) i && (is_closed (first_propagation (listed_clauses es) a) || is_rat_after (listed_clauses es) a (first_propagation (listed_clauses es) a))
 
 pub len-listed : (ls : List ℤ) → fin.len (from_literals ls) ≡ length (in_order ls)
 len-listed ls = fin.len-entries (from_literals ls) ∙ ap length (entries-from_literals ls)
@@ -53,10 +53,10 @@ abbrev written : ℕ → List ℤ → List ℕ → List HintGroup → Addition
 written number lemma hints groups = record { number = number; lemma = lemma_of lemma; hints = hints; groups = groups }
 
 -- an addition in place whose first list closes is accepted
-pub closed_accepted : (es : List ListedClause) (n : ℕ) (ls : List ℤ) (hints : List ℕ) (groups : List HintGroup) (used : List ℕ) → in_place_listed es (written n ls hints groups) ≡ true → walk_listed (negations_listed [] (listed ls)) (hints_listed es hints) ≡ Closed used → is_accepted (listed_clauses es) (Add (written n ls hints groups)) ≡ true
+pub closed_accepted : (es : List ListedClause) (n : ℕ) (ls : List ℤ) (hints : List ℕ) (groups : List HintGroup) (used : List ℕ) → in_place_listed es (written n ls hints groups) ≡ true → propagate_listed (negations_listed [] (listed ls)) (hints_listed es hints) ≡ Closed used → is_accepted (listed_clauses es) (Add (written n ls hints groups)) ≡ true
 closed_accepted es n ls hints groups used here closed = λ i.
     (in_place-listed es (written n ls hints groups) ∙ here) i
-    && (is_closed ((walk-evaluated es ls hints ∙ closed) i) || is_rat_after (listed_clauses es) (written n ls hints groups) ((walk-evaluated es ls hints ∙ closed) i))
+    && (is_closed ((propagate-evaluated es ls hints ∙ closed) i) || is_rat_after (listed_clauses es) (written n ls hints groups) ((propagate-evaluated es ls hints ∙ closed) i))
 
 pub deletion-listed : (es : List ListedClause) (ns : List ℕ) → is_accepted (listed_clauses es) (Delete ns) ≡ list_all (names_listed es) ns
 deletion-listed es ns = λ i. list_all (λ n. names-listed es n i) ns

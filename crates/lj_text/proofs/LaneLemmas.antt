@@ -129,12 +129,12 @@ pub record IsEnd (window : List ℕ) (start others end : ℕ) : Type 0 where
   pub next : bit_and others (others - 1) ≡ others_from (take 64 window) (end + 1)
 
 pub end-at : (window : List ℕ) (start others end : ℕ) → length window ≡ 80 → others ≡ others_from (take 64 window) start → others ≢ 0 → end ≡ count_trailing_zeros 64 others → IsEnd window start others end
-end-at window start others end room is some at =
+end-at window start others end scratch is some at =
     let front : List ℕ = take 64 window in
-    let long : length front ≡ 64 = length-take-le 64 window (omega (arith, room)) in
+    let long : length front ≡ 64 = length-take-le 64 window (omega (arith, scratch)) in
     let more : 0 < others_from front start = omega (arith, is, some) in
-    let place : end ≡ next_other front start = at ∙ ap (count_trailing_zeros 64) is ∙ first-other 64 front start (omega (arith, long)) more in
-    let reach = subst (IsReach front start) (sym place) (first-reached front start more) in
+    let position : end ≡ next_other front start = at ∙ ap (count_trailing_zeros 64) is ∙ first-other 64 front start (omega (arith, long)) more in
+    let reach = subst (IsReach front start) (sym position) (first-reached front start more) in
     let left : ℕ = 64 - start in
     let whole : 64 ≡ start + left = omega (arith, reach.0, reach.1, long) in
     let cut : drop start front ≡ take left (drop start window) = ap (λ n. drop start (take n window)) whole ∙ drop-take start left window in
@@ -143,5 +143,5 @@ end-at window start others end room is some at =
       behind = reach.0;
       within = omega (arith, reach.1, long);
       digits = ap (list_all is_ascii_digit) (sym same) ∙ reach.2;
-      next = ap (λ k. bit_and k (k - 1)) is ∙ first-cleared front start more ∙ ap (λ k. others_from front (k + 1)) (sym place);
+      next = ap (λ k. bit_and k (k - 1)) is ∙ first-cleared front start more ∙ ap (λ k. others_from front (k + 1)) (sym position);
     }

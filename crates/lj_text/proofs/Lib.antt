@@ -5,7 +5,7 @@ mod CnfLemmas
 mod CutLemmas
 mod DigitLemmas
 mod GroupRows
-mod HeldLemmas
+mod TokenNumberLemmas
 mod JudgeLemmas
 mod LaneLemmas
 mod OnePassLemmas
@@ -19,7 +19,7 @@ mod TokenLemmas
 pub mod Fronts
 pub mod WritingLemmas
 mod WordLemmas
-pub mod WrittenWords
+pub mod WrittenTokens
 mod WrittenNumbers
 mod ReadAgainLemmas
 mod RunLemmas

@@ -15,7 +15,7 @@ use Rattle.lj_text.specs.Bytes.{begins, is_blank, is_filled, number_of, tokens_o
 use Rattle.lj_text.specs.declared.line.Addition.{Addition}
 use Rattle.lj_text.specs.Lines.{addition_of, after_first, after_number, after_zero, deletion_of, greatest, hints_of, import_of, is_letter, line_of, literals_then, numbers_of, then_read, with_read}
 use Rattle.lj_text.specs.LinesRead.{HasNoLineEnd}
-use Rattle.lj_text.specs.inner.LineReading.{behind_hints, behind_literals, behind_numbers, line_said, words_of}
+use Rattle.lj_text.specs.inner.LineReading.{behind_hints, behind_literals, behind_numbers, line_said, token_numbers}
 use Rattle.lj_text.specs.inner.ShortNumbers.{AreLiteralsAhead, AreNumbersAhead, BeginsByLine, BeginsNumber, IsTokenAhead}
 use Rattle.lj_text.proofs.ShortLemmas.{before-more, none-in-both}
 use Rattle.lj_text.proofs.TokenLemmas.{tokens-blank, tokens-first}
@@ -48,32 +48,32 @@ literals-alone (Err kind) = refl
 
 -- hints, and then the rest of their line
 pub proof-line : (old bytes new rest tail after : List ℕ) (hints : List ℕ) (groups : List HintGroup) → old ≡ [] → AreNumbersAhead old bytes new rest → rest ≡ tail ++ 10 ∷ after → HasNoLineEnd tail
-    → behind_hints new (hints_of true (words_of tail)) ≡ Ok (hints, groups) → BeginsByLine (λ line. hints_of true (words_of line) ≡ Ok (hints, groups)) bytes after
+    → behind_hints new (hints_of true (token_numbers tail)) ≡ Ok (hints, groups) → BeginsByLine (λ line. hints_of true (token_numbers line) ≡ Ok (hints, groups)) bytes after
 proof-line old bytes new rest tail after hints groups none n cut unended read = record {
   line = n.front ++ tail;
   bytes_is = joined bytes n.front rest tail after n.bytes_is cut;
   none_within = none-in-both n.front tail n.none_within unended;
-  right = sym (hints-alone (hints_of true (words_of (n.front ++ tail)))) ∙ ap (λ o. behind_hints o (hints_of true (words_of (n.front ++ tail)))) (sym none) ∙ sym ((n.read tail).hints true) ∙ read;
+  right = sym (hints-alone (hints_of true (token_numbers (n.front ++ tail)))) ∙ ap (λ o. behind_hints o (hints_of true (token_numbers (n.front ++ tail)))) (sym none) ∙ sym ((n.read tail).hints true) ∙ read;
 }
 
 -- hints, and then the closing 0
 pub proof-closed : (old bytes new rest after : List ℕ) (groups : List HintGroup) → old ≡ [] → groups ≡ [] → AreNumbersAhead old bytes new rest → rest ≡ 48 ∷ 10 ∷ after
-    → BeginsByLine (λ line. hints_of true (words_of line) ≡ Ok (new, groups)) bytes after
+    → BeginsByLine (λ line. hints_of true (token_numbers line) ≡ Ok (new, groups)) bytes after
 proof-closed old bytes new rest after groups none empty n cut =
     proof-line old bytes new rest (48 ∷ []) after new groups none n cut (before-more 48 [] refl none-ends)
     (ap (λ hs. Ok (hs, [])) (append-nil new) ∙ ap (λ gs. Ok (new, gs)) (sym empty))
 
 -- numbers, and then the rest of their line
 pub numbers-line : (old bytes new rest tail after : List ℕ) (numbers : List ℕ) → old ≡ [] → AreNumbersAhead old bytes new rest → rest ≡ tail ++ 10 ∷ after → HasNoLineEnd tail
-    → behind_numbers new (numbers_of true (words_of tail)) ≡ Ok numbers → BeginsByLine (λ line. numbers_of true (words_of line) ≡ Ok numbers) bytes after
+    → behind_numbers new (numbers_of true (token_numbers tail)) ≡ Ok numbers → BeginsByLine (λ line. numbers_of true (token_numbers line) ≡ Ok numbers) bytes after
 numbers-line old bytes new rest tail after numbers none n cut unended read = record {
   line = n.front ++ tail;
   bytes_is = joined bytes n.front rest tail after n.bytes_is cut;
   none_within = none-in-both n.front tail n.none_within unended;
-  right = sym (numbers-alone (numbers_of true (words_of (n.front ++ tail)))) ∙ ap (λ o. behind_numbers o (numbers_of true (words_of (n.front ++ tail)))) (sym none) ∙ sym ((n.read tail).numbers true) ∙ read;
+  right = sym (numbers-alone (numbers_of true (token_numbers (n.front ++ tail)))) ∙ ap (λ o. behind_numbers o (numbers_of true (token_numbers (n.front ++ tail)))) (sym none) ∙ sym ((n.read tail).numbers true) ∙ read;
 }
 
-pub numbers-closed : (old bytes new rest after : List ℕ) → old ≡ [] → AreNumbersAhead old bytes new rest → rest ≡ 48 ∷ 10 ∷ after → BeginsByLine (λ line. numbers_of true (words_of line) ≡ Ok new) bytes after
+pub numbers-closed : (old bytes new rest after : List ℕ) → old ≡ [] → AreNumbersAhead old bytes new rest → rest ≡ 48 ∷ 10 ∷ after → BeginsByLine (λ line. numbers_of true (token_numbers line) ≡ Ok new) bytes after
 numbers-closed old bytes new rest after none n cut =
     numbers-line old bytes new rest (48 ∷ []) after new none n cut (before-more 48 [] refl none-ends) (ap (λ ns. Ok ns) (append-nil new))
 
@@ -83,23 +83,23 @@ byte-token b tail some =
     tokens-first (b ∷ []) 32 tail refl (All-cons (λ x. is_blank x ≡ false) b [] some (λ k d lt. absurd (omega arith))) refl ∙ ap (λ ts. (b ∷ []) ∷ ts) (tokens-blank 32 tail refl)
 
 -- literals, their 0, and then the hints and groups
-pub addition-line : (max number : ℕ) (old : List ℤ) (bytes : List ℕ) (lits : List ℤ) (rest proof after : List ℕ) (place : Addition) → old ≡ [] → AreLiteralsAhead max old bytes lits rest
-    → rest ≡ 48 ∷ 32 ∷ proof → BeginsByLine (λ line. hints_of true (words_of line) ≡ Ok (place.hints, place.groups)) proof after → place.number ≡ number → place.lemma ≡ lemma_of lits
-    → BeginsByLine (λ line. addition_of max true number (words_of line) ≡ Ok (Add place)) bytes after
-addition-line max number old bytes lits rest proof after place none n zero_ahead p under is =
+pub addition-line : (max number : ℕ) (old : List ℤ) (bytes : List ℕ) (lits : List ℤ) (rest proof after : List ℕ) (position : Addition) → old ≡ [] → AreLiteralsAhead max old bytes lits rest
+    → rest ≡ 48 ∷ 32 ∷ proof → BeginsByLine (λ line. hints_of true (token_numbers line) ≡ Ok (position.hints, position.groups)) proof after → position.number ≡ number → position.lemma ≡ lemma_of lits
+    → BeginsByLine (λ line. addition_of max true number (token_numbers line) ≡ Ok (Add position)) bytes after
+addition-line max number old bytes lits rest proof after position none n zero_ahead p under is =
     let tail : List ℕ = 48 ∷ 32 ∷ p.line in
-    let words : words_of tail ≡ Some (pos 0) ∷ words_of p.line = ap (λ ts. map number_of ts) (byte-token 48 p.line refl) in
-    let literals : literals_then max true (words_of (n.front ++ tail)) ≡ Ok (lits, words_of p.line) =
-    sym (literals-alone (literals_then max true (words_of (n.front ++ tail)))) ∙ ap (λ o. behind_literals o (literals_then max true (words_of (n.front ++ tail)))) (sym none) ∙ sym (n.read true tail)
-    ∙ ap (λ ws. behind_literals lits (literals_then max true ws)) words ∙ ap (λ ls. Ok (ls, words_of p.line)) (append-nil lits) in
+    let values : token_numbers tail ≡ Some (pos 0) ∷ token_numbers p.line = ap (λ ts. map number_of ts) (byte-token 48 p.line refl) in
+    let literals : literals_then max true (token_numbers (n.front ++ tail)) ≡ Ok (lits, token_numbers p.line) =
+    sym (literals-alone (literals_then max true (token_numbers (n.front ++ tail)))) ∙ ap (λ o. behind_literals o (literals_then max true (token_numbers (n.front ++ tail)))) (sym none) ∙ sym (n.read true tail)
+    ∙ ap (λ ws. behind_literals lits (literals_then max true ws)) values ∙ ap (λ ls. Ok (ls, token_numbers p.line)) (append-nil lits) in
     record {
       line = n.front ++ tail;
       bytes_is = joined bytes n.front rest tail after n.bytes_is (zero_ahead ∙ ap (λ r. 48 ∷ 32 ∷ r) p.bytes_is);
       none_within = none-in-both n.front tail n.none_within (before-more 48 (32 ∷ p.line) refl (before-more 32 p.line refl p.none_within));
       right = ap (λ (r : Result (List ℤ × List (Option ℤ)) LineFaultKind). then_read r (λ r. with_read (λ h. Add (record { number = number; lemma = lemma_of r.0; hints = h.0; groups = h.1 })) (hints_of true r.1))) literals
           ∙ ap (λ (h : Result (List ℕ × List HintGroup) LineFaultKind). with_read (λ h. Add (record { number = number; lemma = lemma_of lits; hints = h.0; groups = h.1 })) h) p.right
-          ∙ ap (λ l. Ok (Add (record { number = number; lemma = l; hints = place.hints; groups = place.groups }))) (sym is)
-          ∙ ap (λ k. Ok (Add (record { number = k; lemma = place.lemma; hints = place.hints; groups = place.groups }))) (sym under);
+          ∙ ap (λ l. Ok (Add (record { number = number; lemma = l; hints = position.hints; groups = position.groups }))) (sym is)
+          ∙ ap (λ k. Ok (Add (record { number = k; lemma = position.lemma; hints = position.hints; groups = position.groups }))) (sym under);
     }
 
 -- a number begins with no `c`
@@ -126,7 +126,7 @@ said-first max n token tokens line is few read =
 
 -- a number, a `d`, and then numbers
 pub deletion-said : (max number : ℕ) (bytes rest numbers after : List ℕ) (line : Line) → IsTokenAhead bytes (pos number) rest → number ≤ greatest → rest ≡ 100 ∷ 32 ∷ numbers
-    → BeginsByLine (λ line'. deletion_of true (words_of line') ≡ Ok line) numbers after → BeginsByLine (λ line'. line_said max true (tokens_of line') ≡ Ok (Some line)) bytes after
+    → BeginsByLine (λ line'. deletion_of true (token_numbers line') ≡ Ok line) numbers after → BeginsByLine (λ line'. line_said max true (tokens_of line') ≡ Ok (Some line)) bytes after
 deletion-said max number bytes rest numbers after line t few letter p =
     let tail : List ℕ = 100 ∷ 32 ∷ p.line in
     record {
@@ -149,7 +149,7 @@ no_letter letter b [] other = grind (arith, nat_tests)
 no_letter letter b (c ∷ t) other = refl
 
 -- what follows a number that isn't 0, where no letter does
-addition-after : (max n : ℕ) (b : ℕ) (bs : List ℕ) → n ≢ 0 → BeginsNumber b → after_number max true n (tokens_of (b ∷ bs)) ≡ addition_of max true n (words_of (b ∷ bs))
+addition-after : (max n : ℕ) (b : ℕ) (bs : List ℕ) → n ≢ 0 → BeginsNumber b → after_number max true n (tokens_of (b ∷ bs)) ≡ addition_of max true n (token_numbers (b ∷ bs))
 addition-after max n b bs some first =
     let f = first-token b bs first.no_blank in
     let tokens : List (List ℕ) = (b ∷ f.0) ∷ f.1 in
@@ -164,7 +164,7 @@ addition-after max n b bs some first =
 
 -- a number, and then an addition
 pub addition-said : (max number : ℕ) (bytes rest after : List ℕ) (line : Line) → IsTokenAhead bytes (pos number) rest → number ≤ greatest → number ≢ 0 → BeginsNumber (get_or rest 0 0)
-    → BeginsByLine (λ line'. addition_of max true number (words_of line') ≡ Ok line) rest after → BeginsByLine (λ line'. line_said max true (tokens_of line') ≡ Ok (Some line)) bytes after
+    → BeginsByLine (λ line'. addition_of max true number (token_numbers line') ≡ Ok line) rest after → BeginsByLine (λ line'. line_said max true (tokens_of line') ≡ Ok (Some line)) bytes after
 addition-said max number bytes rest after line t few some first p =
     record {
       line = t.front ++ p.line;
@@ -173,6 +173,6 @@ addition-said max number bytes rest after line t few some first p =
       right = ap (λ ts. line_said max true ts) (t.tokens_are p.line) ∙ said-first max number t.token (tokens_of p.line) line t.number_is few (by-front p.line p.bytes_is ∙ p.right);
     }
   where
-    by-front : (front : List ℕ) → rest ≡ front ++ 10 ∷ after → after_number max true number (tokens_of front) ≡ addition_of max true number (words_of front)
+    by-front : (front : List ℕ) → rest ≡ front ++ 10 ∷ after → after_number max true number (tokens_of front) ≡ addition_of max true number (token_numbers front)
     by-front [] is = absurd (first.no_end (ap (λ r. get_or r 0 0) is))
     by-front (b ∷ bs) is = addition-after max number b bs some (subst BeginsNumber (ap (λ r. get_or r 0 0) is) first)

@@ -23,12 +23,12 @@ use Rattle.lj_text.specs.declared.step.Step.TheVariants.{Add, Delete}
 use Rattle.lj_text.specs.Bytes.{begins, number_of, is_silent, line_number}
 use Rattle.lj_text.specs.Lines.{greatest, with_read, then_read, literals_then, numbers_of, hints_of, addition_of, deletion_of, import_of, is_letter, after_zero, after_number, after_first, line_of, Said, said_by, said_from, all_said}
 use Rattle.lj_text.specs.LinesRead.{HasNoLineEnd, text_of_lines}
-use Rattle.lj_text.specs.StepText.{pivot_first, written_literals, group_words, addition_words, step_text, greatest_with, text_after}
+use Rattle.lj_text.specs.StepText.{pivot_first, written_literals, group_tokens, addition_tokens, step_text, greatest_with, text_after}
 use Rattle.lj_text.specs.ReadAgain.{IsClauseNumber, IsLiteralUpTo, IsGroupWithin, IsAdditionWithin, IsStepWithin, line_of_step, said_by_steps, WrittenIsReadAgain}
 use Rattle.lj_text.proofs.CnfLemmas.{not_zero, variable-abs}
 use Rattle.lj_text.proofs.StandLemmas.{all-joined, all-none}
-use Rattle.lj_text.proofs.WrittenWords.{no_literal}
-use Rattle.lj_text.proofs.WrittenNumbers.{IsWordText, AreWritten, tokens-joined, no_end-joined, decimal-word, number-decimal, as_numbers, negated, group_numbers, letter-word, written-append, written-numbers, written-literals, written-groups, written-zero, written-end, no-letter}
+use Rattle.lj_text.proofs.WrittenTokens.{no_literal}
+use Rattle.lj_text.proofs.WrittenNumbers.{IsWordText, AreWritten, tokens-joined, no_end-joined, decimal-token_number, number-decimal, as_numbers, negated, group_numbers, letter-token_number, written-append, written-numbers, written-literals, written-groups, written-zero, written-end, no-letter}
 use Rattle.lj_clause.specs.declared.lit.TheConstants.{MAX_VARIABLE}
 
 -- literals up to their 0
@@ -136,12 +136,12 @@ first_number most n ts le =
 abbrev addition_numbers : Addition → List (Option ℤ)
 addition_numbers a = map Some (written_literals a.lemma) ++ Some (pos 0) ∷ (as_numbers a.hints ++ (flat_map group_numbers a.groups ++ Some (pos 0) ∷ []))
 
-written_addition : (most : ℕ) (a : Addition) → most ≤ MAX_VARIABLE → IsAdditionWithin most a → AreWritten (addition_words a) (addition_numbers a)
+written_addition : (most : ℕ) (a : Addition) → most ≤ MAX_VARIABLE → IsAdditionWithin most a → AreWritten (addition_tokens a) (addition_numbers a)
 written_addition most a le h =
-    written-append (map signed_decimal (written_literals a.lemma)) (codes "0" ∷ (map decimal a.hints ++ (flat_map group_words a.groups ++ codes "0" ∷ []))) (map Some (written_literals a.lemma)) _
+    written-append (map signed_decimal (written_literals a.lemma)) (codes "0" ∷ (map decimal a.hints ++ (flat_map group_tokens a.groups ++ codes "0" ∷ []))) (map Some (written_literals a.lemma)) _
     (written-literals most (written_literals a.lemma) le (written_by (IsLiteralUpTo most) a.lemma.clause a.lemma.pivot h.pivot h.variables))
-    (written-zero _ _ (written-append (map decimal a.hints) (flat_map group_words a.groups ++ codes "0" ∷ []) (as_numbers a.hints) _ (written-numbers a.hints h.hints)
-    (written-append (flat_map group_words a.groups) (codes "0" ∷ []) (flat_map group_numbers a.groups) _ (written-groups a.groups h.groups) written-end)))
+    (written-zero _ _ (written-append (map decimal a.hints) (flat_map group_tokens a.groups ++ codes "0" ∷ []) (as_numbers a.hints) _ (written-numbers a.hints h.hints)
+    (written-append (flat_map group_tokens a.groups) (codes "0" ∷ []) (flat_map group_numbers a.groups) _ (written-groups a.groups h.groups) written-end)))
 
 addition_is : (most : ℕ) (a : Addition) → IsAdditionWithin most a → addition_of most true a.number (addition_numbers a) ≡ Ok (says.Add a)
 addition_is most a h =
@@ -152,12 +152,12 @@ addition_is most a h =
     (hints-read a.hints (flat_map group_numbers a.groups ++ Some (pos 0) ∷ []) a.groups h.hints (groups-read a.groups h.groups))
     ∙ ap (λ (l : LemmaValue). Ok (says.Add (record { number = a.number; lemma = l; hints = a.hints; groups = a.groups }))) (lemma_by a.lemma.clause a.lemma.pivot h.pivot)
 
-addition_read : (most : ℕ) (a : Addition) → most ≤ MAX_VARIABLE → IsAdditionWithin most a → line_of most true (decimal a.number ∷ addition_words a) ≡ Ok (says.Add a)
+addition_read : (most : ℕ) (a : Addition) → most ≤ MAX_VARIABLE → IsAdditionWithin most a → line_of most true (decimal a.number ∷ addition_tokens a) ≡ Ok (says.Add a)
 addition_read most a le h =
     let w = written_addition most a le h in
     let first = starts (written_literals a.lemma) (as_numbers a.hints ++ (flat_map group_numbers a.groups ++ Some (pos 0) ∷ [])) in
-    first_number most a.number (addition_words a) h.number.1
-    ∙ after_is most a.number (addition_words a) first.0 first.1 (w.numbers_are ∙ first.2) h.number.0
+    first_number most a.number (addition_tokens a) h.number.1
+    ∙ after_is most a.number (addition_tokens a) first.0 first.1 (w.numbers_are ∙ first.2) h.number.0
     ∙ ap (addition_of most true a.number) w.numbers_are
     ∙ addition_is most a h
 
@@ -170,39 +170,39 @@ deletion_read most leading ns le h =
     ∙ ap (with_read (λ (ms : List ℕ). says.Delete ms)) (numbers-read ns h)
 
 -- a step
-abbrev step_words : ℕ → Step → List (List ℕ)
-step_words leading (Add a) = decimal a.number ∷ addition_words a
-step_words leading (Delete ns) = decimal leading ∷ codes "d" ∷ (map decimal ns ++ codes "0" ∷ [])
+abbrev step_tokens : ℕ → Step → List (List ℕ)
+step_tokens leading (Add a) = decimal a.number ∷ addition_tokens a
+step_tokens leading (Delete ns) = decimal leading ∷ codes "d" ∷ (map decimal ns ++ codes "0" ∷ [])
 
-step_texts : (most leading : ℕ) (step : Step) → most ≤ MAX_VARIABLE → leading ≤ greatest → IsStepWithin most step → AllByRecursion IsWordText (step_words leading step)
-step_texts most leading (Add a) m l h = (decimal-word a.number (omega (arith, h.number.1)), (written_addition most a m h).texts)
+step_texts : (most leading : ℕ) (step : Step) → most ≤ MAX_VARIABLE → leading ≤ greatest → IsStepWithin most step → AllByRecursion IsWordText (step_tokens leading step)
+step_texts most leading (Add a) m l h = (decimal-token_number a.number (omega (arith, h.number.1)), (written_addition most a m h).texts)
 step_texts most leading (Delete ns) m l h =
-    (decimal-word leading (omega (arith, l)), (letter-word 100 refl refl, (written-append (map decimal ns) (codes "0" ∷ []) (as_numbers ns) (Some (pos 0) ∷ []) (written-numbers ns h) written-end).texts))
+    (decimal-token_number leading (omega (arith, l)), (letter-token_number 100 refl refl, (written-append (map decimal ns) (codes "0" ∷ []) (as_numbers ns) (Some (pos 0) ∷ []) (written-numbers ns h) written-end).texts))
 
-step_read : (most leading : ℕ) (step : Step) → most ≤ MAX_VARIABLE → leading ≤ greatest → IsStepWithin most step → line_of most true (step_words leading step) ≡ Ok (line_of_step step)
+step_read : (most leading : ℕ) (step : Step) → most ≤ MAX_VARIABLE → leading ≤ greatest → IsStepWithin most step → line_of most true (step_tokens leading step) ≡ Ok (line_of_step step)
 step_read most leading (Add a) m l h = addition_read most a m h
 step_read most leading (Delete ns) m l h = deletion_read most leading ns l h
 
 loud : (n : ℕ) (ts : List (List ℕ)) → n ≤ greatest → is_silent (decimal n ∷ ts) ≡ false
 loud n ts le = (no_letter_first (decimal n) (pos n) (number-decimal n (omega (arith, le)))).0
 
-step_loud : (most leading : ℕ) (step : Step) → leading ≤ greatest → IsStepWithin most step → is_silent (step_words leading step) ≡ false
-step_loud most leading (Add a) l h = loud a.number (addition_words a) h.number.1
+step_loud : (most leading : ℕ) (step : Step) → leading ≤ greatest → IsStepWithin most step → is_silent (step_tokens leading step) ≡ false
+step_loud most leading (Add a) l h = loud a.number (addition_tokens a) h.number.1
 step_loud most leading (Delete ns) l h = loud leading (codes "d" ∷ (map decimal ns ++ codes "0" ∷ [])) l
 
 step_said : (most k leading : ℕ) (step : Step) → most ≤ MAX_VARIABLE → leading ≤ greatest → IsStepWithin most step
-    → said_by most k true (join_with_byte 32 (step_words leading step)) ≡ record { line = line_number k; says = Ok (line_of_step step) } ∷ []
+    → said_by most k true (join_with_byte 32 (step_tokens leading step)) ≡ record { line = line_number k; says = Ok (line_of_step step) } ∷ []
 step_said most k leading step m l h =
-    ap (λ (ts : List (List ℕ)). cond (is_silent ts) [] (record { line = line_number k; says = line_of most true ts } ∷ [])) (tokens-joined (step_words leading step) (step_texts most leading step m l h))
-    ∙ ap (λ b. cond b [] (record { line = line_number k; says = line_of most true (step_words leading step) } ∷ [])) (step_loud most leading step l h)
+    ap (λ (ts : List (List ℕ)). cond (is_silent ts) [] (record { line = line_number k; says = line_of most true ts } ∷ [])) (tokens-joined (step_tokens leading step) (step_texts most leading step m l h))
+    ∙ ap (λ b. cond b [] (record { line = line_number k; says = line_of most true (step_tokens leading step) } ∷ [])) (step_loud most leading step l h)
     ∙ ap (λ (r : Result Line LineFaultKind). record { line = line_number k; says = r } ∷ []) (step_read most leading step m l h)
 
 -- steps in a row
 abbrev step_lines : ℕ → List Step → List (List ℕ)
 step_lines n [] = []
-step_lines n (step ∷ steps) = join_with_byte 32 (step_words n step) ∷ step_lines (greatest_with n step) steps
+step_lines n (step ∷ steps) = join_with_byte 32 (step_tokens n step) ∷ step_lines (greatest_with n step) steps
 
-step_line : (n : ℕ) (step : Step) → step_text n step ≡ join_with_byte 32 (step_words n step) ++ 10 ∷ []
+step_line : (n : ℕ) (step : Step) → step_text n step ≡ join_with_byte 32 (step_tokens n step) ++ 10 ∷ []
 step_line n (Add a) = refl
 step_line n (Delete ns) = refl
 
@@ -210,8 +210,8 @@ text_is : (n : ℕ) (steps : List Step) → text_after n steps ≡ text_of_lines
 text_is n [] = refl
 text_is n (step ∷ steps) =
     ap (λ t. t ++ text_after (greatest_with n step) steps) (step_line n step)
-    ∙ append_assoc (join_with_byte 32 (step_words n step)) (10 ∷ []) (text_after (greatest_with n step) steps)
-    ∙ ap (λ t. join_with_byte 32 (step_words n step) ++ 10 ∷ t) (text_is (greatest_with n step) steps)
+    ∙ append_assoc (join_with_byte 32 (step_tokens n step)) (10 ∷ []) (text_after (greatest_with n step) steps)
+    ∙ ap (λ t. join_with_byte 32 (step_tokens n step) ++ 10 ∷ t) (text_is (greatest_with n step) steps)
 
 still_within : (most n : ℕ) (step : Step) → n ≤ greatest → IsStepWithin most step → greatest_with n step ≤ greatest
 still_within most n (Add a) l h = omega (arith, h.number.1, l)
@@ -220,7 +220,7 @@ still_within most n (Delete ns) l h = l
 whole_lines : (most n : ℕ) (steps : List Step) → most ≤ MAX_VARIABLE → n ≤ greatest → AllByRecursion (IsStepWithin most) steps → AllByRecursion HasNoLineEnd (step_lines n steps)
 whole_lines most n [] m l h = tt
 whole_lines most n (step ∷ steps) m l h =
-    (no_end-joined (step_words n step) (step_texts most n step m l h.0), whole_lines most (greatest_with n step) steps m (still_within most n step l h.0) h.1)
+    (no_end-joined (step_tokens n step) (step_texts most n step m l h.0), whole_lines most (greatest_with n step) steps m (still_within most n step l h.0) h.1)
 
 lines_said : (most k n : ℕ) (steps : List Step) → most ≤ MAX_VARIABLE → n ≤ greatest → AllByRecursion (IsStepWithin most) steps → said_from most k (step_lines n steps) ≡ said_by_steps k steps
 lines_said most k n [] m l h = refl

@@ -9,7 +9,7 @@ use Rattle.lj_text.specs.declared.lines.look.Found.{Found}
 use Rattle.lj_text.specs.Bytes.{line_number, lines_of}
 use Rattle.lj_text.specs.Lines.{Said, said_from, whole_said, all_said, whole_said_from, all_said_from, all_but_last}
 use Rattle.lj_text.specs.LinesRead.{LinesRead, HasNoLineEnd, text_of_lines, StandsWithin, StandsBehind, LineReaderStandsAt, line_answer, handed_out, line_number_of, last_number, is_line_no_memory}
-use Rattle.lj_text.specs.inner.LinesHeld.{IsAhead, reader_past, reader_with_fault}
+use Rattle.lj_text.specs.inner.LinesBuffered.{IsAhead, reader_past, reader_with_fault}
 use Rattle.lj_text.specs.inner.Looking.{Looked, LookedBehind, IsTaken, said_of}
 use Rattle.lj_text.proofs.StandLemmas.{both, joined_both, whole-joined, all-joined, whole-none, get-behind, said_from-append, cut-joined, cut-none}
 use Rattle.lj_text.proofs.PassLemmas.{none-open, after_is}
@@ -89,8 +89,8 @@ stands-passed r text given found s p =
     }
 
 -- the number of the line being read
-pub place-none : (r : LinesRead) (text : List ℕ) (given : ℕ) (found : Found) (s : StandsWithin r text given) (p : Looked r.max (length s.lines) r.ahead found) → found.line ≡ None → found.at ≡ last_number text
-place-none r text given found s p none =
+pub target-none : (r : LinesRead) (text : List ℕ) (given : ℕ) (found : Found) (s : StandsWithin r text given) (p : Looked r.max (length s.lines) r.ahead found) → found.line ≡ None → found.at ≡ last_number text
+target-none r text given found s p none =
     let P : Option Line → Type 0 = λ o. MatchOption o (HasNoLineEnd p.after × (found.at ≡ found.number)) (λ line. Unit {0}) in
     let last : all_but_last (lines_of text) ≡ s.lines ++ p.lines =
     ap (λ t. all_but_last (lines_of t)) (s.text_is ∙ ap (λ a. text_of_lines s.lines ++ a) p.ahead_is)
@@ -98,14 +98,14 @@ place-none r text given found s p none =
     ∙ ap (λ ls. s.lines ++ ls) (cut-joined p.lines p.after p.whole ∙ ap (λ ls. p.lines ++ all_but_last ls) (cut-none p.after (none-open r.max (length s.lines) r.ahead found p none)) ∙ append-nil p.lines) in
     (subst P none p.none_is).1 ∙ p.number_is ∙ ap line_number (sym (ap length last ∙ length-append s.lines p.lines))
 
-places : (at last : ℕ) (o : Option Line) → (o ≡ None → at ≡ last) → at ≡ line_number_of (found_said at o) last
-places at last None h = h refl
-places at last (Some line) h = refl
+body_tokens : (at last : ℕ) (o : Option Line) → (o ≡ None → at ≡ last) → at ≡ line_number_of (found_said at o) last
+body_tokens at last None h = h refl
+body_tokens at last (Some line) h = refl
 
-pub place-whole : (r : LinesRead) (text : List ℕ) (given : ℕ) (found : Found) (s : StandsWithin r text given) (p : Looked r.max (length s.lines) r.ahead found)
+pub target-whole : (r : LinesRead) (text : List ℕ) (given : ℕ) (found : Found) (s : StandsWithin r text given) (p : Looked r.max (length s.lines) r.ahead found)
     → found.at ≡ line_number_of (slice_get (whole_said r.max text) given) (last_number text)
-place-whole r text given found s p =
-    places found.at (last_number text) found.line (λ none. place-none r text given found s p none)
+target-whole r text given found s p =
+    body_tokens found.at (last_number text) found.line (λ none. target-none r text given found s p none)
     ∙ ap (λ o. line_number_of o (last_number text)) (sym (whole-at r text given s ∙ whole-found r.max (length s.lines) r.ahead found p))
 
 -- what was found may be passed
@@ -116,10 +116,10 @@ ahead-found max k ahead found p =
     record {
       left = omega (arith, p.left_is, ap length p.ahead_is, length-append (text_of_lines p.lines) p.after);
       begins = λ some moved.
-          let place : length ahead - found.left ≡ length (text_of_lines p.lines) = omega (arith, p.left_is, ap length p.ahead_is, length-append (text_of_lines p.lines) p.after) in
+          let target : length ahead - found.left ≡ length (text_of_lines p.lines) = omega (arith, p.left_is, ap length p.ahead_is, length-append (text_of_lines p.lines) p.after) in
           ap (λ bs. get_or bs (length ahead - found.left - 1) 0) p.ahead_is
           ∙ get_or_append_left (text_of_lines p.lines) p.after 0 (length ahead - found.left - 1) (omega arith)
-          ∙ ap (λ n. get_or (text_of_lines p.lines) (n - 1) 0) place
+          ∙ ap (λ n. get_or (text_of_lines p.lines) (n - 1) 0) target
           ∙ text-ends p.lines (omega arith);
       searched = p.searched_is;
       none_before = subst P (sym after) p.none_before;
@@ -144,7 +144,7 @@ taken-stands r new text given line going t s =
     rw (t.passed, sym t.line_is) (stands-of (reader_past r t.found) text _ going (stands-passed r text given t.found s (t.looked (length s.lines) s.line_is)))
 
 pub taken-at : (r new : LinesRead) (text : List ℕ) (given : ℕ) (line : Option Line) → IsTaken r new line → StandsWithin r text given → new.at ≡ line_number_of (slice_get (whole_said r.max text) given) (last_number text)
-taken-at r new text given line t s = ap (λ (v : LinesRead). v.at) t.passed ∙ place-whole r text given t.found s (t.looked (length s.lines) s.line_is)
+taken-at r new text given line t s = ap (λ (v : LinesRead). v.at) t.passed ∙ target-whole r text given t.found s (t.looked (length s.lines) s.line_is)
 
 pub kept-at : (r : LinesRead) (fault : LineFault) → is_line_no_memory fault.kind ≡ false → (reader_with_fault r fault).at ≡ fault.line
 kept-at r fault h = ap (λ b. (cond b r (record r { at = fault.line; fault = Some fault })).at) h
@@ -170,20 +170,20 @@ stands-behind r new text given found s p max_is line_is =
       line_is = line_is ∙ number-behind r text given found s p;
     }
 
-pub place-behind : (r : LinesRead) (text : List ℕ) (given : ℕ) (found : Found) (s : StandsWithin r text given) (p : LookedBehind r.max (length s.lines) r.ahead found)
+pub target-behind : (r : LinesRead) (text : List ℕ) (given : ℕ) (found : Found) (s : StandsWithin r text given) (p : LookedBehind r.max (length s.lines) r.ahead found)
     → found.at ≡ line_number_of (slice_get (all_said r.max text) given) (last_number text)
-place-behind r text given found s p =
-    places found.at (last_number text) found.line (λ none. p.at_is ∙ number-behind r text given found s p)
+target-behind r text given found s p =
+    body_tokens found.at (last_number text) found.line (λ none. p.at_is ∙ number-behind r text given found s p)
     ∙ ap (λ o. line_number_of o (last_number text)) (sym (all-at r text given s ∙ behind-found r.max (length s.lines) r.ahead found p))
 
 not_both : (o : Option Line) → is_some o ≡ true → o ≡ None → ⊥
 not_both None h e = cc
 not_both (Some line) h e = cc
 
-pub place-some : (r : LinesRead) (text : List ℕ) (given : ℕ) (found : Found) (s : StandsWithin r text given) (p : Looked r.max (length s.lines) r.ahead found) → is_some found.line ≡ true
+pub target-some : (r : LinesRead) (text : List ℕ) (given : ℕ) (found : Found) (s : StandsWithin r text given) (p : Looked r.max (length s.lines) r.ahead found) → is_some found.line ≡ true
     → found.at ≡ line_number_of (slice_get (all_said r.max text) given) (last_number text)
-place-some r text given found s p some =
-    places found.at (last_number text) found.line (λ none. absurd (not_both found.line some none))
+target-some r text given found s p some =
+    body_tokens found.at (last_number text) found.line (λ none. absurd (not_both found.line some none))
     ∙ ap (λ o. line_number_of o (last_number text)) (sym (all-at r text given s ∙ all-found r.max (length s.lines) r.ahead found p some))
 
 pub ahead-behind : (max k : ℕ) (ahead : List ℕ) (found : Found) → LookedBehind max k ahead found → IsAhead ahead found

@@ -6,10 +6,10 @@ use Rattle.std.proofs.lemmas.List.{append-nil, nil_from_length, drop-drop, get_o
 use Rattle.std.proofs.lemmas.List.Folds.{concat-append}
 use Rattle.std.specs.Prelude.{is_ok, OnOk, if◌then◌else◌}
 use Rattle.std.specs.List.{AllByRecursion, concat}
-use Rattle.lj_text.specs.inner.LinesHeld.{EndsLine, HasNoLateEnd, IsLineRun, IsDoneWithin, IsInRuns, IsLetGo, IsWithinFirst, BeginsLineAt}
+use Rattle.lj_text.specs.inner.LinesBuffered.{EndsLine, HasNoLateEnd, IsLineRun, IsDoneWithin, IsInRuns, IsLetGo, IsWithinFirst, BeginsLineAt}
 use Rattle.lj_text.specs.Bytes.{is_line_end}
 use Rattle.lj_text.specs.LinesRead.{HasNoLineEnd, text_of_lines}
-use Rattle.lj_text.proofs.HeldLemmas.{no_feed, some_bytes}
+use Rattle.lj_text.proofs.TokenNumberLemmas.{no_feed, some_bytes}
 
 -- one run more
 pub all-runs_more : (runs : List (List ℕ)) (run : List ℕ) → AllByRecursion IsLineRun runs → IsLineRun run → AllByRecursion IsLineRun (runs ++ run ∷ [])
@@ -37,25 +37,25 @@ runs-countable (r ∷ runs) h =
     omega (arith, length-append r (concat runs))
 
 -- the place among the others, once runs are gone
-pub place-behind-gone : (old new : List (List ℕ)) (rest : List ℕ) (place left : ℕ) → IsLetGo old new place left → drop left (concat new ++ rest) ≡ drop place (concat old ++ rest)
-place-behind-gone old new rest place left p =
+pub position-behind-gone : (old new : List (List ℕ)) (rest : List ℕ) (position left : ℕ) → IsLetGo old new position left → drop left (concat new ++ rest) ≡ drop position (concat old ++ rest)
+position-behind-gone old new rest position left p =
     sym (
-    ap (λ rs. drop place (concat rs ++ rest)) p.old_is
-    ∙ ap (λ bs. drop place (bs ++ rest)) (concat-append p.gone new)
-    ∙ ap (drop place) (append_assoc (concat p.gone) (concat new) rest)
-    ∙ ap (λ n. drop n (concat p.gone ++ (concat new ++ rest))) p.place_is
+    ap (λ rs. drop position (concat rs ++ rest)) p.old_is
+    ∙ ap (λ bs. drop position (bs ++ rest)) (concat-append p.gone new)
+    ∙ ap (drop position) (append_assoc (concat p.gone) (concat new) rest)
+    ∙ ap (λ n. drop n (concat p.gone ++ (concat new ++ rest))) p.position_is
     ∙ drop-append-add (concat p.gone) (concat new ++ rest) left
     )
 
-pub count-behind-gone : (old new : List (List ℕ)) (rest : List ℕ) (place left : ℕ) → IsLetGo old new place left → length (concat old ++ rest) + left ≡ length (concat new ++ rest) + place
-count-behind-gone old new rest place left p =
-    omega (arith, p.place_is, ap (λ rs. length (concat rs ++ rest)) p.old_is, ap (λ bs. length (bs ++ rest)) (concat-append p.gone new), ap length (append_assoc (concat p.gone) (concat new) rest), length-append (concat p.gone) (concat new ++ rest))
+pub count-behind-gone : (old new : List (List ℕ)) (rest : List ℕ) (position left : ℕ) → IsLetGo old new position left → length (concat old ++ rest) + left ≡ length (concat new ++ rest) + position
+count-behind-gone old new rest position left p =
+    omega (arith, p.position_is, ap (λ rs. length (concat rs ++ rest)) p.old_is, ap (λ bs. length (bs ++ rest)) (concat-append p.gone new), ap length (append_assoc (concat p.gone) (concat new) rest), length-append (concat p.gone) (concat new ++ rest))
 
-pub let-more : (old new : List (List ℕ)) (run : List ℕ) (others : List (List ℕ)) (place left : ℕ) → IsLetGo old new place left → new ≡ run ∷ others → length run ≤ left → IsLetGo old others place (left - length run)
-let-more old new run others place left p new_is le = record {
+pub let-more : (old new : List (List ℕ)) (run : List ℕ) (others : List (List ℕ)) (position left : ℕ) → IsLetGo old new position left → new ≡ run ∷ others → length run ≤ left → IsLetGo old others position (left - length run)
+let-more old new run others position left p new_is le = record {
   gone = p.gone ++ run ∷ [];
   old_is = p.old_is ∙ ap (λ rs. p.gone ++ rs) new_is ∙ sym (append_assoc p.gone (run ∷ []) others);
-  place_is = omega (arith, p.place_is, ap length (concat-append p.gone (run ∷ [])), length-append (concat p.gone) (run ++ []), length-append run []);
+  position_is = omega (arith, p.position_is, ap length (concat-append p.gone (run ∷ [])), length-append (concat p.gone) (run ++ []), length-append run []);
 }
 
 -- the first run stands before the others
@@ -69,11 +69,11 @@ begun-within start [] rest h = h.0
 begun-within start (r ∷ runs) rest h = omega (arith, length-append r (concat runs), length-append (r ++ concat runs) rest)
 
 -- the place where what stays begins is soon, since a line ends before it
-place_soon : (start left place : ℕ) (new : List (List ℕ)) (rest : List ℕ) → start ≤ 65536 → left ≤ place → start ≤ place → AllByRecursion IsLineRun new → HasNoLateEnd rest → IsWithinFirst left new → left < length (concat new ++ rest)
-    → (start < place → 0 < left → get_or (concat new ++ rest) (left - 1) 0 ≡ 10) → (place ≡ start → left ≤ start) → left ≤ 65536
-place_soon start left place new rest few le begun whole late within more ends same =
+place_soon : (start left position : ℕ) (new : List (List ℕ)) (rest : List ℕ) → start ≤ 65536 → left ≤ position → start ≤ position → AllByRecursion IsLineRun new → HasNoLateEnd rest → IsWithinFirst left new → left < length (concat new ++ rest)
+    → (start < position → 0 < left → get_or (concat new ++ rest) (left - 1) 0 ≡ 10) → (position ≡ start → left ≤ start) → left ≤ 65536
+place_soon start left position new rest few le begun whole late within more ends same =
     elim (cases_lt 65536 left) [
-      | inl far ↦ absurd (at new whole within more far (ends (elim (cases_lt start place) [ inl moved ↦ moved | inr not ↦ absurd (omega (arith, same (omega arith))) ]) (omega arith)))
+      | inl far ↦ absurd (at new whole within more far (ends (elim (cases_lt start position) [ inl moved ↦ moved | inr not ↦ absurd (omega (arith, same (omega arith))) ]) (omega arith)))
       | inr le ↦ le
     ]
   where
@@ -91,23 +91,23 @@ begun_first left (r ∷ runs) rest within more = within
 -- what stays of what is held
 pub kept : (start : ℕ) (runs new : List (List ℕ)) (rest ahead : List ℕ) (total count left : ℕ) → IsInRuns start runs rest total → drop start (concat runs ++ rest) ≡ ahead → 0 < count → count ≤ length ahead
     → BeginsLineAt ahead (length ahead - count) → IsLetGo runs new (total - count) left → IsWithinFirst left new → IsInRuns left new rest (count + left)
-kept start runs new rest ahead total count left held is some within begins gone first =
+kept start runs new rest ahead total count left buffer is some within begins gone first =
     let all : length ahead ≡ length (concat runs ++ rest) - start = sym (ap length is) ∙ length-drop start (concat runs ++ rest) in
     let counts : length (concat runs ++ rest) + left ≡ length (concat new ++ rest) + (total - count) = count-behind-gone runs new rest (total - count) left gone in
-    let total_is : total ≡ length (concat runs ++ rest) = held.count_is in
-    let started : start ≤ length (concat runs ++ rest) = begun-within start runs rest held.begun in
+    let total_is : total ≡ length (concat runs ++ rest) = buffer.count_is in
+    let started : start ≤ length (concat runs ++ rest) = begun-within start runs rest buffer.begun in
     let more : left < length (concat new ++ rest) = omega arith in
-    let place_is : total - count ≡ length (concat gone.gone) + left = gone.place_is in
-    let same : drop left (concat new ++ rest) ≡ drop (total - count) (concat runs ++ rest) = place-behind-gone runs new rest (total - count) left gone in
+    let position_is : total - count ≡ length (concat gone.gone) + left = gone.position_is in
+    let same : drop left (concat new ++ rest) ≡ drop (total - count) (concat runs ++ rest) = position-behind-gone runs new rest (total - count) left gone in
     record {
-      whole = all-runs_behind gone.gone new (let P : List (List ℕ) → Type 0 = AllByRecursion IsLineRun in subst P gone.old_is held.whole);
-      late = held.late;
+      whole = all-runs_behind gone.gone new (let P : List (List ℕ) → Type 0 = AllByRecursion IsLineRun in subst P gone.old_is buffer.whole);
+      late = buffer.late;
       begun = begun_first left new rest first more;
-      few = place_soon start left (total - count) new rest held.few (omega arith) (omega arith) (all-runs_behind gone.gone new (let P : List (List ℕ) → Type 0 = AllByRecursion IsLineRun in subst P gone.old_is held.whole)) held.late first more
+      few = place_soon start left (total - count) new rest buffer.few (omega arith) (omega arith) (all-runs_behind gone.gone new (let P : List (List ℕ) → Type 0 = AllByRecursion IsLineRun in subst P gone.old_is buffer.whole)) buffer.late first more
           (λ moved later.
-          let place : length (concat gone.gone) + (left - 1) ≡ total - count - 1 = omega arith in
+          let position : length (concat gone.gone) + (left - 1) ≡ total - count - 1 = omega arith in
           sym (get_or-append-add (concat gone.gone) (concat new ++ rest) (left - 1) 0)
-          ∙ ap (λ i. get_or (concat gone.gone ++ (concat new ++ rest)) i 0) place
+          ∙ ap (λ i. get_or (concat gone.gone ++ (concat new ++ rest)) i 0) position
           ∙ ap (λ bs. get_or bs (total - count - 1) 0) (sym (ap (λ rs. concat rs ++ rest) gone.old_is ∙ ap (λ bs. bs ++ rest) (concat-append gone.gone new) ∙ append_assoc (concat gone.gone) (concat new) rest))
           ∙ ap (λ i. get_or (concat runs ++ rest) i 0) (omega arith)
           ∙ sym (get_or-drop start (concat runs ++ rest) (length ahead - count - 1) 0)
@@ -119,11 +119,11 @@ kept start runs new rest ahead total count left held is some within begins gone 
 
 pub kept-view : (start : ℕ) (runs new : List (List ℕ)) (rest ahead : List ℕ) (total count left : ℕ) → IsInRuns start runs rest total → drop start (concat runs ++ rest) ≡ ahead → count ≤ length ahead
     → IsLetGo runs new (total - count) left → drop left (concat new ++ rest) ≡ drop (length ahead - count) ahead
-kept-view start runs new rest ahead total count left held is within gone =
+kept-view start runs new rest ahead total count left buffer is within gone =
     let all : length ahead ≡ length (concat runs ++ rest) - start = sym (ap length is) ∙ length-drop start (concat runs ++ rest) in
-    let started : start ≤ length (concat runs ++ rest) = begun-within start runs rest held.begun in
-    let total_is : total ≡ length (concat runs ++ rest) = held.count_is in
-    place-behind-gone runs new rest (total - count) left gone
+    let started : start ≤ length (concat runs ++ rest) = begun-within start runs rest buffer.begun in
+    let total_is : total ≡ length (concat runs ++ rest) = buffer.count_is in
+    position-behind-gone runs new rest (total - count) left gone
     ∙ ap (λ n. drop n (concat runs ++ rest)) (omega arith)
     ∙ sym (drop-drop (length ahead - count) start (concat runs ++ rest))
     ∙ ap (drop (length ahead - count)) is
@@ -140,12 +140,12 @@ ends_concat run (r ∷ runs) whole = ends_append run (concat (r ∷ runs)) (ends
 
 -- the last bytes, where no line ends among them, are in no run
 pub last-within : (start : ℕ) (runs : List (List ℕ)) (rest ahead : List ℕ) (total count : ℕ) → IsInRuns start runs rest total → drop start (concat runs ++ rest) ≡ ahead → count ≤ length ahead → HasNoLineEnd (drop (length ahead - count) ahead) → count ≤ length rest
-last-within start [] rest ahead total count held is within none = omega (arith, ap length is, length-drop start rest)
-last-within start (r ∷ runs) rest ahead total count held is within none =
+last-within start [] rest ahead total count buffer is within none = omega (arith, ap length is, length-drop start rest)
+last-within start (r ∷ runs) rest ahead total count buffer is within none =
     elim (cases_lt (length rest) count) [
       | inl more ↦
           let rs : List ℕ = concat (r ∷ runs) in
-          let begun : start < length r = held.begun in
+          let begun : start < length r = buffer.begun in
           let all : length ahead ≡ length (rs ++ rest) - start = sym (ap length is) ∙ length-drop start (rs ++ rest) in
           let both : length (rs ++ rest) ≡ length rs + length rest = length-append rs rest in
           let front : length rs ≡ length r + length (concat runs) = length-append r (concat runs) in
@@ -153,20 +153,20 @@ last-within start (r ∷ runs) rest ahead total count held is within none =
           let j : ℕ = length rs - 1 - start - (length ahead - count) in
           let here : get_or (drop n ahead) j 0 ≡ 10 =
           get_or-drop n ahead j 0 ∙ ap (λ bs. get_or bs (n + j) 0) (sym is) ∙ get_or-drop start (rs ++ rest) (n + j) 0
-          ∙ ap (λ i. get_or (rs ++ rest) i 0) (omega arith) ∙ get_or_append_left rs rest 0 (length rs - 1) (omega arith) ∙ ends_concat r runs held.whole in
+          ∙ ap (λ i. get_or (rs ++ rest) i 0) (omega arith) ∙ get_or_append_left rs rest 0 (length rs - 1) (omega arith) ∙ ends_concat r runs buffer.whole in
           absurd (no_feed (drop n ahead) j none (omega (arith, length-drop n ahead)) here)
       | inr le ↦ le
     ]
 
 pub last-rest : (start : ℕ) (runs : List (List ℕ)) (rest ahead : List ℕ) (total count len : ℕ) → IsInRuns start runs rest total → drop start (concat runs ++ rest) ≡ ahead → len ≡ length rest → count ≤ length ahead → count ≤ length rest
     → drop (len - count) rest ≡ drop (length ahead - count) ahead
-last-rest start runs rest ahead total count len held is len_is within le =
+last-rest start runs rest ahead total count len buffer is len_is within le =
     let all : length ahead ≡ length (concat runs ++ rest) - start = sym (ap length is) ∙ length-drop start (concat runs ++ rest) in
     let both : length (concat runs ++ rest) ≡ length (concat runs) + length rest = length-append (concat runs) rest in
-    let started : start ≤ length (concat runs ++ rest) = begun-within start runs rest held.begun in
-    let place : length (concat runs) + (len - count) ≡ start + (length ahead - count) = omega arith in
+    let started : start ≤ length (concat runs ++ rest) = begun-within start runs rest buffer.begun in
+    let position : length (concat runs) + (len - count) ≡ start + (length ahead - count) = omega arith in
     sym (drop-append-add (concat runs) rest (len - count))
-    ∙ ap (λ n. drop n (concat runs ++ rest)) place
+    ∙ ap (λ n. drop n (concat runs ++ rest)) position
     ∙ sym (drop-drop (length ahead - count) start (concat runs ++ rest))
     ∙ ap (drop (length ahead - count)) is
 

@@ -18,7 +18,7 @@ use Rattle.lj_text.specs.declared.lines.fault.LineFaultKind.{LineFaultKind}
 use Rattle.lj_text.specs.Bytes.{is_blank, is_filled, is_line_end, tokens_of, decimal_value, negative, number_of}
 use Rattle.lj_text.specs.Lines.{greatest, hints_of, literals_then, numbers_of, with_read}
 use Rattle.lj_text.specs.LinesRead.{HasNoLineEnd}
-use Rattle.lj_text.specs.inner.LineReading.{IsReadOn, behind_hints, behind_literals, behind_numbers, words_of}
+use Rattle.lj_text.specs.inner.LineReading.{IsReadOn, behind_hints, behind_literals, behind_numbers, token_numbers}
 use Rattle.lj_text.specs.inner.ShortNumbers.{AreLiteralsAhead, AreNumbersAhead, IsShortNumber, IsTokenAhead}
 use Rattle.lj_text.proofs.TokenLemmas.{tokens-blank, tokens-first}
 use Rattle.lj_text.proofs.WordLemmas.{decimal_value-push, digits-all, digits_no_blanks, number-negative, number-unsigned}
@@ -77,7 +77,7 @@ ended-by bytes i value some few lt space so_far =
     }
 
 pub short-end : (bytes front : List ℕ) (i value : ℕ) → 9 ≤ length bytes → front ≡ take 9 bytes → i ≢ 0 → i < 9 → get_or front i 0 ≡ 32 → ShortRead front i value → IsShortNumber bytes value (drop (i + 1) bytes)
-short-end bytes front i value room is some few space so_far =
+short-end bytes front i value scratch is some few space so_far =
     let P : List ℕ → Type 0 = λ f. ShortRead f i value in
     let at : get_or bytes i 0 ≡ 32 = sym (get_or-take 9 bytes i 0 few) ∙ ap (λ f. get_or f i 0) (sym is) ∙ space in
     let Q : ℕ → Type 0 = λ k. IsShortNumber bytes value (drop k bytes) in
@@ -162,8 +162,8 @@ integer-ahead (b ∷ bytes) digits true value after some is cut more n =
     subst Q minus (signed-ahead bytes value after more (subst P cut n))
 
 -- the word that a token ahead is
-pub token-word : (bytes : List ℕ) (number : ℤ) (after : List ℕ) (t : IsTokenAhead bytes number after) (tail : List ℕ) → words_of (t.front ++ tail) ≡ Some number ∷ words_of tail
-token-word bytes number after t tail = ap (λ ts. map number_of ts) (t.tokens_are tail) ∙ ap (λ n. n ∷ words_of tail) t.number_is
+pub token-token_number : (bytes : List ℕ) (number : ℤ) (after : List ℕ) (t : IsTokenAhead bytes number after) (tail : List ℕ) → token_numbers (t.front ++ tail) ≡ Some number ∷ token_numbers tail
+token-token_number bytes number after t tail = ap (λ ts. map number_of ts) (t.tokens_are tail) ∙ ap (λ n. n ∷ token_numbers tail) t.number_is
 
 -- Numbers behind others.
 hints-one : (front : List ℕ) (value : ℕ) (read : Result (List ℕ × List HintGroup) LineFaultKind) → behind_hints front (with_read (λ r. (value ∷ r.0, r.1)) read) ≡ behind_hints (front ++ value ∷ []) read
@@ -174,18 +174,18 @@ numbers-one : (front : List ℕ) (value : ℕ) (read : Result (List ℕ) LineFau
 numbers-one front value (Ok ns) = ap (λ hs. Ok hs) (sym (append_assoc front (value ∷ []) ns))
 numbers-one front value (Err kind) = refl
 
-hints-word : (ended : Bool) (value : ℕ) (words : List (Option ℤ)) → 0 < value → value ≤ greatest → hints_of ended (Some (pos value) ∷ words) ≡ with_read (λ r. (value ∷ r.0, r.1)) (hints_of ended words)
-hints-word ended zero words some few = absurd (omega arith)
-hints-word ended (suc n) words some few = grind (arith, nat_tests)
+hints-token_number : (ended : Bool) (value : ℕ) (values : List (Option ℤ)) → 0 < value → value ≤ greatest → hints_of ended (Some (pos value) ∷ values) ≡ with_read (λ r. (value ∷ r.0, r.1)) (hints_of ended values)
+hints-token_number ended zero values some few = absurd (omega arith)
+hints-token_number ended (suc n) values some few = grind (arith, nat_tests)
 
-numbers-word : (ended : Bool) (value : ℕ) (words : List (Option ℤ)) → 0 < value → value ≤ greatest → numbers_of ended (Some (pos value) ∷ words) ≡ with_read (λ ns. value ∷ ns) (numbers_of ended words)
-numbers-word ended zero words some few = absurd (omega arith)
-numbers-word ended (suc n) words some few = grind (arith, nat_tests)
+numbers-token_number : (ended : Bool) (value : ℕ) (values : List (Option ℤ)) → 0 < value → value ≤ greatest → numbers_of ended (Some (pos value) ∷ values) ≡ with_read (λ ns. value ∷ ns) (numbers_of ended values)
+numbers-token_number ended zero values some few = absurd (omega arith)
+numbers-token_number ended (suc n) values some few = grind (arith, nat_tests)
 
-read-one : (old bytes new : List ℕ) (value : ℕ) (middle rest : List ℕ) → words_of middle ≡ Some (pos value) ∷ words_of rest → 0 < value → value ≤ greatest → IsReadOn old bytes new middle → IsReadOn old bytes (new ++ value ∷ []) rest
-read-one old bytes new value middle rest word some few r = record {
-  hints = λ ended. sym (hints-one new value (hints_of ended (words_of rest))) ∙ sym (ap (behind_hints new) (ap (hints_of ended) word ∙ hints-word ended value (words_of rest) some few)) ∙ r.hints ended;
-  numbers = λ ended. sym (numbers-one new value (numbers_of ended (words_of rest))) ∙ sym (ap (behind_numbers new) (ap (numbers_of ended) word ∙ numbers-word ended value (words_of rest) some few)) ∙ r.numbers ended;
+read-one : (old bytes new : List ℕ) (value : ℕ) (middle rest : List ℕ) → token_numbers middle ≡ Some (pos value) ∷ token_numbers rest → 0 < value → value ≤ greatest → IsReadOn old bytes new middle → IsReadOn old bytes (new ++ value ∷ []) rest
+read-one old bytes new value middle rest token_number some few r = record {
+  hints = λ ended. sym (hints-one new value (hints_of ended (token_numbers rest))) ∙ sym (ap (behind_hints new) (ap (hints_of ended) token_number ∙ hints-token_number ended value (token_numbers rest) some few)) ∙ r.hints ended;
+  numbers = λ ended. sym (numbers-one new value (numbers_of ended (token_numbers rest))) ∙ sym (ap (behind_numbers new) (ap (numbers_of ended) token_number ∙ numbers-token_number ended value (token_numbers rest) some few)) ∙ r.numbers ended;
 }
 
 pub numbers-none : (old bytes : List ℕ) → AreNumbersAhead old bytes old bytes
@@ -200,7 +200,7 @@ numbers-more old bytes new rest value after some few t so_far =
       read = λ tail.
           let P : List ℕ → Type 0 = λ bs. IsReadOn old bs (new ++ value ∷ []) tail in
           subst P (sym (append_assoc so_far.front t.front tail))
-          (read-one old (so_far.front ++ (t.front ++ tail)) new value (t.front ++ tail) tail (token-word rest (pos value) after t tail) (omega (arith, some)) few (so_far.read (t.front ++ tail)));
+          (read-one old (so_far.front ++ (t.front ++ tail)) new value (t.front ++ tail) tail (token-token_number rest (pos value) after t tail) (omega (arith, some)) few (so_far.read (t.front ++ tail)));
     }
 
 pub numbers-read : (old bytes new rest : List ℕ) → AreNumbersAhead old bytes new rest → IsReadOn old bytes new rest
@@ -257,8 +257,8 @@ literals-one : (front : List ℤ) (lit : ℤ) (read : Result (List ℤ × List (
 literals-one front lit (Ok r) = ap (λ ls. Ok (ls, r.1)) (sym (append_assoc front (lit ∷ []) r.0))
 literals-one front lit (Err kind) = refl
 
-literals-word : (max : ℕ) (ended : Bool) (lit : ℤ) (words : List (Option ℤ)) → 0 < unsigned_abs lit → unsigned_abs lit ≤ max → literals_then max ended (Some lit ∷ words) ≡ with_read (λ r. (lit ∷ r.0, r.1)) (literals_then max ended words)
-literals-word max ended lit words some few = grind (arith, nat_tests)
+literals-token_number : (max : ℕ) (ended : Bool) (lit : ℤ) (values : List (Option ℤ)) → 0 < unsigned_abs lit → unsigned_abs lit ≤ max → literals_then max ended (Some lit ∷ values) ≡ with_read (λ r. (lit ∷ r.0, r.1)) (literals_then max ended values)
+literals-token_number max ended lit values some few = grind (arith, nat_tests)
 
 abs-of : (variable : ℕ) (sign : Bool) → unsigned_abs (literal_on variable sign) ≡ variable
 abs-of variable false = refl
@@ -279,15 +279,15 @@ literals-more max old bytes new rest variable sign after some few ahead so_far =
       bytes_is = so_far.bytes_is ∙ ap (λ r. so_far.front ++ r) t.bytes_is ∙ sym (append_assoc so_far.front t.front after);
       none_within = none-in-both so_far.front t.front so_far.none_within t.none_within;
       read = λ ended tail.
-          sym (literals-one new lit (literals_then max ended (words_of tail)))
-          ∙ sym (ap (behind_literals new) (ap (literals_then max ended) (token-word rest lit after t tail) ∙ literals-word max ended lit (words_of tail) (omega (arith, abs, some)) (omega (arith, abs, few))))
+          sym (literals-one new lit (literals_then max ended (token_numbers tail)))
+          ∙ sym (ap (behind_literals new) (ap (literals_then max ended) (token-token_number rest lit after t tail) ∙ literals-token_number max ended lit (token_numbers tail) (omega (arith, abs, some)) (omega (arith, abs, few))))
           ∙ so_far.read ended (t.front ++ tail)
-          ∙ ap (λ bs. behind_literals old (literals_then max ended (words_of bs))) (sym (append_assoc so_far.front t.front tail));
+          ∙ ap (λ bs. behind_literals old (literals_then max ended (token_numbers bs))) (sym (append_assoc so_far.front t.front tail));
     }
 
 pub literals-read : (max : ℕ) (old : List ℤ) (bytes : List ℕ) (new : List ℤ) (rest : List ℕ) → AreLiteralsAhead max old bytes new rest → (ended : Bool)
-    → behind_literals new (literals_then max ended (words_of rest)) ≡ behind_literals old (literals_then max ended (words_of bytes))
-literals-read max old bytes new rest n ended = n.read ended rest ∙ ap (λ bs. behind_literals old (literals_then max ended (words_of bs))) (sym n.bytes_is)
+    → behind_literals new (literals_then max ended (token_numbers rest)) ≡ behind_literals old (literals_then max ended (token_numbers bytes))
+literals-read max old bytes new rest n ended = n.read ended rest ∙ ap (λ bs. behind_literals old (literals_then max ended (token_numbers bs))) (sym n.bytes_is)
 
 -- literals behind literals
 pub literals-both : (max : ℕ) (old : List ℤ) (bytes : List ℕ) (middle : List ℤ) (rest : List ℕ) (new : List ℤ) (last : List ℕ) → AreLiteralsAhead max old bytes middle rest → AreLiteralsAhead max middle rest new last → AreLiteralsAhead max old bytes new last
@@ -296,7 +296,7 @@ literals-both max old bytes middle rest new last a b = record {
   bytes_is = a.bytes_is ∙ ap (λ r. a.front ++ r) b.bytes_is ∙ sym (append_assoc a.front b.front last);
   none_within = none-in-both a.front b.front a.none_within b.none_within;
   read = λ ended tail.
-      b.read ended tail ∙ a.read ended (b.front ++ tail) ∙ ap (λ bs. behind_literals old (literals_then max ended (words_of bs))) (sym (append_assoc a.front b.front tail));
+      b.read ended tail ∙ a.read ended (b.front ++ tail) ∙ ap (λ bs. behind_literals old (literals_then max ended (token_numbers bs))) (sym (append_assoc a.front b.front tail));
 }
 
 pub literals-on : (max : ℕ) (old : List ℤ) (bytes : List ℕ) (middle : List ℤ) (rest window : List ℕ) (new : List ℤ) (after : List ℕ) (n : ℕ) → AreLiteralsAhead max old bytes middle rest → IsFirstChunk rest window 80

@@ -15,16 +15,16 @@ use Rattle.lj_clause.specs.Literal.{variable_of}
 use Rattle.lj_clause.specs.LiteralSet.{LiteralSet, holds, negations, with_negations, no_literals}
 use Rattle.lj_clause.specs.ClauseMap.{ClauseMap, FormulaValue, formula_map}
 use Rattle.lj_clause.specs.Truth.{Assignment, satisfies, SatisfiesAll, IsSatisfiable}
-use Rattle.lj_clause.specs.Walk.{Walk, Closed, Open, Stuck, is_closed}
+use Rattle.lj_clause.specs.Propagation.{Propagation, Closed, Open, Stuck, is_closed}
 use Rattle.lj_clause.specs.Rat.{RatAnswer, Covered, MissingGroup, GroupStuck, GroupOpen, HintGroup, rat, candidates, others, is_covered}
 use Rattle.lj_clause.proofs.TruthLaws.{SatisfiesAll-insert, SatisfiesAll-remove, satisfies-no_literals}
-use Rattle.lj_clause.proofs.WalkLaws.{satisfies-is_rup, walk-used, used-in}
+use Rattle.lj_clause.proofs.PropagationLaws.{satisfies-is_rup, propagate-used, used-in}
 use Rattle.lj_clause.specs.Laws.{hints_given}
 use Rattle.lj_clause.proofs.RatLaws as ratlaws
 use Rattle.lj_text.specs.declared.line.Addition.{Addition}
 use Rattle.lj_text.specs.declared.step.Step.{Step}
 use Rattle.lj_text.specs.declared.step.Step.TheVariants.{Add, Delete}
-use Rattle.lj_text.specs.Steps.{names, names_all, are_distinct, is_in_place, is_rat_on, is_rat_after, first_walk, is_accepted, without, after_step, replay, adds_empty, refutes, IsRecordedAfter, IsRecorded, with_covered, recorded_on, recorded_after, recorded_form}
+use Rattle.lj_text.specs.Steps.{names, names_all, are_distinct, is_in_place, is_rat_on, is_rat_after, first_propagation, is_accepted, without, after_step, replay, adds_empty, refutes, IsRecordedAfter, IsRecorded, with_covered, recorded_on, recorded_after, recorded_form}
 
 nonzero : (q : ℤ) → not (variable_of q == 0) ≡ true → q ≢ pos 0
 nonzero q e is = false≢true (sym (ap (λ l. not (variable_of l == 0)) is) ∙ e)
@@ -35,14 +35,14 @@ nonzero q e is = false≢true (sym (ap (λ l. not (variable_of l == 0)) is) ∙ 
 record IsRat (p : ClauseMap) (a : Addition) (s : LiteralSet) (q : ℤ) : Type 0 where
   nonzero_pivot : q ≢ pos 0
   nonzero_test : not (variable_of q == 0) ≡ true
-  held : holds a.lemma.clause q ≡ true
+  buffer : holds a.lemma.clause q ≡ true
   groups : List HintGroup
   covers : rat p s q a.groups ≡ Covered groups
 
 covered_groups : (r : RatAnswer) → is_covered r ≡ true → (gs : List HintGroup) × (r ≡ Covered gs)
 covered_groups (Covered gs) e = (gs, refl)
 covered_groups (MissingGroup n) e = absurd (false≢true e)
-covered_groups (GroupStuck n place) e = absurd (false≢true e)
+covered_groups (GroupStuck n position) e = absurd (false≢true e)
 covered_groups (GroupOpen n) e = absurd (false≢true e)
 
 rat_from : (p : ClauseMap) (a : Addition) (s : LiteralSet) (q : ℤ) → is_rat_on p a s (Some q) ≡ true → IsRat p a s q
@@ -50,25 +50,25 @@ rat_from p a s q e =
     let outer = and_parts (not (variable_of q == 0)) (holds a.lemma.clause q && is_covered (rat p s q a.groups)) e in
     let inner = and_parts (holds a.lemma.clause q) (is_covered (rat p s q a.groups)) outer.1 in
     let found = covered_groups (rat p s q a.groups) inner.1 in
-    record { nonzero_pivot = nonzero q outer.0; nonzero_test = outer.0; held = inner.0; groups = found.0; covers = found.1 }
+    record { nonzero_pivot = nonzero q outer.0; nonzero_test = outer.0; buffer = inner.0; groups = found.0; covers = found.1 }
 
-keeps_on : (p : ClauseMap) (a : Addition) (s : LiteralSet) (o : Option ℤ) → first_walk p a ≡ Open s → is_rat_on p a s o ≡ true → IsSatisfiable p → IsSatisfiable (fin.insert p a.number a.lemma.clause)
+keeps_on : (p : ClauseMap) (a : Addition) (s : LiteralSet) (o : Option ℤ) → first_propagation p a ≡ Open s → is_rat_on p a s o ≡ true → IsSatisfiable p → IsSatisfiable (fin.insert p a.number a.lemma.clause)
 keeps_on p a s None is e sat = absurd (false≢true e)
 keeps_on p a s (Some q) is e sat =
     let r = rat_from p a s q e in
-    ratlaws.IsSatisfiable-rat p a.number a.lemma.clause q a.hints s a.groups r.groups r.nonzero_pivot r.held is r.covers sat
+    ratlaws.IsSatisfiable-rat p a.number a.lemma.clause q a.hints s a.groups r.groups r.nonzero_pivot r.buffer is r.covers sat
 
-keeps_after : (p : ClauseMap) (a : Addition) (w : Walk) → first_walk p a ≡ w → (is_closed w || is_rat_after p a w) ≡ true → IsSatisfiable p → IsSatisfiable (fin.insert p a.number a.lemma.clause)
+keeps_after : (p : ClauseMap) (a : Addition) (w : Propagation) → first_propagation p a ≡ w → (is_closed w || is_rat_after p a w) ≡ true → IsSatisfiable p → IsSatisfiable (fin.insert p a.number a.lemma.clause)
 keeps_after p a (Closed used) is e sat = (sat.0, SatisfiesAll-insert sat.0 p a.number a.lemma.clause sat.1 (satisfies-is_rup p a.lemma.clause a.hints sat.0 (ap is_closed is) sat.1))
 keeps_after p a (Open s) is e sat = keeps_on p a s a.lemma.pivot is e sat
-keeps_after p a (Stuck place) is e sat = absurd (false≢true e)
+keeps_after p a (Stuck position) is e sat = absurd (false≢true e)
 
 without_kept : (a : Assignment) (p : ClauseMap) (ns : List ℕ) → SatisfiesAll a p → SatisfiesAll a (without p ns)
 without_kept a p [] sat = sat
 without_kept a p (n ∷ ns) sat = SatisfiesAll-remove a (without p ns) n (without_kept a p ns sat)
 
 pub IsSatisfiable-after : (p : ClauseMap) (step : Step) → is_accepted p step ≡ true → IsSatisfiable p → IsSatisfiable (after_step p step)
-IsSatisfiable-after p (Add a) e sat = keeps_after p a (first_walk p a) refl (and_parts (is_in_place p a) (is_closed (first_walk p a) || is_rat_after p a (first_walk p a)) e).1 sat
+IsSatisfiable-after p (Add a) e sat = keeps_after p a (first_propagation p a) refl (and_parts (is_in_place p a) (is_closed (first_propagation p a) || is_rat_after p a (first_propagation p a)) e).1 sat
 IsSatisfiable-after p (Delete ns) e sat = (sat.0, without_kept sat.0 p ns sat.1)
 
 -- ---- replays
@@ -178,21 +178,21 @@ record KeepsRecorded (p : ClauseMap) (a b : Addition) : Type 0 where
   accepted : is_accepted p (Add b) ≡ true
 
 -- an addition whose first list closes, cut to the hints that were read
-closed_recorded : (p : ClauseMap) (a : Addition) (used : List ℕ) → InPlace p a → first_walk p a ≡ Closed used → KeepsRecorded p a (record a { hints = used; groups = [] })
+closed_recorded : (p : ClauseMap) (a : Addition) (used : List ℕ) → InPlace p a → first_propagation p a ≡ Closed used → KeepsRecorded p a (record a { hints = used; groups = [] })
 closed_recorded p a used here is =
     let b : Addition = record a { hints = used; groups = [] } in
-    let again : first_walk p b ≡ Closed used = walk-used p (negations a.lemma.clause) a.hints used is in
+    let again : first_propagation p b ≡ Closed used = propagate-used p (negations a.lemma.clause) a.hints used is in
     record {
       number = refl;
       lemma = refl;
       form = subst (IsRecordedAfter p b) (sym again) (refl, refl);
-      accepted = and_from (is_in_place p b) (is_closed (first_walk p b) || is_rat_after p b (first_walk p b))
+      accepted = and_from (is_in_place p b) (is_closed (first_propagation p b) || is_rat_after p b (first_propagation p b))
           (in_place_from p b (record { fresh = here.fresh; hints = all_from (names p) used (used-in p (negations a.lemma.clause) a.hints used is); groups = refl; distinct = refl }))
           (ap (λ w. is_closed w || is_rat_after p b w) again);
     }
 
 -- an addition that is RAT, with the groups that its candidates' tests read
-rat_recorded : (p : ClauseMap) (a : Addition) (s : LiteralSet) (q : ℤ) → InPlace p a → first_walk p a ≡ Open s → a.lemma.pivot ≡ Some q → (r : IsRat p a s q) → KeepsRecorded p a (record a { groups = r.groups })
+rat_recorded : (p : ClauseMap) (a : Addition) (s : LiteralSet) (q : ℤ) → InPlace p a → first_propagation p a ≡ Open s → a.lemma.pivot ≡ Some q → (r : IsRat p a s q) → KeepsRecorded p a (record a { groups = r.groups })
 rat_recorded p a s q here is pivot r =
     let b : Addition = record a { groups = r.groups } in
     let again : rat p s q r.groups ≡ Covered r.groups = ratlaws.rat-again p s q a.groups r.groups r.covers in
@@ -202,26 +202,26 @@ rat_recorded p a s q here is pivot r =
       number = refl;
       lemma = refl;
       form = subst (IsRecordedAfter p b) (sym is) (subst (λ (o : Option ℤ). MatchOption o ⊥ (λ k. rat p s k r.groups ≡ Covered r.groups)) (sym pivot) again);
-      accepted = and_from (is_in_place p b) (is_closed (first_walk p b) || is_rat_after p b (first_walk p b))
+      accepted = and_from (is_in_place p b) (is_closed (first_propagation p b) || is_rat_after p b (first_propagation p b))
           (in_place_from p b (record { fresh = here.fresh; hints = here.hints; groups = all_from (λ (g : HintGroup). names p g.candidate && names_all p g.hints) r.groups named; distinct = distinct_rising _ rising }))
           (ap (λ w. is_closed w || is_rat_after p b w) is ∙ ap (is_rat_on p b s) pivot
-          ∙ and_from (not (variable_of q == 0)) (holds a.lemma.clause q && is_covered (rat p s q r.groups)) r.nonzero_test (and_from (holds a.lemma.clause q) (is_covered (rat p s q r.groups)) r.held (ap is_covered again)));
+          ∙ and_from (not (variable_of q == 0)) (holds a.lemma.clause q && is_covered (rat p s q r.groups)) r.nonzero_test (and_from (holds a.lemma.clause q) (is_covered (rat p s q r.groups)) r.buffer (ap is_covered again)));
     }
 
-recorded_open : (p : ClauseMap) (a : Addition) (s : LiteralSet) (o : Option ℤ) → a.lemma.pivot ≡ o → InPlace p a → first_walk p a ≡ Open s → is_rat_on p a s o ≡ true → KeepsRecorded p a (recorded_on p a s o)
+recorded_open : (p : ClauseMap) (a : Addition) (s : LiteralSet) (o : Option ℤ) → a.lemma.pivot ≡ o → InPlace p a → first_propagation p a ≡ Open s → is_rat_on p a s o ≡ true → KeepsRecorded p a (recorded_on p a s o)
 recorded_open p a s None pivot here is e = absurd (false≢true e)
 recorded_open p a s (Some q) pivot here is e =
     let r = rat_from p a s q e in
     subst (λ w. KeepsRecorded p a (with_covered a w)) (sym r.covers) (rat_recorded p a s q here is pivot r)
 
-recorded_by : (p : ClauseMap) (a : Addition) (w : Walk) → InPlace p a → first_walk p a ≡ w → (is_closed w || is_rat_after p a w) ≡ true → KeepsRecorded p a (recorded_after p a w)
+recorded_by : (p : ClauseMap) (a : Addition) (w : Propagation) → InPlace p a → first_propagation p a ≡ w → (is_closed w || is_rat_after p a w) ≡ true → KeepsRecorded p a (recorded_after p a w)
 recorded_by p a (Closed used) here is e = closed_recorded p a used here is
 recorded_by p a (Open s) here is e = recorded_open p a s a.lemma.pivot refl here is e
-recorded_by p a (Stuck place) here is e = absurd (false≢true e)
+recorded_by p a (Stuck position) here is e = absurd (false≢true e)
 
 -- the recorded form of an accepted addition is accepted, in recorded form, and leaves the same map
 pub recorded_keeps : (p : ClauseMap) (a : Addition) → is_accepted p (Add a) ≡ true → IsRecorded p (recorded_form p a) × (is_accepted p (Add (recorded_form p a)) ≡ true) × (after_step p (Add (recorded_form p a)) ≡ after_step p (Add a))
 recorded_keeps p a e =
-    let parts = and_parts (is_in_place p a) (is_closed (first_walk p a) || is_rat_after p a (first_walk p a)) e in
-    let keeps = recorded_by p a (first_walk p a) (in_place_parts p a parts.0) refl parts.1 in
+    let parts = and_parts (is_in_place p a) (is_closed (first_propagation p a) || is_rat_after p a (first_propagation p a)) e in
+    let keeps = recorded_by p a (first_propagation p a) (in_place_parts p a parts.0) refl parts.1 in
     (keeps.form, keeps.accepted, λ i. fin.insert p (keeps.number i) (keeps.lemma i).clause)

@@ -16,10 +16,10 @@ use Rattle.lj_text.specs.Lines.{all_but_last}
 use Rattle.lj_text.specs.LinesRead.{HasNoLineEnd, text_of_lines, last_number}
 use Rattle.lj_text.proofs.StandLemmas.{all_more, joined_more, next_number, both, joined_both, cut-joined, cut-none}
 use Rattle.lj_text.specs.inner.CnfReading.{IsCnfTold}
-use Rattle.lj_text.specs.CnfRead.{is_cnf_no_memory, IsAnswer, HasFaultAlready, BeginsByNumber, NeedsRoom, EndsByNumber}
-use Rattle.lj_text.specs.inner.CnfResuming.{formula_from_state, Reads, asks_room, kept_fault}
+use Rattle.lj_text.specs.CnfRead.{is_cnf_no_memory, IsAnswer, HasFaultAlready, BeginsByNumber, NeedsMemory, EndsByNumber}
+use Rattle.lj_text.specs.inner.CnfResuming.{formula_from_state, Reads, asks_memory, kept_fault}
 use Rattle.lj_clause.specs.Memory.{no_memory}
-use Rattle.lj_text.specs.inner.CnfHeld.{CnfStandsAt, Leads, NeedsRoomFrom, Taken}
+use Rattle.lj_text.specs.inner.CnfBuffered.{CnfStandsAt, Leads, NeedsMemoryFrom, Taken}
 use Rattle.lj_text.specs.Cnf.{read_cnf, HasFault}
 use Rattle.std.specs.Prelude.{Option, Some, None, ◌⊎◌}
 use Rattle.std.proofs.Common.{inl, inr}
@@ -28,16 +28,16 @@ pub no_line_end-both : (xs ys : List ℕ) → HasNoLineEnd xs → HasNoLineEnd y
 no_line_end-both xs ys h k = All-append (λ b. is_line_end b ≡ false) xs ys h k
 
 -- what was read of a piece so far, and what is left of it
-pub record Going (max first : ℕ) (old : State) (held piece : List ℕ) (state : State) (number : ℕ) (left rest : List ℕ) : Type 0 where
+pub record Going (max first : ℕ) (old : State) (buffer piece : List ℕ) (state : State) (number : ℕ) (left rest : List ℕ) : Type 0 where
   pub lines : List (List ℕ)
   pub whole : AllByRecursion HasNoLineEnd lines
-  pub text_is : held ++ piece ≡ text_of_lines lines ++ (left ++ rest)
+  pub text_is : buffer ++ piece ≡ text_of_lines lines ++ (left ++ rest)
   pub line_is : (n : ℕ) → first ≡ line_number n → number ≡ line_number (n + length lines)
   pub reads : (n : ℕ) → first ≡ line_number n → Leads max n old lines state
-  pub held_is : (left ≡ []) ⊎ ((lines ≡ []) × (left ≡ held))
+  pub held_is : (left ≡ []) ⊎ ((lines ≡ []) × (left ≡ buffer))
 
-pub going-none : (max first : ℕ) (old : State) (held piece : List ℕ) → Going max first old held piece old first held piece
-going-none max first old held piece = record {
+pub going-none : (max first : ℕ) (old : State) (buffer piece : List ℕ) → Going max first old buffer piece old first buffer piece
+going-none max first old buffer piece = record {
   lines = [];
   whole = tt;
   text_is = refl;
@@ -47,19 +47,19 @@ going-none max first old held piece = record {
 }
 
 -- what was fed, and what follows it
-behind : (max first number : ℕ) (old state : State) (held piece left rest : List ℕ) (g : Going max first old held piece state number left rest)
-    → (n : ℕ) → first ≡ line_number n → (more : List ℕ) → formula_from_state max n old (lines_of (held ++ (piece ++ more))) ≡ formula_from_state max (n + length g.lines) state (lines_of (left ++ (rest ++ more)))
-behind max first number old state held piece left rest g n first_is more =
-    ap (λ t. formula_from_state max n old (lines_of t)) (sym (append_assoc held piece more) ∙ ap (λ t. t ++ more) g.text_is ∙ append_assoc (text_of_lines g.lines) (left ++ rest) more ∙ ap (λ t. text_of_lines g.lines ++ t) (append_assoc left rest more))
+behind : (max first number : ℕ) (old state : State) (buffer piece left rest : List ℕ) (g : Going max first old buffer piece state number left rest)
+    → (n : ℕ) → first ≡ line_number n → (more : List ℕ) → formula_from_state max n old (lines_of (buffer ++ (piece ++ more))) ≡ formula_from_state max (n + length g.lines) state (lines_of (left ++ (rest ++ more)))
+behind max first number old state buffer piece left rest g n first_is more =
+    ap (λ t. formula_from_state max n old (lines_of t)) (sym (append_assoc buffer piece more) ∙ ap (λ t. t ++ more) g.text_is ∙ append_assoc (text_of_lines g.lines) (left ++ rest) more ∙ ap (λ t. text_of_lines g.lines ++ t) (append_assoc left rest more))
     ∙ g.reads n first_is (left ++ (rest ++ more))
 
 -- the line that the held bytes and the front make
-cut : (held rest front after more : List ℕ) → rest ≡ front ++ 10 ∷ after → HasNoLineEnd (held ++ front) → lines_of (held ++ (rest ++ more)) ≡ (held ++ front) ∷ lines_of (after ++ more)
-cut held rest front after more e h =
-    ap (λ r. lines_of (held ++ (r ++ more))) e
-    ∙ ap (λ r. lines_of (held ++ r)) (append_assoc front (10 ∷ after) more)
-    ∙ ap lines_of (sym (append_assoc held front (10 ∷ (after ++ more))))
-    ∙ slice_split_at is_line_end (held ++ front) 10 (after ++ more) h refl
+cut : (buffer rest front after more : List ℕ) → rest ≡ front ++ 10 ∷ after → HasNoLineEnd (buffer ++ front) → lines_of (buffer ++ (rest ++ more)) ≡ (buffer ++ front) ∷ lines_of (after ++ more)
+cut buffer rest front after more e h =
+    ap (λ r. lines_of (buffer ++ (r ++ more))) e
+    ∙ ap (λ r. lines_of (buffer ++ r)) (append_assoc front (10 ∷ after) more)
+    ∙ ap lines_of (sym (append_assoc buffer front (10 ∷ (after ++ more))))
+    ∙ slice_split_at is_line_end (buffer ++ front) 10 (after ++ more) h refl
 
 reads_of : (max k : ℕ) (lines : List (List ℕ)) (new : State) (read : Result FormulaValue CnfFault) → ((fault : CnfFault) → new ≡ Faulty fault → ⊥) → Reads max k lines new read → read ≡ formula_from_state max k new lines
 reads_of max k lines Header read h r = r
@@ -67,12 +67,12 @@ reads_of max k lines (Clauses b) read h r = r
 reads_of max k lines (Ended b) read h r = r
 reads_of max k lines (Faulty fault) read h r = absurd (h fault refl)
 
-pub going-more : (max first number : ℕ) (old state new : State) (held piece left rest front after : List ℕ) → Going max first old held piece state number left rest
+pub going-more : (max first number : ℕ) (old state new : State) (buffer piece left rest front after : List ℕ) → Going max first old buffer piece state number left rest
     → rest ≡ front ++ 10 ∷ after → HasNoLineEnd (left ++ front)
     → ((k : ℕ) → number ≡ line_number k → (lines : List (List ℕ)) → Reads max (k + 1) lines new (formula_from_state max k state ((left ++ front) ∷ lines)))
     → ((fault : CnfFault) → new ≡ Faulty fault → ⊥)
-    → Going max first old held piece new (min (number + 1) (2 ^ 64 - 1)) [] after
-going-more max first number old state new held piece left rest front after g e h line sound = record {
+    → Going max first old buffer piece new (min (number + 1) (2 ^ 64 - 1)) [] after
+going-more max first number old state new buffer piece left rest front after g e h line sound = record {
   lines = g.lines ++ (left ++ front) ∷ [];
   whole = all_more g.lines (left ++ front) g.whole h;
   text_is = g.text_is ∙ ap (λ r. text_of_lines g.lines ++ (left ++ r)) e ∙ ap (λ r. text_of_lines g.lines ++ r) (sym (append_assoc left front (10 ∷ after))) ∙ sym (joined_more g.lines (left ++ front) after);
@@ -94,11 +94,11 @@ told-err Truncated line read m h = h
 told-err (NoMemory e) line read m h = cc
 
 -- a fault in that line
-pub taken-fault : (max first number : ℕ) (old state : State) (fault : CnfFault) (held piece left rest front after now : List ℕ) → Going max first old held piece state number left rest
+pub taken-fault : (max first number : ℕ) (old state : State) (fault : CnfFault) (buffer piece left rest front after now : List ℕ) → Going max first old buffer piece state number left rest
     → rest ≡ front ++ 10 ∷ after → HasNoLineEnd (left ++ front) → HasNoLineEnd now
     → ((k : ℕ) → number ≡ line_number k → (lines : List (List ℕ)) → IsCnfTold fault.kind fault.line (formula_from_state max k state ((left ++ front) ∷ lines)))
-    → Taken max first old held piece (Faulty fault) number now
-taken-fault max first number old state fault held piece left rest front after now g e h none line = record {
+    → Taken max first old buffer piece (Faulty fault) number now
+taken-fault max first number old state fault buffer piece left rest front after now g e h none line = record {
   none = none;
   lines = g.lines;
   whole = g.whole;
@@ -107,15 +107,15 @@ taken-fault max first number old state fault held piece left rest front after no
   reads = λ sound. cc;
   told = λ kept is memory n first_is more.
       let same : fault ≡ kept = cc in
-      subst (λ (f : CnfFault). formula_from_state max n old (lines_of (held ++ (piece ++ more))) ≡ Err f) same
-      (behind max first number old state held piece left rest g n first_is more ∙ ap (formula_from_state max (n + length g.lines) state) (cut left rest front after more e h)
+      subst (λ (f : CnfFault). formula_from_state max n old (lines_of (buffer ++ (piece ++ more))) ≡ Err f) same
+      (behind max first number old state buffer piece left rest g n first_is more ∙ ap (formula_from_state max (n + length g.lines) state) (cut left rest front after more e h)
       ∙ told-err fault.kind fault.line _ (subst (λ (f : CnfFault). is_cnf_no_memory f.kind ≡ false) (sym same) memory) (line (n + length g.lines) (g.line_is n first_is) (lines_of (after ++ more))));
 }
 
 -- memory ran out
-pub taken-memory : (max first number line : ℕ) (old state new : State) (held piece left rest now : List ℕ) → Going max first old held piece state number left rest → HasNoLineEnd now
-    → kept_fault new ≡ Some (record { kind = NoMemory no_memory; line = line }) → Taken max first old held piece new number now
-taken-memory max first number line old state new held piece left rest now g h e = record {
+pub taken-memory : (max first number line : ℕ) (old state new : State) (buffer piece left rest now : List ℕ) → Going max first old buffer piece state number left rest → HasNoLineEnd now
+    → kept_fault new ≡ Some (record { kind = NoMemory no_memory; line = line }) → Taken max first old buffer piece new number now
+taken-memory max first number line old state new buffer piece left rest now g h e = record {
   none = h;
   lines = g.lines;
   whole = g.whole;
@@ -132,9 +132,9 @@ taken-memory max first number line old state new held piece left rest now g h e 
     not_told f same memory = let kind : NoMemory no_memory ≡ f.kind = cc in let yes : is_cnf_no_memory f.kind ≡ true = ap is_cnf_no_memory (sym kind) in cc
 
 -- a line for which room was asked and refused
-pub room-line : (max first number line : ℕ) (old state : State) (held piece left rest front after : List ℕ) → Going max first old held piece state number left rest → rest ≡ front ++ 10 ∷ after → line ≡ number
-    → (0 < length left) ⊎ ((left ≡ []) × (asks_room state (tokens_of front) ≡ true)) → NeedsRoomFrom max first old held piece line
-room-line max first number line old state held piece left rest front after g e here asked = record {
+pub scratch-line : (max first number line : ℕ) (old state : State) (buffer piece left rest front after : List ℕ) → Going max first old buffer piece state number left rest → rest ≡ front ++ 10 ∷ after → line ≡ number
+    → (0 < length left) ⊎ ((left ≡ []) × (asks_memory state (tokens_of front) ≡ true)) → NeedsMemoryFrom max first old buffer piece line
+scratch-line max first number line old state buffer piece left rest front after g e here asked = record {
   lines = g.lines;
   whole = g.whole;
   left = left ++ rest;
@@ -142,7 +142,7 @@ room-line max first number line old state held piece left rest front after g e h
   line_is = λ n first_is. here ∙ g.line_is n first_is;
   state = state;
   reads = g.reads;
-  room = elim asked [
+  scratch = elim asked [
     | inl some ↦ elim g.held_is [
       | inl none ↦ absurd (omega (arith, ap length none))
       | inr both ↦ inl (both.0, subst (λ (h : List ℕ). 0 < length h) both.1 some)
@@ -152,9 +152,9 @@ room-line max first number line old state held piece left rest front after g e h
 }
 
 -- a line that isn't whole
-pub room-rest : (max first number line : ℕ) (old state : State) (held piece left rest : List ℕ) → Going max first old held piece state number left rest → HasNoLineEnd left → HasNoLineEnd rest → 0 < length rest → line ≡ number
-    → NeedsRoomFrom max first old held piece line
-room-rest max first number line old state held piece left rest g none unended some here = record {
+pub scratch-rest : (max first number line : ℕ) (old state : State) (buffer piece left rest : List ℕ) → Going max first old buffer piece state number left rest → HasNoLineEnd left → HasNoLineEnd rest → 0 < length rest → line ≡ number
+    → NeedsMemoryFrom max first old buffer piece line
+scratch-rest max first number line old state buffer piece left rest g none unended some here = record {
   lines = g.lines;
   whole = g.whole;
   left = left ++ rest;
@@ -162,15 +162,15 @@ room-rest max first number line old state held piece left rest g none unended so
   line_is = λ n first_is. here ∙ g.line_is n first_is;
   state = state;
   reads = g.reads;
-  room = inr (inl (omega (arith, length-append left rest), no_line_end-both left rest none unended));
+  scratch = inr (inl (omega (arith, length-append left rest), no_line_end-both left rest none unended));
 }
 
 -- the same, where the refusal is kept
-pub room-refused : (max first number : ℕ) (old state : State) (held piece left rest : List ℕ) (new : State) → Going max first old held piece state number left rest → HasNoLineEnd left → HasNoLineEnd rest → 0 < length rest
-    → kept_fault new ≡ Some (record { kind = NoMemory no_memory; line = number }) → IfSome (kept_fault new) (λ fault. is_cnf_no_memory fault.kind ≡ true → NeedsRoomFrom max first old held piece fault.line)
-room-refused max first number old state held piece left rest new g none unended some e =
-    subst (λ (o : Option CnfFault). IfSome o (λ fault. is_cnf_no_memory fault.kind ≡ true → NeedsRoomFrom max first old held piece fault.line)) (sym e)
-    (λ memory. room-rest max first number number old state held piece left rest g none unended some refl)
+pub scratch-refused : (max first number : ℕ) (old state : State) (buffer piece left rest : List ℕ) (new : State) → Going max first old buffer piece state number left rest → HasNoLineEnd left → HasNoLineEnd rest → 0 < length rest
+    → kept_fault new ≡ Some (record { kind = NoMemory no_memory; line = number }) → IfSome (kept_fault new) (λ fault. is_cnf_no_memory fault.kind ≡ true → NeedsMemoryFrom max first old buffer piece fault.line)
+scratch-refused max first number old state buffer piece left rest new g none unended some e =
+    subst (λ (o : Option CnfFault). IfSome o (λ fault. is_cnf_no_memory fault.kind ≡ true → NeedsMemoryFrom max first old buffer piece fault.line)) (sym e)
+    (λ memory. scratch-rest max first number number old state buffer piece left rest g none unended some refl)
 
 -- a state that isn't faulty keeps no fault
 pub sound_state : (new : State) → ((fault : CnfFault) → new ≡ Faulty fault → ⊥) → kept_fault new ≡ None
@@ -186,26 +186,26 @@ resumed_fault max n lines (Ended b) fault is = cc
 resumed_fault max n lines (Faulty kept) fault is = let same : kept ≡ fault = cc in ap (λ (f : CnfFault). Err f) same
 
 -- the rest is held
-pub taken-rest : (max first number : ℕ) (old state : State) (held piece left rest : List ℕ) → Going max first old held piece state number left rest → HasNoLineEnd (left ++ rest)
-    → Taken max first old held piece state number (left ++ rest)
-taken-rest max first number old state held piece left rest g h = record {
+pub taken-rest : (max first number : ℕ) (old state : State) (buffer piece left rest : List ℕ) → Going max first old buffer piece state number left rest → HasNoLineEnd (left ++ rest)
+    → Taken max first old buffer piece state number (left ++ rest)
+taken-rest max first number old state buffer piece left rest g h = record {
   none = h;
   lines = g.lines;
   whole = g.whole;
   line_is = g.line_is;
   text_is = λ sound. g.text_is;
   reads = λ sound. g.reads;
-  told = λ fault is memory n first_is more. behind max first number old state held piece left rest g n first_is more
+  told = λ fault is memory n first_is more. behind max first number old state buffer piece left rest g n first_is more
       ∙ resumed_fault max (n + length g.lines) (lines_of (left ++ (rest ++ more))) state fault is;
 }
 
 -- the reader goes on behind the piece
-pub stands-fed : (max line : ℕ) (held : List ℕ) (old : State) (text piece : List ℕ) → CnfStandsAt max line held old text → (new : State) (number : ℕ) (left : List ℕ) → Taken max line old held piece new number left → kept_fault new ≡ None
+pub stands-fed : (max line : ℕ) (buffer : List ℕ) (old : State) (text piece : List ℕ) → CnfStandsAt max line buffer old text → (new : State) (number : ℕ) (left : List ℕ) → Taken max line old buffer piece new number left → kept_fault new ≡ None
     → CnfStandsAt max number left new (text ++ piece)
-stands-fed max line held old text piece s new number left t sound = record {
+stands-fed max line buffer old text piece s new number left t sound = record {
   lines = s.lines ++ t.lines;
   whole = both s.lines t.lines s.whole t.whole;
-  text_is = ap (λ x. x ++ piece) s.text_is ∙ append_assoc (text_of_lines s.lines) held piece ∙ ap (λ x. text_of_lines s.lines ++ x) (t.text_is sound) ∙ sym (joined_both s.lines t.lines left);
+  text_is = ap (λ x. x ++ piece) s.text_is ∙ append_assoc (text_of_lines s.lines) buffer piece ∙ ap (λ x. text_of_lines s.lines ++ x) (t.text_is sound) ∙ sym (joined_both s.lines t.lines left);
   line_is = t.line_is (length s.lines) s.line_is ∙ ap line_number (sym (length-append s.lines t.lines));
   reads = λ more. ap (read_cnf max) (joined_both s.lines t.lines more) ∙ s.reads (text_of_lines t.lines ++ more)
       ∙ t.reads sound (length s.lines) s.line_is more
@@ -213,33 +213,33 @@ stands-fed max line held old text piece s new number left t sound = record {
 }
 
 -- whatever follows what was fed
-read_on : (max line : ℕ) (held : List ℕ) (state : State) (text : List ℕ) (s : CnfStandsAt max line held state text) (more : List ℕ) → read_cnf max (text ++ more) ≡ formula_from_state max (length s.lines) state (lines_of (held ++ more))
-read_on max line held state text s more =
-    ap (λ t. read_cnf max (t ++ more)) s.text_is ∙ ap (read_cnf max) (append_assoc (text_of_lines s.lines) held more) ∙ s.reads (held ++ more)
+read_on : (max line : ℕ) (buffer : List ℕ) (state : State) (text : List ℕ) (s : CnfStandsAt max line buffer state text) (more : List ℕ) → read_cnf max (text ++ more) ≡ formula_from_state max (length s.lines) state (lines_of (buffer ++ more))
+read_on max line buffer state text s more =
+    ap (λ t. read_cnf max (t ++ more)) s.text_is ∙ ap (read_cnf max) (append_assoc (text_of_lines s.lines) buffer more) ∙ s.reads (buffer ++ more)
 
 -- a fault in the piece
-pub fault-fed : (max line : ℕ) (held : List ℕ) (old : State) (text piece : List ℕ) → CnfStandsAt max line held old text → (new : State) (number : ℕ) (left : List ℕ) → Taken max line old held piece new number left
+pub fault-fed : (max line : ℕ) (buffer : List ℕ) (old : State) (text piece : List ℕ) → CnfStandsAt max line buffer old text → (new : State) (number : ℕ) (left : List ℕ) → Taken max line old buffer piece new number left
     → (fault : CnfFault) → kept_fault new ≡ Some fault → is_cnf_no_memory fault.kind ≡ false → HasFaultAlready max (text ++ piece) fault
-fault-fed max line held old text piece s new number left t fault is memory more =
-    ap (read_cnf max) (append_assoc text piece more) ∙ read_on max line held old text s (piece ++ more)
+fault-fed max line buffer old text piece s new number left t fault is memory more =
+    ap (read_cnf max) (append_assoc text piece more) ∙ read_on max line buffer old text s (piece ++ more)
     ∙ t.told fault is memory (length s.lines) s.line_is more
 
 -- the state that keeps what a line says is among the clauses
 begins_by : (max : ℕ) (lines : List (List ℕ)) (state : State) (line : List ℕ) → ((more : List ℕ) → read_cnf max (text_of_lines lines ++ more) ≡ formula_from_state max (length lines) state (lines_of more))
-    → asks_room state (tokens_of line) ≡ true → BeginsByNumber max lines line
+    → asks_memory state (tokens_of line) ≡ true → BeginsByNumber max lines line
 begins_by max lines Header line reads asks = cc
 begins_by max lines (Clauses begun) line reads asks = record { begun = begun; reads = reads; number = asks }
 begins_by max lines (Ended begun) line reads asks = cc
 begins_by max lines (Faulty fault) line reads asks = cc
 
 -- the whole lines of a text that ends within a line
-whole_lines : (text : List ℕ) (lines : List (List ℕ)) (held : List ℕ) → AllByRecursion HasNoLineEnd lines → text ≡ text_of_lines lines ++ held → HasNoLineEnd held → all_but_last (lines_of text) ≡ lines
-whole_lines text lines held whole e none =
-    ap (λ t. all_but_last (lines_of t)) e ∙ cut-joined lines held whole ∙ ap (λ ls. lines ++ all_but_last ls) (cut-none held none) ∙ append-nil lines
+whole_lines : (text : List ℕ) (lines : List (List ℕ)) (buffer : List ℕ) → AllByRecursion HasNoLineEnd lines → text ≡ text_of_lines lines ++ buffer → HasNoLineEnd buffer → all_but_last (lines_of text) ≡ lines
+whole_lines text lines buffer whole e none =
+    ap (λ t. all_but_last (lines_of t)) e ∙ cut-joined lines buffer whole ∙ ap (λ ls. lines ++ all_but_last ls) (cut-none buffer none) ∙ append-nil lines
 
 -- a line needs room behind what was fed
-pub room-fed : (max first : ℕ) (held : List ℕ) (old : State) (text piece : List ℕ) → CnfStandsAt max first held old text → HasNoLineEnd held → (line : ℕ) → NeedsRoomFrom max first old held piece line → NeedsRoom max text piece line
-room-fed max first held old text piece s none line r =
+pub scratch-fed : (max first : ℕ) (buffer : List ℕ) (old : State) (text piece : List ℕ) → CnfStandsAt max first buffer old text → HasNoLineEnd buffer → (line : ℕ) → NeedsMemoryFrom max first old buffer piece line → NeedsMemory max text piece line
+scratch-fed max first buffer old text piece s none line r =
     let lines = s.lines ++ r.lines in
     let reads : (more : List ℕ) → read_cnf max (text_of_lines lines ++ more) ≡ formula_from_state max (length lines) r.state (lines_of more) = λ more.
     ap (read_cnf max) (joined_both s.lines r.lines more) ∙ s.reads (text_of_lines r.lines ++ more)
@@ -249,11 +249,11 @@ room-fed max first held old text piece s none line r =
       lines = lines;
       whole = both s.lines r.lines s.whole r.whole;
       left = r.left;
-      cut = ap (λ x. x ++ piece) s.text_is ∙ append_assoc (text_of_lines s.lines) held piece ∙ ap (λ x. text_of_lines s.lines ++ x) r.cut ∙ sym (joined_both s.lines r.lines r.left);
+      cut = ap (λ x. x ++ piece) s.text_is ∙ append_assoc (text_of_lines s.lines) buffer piece ∙ ap (λ x. text_of_lines s.lines ++ x) r.cut ∙ sym (joined_both s.lines r.lines r.left);
       line_is = r.line_is (length s.lines) s.line_is ∙ ap line_number (sym (length-append s.lines r.lines));
-      behind = omega (arith, ap length (whole_lines text s.lines held s.whole s.text_is none), length-append s.lines r.lines);
-      room = elim r.room [
-        | inl some ↦ inl (held, s.text_is ∙ ap (λ ls. text_of_lines ls ++ held) (sym (ap (λ ls. s.lines ++ ls) some.0 ∙ append-nil s.lines)), (some.1, none))
+      behind = omega (arith, ap length (whole_lines text s.lines buffer s.whole s.text_is none), length-append s.lines r.lines);
+      scratch = elim r.scratch [
+        | inl some ↦ inl (buffer, s.text_is ∙ ap (λ ls. text_of_lines ls ++ buffer) (sym (ap (λ ls. s.lines ++ ls) some.0 ∙ append-nil s.lines)), (some.1, none))
         | inr more ↦ inr (elim more [
           | inl unended ↦ inl unended
           | inr number ↦ inr (number.0, number.1, number.2, begins_by max lines r.state number.0 reads number.3)
@@ -278,27 +278,27 @@ closed_ok max n (Clauses b) read formula e h = e ∙ h
 closed_ok max n (Ended b) read formula e h = e ∙ h
 closed_ok max n (Faulty kept) read formula e h = cc
 
-whole : (max line : ℕ) (held : List ℕ) (state : State) (text : List ℕ) (s : CnfStandsAt max line held state text) → HasNoLineEnd held → read_cnf max text ≡ formula_from_state max (length s.lines) state (held ∷ [])
-whole max line held state text s none = ap (read_cnf max) s.text_is ∙ s.reads held ∙ ap (formula_from_state max (length s.lines) state) (slice_split_none is_line_end held none)
+whole : (max line : ℕ) (buffer : List ℕ) (state : State) (text : List ℕ) (s : CnfStandsAt max line buffer state text) → HasNoLineEnd buffer → read_cnf max text ≡ formula_from_state max (length s.lines) state (buffer ∷ [])
+whole max line buffer state text s none = ap (read_cnf max) s.text_is ∙ s.reads buffer ∙ ap (formula_from_state max (length s.lines) state) (slice_split_none is_line_end buffer none)
 
-pub answered : (max line : ℕ) (held : List ℕ) (state : State) (text : List ℕ) (s : CnfStandsAt max line held state text) (new : State) (result : Result FormulaValue CnfFault) → HasNoLineEnd held
-    → Reads max (length s.lines + 1) [] new (formula_from_state max (length s.lines) state (held ∷ []))
+pub answered : (max line : ℕ) (buffer : List ℕ) (state : State) (text : List ℕ) (s : CnfStandsAt max line buffer state text) (new : State) (result : Result FormulaValue CnfFault) → HasNoLineEnd buffer
+    → Reads max (length s.lines + 1) [] new (formula_from_state max (length s.lines) state (buffer ∷ []))
     → MatchResult result (λ formula. formula_from_state max (length s.lines + 1) new [] ≡ Ok formula) (λ fault. IsCnfTold fault.kind fault.line (formula_from_state max (length s.lines + 1) new []))
     → IsAnswer max text result
-answered max line held state text s new (Ok formula) none reads end = whole max line held state text s none ∙ closed_ok max (length s.lines + 1) new _ formula reads end
-answered max line held state text s new (Err fault) none reads end = λ m. whole max line held state text s none ∙ closed_fault max (length s.lines + 1) new _ fault reads end m
+answered max line buffer state text s new (Ok formula) none reads end = whole max line buffer state text s none ∙ closed_ok max (length s.lines + 1) new _ formula reads end
+answered max line buffer state text s new (Err fault) none reads end = λ m. whole max line buffer state text s none ∙ closed_fault max (length s.lines + 1) new _ fault reads end m
 
-pub ends_at : (max line : ℕ) (held : List ℕ) (state : State) (text : List ℕ) → CnfStandsAt max line held state text → HasNoLineEnd held → line ≡ last_number text
-ends_at max line held state text s none = s.line_is ∙ ap (λ ls. line_number (length ls)) (sym (whole_lines text s.lines held s.whole s.text_is none))
+pub ends_at : (max line : ℕ) (buffer : List ℕ) (state : State) (text : List ℕ) → CnfStandsAt max line buffer state text → HasNoLineEnd buffer → line ≡ last_number text
+ends_at max line buffer state text s none = s.line_is ∙ ap (λ ls. line_number (length ls)) (sym (whole_lines text s.lines buffer s.whole s.text_is none))
 
-pub ends_by : (max line : ℕ) (held : List ℕ) (state : State) (text : List ℕ) → CnfStandsAt max line held state text → HasNoLineEnd held → asks_room state (tokens_of held) ≡ true → EndsByNumber max text
-ends_by max line held state text s none asks = record {
+pub ends_by : (max line : ℕ) (buffer : List ℕ) (state : State) (text : List ℕ) → CnfStandsAt max line buffer state text → HasNoLineEnd buffer → asks_memory state (tokens_of buffer) ≡ true → EndsByNumber max text
+ends_by max line buffer state text s none asks = record {
   lines = s.lines;
   whole = s.whole;
-  last = held;
+  last = buffer;
   cut = s.text_is;
   none = none;
-  begins = begins_by max s.lines state held s.reads asks;
+  begins = begins_by max s.lines state buffer s.reads asks;
 }
 
 pub fault-at_end : (max : ℕ) (text : List ℕ) (fault : CnfFault) → HasFaultAlready max text fault → HasFault max text fault
@@ -317,12 +317,12 @@ told_line None (Err fault) line last A B e some again none = (none refl).0 ∙ e
 told_line (Some kept) (Ok formula) line last A B e some again none = tt
 told_line (Some kept) (Err fault) line last A B e some again none = let same : fault ≡ kept = cc in ap (λ (f : CnfFault). f.line) same ∙ some.0 ∙ e
 
-pub told_room : (o : Option CnfFault) (r : Result FormulaValue CnfFault) (line : ℕ) (P : Type 0) → IfSome o (λ fault. (fault.line ≡ line) × (is_cnf_no_memory fault.kind ≡ true → P)) → IfSome o (λ fault. r ≡ Err fault)
+pub told_memory : (o : Option CnfFault) (r : Result FormulaValue CnfFault) (line : ℕ) (P : Type 0) → IfSome o (λ fault. (fault.line ≡ line) × (is_cnf_no_memory fault.kind ≡ true → P)) → IfSome o (λ fault. r ≡ Err fault)
     → (o ≡ None → IfErr r (λ fault. (fault.line ≡ line) × (is_cnf_no_memory fault.kind ≡ false))) → IfErr r (λ fault. is_cnf_no_memory fault.kind ≡ true → P)
-told_room None (Ok formula) line P some again none = tt
-told_room None (Err fault) line P some again none = λ memory. let other : is_cnf_no_memory fault.kind ≡ false = (none refl).1 in cc
-told_room (Some kept) (Ok formula) line P some again none = tt
-told_room (Some kept) (Err fault) line P some again none = λ memory. let same : fault ≡ kept = cc in some.1 (subst (λ (f : CnfFault). is_cnf_no_memory f.kind ≡ true) same memory)
+told_memory None (Ok formula) line P some again none = tt
+told_memory None (Err fault) line P some again none = λ memory. let other : is_cnf_no_memory fault.kind ≡ false = (none refl).1 in cc
+told_memory (Some kept) (Ok formula) line P some again none = tt
+told_memory (Some kept) (Err fault) line P some again none = λ memory. let same : fault ≡ kept = cc in some.1 (subst (λ (f : CnfFault). is_cnf_no_memory f.kind ≡ true) same memory)
 
 pub asks_at_end : {A B : Type 0} (r : Result FormulaValue CnfFault) → (A → B) → IfErr r (λ fault. is_cnf_no_memory fault.kind ≡ true → A) → IfErr r (λ fault. is_cnf_no_memory fault.kind ≡ true → B)
 asks_at_end (Ok formula) f h = tt

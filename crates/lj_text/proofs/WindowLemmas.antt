@@ -13,7 +13,7 @@ use Rattle.std.proofs.lemmas.Bool.Decides.{nat_tests}
 use Rattle.std.proofs.lemmas.Nat.{and_block, or_block, xor_block, and_mask, or_lt, and_shr, or_shr, xor_lt}
 use Rattle.std.proofs.Math.Seq.{drop-cons}
 use Rattle.std.proofs.Math.Nat.{pow-succ', mul_assoc, mul-le-mul_right}
-use Rattle.lj_text.specs.inner.Windows.{moved_up, word_of, number_of_counts, AreBytes, AreCounts}
+use Rattle.lj_text.specs.inner.Windows.{moved_up, number_in_token, number_of_counts, AreBytes, AreCounts}
 
 -- ---- tests of each byte
 abbrev all-below : (ℕ → Bool) → ℕ → Bool
@@ -83,9 +83,9 @@ xor-byte r s a b lr ls =
 abbrev pub less_zero : ℕ → ℕ
 less_zero b = bit_xor b 48
 
-xored : (bs : List ℕ) → AreBytes bs → bit_xor (word_of bs) (zeros (length bs)) ≡ word_of (map less_zero bs)
+xored : (bs : List ℕ) → AreBytes bs → bit_xor (number_in_token bs) (zeros (length bs)) ≡ number_in_token (map less_zero bs)
 xored [] all = refl
-xored (b ∷ bs) all = xor-byte b 48 (word_of bs) (zeros (length bs)) all.0 (omega arith) ∙ ap (λ w. less_zero b + 256 * w) (xored bs all.1)
+xored (b ∷ bs) all = xor-byte b 48 (number_in_token bs) (zeros (length bs)) all.0 (omega arith) ∙ ap (λ w. less_zero b + 256 * w) (xored bs all.1)
 
 -- ---- each byte is at most 9
 abbrev low-test : ℕ → Bool
@@ -99,10 +99,10 @@ low-at-most r lt none =
     let passes : nat_le r 9 ≡ true = sym (ap (λ x. cond (x == 0) (nat_le r 9) true) none) ∙ low-passes r lt in
     grind (arith, nat_tests, passes)
 
-nine : (bs : List ℕ) (z : ℕ) → AreBytes bs → z ≡ word_of bs + aboves (length bs) → bit_and (bit_or z (word_of bs)) (uppers (length bs)) ≡ 0 → AreCounts bs
+nine : (bs : List ℕ) (z : ℕ) → AreBytes bs → z ≡ number_in_token bs + aboves (length bs) → bit_and (bit_or z (number_in_token bs)) (uppers (length bs)) ≡ 0 → AreCounts bs
 nine [] z all e none = tt
 nine (r ∷ bs) z all e none =
-    let a : ℕ = word_of bs in
+    let a : ℕ = number_in_token bs in
     let s : ℕ = (r + 118) % 256 in
     let t : ℕ = a + aboves (length bs) + (r + 118) / 256 in
     let byte : s < 256 = omega arith in
@@ -125,16 +125,16 @@ top-clear (suc zero) (suc zero) lx ly e = absurd (omega (arith, e))
 top-clear (suc (suc x)) (suc zero) lx ly e = absurd (omega arith)
 top-clear x (suc (suc y)) lx ly e = absurd (omega arith)
 
-pub all-digits : (word : ℕ) → word < 18446744073709551616 → bit_and (bit_or ((word + 8536140394893047414) % 18446744073709551616) word) 9259542123273814144 ≡ 0
-    → (bs : List ℕ) → length bs ≡ 8 → AreBytes bs → word ≡ word_of bs → AreCounts bs
-all-digits word fits none bs eight all is =
-    let z : ℕ = (word + 8536140394893047414) % 18446744073709551616 in
-    let shifted : bit_and (bit_or (z / 2 ^ 63) (word / 2 ^ 63)) 1 ≡ 0 =
-    ap (λ o. bit_and o 1) (sym (or_shr z word 63)) ∙ sym (and_shr (bit_or z word) 9259542123273814144 63) ∙ ap (λ x. x / 2 ^ 63) none in
-    let top : word / 2 ^ 63 ≡ 0 = top-clear (z / 2 ^ 63) (word / 2 ^ 63) (omega arith) (omega (arith, fits)) shifted in
-    let unwrapped : z ≡ word + 8536140394893047414 = omega (arith, top) in
-    nine bs z all (unwrapped ∙ ap (λ w. w + 8536140394893047414) is ∙ ap (λ n. word_of bs + aboves n) (sym eight))
-    (ap (λ n. bit_and (bit_or z (word_of bs)) (uppers n)) eight ∙ ap (λ w. bit_and (bit_or z w) 9259542123273814144) (sym is) ∙ none)
+pub all-digits : (token_number : ℕ) → token_number < 18446744073709551616 → bit_and (bit_or ((token_number + 8536140394893047414) % 18446744073709551616) token_number) 9259542123273814144 ≡ 0
+    → (bs : List ℕ) → length bs ≡ 8 → AreBytes bs → token_number ≡ number_in_token bs → AreCounts bs
+all-digits token_number fits none bs eight all is =
+    let z : ℕ = (token_number + 8536140394893047414) % 18446744073709551616 in
+    let shifted : bit_and (bit_or (z / 2 ^ 63) (token_number / 2 ^ 63)) 1 ≡ 0 =
+    ap (λ o. bit_and o 1) (sym (or_shr z token_number 63)) ∙ sym (and_shr (bit_or z token_number) 9259542123273814144 63) ∙ ap (λ x. x / 2 ^ 63) none in
+    let top : token_number / 2 ^ 63 ≡ 0 = top-clear (z / 2 ^ 63) (token_number / 2 ^ 63) (omega arith) (omega (arith, fits)) shifted in
+    let unwrapped : z ≡ token_number + 8536140394893047414 = omega (arith, top) in
+    nine bs z all (unwrapped ∙ ap (λ w. w + 8536140394893047414) is ∙ ap (λ n. number_in_token bs + aboves n) (sym eight))
+    (ap (λ n. bit_and (bit_or z (number_in_token bs)) (uppers n)) eight ∙ ap (λ w. bit_and (bit_or z w) 9259542123273814144) (sym is) ∙ none)
 
 -- ---- the value of eight digits
 and-two : (r s a b : ℕ) → r < 65536 → s < 65536 → bit_and (r + 65536 * a) (s + 65536 * b) ≡ bit_and r s + 65536 * bit_and a b
@@ -170,11 +170,11 @@ masked-fours c0 c1 q0 q1 l0 l1 m0 m1 =
     and-four (c0 + 65536 * q0) 65535 (c1 + 65536 * q1) 65535 (omega (arith, l0, m0)) (omega arith)
     ∙ omega (arith, low-two c0 q0 l0, low-two c1 q1 l1)
 
-pub value-is : (counts : List ℕ) → length counts ≡ 8 → AreCounts counts → (word pairs fours : ℕ) → word ≡ word_of counts
-    → pairs ≡ bit_and (word * 2561 % 18446744073709551616 / 256) 71777214294589695
+pub value-is : (counts : List ℕ) → length counts ≡ 8 → AreCounts counts → (token_number pairs fours : ℕ) → token_number ≡ number_in_token counts
+    → pairs ≡ bit_and (token_number * 2561 % 18446744073709551616 / 256) 71777214294589695
     → fours ≡ bit_and (pairs * 6553601 % 18446744073709551616 / 65536) 281470681808895
     → fours * 42949672960001 % 18446744073709551616 / 4294967296 ≡ number_of_counts counts
-value-is (d0 ∷ d1 ∷ d2 ∷ d3 ∷ d4 ∷ d5 ∷ d6 ∷ d7 ∷ []) eight all word pairs fours is is-pairs is-fours =
+value-is (d0 ∷ d1 ∷ d2 ∷ d3 ∷ d4 ∷ d5 ∷ d6 ∷ d7 ∷ []) eight all token_number pairs fours is is-pairs is-fours =
     let l0 : d0 ≤ 9 = all.0 in
     let l1 : d1 ≤ 9 = all.1.0 in
     let l2 : d2 ≤ 9 = all.1.1.0 in
@@ -183,7 +183,7 @@ value-is (d0 ∷ d1 ∷ d2 ∷ d3 ∷ d4 ∷ d5 ∷ d6 ∷ d7 ∷ []) eight all 
     let l5 : d5 ≤ 9 = all.1.1.1.1.1.0 in
     let l6 : d6 ≤ 9 = all.1.1.1.1.1.1.0 in
     let l7 : d7 ≤ 9 = all.1.1.1.1.1.1.1.0 in
-    let tenfold : word * 2561 % 18446744073709551616 / 256
+    let tenfold : token_number * 2561 % 18446744073709551616 / 256
     ≡ ((10 * d0 + d1) + 256 * (10 * d1 + d2)) + 65536 * (((10 * d2 + d3) + 256 * (10 * d3 + d4)) + 65536 * (((10 * d4 + d5) + 256 * (10 * d5 + d6)) + 65536 * ((10 * d6 + d7) + 256 * 0))) =
     omega (arith, is, l0, l1, l2, l3, l4, l5, l6, l7) in
     let paired : pairs ≡ (10 * d0 + d1) + 65536 * ((10 * d2 + d3) + 65536 * ((10 * d4 + d5) + 65536 * (10 * d6 + d7))) =
@@ -198,32 +198,32 @@ value-is (d0 ∷ d1 ∷ d2 ∷ d3 ∷ d4 ∷ d5 ∷ d6 ∷ d7 ∷ []) eight all 
     ∙ masked-fours (100 * (10 * d0 + d1) + (10 * d2 + d3)) (100 * (10 * d4 + d5) + (10 * d6 + d7)) (100 * (10 * d2 + d3) + (10 * d4 + d5)) 0
     (omega (arith, l0, l1, l2, l3)) (omega (arith, l4, l5, l6, l7)) (omega (arith, l2, l3, l4, l5)) (omega arith) in
     omega (arith, grouped, l0, l1, l2, l3, l4, l5, l6, l7)
-value-is [] eight all word pairs fours is is-pairs is-fours = absurd (omega arith)
-value-is (d0 ∷ []) eight all word pairs fours is is-pairs is-fours = absurd (omega arith)
-value-is (d0 ∷ d1 ∷ []) eight all word pairs fours is is-pairs is-fours = absurd (omega arith)
-value-is (d0 ∷ d1 ∷ d2 ∷ []) eight all word pairs fours is is-pairs is-fours = absurd (omega arith)
-value-is (d0 ∷ d1 ∷ d2 ∷ d3 ∷ []) eight all word pairs fours is is-pairs is-fours = absurd (omega arith)
-value-is (d0 ∷ d1 ∷ d2 ∷ d3 ∷ d4 ∷ []) eight all word pairs fours is is-pairs is-fours = absurd (omega arith)
-value-is (d0 ∷ d1 ∷ d2 ∷ d3 ∷ d4 ∷ d5 ∷ []) eight all word pairs fours is is-pairs is-fours = absurd (omega arith)
-value-is (d0 ∷ d1 ∷ d2 ∷ d3 ∷ d4 ∷ d5 ∷ d6 ∷ []) eight all word pairs fours is is-pairs is-fours = absurd (omega arith)
-value-is (d0 ∷ d1 ∷ d2 ∷ d3 ∷ d4 ∷ d5 ∷ d6 ∷ d7 ∷ d8 ∷ ds) eight all word pairs fours is is-pairs is-fours = absurd (omega arith)
+value-is [] eight all token_number pairs fours is is-pairs is-fours = absurd (omega arith)
+value-is (d0 ∷ []) eight all token_number pairs fours is is-pairs is-fours = absurd (omega arith)
+value-is (d0 ∷ d1 ∷ []) eight all token_number pairs fours is is-pairs is-fours = absurd (omega arith)
+value-is (d0 ∷ d1 ∷ d2 ∷ []) eight all token_number pairs fours is is-pairs is-fours = absurd (omega arith)
+value-is (d0 ∷ d1 ∷ d2 ∷ d3 ∷ []) eight all token_number pairs fours is is-pairs is-fours = absurd (omega arith)
+value-is (d0 ∷ d1 ∷ d2 ∷ d3 ∷ d4 ∷ []) eight all token_number pairs fours is is-pairs is-fours = absurd (omega arith)
+value-is (d0 ∷ d1 ∷ d2 ∷ d3 ∷ d4 ∷ d5 ∷ []) eight all token_number pairs fours is is-pairs is-fours = absurd (omega arith)
+value-is (d0 ∷ d1 ∷ d2 ∷ d3 ∷ d4 ∷ d5 ∷ d6 ∷ []) eight all token_number pairs fours is is-pairs is-fours = absurd (omega arith)
+value-is (d0 ∷ d1 ∷ d2 ∷ d3 ∷ d4 ∷ d5 ∷ d6 ∷ d7 ∷ d8 ∷ ds) eight all token_number pairs fours is is-pairs is-fours = absurd (omega arith)
 
 -- ---- a word moved up, so that its last digit stands in the last byte
-word-append : (xs ys : List ℕ) → word_of (xs ++ ys) ≡ word_of xs + 256 ^ length xs * word_of ys
-word-append [] ys = omega arith
-word-append (x ∷ xs) ys =
+token_number-append : (xs ys : List ℕ) → number_in_token (xs ++ ys) ≡ number_in_token xs + 256 ^ length xs * number_in_token ys
+token_number-append [] ys = omega arith
+token_number-append (x ∷ xs) ys =
     let power : 256 ^ suc (length xs) ≡ 256 * 256 ^ length xs = pow-succ' 256 (length xs) in
-    let product : 256 ^ suc (length xs) * word_of ys ≡ 256 * (256 ^ length xs * word_of ys) = ap (λ p. p * word_of ys) power ∙ mul_assoc 256 (256 ^ length xs) (word_of ys) in
-    omega (arith, word-append xs ys, product)
+    let product : 256 ^ suc (length xs) * number_in_token ys ≡ 256 * (256 ^ length xs * number_in_token ys) = ap (λ p. p * number_in_token ys) power ∙ mul_assoc 256 (256 ^ length xs) (number_in_token ys) in
+    omega (arith, token_number-append xs ys, product)
 
-word-below : (xs : List ℕ) → AreBytes xs → word_of xs < 256 ^ length xs
-word-below [] all = omega arith
-word-below (x ∷ xs) all = omega (arith, all.0, word-below xs all.1, pow-succ' 256 (length xs))
+token_number-below : (xs : List ℕ) → AreBytes xs → number_in_token xs < 256 ^ length xs
+token_number-below [] all = omega arith
+token_number-below (x ∷ xs) all = omega (arith, all.0, token_number-below xs all.1, pow-succ' 256 (length xs))
 
-zeros-before : (k : ℕ) (xs : List ℕ) → word_of (replicate k 0 ++ xs) ≡ 256 ^ k * word_of xs
+zeros-before : (k : ℕ) (xs : List ℕ) → number_in_token (replicate k 0 ++ xs) ≡ 256 ^ k * number_in_token xs
 zeros-before zero xs = omega arith
 zeros-before (suc k) xs =
-    let product : 256 ^ suc k * word_of xs ≡ 256 * (256 ^ k * word_of xs) = ap (λ p. p * word_of xs) (pow-succ' 256 k) ∙ mul_assoc 256 (256 ^ k) (word_of xs) in
+    let product : 256 ^ suc k * number_in_token xs ≡ 256 * (256 ^ k * number_in_token xs) = ap (λ p. p * number_in_token xs) (pow-succ' 256 k) ∙ mul_assoc 256 (256 ^ k) (number_in_token xs) in
     omega (arith, zeros-before k xs, product)
 
 moved-by : (k a y : ℕ) → k < 8 → a < 256 ^ (8 - k) → ((a + 256 ^ (8 - k) * y) * 2 ^ (8 * k)) % 18446744073709551616 ≡ 256 ^ k * a
@@ -237,10 +237,10 @@ moved-by (suc (suc (suc (suc (suc (suc zero)))))) a y few lt = omega (arith, lt)
 moved-by (suc (suc (suc (suc (suc (suc (suc zero))))))) a y few lt = omega (arith, lt)
 moved-by (suc (suc (suc (suc (suc (suc (suc (suc k)))))))) a y few lt = absurd (omega arith)
 
-moved-up : (xs ys : List ℕ) (k : ℕ) → AreBytes xs → k < 8 → length xs ≡ 8 - k → (word_of (xs ++ ys) * 2 ^ (8 * k)) % 18446744073709551616 ≡ word_of (replicate k 0 ++ xs)
+moved-up : (xs ys : List ℕ) (k : ℕ) → AreBytes xs → k < 8 → length xs ≡ 8 - k → (number_in_token (xs ++ ys) * 2 ^ (8 * k)) % 18446744073709551616 ≡ number_in_token (replicate k 0 ++ xs)
 moved-up xs ys k all few long =
-    ap (λ w. (w * 2 ^ (8 * k)) % 18446744073709551616) (word-append xs ys ∙ ap (λ n. word_of xs + 256 ^ n * word_of ys) long)
-    ∙ moved-by k (word_of xs) (word_of ys) few (subst (λ n. word_of xs < 256 ^ n) long (word-below xs all))
+    ap (λ w. (w * 2 ^ (8 * k)) % 18446744073709551616) (token_number-append xs ys ∙ ap (λ n. number_in_token xs + 256 ^ n * number_in_token ys) long)
+    ∙ moved-by k (number_in_token xs) (number_in_token ys) few (subst (λ n. number_in_token xs < 256 ^ n) long (token_number-below xs all))
     ∙ sym (zeros-before k xs)
 
 -- ---- the number in a window
@@ -339,7 +339,7 @@ long-front bytes n w = length-map (take n bytes) less_zero ∙ length-take-le n 
 filled-long : (bytes : List ℕ) (n : ℕ) → IsWindow bytes n → length (filled bytes n) ≡ 8
 filled-long bytes n w = omega (arith, length-append (replicate (8 - n) 0) (map less_zero (take n bytes)), length-replicate {A = ℕ} (8 - n) 0, long-front bytes n w, w.3)
 
-moved-is : (bytes : List ℕ) (n : ℕ) → IsWindow bytes n → moved_up bytes n ≡ word_of (filled bytes n)
+moved-is : (bytes : List ℕ) (n : ℕ) → IsWindow bytes n → moved_up bytes n ≡ number_in_token (filled bytes n)
 moved-is bytes n w =
     let whole : List ℕ = take 8 bytes in
     let k : ℕ = 8 - n in
@@ -348,21 +348,21 @@ moved-is bytes n w =
     let split : map less_zero whole ≡ xs ++ ys =
     ap (map less_zero) (sym (take-append-drop n whole)) ∙ map-append less_zero (take n whole) (drop n whole) ∙ ap (λ t. map less_zero t ++ ys) (take-take n 8 bytes w.3) in
     let eight : length whole ≡ 8 = length-take-le 8 bytes w.1 in
-    let plain : bit_xor (word_of whole) 3472328296227680304 ≡ word_of (xs ++ ys) =
-    ap (λ m. bit_xor (word_of whole) (zeros m)) (sym eight) ∙ xored whole w.0 ∙ ap word_of split in
+    let plain : bit_xor (number_in_token whole) 3472328296227680304 ≡ number_in_token (xs ++ ys) =
+    ap (λ m. bit_xor (number_in_token whole) (zeros m)) (sym eight) ∙ xored whole w.0 ∙ ap number_in_token split in
     let up : 64 - 8 * n ≡ 8 * k = omega (arith, w.3) in
-    ap (λ v. (v * 2 ^ (64 - 8 * n)) % 18446744073709551616) plain ∙ ap (λ m. (word_of (xs ++ ys) * 2 ^ m) % 18446744073709551616) up
+    ap (λ v. (v * 2 ^ (64 - 8 * n)) % 18446744073709551616) plain ∙ ap (λ m. (number_in_token (xs ++ ys) * 2 ^ m) % 18446744073709551616) up
     ∙ moved-up xs ys k (bytes-less (take n bytes) (front-bytes bytes n w)) (omega (arith, w.2)) (omega (arith, long-front bytes n w, w.3))
 
 pub told-digits : (bytes : List ℕ) (n : ℕ) → IsWindow bytes n
-    → ((digits : List ℕ) → length digits ≡ 8 → AreBytes digits → moved_up bytes n ≡ word_of digits → AreCounts digits)
+    → ((digits : List ℕ) → length digits ≡ 8 → AreBytes digits → moved_up bytes n ≡ number_in_token digits → AreCounts digits)
     → list_all is_ascii_digit (take n bytes) ≡ true
 told-digits bytes n w told =
     let counts : AreCounts (filled bytes n) = told (filled bytes n) (filled-long bytes n w) (filled-bytes bytes n w) (moved-is bytes n w) in
     digits-of (take n bytes) (front-bytes bytes n w) (counts-front (8 - n) (map less_zero (take n bytes)) counts)
 
 pub within : (bytes : List ℕ) (n value : ℕ) → IsWindow bytes n → n < length bytes → get_or bytes n 0 ≡ 32 → list_all is_ascii_digit (take n bytes) ≡ true
-    → ((counts : List ℕ) → length counts ≡ 8 → AreCounts counts → moved_up bytes n ≡ word_of counts → value ≡ number_of_counts counts)
+    → ((counts : List ℕ) → length counts ≡ 8 → AreCounts counts → moved_up bytes n ≡ number_in_token counts → value ≡ number_of_counts counts)
     → IsShortNumber bytes value (drop (n + 1) bytes)
 within bytes n value w long space digits number =
     let front : List ℕ = take n bytes in
@@ -383,16 +383,16 @@ within bytes n value w long space digits number =
 
 -- the same of a window from one place to the next
 pub window-at : (window : List ℕ) (start end : ℕ) → AreBytes (take 8 (drop start window)) → start + 8 ≤ length window → start < end → end ≤ start + 8 → IsWindow (drop start window) (end - start)
-window-at window start end bytes room some few = (bytes, omega (arith, length-drop start window, room), omega (arith, some), omega (arith, few))
+window-at window start end bytes scratch some few = (bytes, omega (arith, length-drop start window, scratch), omega (arith, some), omega (arith, few))
 
 pub number-at : (window : List ℕ) (start end value : ℕ) → IsWindow (drop start window) (end - start) → start < end → end < length window → get_or window end 0 ≡ 32
     → list_all is_ascii_digit (take (end - start) (drop start window)) ≡ true
-    → ((counts : List ℕ) → length counts ≡ 8 → AreCounts counts → moved_up (drop start window) (end - start) ≡ word_of counts → value ≡ number_of_counts counts)
+    → ((counts : List ℕ) → length counts ≡ 8 → AreCounts counts → moved_up (drop start window) (end - start) ≡ number_in_token counts → value ≡ number_of_counts counts)
     → IsShortNumber (drop start window) value (drop (end + 1) window)
 number-at window start end value w some long space digits number =
     let n : ℕ = end - start in
     let bytes : List ℕ = drop start window in
     let back : start + n ≡ end = omega (arith, some) in
     let found = within bytes n value w (omega (arith, length-drop start window, long, some)) (get_or-drop start window n 0 ∙ ap (λ i. get_or window i 0) back ∙ space) digits number in
-    let place : drop (n + 1) bytes ≡ drop (end + 1) window = drop-drop (n + 1) start window ∙ ap (λ k. drop k window) (omega (arith, back)) in
-    subst (λ after. IsShortNumber bytes value after) place found
+    let position : drop (n + 1) bytes ≡ drop (end + 1) window = drop-drop (n + 1) start window ∙ ap (λ k. drop k window) (omega (arith, back)) in
+    subst (λ after. IsShortNumber bytes value after) position found

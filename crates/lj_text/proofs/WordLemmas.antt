@@ -8,11 +8,11 @@ use Rattle.std.proofs.Math.Nat.{pow-succ'}
 use Rattle.std.specs.List.{All, list_all}
 use Rattle.std.specs.Char.{is_ascii_digit}
 use Rattle.std.specs.Prelude.{Option, Some, None, ℤ, pos, negsuc, option_map, option_and_then}
-use Rattle.lj_text.specs.declared.bytes.digits.Word.{Word}
-use Rattle.lj_text.specs.declared.bytes.digits.Word.TheVariants as words
+use Rattle.lj_text.specs.declared.bytes.digits.TokenNumber.{TokenNumber}
+use Rattle.lj_text.specs.declared.bytes.digits.TokenNumber.TheVariants as values
 use Rattle.lj_text.specs.Bytes.{is_blank, is_filled, tokens_of, decimal_value, digits_value, negative, number_of}
 use Rattle.lj_text.specs.Lines.{greatest}
-use Rattle.lj_text.specs.inner.HeldNumbers.{BeginsToken, EndsToken, IsNumberAhead, IsWord}
+use Rattle.lj_text.specs.inner.TokenNumbers.{BeginsToken, EndsToken, IsNumberAhead, IsTokenNumber}
 use Rattle.lj_text.proofs.TokenLemmas.{tokens-last, tokens-first, tokens-blank}
 
 -- Digits that were read behind the first one, and what is left.
@@ -145,20 +145,20 @@ negative-ahead d bytes value after one n =
     let all : All (λ b. is_blank b ≡ false) (45 ∷ d ∷ n.digits) = All-cons (λ b. is_blank b ≡ false) 45 (d ∷ n.digits) refl none in
     (45 ∷ d ∷ n.digits, token-ended 45 (d ∷ []) n.digits bytes after all n.ends, number-negative d n.digits one n.are_digits ∙ ap negative (sym n.value_is))
 
-word_at : (bytes after : List ℕ) (word : Word) (number : Option ℤ) → IsWord word number → (token : List ℕ) × (tokens_of bytes ≡ token ∷ tokens_of after) × (number_of token ≡ number) → BeginsToken bytes word after
-word_at bytes after word number is t = let P : Option ℤ → Type 0 = λ o. IsWord word o in (t.0, t.1, subst P (sym t.2) is)
+word_at : (bytes after : List ℕ) (token_number : TokenNumber) (number : Option ℤ) → IsTokenNumber token_number number → (token : List ℕ) × (tokens_of bytes ≡ token ∷ tokens_of after) × (number_of token ≡ number) → BeginsToken bytes token_number after
+word_at bytes after token_number number is t = let P : Option ℤ → Type 0 = λ o. IsTokenNumber token_number o in (t.0, t.1, subst P (sym t.2) is)
 
-pub word-zero : (d : ℕ) (bytes : List ℕ) (value : ℕ) (after : List ℕ) → is_ascii_digit d ≡ true → IsNumberAhead (d - 48) bytes value after → value ≡ 0 → BeginsToken (d ∷ bytes) words.Zero after
-word-zero d bytes value after one n e = word_at (d ∷ bytes) after words.Zero (Some (pos value)) (ap (λ v. Some (pos v)) e) (unsigned-ahead d bytes value after one n)
+pub token_number-zero : (d : ℕ) (bytes : List ℕ) (value : ℕ) (after : List ℕ) → is_ascii_digit d ≡ true → IsNumberAhead (d - 48) bytes value after → value ≡ 0 → BeginsToken (d ∷ bytes) values.Zero after
+token_number-zero d bytes value after one n e = word_at (d ∷ bytes) after values.Zero (Some (pos value)) (ap (λ v. Some (pos v)) e) (unsigned-ahead d bytes value after one n)
 
-pub word-positive : (d : ℕ) (bytes : List ℕ) (value : ℕ) (after : List ℕ) → is_ascii_digit d ≡ true → IsNumberAhead (d - 48) bytes value after → 0 < value → BeginsToken (d ∷ bytes) (words.Positive value) after
-word-positive d bytes value after one n some = word_at (d ∷ bytes) after (words.Positive value) (Some (pos value)) (refl, some, n.small) (unsigned-ahead d bytes value after one n)
+pub token_number-positive : (d : ℕ) (bytes : List ℕ) (value : ℕ) (after : List ℕ) → is_ascii_digit d ≡ true → IsNumberAhead (d - 48) bytes value after → 0 < value → BeginsToken (d ∷ bytes) (values.Positive value) after
+token_number-positive d bytes value after one n some = word_at (d ∷ bytes) after (values.Positive value) (Some (pos value)) (refl, some, n.small) (unsigned-ahead d bytes value after one n)
 
 negative-some : (value : ℕ) → 0 < value → (k : ℕ) × (negative value ≡ Some (negsuc k)) × (value ≡ suc k)
 negative-some zero some = absurd (omega arith)
 negative-some (suc k) some = (k, refl, refl)
 
-pub word-negative : (d : ℕ) (bytes : List ℕ) (value : ℕ) (after : List ℕ) → is_ascii_digit d ≡ true → IsNumberAhead (d - 48) bytes value after → 0 < value → BeginsToken (45 ∷ d ∷ bytes) (words.Negative value) after
-word-negative d bytes value after one n some =
+pub token_number-negative : (d : ℕ) (bytes : List ℕ) (value : ℕ) (after : List ℕ) → is_ascii_digit d ≡ true → IsNumberAhead (d - 48) bytes value after → 0 < value → BeginsToken (45 ∷ d ∷ bytes) (values.Negative value) after
+token_number-negative d bytes value after one n some =
     let s = negative-some value some in
-    word_at (45 ∷ d ∷ bytes) after (words.Negative value) (negative value) (s.0, s.1, s.2, n.small) (negative-ahead d bytes value after one n)
+    word_at (45 ∷ d ∷ bytes) after (values.Negative value) (negative value) (s.0, s.1, s.2, n.small) (negative-ahead d bytes value after one n)

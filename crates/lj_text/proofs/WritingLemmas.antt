@@ -22,8 +22,8 @@ pub beginning-under : (xs ys zs : List ℕ) → IsBeginning xs ys → IsBeginnin
 beginning-under xs ys zs (r, e) = (r, ap (λ t. zs ++ t) e ∙ sym (append_assoc zs xs r))
 
 -- nothing was to be written
-pub wrote_none : (taken held : List ℕ) → Wrote taken held taken held []
-wrote_none taken held = record { whole = sym (append-nil (taken ++ held)); onward = beginning-self taken }
+pub wrote_none : (taken buffer : List ℕ) → Wrote taken buffer taken buffer []
+wrote_none taken buffer = record { whole = sym (append-nil (taken ++ buffer)); onward = beginning-self taken }
 
 pub wrote_then : (t0 h0 t1 h1 t2 h2 x y : List ℕ) → Wrote t0 h0 t1 h1 x → Wrote t1 h1 t2 h2 y → Wrote t0 h0 t2 h2 (x ++ y)
 wrote_then t0 h0 t1 h1 t2 h2 x y w v = record {

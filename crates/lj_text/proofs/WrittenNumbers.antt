@@ -14,7 +14,7 @@ use Rattle.lj_clause.specs.Literal.{variable_of}
 use Rattle.lj_clause.specs.Rat.{HintGroup}
 use Rattle.lj_text.specs.Bytes.{decimal_value, digits_value, negative, number_of, is_blank, is_filled, is_line_end, tokens_of}
 use Rattle.lj_text.specs.LinesRead.{HasNoLineEnd}
-use Rattle.lj_text.specs.StepText.{group_words}
+use Rattle.lj_text.specs.StepText.{group_tokens}
 use Rattle.lj_text.specs.ReadAgain.{IsClauseNumber, IsLiteralUpTo, IsGroupWithin}
 use Rattle.lj_text.proofs.TokenLemmas.{tokens-blank, tokens-last, tokens-first}
 use Rattle.lj_text.proofs.WordLemmas.{digits-all, digit_no_blank, number-unsigned, number-negative}
@@ -93,8 +93,8 @@ written-none = record { texts = tt; numbers_are = refl }
 decimal_filled : (n : ℕ) → n < 2 ^ 64 → is_filled (decimal n) ≡ true
 decimal_filled n h = filled_of (decimal n) (decimal_nonempty n h)
 
-pub decimal-word : (n : ℕ) → n < 2 ^ 64 → IsWordText (decimal n)
-decimal-word n h = digits_word (decimal n) (decimal_filled n h) (digits_decimal own n h)
+pub decimal-token_number : (n : ℕ) → n < 2 ^ 64 → IsWordText (decimal n)
+decimal-token_number n h = digits_word (decimal n) (decimal_filled n h) (digits_decimal own n h)
 
 pub number-decimal : (n : ℕ) → n < 2 ^ 64 → number_of (decimal n) ≡ Some (pos n)
 number-decimal n h = number_digits (decimal n) (decimal_filled n h) (digits_decimal own n h) ∙ ap (λ v. Some (pos v)) (digits_value-decimal own n h)
@@ -103,8 +103,8 @@ number_negated : (k : ℕ) → suc k < 2 ^ 64 → number_of (45 ∷ decimal (suc
 number_negated k h = number_minus (decimal (suc k)) (decimal_filled (suc k) h) (digits_decimal own (suc k) h) ∙ ap negative (digits_value-decimal own (suc k) h)
 
 literal_word : (l : ℤ) → variable_of l < 2 ^ 64 → IsWordText (signed_decimal l)
-literal_word (pos n) h = decimal-word n h
-literal_word (negsuc k) h = minus_word (decimal (suc k)) (decimal-word (suc k) h)
+literal_word (pos n) h = decimal-token_number n h
+literal_word (negsuc k) h = minus_word (decimal (suc k)) (decimal-token_number (suc k) h)
 
 number_literal : (l : ℤ) → variable_of l < 2 ^ 64 → number_of (signed_decimal l) ≡ Some l
 number_literal (pos n) h = number-decimal n h
@@ -118,7 +118,7 @@ pub written-numbers : (ns : List ℕ) → AllByRecursion IsClauseNumber ns → A
 written-numbers [] h = written-none
 written-numbers (n ∷ ns) h =
     let small : n < 2 ^ 64 = omega (arith, h.0.1) in
-    written-more (decimal n) (map decimal ns) (Some (pos n)) (as_numbers ns) (decimal-word n small) (number-decimal n small) (written-numbers ns h.1)
+    written-more (decimal n) (map decimal ns) (Some (pos n)) (as_numbers ns) (decimal-token_number n small) (number-decimal n small) (written-numbers ns h.1)
 
 pub written-literals : (most : ℕ) (ls : List ℤ) → most ≤ MAX_VARIABLE → AllByRecursion (IsLiteralUpTo most) ls → AreWritten (map signed_decimal ls) (map Some ls)
 written-literals most [] le h = written-none
@@ -138,23 +138,23 @@ written_candidate : (n : ℕ) → IsClauseNumber n → number_of (45 ∷ decimal
 written_candidate zero h = absurd (omega (arith, h.0))
 written_candidate (suc k) h = number_negated k (omega (arith, h.1))
 
-pub written-groups : (gs : List HintGroup) → AllByRecursion IsGroupWithin gs → AreWritten (flat_map group_words gs) (flat_map group_numbers gs)
+pub written-groups : (gs : List HintGroup) → AllByRecursion IsGroupWithin gs → AreWritten (flat_map group_tokens gs) (flat_map group_numbers gs)
 written-groups [] h = written-none
 written-groups (g ∷ gs) h =
     let small : g.candidate < 2 ^ 64 = omega (arith, h.0.0.1) in
-    written-append (group_words g) (flat_map group_words gs) (group_numbers g) (flat_map group_numbers gs)
-    (written-more (45 ∷ decimal g.candidate) (map decimal g.hints) (Some (negated g.candidate)) (as_numbers g.hints) (minus_word (decimal g.candidate) (decimal-word g.candidate small)) (written_candidate g.candidate h.0.0) (written-numbers g.hints h.0.1))
+    written-append (group_tokens g) (flat_map group_tokens gs) (group_numbers g) (flat_map group_numbers gs)
+    (written-more (45 ∷ decimal g.candidate) (map decimal g.hints) (Some (negated g.candidate)) (as_numbers g.hints) (minus_word (decimal g.candidate) (decimal-token_number g.candidate small)) (written_candidate g.candidate h.0.0) (written-numbers g.hints h.0.1))
     (written-groups gs h.1)
 
-pub letter-word : (b : ℕ) → is_blank b ≡ false → is_line_end b ≡ false → IsWordText (b ∷ [])
-letter-word b h k = record {
+pub letter-token_number : (b : ℕ) → is_blank b ≡ false → is_line_end b ≡ false → IsWordText (b ∷ [])
+letter-token_number b h k = record {
   filled = refl;
   no_blank = All-cons (λ b. is_blank b ≡ false) b [] h (λ i d lt. absurd (omega arith));
   no_end = All-cons (λ b. is_line_end b ≡ false) b [] k (λ i d lt. absurd (omega arith));
 }
 
 pub written-zero : (ws : List (List ℕ)) (ns : List (Option ℤ)) → AreWritten ws ns → AreWritten (codes "0" ∷ ws) (Some (pos 0) ∷ ns)
-written-zero ws ns h = written-more (codes "0") ws (Some (pos 0)) ns (letter-word 48 refl refl) refl h
+written-zero ws ns h = written-more (codes "0") ws (Some (pos 0)) ns (letter-token_number 48 refl refl) refl h
 
 pub written-end : AreWritten (codes "0" ∷ []) (Some (pos 0) ∷ [])
 written-end = written-zero [] [] written-none

@@ -26,11 +26,11 @@ sizes_of max line (Some v) (Some m) = if nat_le m MAX_CLAUSES then
 -- behind `p` stand `cnf` and the numbers of variables and of clauses
 abbrev pub header_after : ℕ → ℕ → List (List ℕ) → Result (ℕ × ℕ) CnfFault
 header_after max line [] = fault_in line BadHeader
-header_after max line (word ∷ []) = fault_in line BadHeader
-header_after max line (word ∷ v ∷ []) = fault_in line BadHeader
-header_after max line (word ∷ v ∷ m ∷ []) = if bytes_eq word (codes "cnf") then
+header_after max line (token_number ∷ []) = fault_in line BadHeader
+header_after max line (token_number ∷ v ∷ []) = fault_in line BadHeader
+header_after max line (token_number ∷ v ∷ m ∷ []) = if bytes_eq token_number (codes "cnf") then
     sizes_of max line (digits_value v) (digits_value m) else fault_in line BadHeader
-header_after max line (word ∷ v ∷ m ∷ more ∷ tokens) = fault_in line BadHeader
+header_after max line (token_number ∷ v ∷ m ∷ more ∷ tokens) = fault_in line BadHeader
 
 -- the numbers of variables and of clauses of a line that is to be the header
 abbrev pub header_of : ℕ → ℕ → List (List ℕ) → Result (ℕ × ℕ) CnfFault
@@ -41,33 +41,33 @@ header_of max line (token ∷ tokens) = if is_letter (byte "p") token then
 -- The clauses
 
 -- What a token of the clauses says, and in which line: the end of the formula where a clause would begin, no number, or a number.
-pub data Place : Type 0 where
-  Percent : ℕ → Place
-  NoNumber : ℕ → Place
-  Number : ℕ → ℤ → Place
+pub data BodyToken : Type 0 where
+  Percent : ℕ → BodyToken
+  NoNumber : ℕ → BodyToken
+  Number : ℕ → ℤ → BodyToken
 
 -- what a token says in a line, by the number that it is
-abbrev pub number_at : ℕ → Option ℤ → Place
+abbrev pub number_at : ℕ → Option ℤ → BodyToken
 number_at line None = NoNumber line
 number_at line (Some n) = Number line n
 
 -- what a token of the clauses says in a line
-abbrev pub place_at : ℕ → List ℕ → Place
-place_at line token = if begins (byte "%") token then Percent line
+abbrev pub body_token_at : ℕ → List ℕ → BodyToken
+body_token_at line token = if begins (byte "%") token then Percent line
     else number_at line (number_of token)
 
 -- the tokens of a line that isn't silent
-abbrev pub places_at : ℕ → List (List ℕ) → List Place
-places_at line tokens = if is_silent tokens then [] else map (place_at line) tokens
+abbrev pub body_tokens_at : ℕ → List (List ℕ) → List BodyToken
+body_tokens_at line tokens = if is_silent tokens then [] else map (body_token_at line) tokens
 
 -- the tokens of lines, where n lines stand before them
-abbrev pub places_from : ℕ → List (List ℕ) → List Place
-places_from n [] = []
-places_from n (line ∷ lines) = places_at (line_number n) (tokens_of line)
-    ++ places_from (n + 1) lines
+abbrev pub body_tokens_from : ℕ → List (List ℕ) → List BodyToken
+body_tokens_from n [] = []
+body_tokens_from n (line ∷ lines) = body_tokens_at (line_number n) (tokens_of line)
+    ++ body_tokens_from (n + 1) lines
 
 -- literals up to a 0, and what follows it; the input ends in line `last`
-abbrev pub literals_up_to : ℕ → ℕ → List Place → Result (List ℤ × List Place) CnfFault
+abbrev pub literals_up_to : ℕ → ℕ → List BodyToken → Result (List ℤ × List BodyToken) CnfFault
 literals_up_to variables last [] = fault_in last Truncated
 literals_up_to variables last (Percent line ∷ rest) = fault_in line BadNumber
 literals_up_to variables last (NoNumber line ∷ rest) = fault_in line BadNumber
@@ -77,7 +77,7 @@ literals_up_to variables last (Number line n ∷ rest) =
     else fault_in line VariableRange
 
 -- so many clauses, and the end of the formula
-abbrev pub clauses_of : ℕ → ℕ → ℕ → List Place → Result (List LiteralSet) CnfFault
+abbrev pub clauses_of : ℕ → ℕ → ℕ → List BodyToken → Result (List LiteralSet) CnfFault
 clauses_of variables last zero [] = Ok []
 clauses_of variables last zero (Percent line ∷ rest) = Ok []
 clauses_of variables last zero (NoNumber line ∷ rest) = fault_in line BadNumber
@@ -85,8 +85,8 @@ clauses_of variables last zero (Number line n ∷ rest) = if nat_le (unsigned_ab
     fault_in line ClauseCount else fault_in line VariableRange
 clauses_of variables last (suc m) [] = fault_in last ClauseCount
 clauses_of variables last (suc m) (Percent line ∷ rest) = fault_in line ClauseCount
-clauses_of variables last (suc m) (place ∷ rest) = then_read
-    (literals_up_to variables last (place ∷ rest))
+clauses_of variables last (suc m) (body_token ∷ rest) = then_read
+    (literals_up_to variables last (body_token ∷ rest))
     (λ r. with_read (λ cs. from_literals r.0 ∷ cs) (clauses_of variables last m r.1))
 
 -- The text
@@ -98,7 +98,7 @@ last_line n = line_number (n - 1)
 -- the clauses of these sizes, in lines before which n lines stand
 abbrev pub body_of : ℕ → List (List ℕ) → ℕ × ℕ → Result FormulaValue CnfFault
 body_of n lines sizes = with_read (formula_of sizes.0)
-    (clauses_of sizes.0 (last_line (n + length lines)) sizes.1 (places_from n lines))
+    (clauses_of sizes.0 (last_line (n + length lines)) sizes.1 (body_tokens_from n lines))
 
 -- what lines spell, where n lines stand before them: silent ones, the header, the clauses
 abbrev pub formula_from : ℕ → ℕ → List (List ℕ) → Result FormulaValue CnfFault

@@ -7,7 +7,7 @@ use Rattle.lj_text.specs.declared.cnf.fault.CnfFault.{CnfFault}
 use Rattle.lj_text.specs.Bytes.{line_number, lines_of, tokens_of}
 use Rattle.lj_text.specs.Lines.{all_but_last}
 use Rattle.lj_text.specs.LinesRead.{HasNoLineEnd, text_of_lines}
-use Rattle.lj_text.specs.Cnf.{last_line, places_from, read_cnf, Spells, HasFault}
+use Rattle.lj_text.specs.Cnf.{last_line, body_tokens_from, read_cnf, Spells, HasFault}
 use Rattle.lj_text.specs.CnfReading.{Begun, formula_after, keeps_first}
 use Rattle.lj_text.specs.declared.cnf.fault.CnfFaultKind.{CnfFaultKind}
 use Rattle.lj_text.specs.declared.cnf.fault.CnfFaultKind.TheVariants.{NoMemory}
@@ -50,7 +50,7 @@ pub record BeginsByNumber (max : ℕ) (lines : List (List ℕ)) (line : List ℕ
   pub begun : Begun
   pub reads : (more : List ℕ) → read_cnf max (text_of_lines lines ++ more)
       ≡ formula_after begun (last_line (length lines + length (lines_of more)))
-      (places_from (length lines) (lines_of more))
+      (body_tokens_from (length lines) (lines_of more))
   pub number : keeps_first begun (tokens_of line) ≡ true
 
 -- a part of the line behind these lines
@@ -64,14 +64,14 @@ IsWholeByNumber max lines left = (line : List ℕ) × (after : List ℕ)
 
 -- A line needs room where a piece follows a text. It isn't whole in the text; a part of it stands there, or it isn't whole with the
 -- piece either and has to be held, or it begins with a number where a clause is to come.
-pub record NeedsRoom (max : ℕ) (text piece : List ℕ) (line : ℕ) : Type 0 where
+pub record NeedsMemory (max : ℕ) (text piece : List ℕ) (line : ℕ) : Type 0 where
   pub lines : List (List ℕ)
   pub whole : AllByRecursion HasNoLineEnd lines
   pub left : List ℕ
   pub cut : text ++ piece ≡ text_of_lines lines ++ left
   pub line_is : line ≡ line_number (length lines)
   pub behind : length (all_but_last (lines_of text)) ≤ length lines
-  pub room : IsBehindLines lines text ⊎ (IsLeftOpen left ⊎ IsWholeByNumber max lines left)
+  pub scratch : IsBehindLines lines text ⊎ (IsLeftOpen left ⊎ IsWholeByNumber max lines left)
 
 -- The text's last line, which no line feed ends, begins with a number where a clause is to come.
 pub record EndsByNumber (max : ℕ) (text : List ℕ) : Type 0 where

@@ -5,7 +5,7 @@ use Rattle.lj_clause.specs.ClauseMap.{FormulaValue, formula_of}
 use Rattle.lj_text.specs.declared.cnf.fault.CnfFault.{CnfFault}
 use Rattle.lj_text.specs.Bytes.{number_of}
 use Rattle.lj_text.specs.Lines.{with_read, then_read}
-use Rattle.lj_text.specs.Cnf.{Place, literals_up_to, clauses_of}
+use Rattle.lj_text.specs.Cnf.{BodyToken, literals_up_to, clauses_of}
 
 -- The clauses so far, how many are to come, and the literals of the one that is open.
 pub record Begun : Type 0 where
@@ -15,16 +15,18 @@ pub record Begun : Type 0 where
   pub literals : List ℤ
 
 -- the clauses that are read from there on
-abbrev pub clauses_after : ℕ → ℕ → ℕ → List ℤ → List Place → Result (List LiteralSet) CnfFault
-clauses_after variables last left [] places = clauses_of variables last left places
-clauses_after variables last left (l ∷ ls) places = then_read (literals_up_to variables last places)
+abbrev pub clauses_after : ℕ → ℕ → ℕ → List ℤ → List BodyToken → Result (List LiteralSet) CnfFault
+clauses_after variables last left [] body_tokens = clauses_of variables last left body_tokens
+clauses_after variables last left (l ∷ ls) body_tokens = then_read
+    (literals_up_to variables last body_tokens)
     (λ r. with_read (λ cs. from_literals (l ∷ ls ++ r.0) ∷ cs)
     (clauses_of variables last (left - 1) r.1))
 
 -- the formula that is read from there on
-abbrev pub formula_after : Begun → ℕ → List Place → Result FormulaValue CnfFault
-formula_after begun last places = with_read (λ cs. formula_of begun.variables (begun.clauses ++ cs))
-    (clauses_after begun.variables last begun.left begun.literals places)
+abbrev pub formula_after : Begun → ℕ → List BodyToken → Result FormulaValue CnfFault
+formula_after begun last body_tokens = with_read
+    (λ cs. formula_of begun.variables (begun.clauses ++ cs))
+    (clauses_after begun.variables last begun.left begun.literals body_tokens)
 
 -- a number up to the number of variables where a clause is to come: what it says has to be kept
 abbrev pub is_literal_kept : Begun → Option ℤ → Bool

@@ -80,17 +80,17 @@ hints_of ended (Some (negsuc n) ∷ rest) = if nat_le (suc n) greatest then
 
 -- the addition under this number that the words behind it spell
 abbrev pub addition_of : ℕ → Bool → ℕ → List (Option ℤ) → Result Line LineFaultKind
-addition_of max ended n words = then_read (literals_then max ended words) (λ r. with_read
+addition_of max ended n values = then_read (literals_then max ended values) (λ r. with_read
     (λ h. Add (record { number = n; lemma = lemma_of r.0; hints = h.0; groups = h.1 }))
     (hints_of ended r.1))
 
 -- the deletion that the words behind the `d` spell
 abbrev pub deletion_of : Bool → List (Option ℤ) → Result Line LineFaultKind
-deletion_of ended words = with_read (λ ns. Delete ns) (numbers_of ended words)
+deletion_of ended values = with_read (λ ns. Delete ns) (numbers_of ended values)
 
 -- the import under this number that the words behind the `i` spell
 abbrev pub import_of : ℕ → Bool → ℕ → List (Option ℤ) → Result Line LineFaultKind
-import_of max ended n words = then_read (literals_then max ended words)
+import_of max ended n values = then_read (literals_then max ended values)
     (λ r. with_read (λ ls. Import n (from_literals ls)) (if_closed r.0 r.1))
 
 -- the token is this one letter

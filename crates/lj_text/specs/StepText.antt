@@ -18,7 +18,7 @@ use Rattle.lj_text.specs.declared.step.Step.TheVariants.{Add, Delete}
 
 -- words with one space between each two, and a line feed
 abbrev pub line_text : List (List ℕ) → List ℕ
-line_text words = join_with_byte (byte " ") words ++ byte "\n" ∷ []
+line_text tokens = join_with_byte (byte " ") tokens ++ byte "\n" ∷ []
 
 -- the pivot, then the other literals in their order
 abbrev pub pivot_first : Option ℤ → List ℤ → List ℤ
@@ -30,17 +30,17 @@ abbrev pub written_literals : LemmaValue → List ℤ
 written_literals lemma = pivot_first lemma.pivot (literals lemma.clause)
 
 -- a group: its candidate with a `-`, and its hints
-abbrev pub group_words : HintGroup → List (List ℕ)
-group_words g = (byte "-" ∷ decimal g.candidate) ∷ map decimal g.hints
+abbrev pub group_tokens : HintGroup → List (List ℕ)
+group_tokens g = (byte "-" ∷ decimal g.candidate) ∷ map decimal g.hints
 
 -- the words of an addition behind its number: the literals and a 0, the hints, the groups and a 0
-abbrev pub addition_words : Addition → List (List ℕ)
-addition_words a = map signed_decimal (written_literals a.lemma)
-    ++ codes "0" ∷ (map decimal a.hints ++ (flat_map group_words a.groups ++ codes "0" ∷ []))
+abbrev pub addition_tokens : Addition → List (List ℕ)
+addition_tokens a = map signed_decimal (written_literals a.lemma)
+    ++ codes "0" ∷ (map decimal a.hints ++ (flat_map group_tokens a.groups ++ codes "0" ∷ []))
 
 -- the line of an addition
 abbrev pub addition_text : Addition → List ℕ
-addition_text a = line_text (decimal a.number ∷ addition_words a)
+addition_text a = line_text (decimal a.number ∷ addition_tokens a)
 
 -- the line of a deletion that begins with this number
 abbrev pub deletion_text : ℕ → List ℕ → List ℕ

@@ -11,5 +11,5 @@ abbrev pub IsCutShort : List ℕ → List ℕ → Type 0
 IsCutShort front whole = (byte : ℕ) × (rest : List ℕ) × (whole ≡ front ++ byte ∷ rest)
 
 -- a space and a word
-abbrev pub spaced_word : List ℕ → List ℕ
-spaced_word word = byte " " ∷ word
+abbrev pub spaced_token : List ℕ → List ℕ
+spaced_token token = byte " " ∷ token

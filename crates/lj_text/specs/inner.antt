@@ -1,14 +1,14 @@
 -- What invariants, private functions and proofs say. No public contract names any of it.
 pub mod Bytes
 pub mod LineReading
-pub mod LinesHeld
+pub mod LinesBuffered
 pub mod Looking
-pub mod HeldNumbers
+pub mod TokenNumbers
 pub mod ShortNumbers
 pub mod Windows
 pub mod CnfReading
 pub mod CnfResuming
-pub mod CnfHeld
+pub mod CnfBuffered
 pub mod Numbers
 pub mod Groups
 pub mod StepText

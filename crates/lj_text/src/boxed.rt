@@ -8,7 +8,7 @@ use std::ops::Deref;
 /// A value in memory of its own, so that what holds it is small. Two are equal where their values are.
 #[derive(Debug, Drop)]
 pub struct Boxed<T> {
-    place: Box<T>,
+    inner: Box<T>,
 }
 
 impl<T> Model for Boxed<T> {
@@ -16,7 +16,7 @@ impl<T> Model for Boxed<T> {
 
     ghost coded = { T.code };
 
-    ghost view = { λ b. b.place.value };
+    ghost view = { λ b. b.inner.value };
 }
 
 impl<T> Boxed<T> {
@@ -28,7 +28,7 @@ impl<T> Boxed<T> {
         ensures { IfOk result (λ boxed. boxed ≡ value) }
     {
         Ok(Boxed {
-            place: Box::new(alloc, value)?,
+            inner: Box::new(alloc, value)?,
         })
     }
 
@@ -36,15 +36,15 @@ impl<T> Boxed<T> {
     pub fn into_inner(self) -> T
         ensures { result ≡ self }
     {
-        Box::into_inner(self.place)
+        Box::into_inner(self.inner)
     }
 
     /// The value that stands there.
     #[inline]
-    pub(crate) fn from_box(place: Box<T>) -> Boxed<T>
-        ensures { result ≡ place.value }
+    pub(crate) fn from_box(inner: Box<T>) -> Boxed<T>
+        ensures { result ≡ inner.value }
     {
-        Boxed { place }
+        Boxed { inner }
     }
 
     /// The memory with the value.
@@ -52,7 +52,7 @@ impl<T> Boxed<T> {
     pub(crate) fn into_box(self) -> Box<T>
         ensures { result.value ≡ self }
     {
-        self.place
+        self.inner
     }
 }
 
@@ -63,6 +63,6 @@ impl<T> Deref for Boxed<T> {
 
     #[inline]
     fn deref(&self) -> &T {
-        &*self.place
+        &*self.inner
     }
 }

@@ -6,7 +6,7 @@ use std::alloc::{AllocError, Global};
 use std::marker::Model;
 
 /// For how many numbers a list that is let go of keeps its room.
-const FEW_NUMBERS: usize = 64;
+const MOST_KEPT_NUMBERS: usize = 64;
 
 /// The hints for one candidate.
 #[derive(Debug, Drop)]
@@ -159,11 +159,11 @@ impl Groups {
     ///
     /// # Errors
     /// [`AllocError`] where a growth was refused.
-    pub fn copy(&self) -> Result<Groups, AllocError>
-        ensures { IfOk result (λ copy. copy ≡ self.now) }
+    pub fn try_clone(&self) -> Result<Groups, AllocError>
+        ensures { IfOk result (λ clone. clone ≡ self.now) }
     {
         let row = match &self.row {
-            Some(row) => Some(Box::new(self.alloc, row.copy()?)?),
+            Some(row) => Some(Box::new(self.alloc, row.try_clone()?)?),
             None => None,
         };
         Ok(Groups {
@@ -200,7 +200,7 @@ impl Groups {
         ensures { self.new ≡ [] }
     {
         match &mut self.row {
-            Some(row) if row.numbers.len() <= FEW_NUMBERS => row.clear(),
+            Some(row) if row.numbers.len() <= MOST_KEPT_NUMBERS => row.clear(),
             _ => self.row = None,
         }
     }
@@ -249,11 +249,11 @@ impl Row {
     ///
     /// # Errors
     /// [`AllocError`] where a growth was refused.
-    fn copy(&self) -> Result<Row, AllocError>
-        ensures { IfOk result (λ copy. copy ≡ self.now) }
+    fn try_clone(&self) -> Result<Row, AllocError>
+        ensures { IfOk result (λ clone. clone ≡ self.now) }
     {
         Ok(Row {
-            numbers: self.numbers.copy()?,
+            numbers: self.numbers.try_clone()?,
             count: self.count,
         })
     }

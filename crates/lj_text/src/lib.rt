@@ -29,4 +29,4 @@ pub use numbers::{Numbers, NumbersIter};
 pub use sink::{MemorySink, Sink, SinkFault, WriterSink, write_all};
 pub use source::{MemorySource, ReaderSource, Source, SourceFault};
 pub use step::Step;
-pub use writer::{LineWord, ProofWriter, WordWriter, WriteFault, write_proof};
+pub use writer::{LineToken, ProofWriter, TokenWriter, WriteFault, write_proof};

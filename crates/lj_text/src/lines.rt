@@ -1,10 +1,10 @@
 //! Lines of a stream, by the grammar of LRAT.
 
+mod buffer;
 mod closing;
 mod cut;
 mod deletion;
 mod fault;
-mod held;
 mod hints;
 mod judge;
 mod literals;
@@ -12,8 +12,8 @@ mod look;
 mod one_pass;
 mod parse;
 mod reader;
-mod room;
 mod runs;
+mod scratch;
 
 pub(crate) use cut::first_line;
 pub use fault::{LineFault, LineFaultKind};

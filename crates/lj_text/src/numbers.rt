@@ -9,7 +9,7 @@ use std::marker::Model;
 use std::mem::swap;
 
 /// The greatest number that takes four bytes.
-const MAX_SHORT: u64 = u32::MAX as u64;
+const MAX_U32: u64 = u32::MAX as u64;
 
 /// The greatest count of numbers whose room is worth keeping for those of a later line.
 pub(crate) const MANY: usize = 65_536;
@@ -26,7 +26,7 @@ pub struct Numbers {
 /// Numbers by their width.
 #[derive(Debug, Drop)]
 enum Form {
-    Short(Vec<u32>),
+    U32(Vec<u32>),
     Long(Vec<u64>),
 }
 
@@ -52,11 +52,11 @@ impl Numbers {
 
     /// The list of these numbers. Takes no memory, and four bytes for each of them stay taken. Takes constant time.
     #[inline]
-    pub fn from_short(numbers: Vec<u32>) -> Numbers
+    pub fn from_u32s(numbers: Vec<u32>) -> Numbers
         ensures { result ≡ numbers.items }
     {
         Numbers {
-            form: Form::Short(numbers),
+            form: Form::U32(numbers),
         }
     }
 
@@ -68,7 +68,7 @@ impl Numbers {
         ensures { IfOk result (λ list. list ≡ []) }
     {
         Ok(Numbers {
-            form: Form::Short(Vec::with_capacity(alloc, count)?),
+            form: Form::U32(Vec::with_capacity(alloc, count)?),
         })
     }
 
@@ -83,7 +83,7 @@ impl Numbers {
         ensures err { OnErr result (self.new ≡ self.old) }
     {
         match &mut self.form {
-            Form::Short(numbers) if number <= MAX_SHORT => {
+            Form::U32(numbers) if number <= MAX_U32 => {
                 numbers.push(number as u32)?;
                 Ok(())
             }
@@ -99,9 +99,9 @@ impl Numbers {
         ensures err { OnErr result (self.new ≡ self.old) }
     {
         match &mut self.form {
-            Form::Short(numbers) => {
-                let room = numbers.len().saturating_add(1);
-                let mut long = lengthened(*numbers.allocator(), numbers, room)?;
+            Form::U32(numbers) => {
+                let scratch = numbers.len().saturating_add(1);
+                let mut long = lengthened(*numbers.allocator(), numbers, scratch)?;
                 long.push(number)?;
                 self.form = Form::Long(long);
                 Ok(())
@@ -119,7 +119,7 @@ impl Numbers {
         ensures { self.new ≡ [] }
     {
         match &mut self.form {
-            Form::Short(numbers) => numbers.clear(),
+            Form::U32(numbers) => numbers.clear(),
             Form::Long(_) => self.let_go(),
         }
     }
@@ -131,10 +131,10 @@ impl Numbers {
         ensures { self.new ≡ [] }
     {
         let alloc = match &self.form {
-            Form::Short(numbers) => *numbers.allocator(),
+            Form::U32(numbers) => *numbers.allocator(),
             Form::Long(numbers) => *numbers.allocator(),
         };
-        self.form = Form::Short(Vec::new(alloc));
+        self.form = Form::U32(Vec::new(alloc));
     }
 
     /// Lets go of the numbers and of their room, where they are many. Takes constant time.
@@ -156,7 +156,7 @@ impl Numbers {
         ensures within { length result.now ≤ length bytes.now }
     {
         match &mut self.form {
-            Form::Short(numbers) => short_numbers(numbers, bytes),
+            Form::U32(numbers) => push_u32s(numbers, bytes),
             Form::Long(_) => bytes,
         }
     }
@@ -166,7 +166,7 @@ impl Numbers {
         ensures { self.new ≡ take count self.old }
     {
         match &mut self.form {
-            Form::Short(numbers) => numbers.truncate(count),
+            Form::U32(numbers) => numbers.truncate(count),
             Form::Long(numbers) => numbers.truncate(count),
         }
     }
@@ -179,7 +179,7 @@ impl Numbers {
         ensures { IfOk result (λ list. list ≡ numbers.now) }
     {
         let form = match shortened(alloc, numbers)? {
-            Some(short) => Form::Short(short),
+            Some(short) => Form::U32(short),
             None => Form::Long(Vec::from_slice(alloc, numbers)?),
         };
         Ok(Numbers { form })
@@ -195,19 +195,19 @@ impl Numbers {
         ensures ok { OnOk result (self.new ≡ other.old) }
         ensures err { OnErr result ((self.new ≡ self.old) × (other.new ≡ other.old)) }
     {
-        if self.has_room() {
+        if self.has_capacity() {
             swap(self, other);
         } else {
-            *self = other.copy()?;
+            *self = other.try_clone()?;
         }
         Ok(())
     }
 
     /// Whether some numbers fit in at no cost.
     #[inline(always)]
-    fn has_room(&self) -> bool {
+    fn has_capacity(&self) -> bool {
         match &self.form {
-            Form::Short(numbers) => numbers.capacity() > 0,
+            Form::U32(numbers) => numbers.capacity() > 0,
             Form::Long(numbers) => numbers.capacity() > 0,
         }
     }
@@ -217,7 +217,7 @@ impl Numbers {
         ensures { result ≡ length self.now }
     {
         match &self.form {
-            Form::Short(numbers) => numbers.len(),
+            Form::U32(numbers) => numbers.len(),
             Form::Long(numbers) => numbers.len(),
         }
     }
@@ -234,7 +234,7 @@ impl Numbers {
         ensures { result ≡ slice_get self.now index }
     {
         match &self.form {
-            Form::Short(numbers) => short_at(numbers, index),
+            Form::U32(numbers) => u32_at(numbers, index),
             Form::Long(numbers) => numbers.get(index).copied(),
         }
     }
@@ -245,8 +245,8 @@ impl Numbers {
         ensures { result ≡ self.now }
     {
         match &self.form {
-            Form::Short(numbers) => NumbersIter {
-                rest: Rest::Short(numbers),
+            Form::U32(numbers) => NumbersIter {
+                rest: Rest::U32(numbers),
             },
             Form::Long(numbers) => NumbersIter {
                 rest: Rest::Long(numbers),
@@ -257,11 +257,11 @@ impl Numbers {
     /// The numbers, in order, where they are at hand in four bytes each. None tells nothing of them.
     /// Takes constant time.
     #[inline]
-    pub fn as_short(&self) -> Option<&[u32]>
+    pub fn as_u32s(&self) -> Option<&[u32]>
         ensures { IfSome result (λ short. short.now ≡ self.now) }
     {
         match &self.form {
-            Form::Short(numbers) => Some(numbers),
+            Form::U32(numbers) => Some(numbers),
             Form::Long(_) => None,
         }
     }
@@ -270,11 +270,11 @@ impl Numbers {
     ///
     /// # Errors
     /// [`AllocError`] where a growth was refused.
-    pub fn copy(&self) -> Result<Numbers, AllocError>
+    pub fn try_clone(&self) -> Result<Numbers, AllocError>
         ensures { IfOk result (λ list. list ≡ self.now) }
     {
         let form = match &self.form {
-            Form::Short(numbers) => Form::Short(Vec::from_slice(*numbers.allocator(), numbers)?),
+            Form::U32(numbers) => Form::U32(Vec::from_slice(*numbers.allocator(), numbers)?),
             Form::Long(numbers) => Form::Long(Vec::from_slice(*numbers.allocator(), numbers)?),
         };
         Ok(Numbers { form })
@@ -288,7 +288,7 @@ impl Numbers {
         ensures { IfOk result (λ numbers. numbers.items ≡ self.now) }
     {
         match &self.form {
-            Form::Short(numbers) => lengthened(*numbers.allocator(), numbers, numbers.len()),
+            Form::U32(numbers) => lengthened(*numbers.allocator(), numbers, numbers.len()),
             Form::Long(numbers) => Vec::from_slice(*numbers.allocator(), numbers),
         }
     }
@@ -296,7 +296,7 @@ impl Numbers {
 
 /// Takes the short numbers at the front of a line's bytes behind the others, up to a 0, and answers the bytes that follow.
 #[inline(never)]
-fn short_numbers<'a>(numbers: &mut Vec<u32>, bytes: &'a [u8]) -> &'a [u8]
+fn push_u32s<'a>(numbers: &mut Vec<u32>, bytes: &'a [u8]) -> &'a [u8]
     ensures ahead { AreNumbersAhead numbers.old.items bytes.now numbers.new.items result.now }
     ensures read { IsReadOn numbers.old.items bytes.now numbers.new.items result.now }
     ensures within { length result.now ≤ length bytes.now }
@@ -356,7 +356,7 @@ fn last_numbers<'a>(numbers: &mut Vec<u32>, bytes: &'a [u8]) -> &'a [u8]
 
 /// The number at a place among those of four bytes.
 #[inline]
-fn short_at(numbers: &[u32], index: usize) -> Option<u64>
+fn u32_at(numbers: &[u32], index: usize) -> Option<u64>
     ensures { result ≡ slice_get numbers.now index }
 {
     match numbers.get(index) {
@@ -371,7 +371,7 @@ fn shortened(alloc: Global, numbers: &[u64]) -> Result<Option<Vec<u32>>, AllocEr
 {
     let mut short = Vec::with_capacity(alloc, numbers.len())?;
     for number in numbers {
-        if *number > MAX_SHORT {
+        if *number > MAX_U32 {
             return Ok(None);
         }
         short.push(*number as u32)?;
@@ -380,10 +380,10 @@ fn shortened(alloc: Global, numbers: &[u64]) -> Result<Option<Vec<u32>>, AllocEr
 }
 
 /// The same numbers in eight bytes each, with room for so many.
-fn lengthened(alloc: Global, numbers: &[u32], room: usize) -> Result<Vec<u64>, AllocError>
+fn lengthened(alloc: Global, numbers: &[u32], scratch: usize) -> Result<Vec<u64>, AllocError>
     ensures { IfOk result (λ long. long.items ≡ numbers.now) }
 {
-    let mut long = Vec::with_capacity(alloc, room)?;
+    let mut long = Vec::with_capacity(alloc, scratch)?;
     for number in numbers {
         long.push(u64::from(*number))?;
     }
@@ -399,7 +399,7 @@ pub struct NumbersIter<'a> {
 /// Numbers by their width that are still to come.
 #[derive(Clone, Copy, Debug)]
 enum Rest<'a> {
-    Short(&'a [u32]),
+    U32(&'a [u32]),
     Long(&'a [u64]),
 }
 
@@ -420,7 +420,7 @@ impl<'a> NumbersIter<'a> {
         ensures { result ≡ [] }
     {
         NumbersIter {
-            rest: Rest::Short(&[]),
+            rest: Rest::U32(&[]),
         }
     }
 
@@ -430,7 +430,7 @@ impl<'a> NumbersIter<'a> {
         ensures { result ≡ length self.now }
     {
         match self.rest {
-            Rest::Short(rest) => rest.len(),
+            Rest::U32(rest) => rest.len(),
             Rest::Long(rest) => rest.len(),
         }
     }
@@ -441,7 +441,7 @@ impl<'a> NumbersIter<'a> {
         ensures { result ≡ slice_get self.now index }
     {
         match self.rest {
-            Rest::Short(rest) => short_at(rest, index),
+            Rest::U32(rest) => u32_at(rest, index),
             Rest::Long(rest) => rest.get(index).copied(),
         }
     }
@@ -452,7 +452,7 @@ impl<'a> NumbersIter<'a> {
         ensures { result ≡ take count self.now }
     {
         let rest = match self.rest {
-            Rest::Short(rest) => Rest::Short(&rest[..rest.len().min(count)]),
+            Rest::U32(rest) => Rest::U32(&rest[..rest.len().min(count)]),
             Rest::Long(rest) => Rest::Long(&rest[..rest.len().min(count)]),
         };
         NumbersIter { rest }
@@ -464,7 +464,7 @@ impl<'a> NumbersIter<'a> {
         ensures { result ≡ drop count self.now }
     {
         let rest = match self.rest {
-            Rest::Short(rest) => Rest::Short(rest.split_at(rest.len().min(count)).1),
+            Rest::U32(rest) => Rest::U32(rest.split_at(rest.len().min(count)).1),
             Rest::Long(rest) => Rest::Long(rest.split_at(rest.len().min(count)).1),
         };
         NumbersIter { rest }
@@ -478,9 +478,9 @@ impl<'a> NumbersIter<'a> {
         ensures behind { self.new ≡ drop count self.old }
     {
         let (front, behind) = match self.rest {
-            Rest::Short(rest) => {
+            Rest::U32(rest) => {
                 let (front, behind) = rest.split_at(count);
-                (Rest::Short(front), Rest::Short(behind))
+                (Rest::U32(front), Rest::U32(behind))
             }
             Rest::Long(rest) => {
                 let (front, behind) = rest.split_at(count);
@@ -504,9 +504,9 @@ impl<'a> Iterator for NumbersIter<'a> {
     #[inline]
     fn next(&mut self) -> Option<u64> {
         match self.rest {
-            Rest::Short(rest) => {
+            Rest::U32(rest) => {
                 let (first, others) = rest.split_first()?;
-                self.rest = Rest::Short(others);
+                self.rest = Rest::U32(others);
                 Some(u64::from(*first))
             }
             Rest::Long(rest) => {

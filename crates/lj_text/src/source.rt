@@ -31,7 +31,7 @@ pub trait Source {
     /// It stays ended. What the buffer holds behind them is left open. One that has failed isn't pulled again. Takes one
     /// read's time: a caller counts it as linear in the buffer.
     fn pull(&mut self, buffer: &mut [u8]) -> Result<usize, SourceFault>
-        requires room { 0 < length buffer.old }
+        requires scratch { 0 < length buffer.old }
         requires unfailed { failures self.old ≡ 0 }
 
         ensures bound { ReadsAtMost result buffer.new }

@@ -4,18 +4,18 @@ ghost use Rattle.lj_text.specs.StepText.{step_text, greatest_with, proof_text};
 ghost use Rattle.lj_text.specs.Writing.{IsBeginning, IsCutShort};
 ghost use Rattle.lj_text.specs.inner.Writing.{Wrote, Broke};
 
-mod held;
-mod step_words;
-mod word_writer;
+mod buffer;
+mod step_tokens;
+mod token_writer;
 
 use crate::as_step::AsStep;
 use crate::sink::{Sink, SinkFault};
 use crate::step::Step;
-use held::Held;
+use buffer::OutputBuffer;
 use std::marker::Model;
-use step_words::{write_addition, write_deletion};
+use step_tokens::{write_addition, write_deletion};
 use thiserror::Error;
-pub use word_writer::{LineWord, WordWriter};
+pub use token_writer::{LineToken, TokenWriter};
 
 /// Why a writer wrote nothing, or only a beginning.
 #[derive(Clone, Copy, Debug, PartialEq, Eq, Error)]
@@ -31,23 +31,23 @@ pub enum WriteFault {
 /// Writes the line of a step. A deletion begins with the number `greatest`.
 fn write_step<W: Sink>(
     sink: &mut W,
-    held: &mut Held,
+    buffer: &mut OutputBuffer,
     greatest: u64,
     step: &Step,
 ) -> Result<(), SinkFault>
     requires { W.failures sink.old ≡ 0 }
 
-    ensures wrote { OnOk result (Wrote (W.taken sink.old) held.old (W.taken sink.new) held.new
+    ensures wrote { OnOk result (Wrote (W.taken sink.old) buffer.old (W.taken sink.new) buffer.new
         (step_text greatest step.now)) }
     ensures unfailed { OnOk result (W.failures sink.new ≡ 0) }
-    ensures broke { OnErr result (Broke (W.taken sink.old) held.old (W.taken sink.new)
+    ensures broke { OnErr result (Broke (W.taken sink.old) buffer.old (W.taken sink.new)
         (step_text greatest step.now)) }
     ensures failed { OnErr result (W.failures sink.new ≡ 1) }
-    ensures none { OnErr result (held.new ≡ []) }
+    ensures none { OnErr result (buffer.new ≡ []) }
 {
     match step {
-        Step::Add(addition) => write_addition(sink, held, addition),
-        Step::Delete { numbers } => write_deletion(sink, held, greatest, numbers),
+        Step::Add(addition) => write_addition(sink, buffer, addition),
+        Step::Delete { numbers } => write_deletion(sink, buffer, greatest, numbers),
     }
 }
 
@@ -70,7 +70,7 @@ fn greatest_after(greatest: u64, step: &Step) -> u64
 #[derive(Drop)]
 pub struct ProofWriter<W: Sink> {
     sink: W,
-    held: Held,
+    buffer: OutputBuffer,
     greatest: u64,
     failed: bool,
 }
@@ -83,7 +83,7 @@ impl<W: Sink> Model for ProofWriter<W> {
 
     ghost view = { λ w. record {
       sink = w.sink;
-      text = W.taken w.sink ++ w.held;
+      text = W.taken w.sink ++ w.buffer;
       greatest = w.greatest;
       failed = w.failed;
     } };
@@ -100,7 +100,7 @@ impl<W: Sink> ProofWriter<W> {
     {
         ProofWriter {
             sink,
-            held: Held::new(),
+            buffer: OutputBuffer::new(),
             greatest: clauses,
             failed: false,
         }
@@ -133,7 +133,7 @@ impl<W: Sink> ProofWriter<W> {
         if self.failed {
             return Err(WriteFault::Failed);
         }
-        match write_step(&mut self.sink, &mut self.held, self.greatest, step) {
+        match write_step(&mut self.sink, &mut self.buffer, self.greatest, step) {
             Ok(()) => {
                 self.greatest = greatest_after(self.greatest, step);
                 Ok(())
@@ -169,7 +169,7 @@ impl<W: Sink> ProofWriter<W> {
         if self.failed {
             return Err(WriteFault::Failed);
         }
-        match self.held.flush(&mut self.sink) {
+        match self.buffer.flush(&mut self.sink) {
             Ok(()) => Ok(()),
             Err(SinkFault) => {
                 self.failed = true;
@@ -207,12 +207,12 @@ pub fn write_proof<W: Sink, S: AsStep>(
     ensures onward { OnErr result (IsBeginning (W.taken sink.old) (W.taken sink.new)) }
     ensures err { OnErr result (W.failures sink.new ≡ W.failures sink.old + 1) }
 {
-    let mut held = Held::new();
+    let mut buffer = OutputBuffer::new();
     let mut greatest = clauses;
     for lender in steps {
         let step = lender.as_step();
-        write_step(sink, &mut held, greatest, step)?;
+        write_step(sink, &mut buffer, greatest, step)?;
         greatest = greatest_after(greatest, step);
     }
-    held.flush(sink)
+    buffer.flush(sink)
 }

@@ -9,14 +9,14 @@ use Rattle.std.proofs.lemmas.Option.{slice_get_past}
 use Rattle.lj_clause.specs.Literal.{variable_of}
 use Rattle.lj_clause.specs.LiteralSet.{LiteralSet, holds, negations}
 use Rattle.lj_clause.specs.ClauseMap.{ClauseMap, FormulaValue, formula_map}
-use Rattle.lj_clause.specs.Walk.{Walk, Closed, Open, Stuck, is_closed}
+use Rattle.lj_clause.specs.Propagation.{Propagation, Closed, Open, Stuck, is_closed}
 use Rattle.lj_clause.specs.Rat.{rat, is_covered}
 use Rattle.lj_clause.proofs.Formulas.{clause_zero, clause_at}
-use Rattle.lj_clause.proofs.WalkLaws.{walk-agree}
+use Rattle.lj_clause.proofs.PropagationLaws.{propagate-agree}
 use Rattle.lj_text.specs.declared.line.Addition.{Addition}
 use Rattle.lj_text.specs.declared.step.Step.{Step}
 use Rattle.lj_text.specs.declared.step.Step.TheVariants.{Add, Delete}
-use Rattle.lj_text.specs.Steps.{names_all, is_in_place, is_rat_on, is_rat_after, first_walk, is_accepted, without, after_step, replay, adds_empty}
+use Rattle.lj_text.specs.Steps.{names_all, is_in_place, is_rat_on, is_rat_after, first_propagation, is_accepted, without, after_step, replay, adds_empty}
 use Rattle.lj_text.specs.Needed.{NumberSet, has, up_to_empty, additions, all_hints, empty_numbers, needed_numbers, is_kept, if_some, trimmed_step, trimmed_steps}
 use Rattle.lj_text.proofs.NeededLaws.{needed_least, Covers}
 use Rattle.lj_trim.specs.Laws.{AreAbove, FrontRefutes, TrimmedRefutes}
@@ -79,10 +79,10 @@ rat_kept kept p q a s (Some pivot) h all e =
     and_from (not (variable_of pivot == 0)) (holds a.lemma.clause pivot && is_covered (rat q s pivot (kept_groups kept a.groups))) outer.0
     (and_from (holds a.lemma.clause pivot) (is_covered (rat q s pivot (kept_groups kept a.groups))) inner.0 (covered_kept kept p q s pivot a.groups h all inner.1))
 
-ends_kept : (kept : ℕ → Bool) (p q : ClauseMap) (a : Addition) (w : Walk) → Restricts kept p q → AreKept kept (group_hints a.groups) → (is_closed w || is_rat_after p a w) ≡ true → (is_closed w || is_rat_after q (kept_addition kept a) w) ≡ true
+ends_kept : (kept : ℕ → Bool) (p q : ClauseMap) (a : Addition) (w : Propagation) → Restricts kept p q → AreKept kept (group_hints a.groups) → (is_closed w || is_rat_after p a w) ≡ true → (is_closed w || is_rat_after q (kept_addition kept a) w) ≡ true
 ends_kept kept p q a (Closed used) h all e = refl
 ends_kept kept p q a (Open s) h all e = rat_kept kept p q a s a.lemma.pivot h all e
-ends_kept kept p q a (Stuck place) h all e = e
+ends_kept kept p q a (Stuck index) h all e = e
 
 in_place_kept : (kept : ℕ → Bool) (p q : ClauseMap) (a : Addition) → Restricts kept p q → kept a.number ≡ true → AreKept kept a.hints → AreKept kept (group_hints a.groups) → is_in_place p a ≡ true → is_in_place q (kept_addition kept a) ≡ true
 in_place_kept kept p q a h number hints groups e =
@@ -96,13 +96,13 @@ in_place_kept kept p q a h number hints groups e =
 -- an addition all of whose hints are kept is accepted without the groups of candidates that aren't
 accepted_kept : (kept : ℕ → Bool) (p q : ClauseMap) (a : Addition) → Restricts kept p q → kept a.number ≡ true → AreKept kept (all_hints a) → is_accepted p (Add a) ≡ true → is_accepted q (Add (kept_addition kept a)) ≡ true
 accepted_kept kept p q a h number all e =
-    let parts = and_parts (is_in_place p a) (is_closed (first_walk p a) || is_rat_after p a (first_walk p a)) e in
+    let parts = and_parts (is_in_place p a) (is_closed (first_propagation p a) || is_rat_after p a (first_propagation p a)) e in
     let hints = all-front (λ n. kept n ≡ true) a.hints (group_hints a.groups) all in
     let groups = all-back (λ n. kept n ≡ true) a.hints (group_hints a.groups) all in
     let b : Addition = kept_addition kept a in
-    let same : first_walk p a ≡ first_walk q b = walk-agree p q (negations a.lemma.clause) a.hints (all_same kept p q a.hints h hints) in
-    and_from (is_in_place q b) (is_closed (first_walk q b) || is_rat_after q b (first_walk q b)) (in_place_kept kept p q a h number hints groups parts.0)
-    (subst (λ w. (is_closed w || is_rat_after q b w) ≡ true) same (ends_kept kept p q a (first_walk p a) h groups parts.1))
+    let same : first_propagation p a ≡ first_propagation q b = propagate-agree p q (negations a.lemma.clause) a.hints (all_same kept p q a.hints h hints) in
+    and_from (is_in_place q b) (is_closed (first_propagation q b) || is_rat_after q b (first_propagation q b)) (in_place_kept kept p q a h number hints groups parts.0)
+    (subst (λ w. (is_closed w || is_rat_after q b w) ≡ true) same (ends_kept kept p q a (first_propagation p a) h groups parts.1))
 
 -- ---- all steps
 
@@ -161,8 +161,8 @@ no_clause : (f : FormulaValue) (n : ℕ) → nat_le n (length f.clauses) ≡ fal
 no_clause f zero e = clause_zero f zero (omega arith)
 no_clause f (suc i) e =
     let past : length f.clauses ≤ i = grind (arith, nat_tests) in
-    let place : suc i ≡ 1 + i = omega arith in
-    clause_at f (suc i) i place ∙ slice_get_past f.clauses i past
+    let index : suc i ≡ 1 + i = omega arith in
+    clause_at f (suc i) i index ∙ slice_get_past f.clauses i past
 
 -- all clauses of the formula are kept
 formula_kept : (f : FormulaValue) (s : NumberSet) → Restricts (is_kept (length f.clauses) s) (formula_map f) (formula_map f)

@@ -11,10 +11,10 @@ use Rattle.std.proofs.lemmas.Bool.{false≢true, not-true, and_parts, and_from}
 use borrow.Author.Tests.{eqb-true}
 use Rattle.lj_clause.specs.LiteralSet.{LiteralSet, holds, with_negations}
 use Rattle.lj_clause.specs.ClauseMap.{ClauseMap}
-use Rattle.lj_clause.specs.Walk.{walk}
+use Rattle.lj_clause.specs.Propagation.{propagate}
 use Rattle.lj_clause.specs.Rat.{HintGroup, RatAnswer, Covered, MissingGroup, GroupStuck, GroupOpen, rat, candidates, others, is_covered}
 use Rattle.lj_clause.specs.Laws.{hints_given}
-use Rattle.lj_clause.proofs.WalkLaws.{walk-agree}
+use Rattle.lj_clause.proofs.PropagationLaws.{propagate-agree}
 use Rattle.lj_clause.proofs.RatLaws as ratlaws
 use Rattle.lj_text.specs.Steps.{names, names_all, are_distinct, without}
 use Rattle.lj_trim.proofs.MarkLemmas.{all-front, all-back}
@@ -205,7 +205,7 @@ recorded_kept kept p q s pivot groups (e ∷ es) (g ∷ gs) h all z =
       | true ↦ λ is. subst (λ b. AllZip R (e ∷ filter (λ e. kept e.0) es) (cond b (g ∷ kept_groups kept gs) (kept_groups kept gs))) (sym (ap kept z.0.number ∙ is)) (
         record {
           number = z.0.number;
-          closes = ap (walk q t) (same_given kept e.0 groups is) ∙ sym (walk-agree p q t (hints_given e.0 groups) (all_same kept p q (hints_given e.0 groups) h (given_kept kept e.0 groups all))) ∙ z.0.closes;
+          closes = ap (propagate q t) (same_given kept e.0 groups is) ∙ sym (propagate-agree p q t (hints_given e.0 groups) (all_same kept p q (hints_given e.0 groups) h (given_kept kept e.0 groups all))) ∙ z.0.closes;
         },
         later,
       )
@@ -215,7 +215,7 @@ recorded_kept kept p q s pivot groups (e ∷ es) (g ∷ gs) h all z =
 covered_groups : (r : RatAnswer) → is_covered r ≡ true → (gs : List HintGroup) × (r ≡ Covered gs)
 covered_groups (Covered gs) e = (gs, refl)
 covered_groups (MissingGroup n) e = absurd (false≢true e)
-covered_groups (GroupStuck n place) e = absurd (false≢true e)
+covered_groups (GroupStuck n index) e = absurd (false≢true e)
 covered_groups (GroupOpen n) e = absurd (false≢true e)
 
 -- a pivot that is covered in the first map is covered in the second by the groups of kept candidates

@@ -11,21 +11,21 @@ use std::collections::BTreeSet;
 #[derive(Drop)]
 pub(crate) struct Marks {
     /// A mark for each number from 0 on, as many as are given out where numbers rise by one.
-    pub(crate) near: Vec<bool>,
+    pub(crate) dense: Vec<bool>,
     /// The marked numbers beyond.
-    pub(crate) far: BTreeSet<u64>,
+    pub(crate) sparse: BTreeSet<u64>,
 }
 
 impl Marks {
     ghost use Rattle.lj_trim.specs.inner.Marks.{is_marked, Marked};
 
-    /// No number is marked. Numbers below `near` take a byte each, and the others an entry of an ordered set.
-    pub(crate) fn new(alloc: Global, near: usize) -> Result<Marks, NoMemory>
+    /// No number is marked. Numbers below `dense` take a byte each, and the others an entry of an ordered set.
+    pub(crate) fn new(alloc: Global, dense: usize) -> Result<Marks, NoMemory>
         ensures { IfOk result (λ m. (n : ℕ) → is_marked m n ≡ false) }
     {
         Ok(Marks {
-            near: vec![in alloc; false; near]?,
-            far: BTreeSet::new(alloc),
+            dense: vec![in alloc; false; dense]?,
+            sparse: BTreeSet::new(alloc),
         })
     }
 
@@ -33,9 +33,9 @@ impl Marks {
     pub(crate) fn has(&self, number: u64) -> bool
         ensures { result ≡ is_marked self.now number }
     {
-        match self.near.get(number as usize) {
+        match self.dense.get(number as usize) {
             Some(mark) => *mark,
-            None => self.far.contains(&number),
+            None => self.sparse.contains(&number),
         }
     }
 
@@ -43,11 +43,11 @@ impl Marks {
     pub(crate) fn mark(&mut self, number: u64) -> Result<(), NoMemory>
         ensures { OnOk result (Marked self.old self.new (number ∷ [])) }
     {
-        let place = number as usize;
-        if place < self.near.len() {
-            self.near[place] = true;
+        let index = number as usize;
+        if index < self.dense.len() {
+            self.dense[index] = true;
         } else {
-            self.far.insert(number)?;
+            self.sparse.insert(number)?;
         }
         Ok(())
     }

@@ -27,9 +27,9 @@ pub(crate) fn first_empty(steps: &[Step]) -> Option<usize>
     ensures some { IfSome result
         (λ i. (i < length steps.now) × (take (i + 1) steps.now ≡ up_to_empty steps.now)) }
 {
-    for (place, step) in steps.iter().enumerate() {
+    for (position, step) in steps.iter().enumerate() {
         if adds_empty_clause(step) {
-            return Some(place);
+            return Some(position);
         }
     }
     None
@@ -93,16 +93,16 @@ fn pass<'a>(
     Ok(still)
 }
 
-/// Marks the numbers that are needed in steps up to the addition of the empty clause. Takes time linear in `near`, in the
-/// steps and in the numbers that they name, and O(log n) time for each number beyond `near`; and where it takes more than
+/// Marks the numbers that are needed in steps up to the addition of the empty clause. Takes time linear in `dense`, in the
+/// steps and in the numbers that they name, and O(log n) time for each number beyond `dense`; and where it takes more than
 /// two passes, the time of [`Marks::has`] in each for each addition that is left.
 ///
 /// Where hints name only earlier additions and no number is given out twice, all is marked in one pass from the last
 /// addition to the first, and a second one finds nothing more.
-pub(crate) fn needed_marks(alloc: Global, near: usize, steps: &[Step]) -> Result<Marks, NoMemory>
+pub(crate) fn needed_marks(alloc: Global, dense: usize, steps: &[Step]) -> Result<Marks, NoMemory>
     ensures { IfOk result (λ m. (n : ℕ) → is_marked m n ≡ has (needed_in steps.now) n) }
 {
-    let mut marks = Marks::new(alloc, near)?;
+    let mut marks = Marks::new(alloc, dense)?;
     mark_empty(&mut marks, steps)?;
     let mut begun = additions_of(alloc, steps)?;
     loop {

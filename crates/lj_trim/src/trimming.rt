@@ -103,7 +103,7 @@ fn with_kept_groups(
 {
     Ok(Addition {
         number: addition.number,
-        lemma: addition.lemma.copy()?,
+        lemma: addition.lemma.try_clone()?,
         hints: Numbers::new(addition.hints.to_vec()?),
         groups: kept_groups(alloc, clauses, marks, &addition.groups)?,
     })
@@ -184,7 +184,7 @@ pub fn trim<'a>(
         return Err(TrimRefusal::NoRefutation);
     };
     let front = &steps[..last + 1];
-    let near = formula.len() + front.len() + 1;
-    let marks = needed_marks(alloc, near, front)?;
+    let dense = formula.len() + front.len() + 1;
+    let marks = needed_marks(alloc, dense, front)?;
     Ok(trimmed_steps(alloc, formula.len() as u64, &marks, front)?)
 }

@@ -18,7 +18,7 @@ use Rattle.lj_book.specs.Tables.{Tables}
 use Rattle.lj_clause.specs.ClauseMap.{ClauseMap, FormulaValue}
 use Rattle.lj_book.specs.State.{State}
 use Rattle.lj_book.specs.inner.Records.{Entries}
-use Rattle.lj_book.specs.inner.Places.{Recorded}
+use Rattle.lj_book.specs.inner.Ranges.{Recorded}
 
 abbrev pub addition_code : Coded Addition
 addition_code = code_by (ℕ × (LemmaValue × (List ℕ × List HintGroup)))
@@ -94,8 +94,14 @@ state_code = code_by (FormulaValue × (ℕ × (Tables × List Entry)))
 abbrev pub entries_code : Coded Entries
 entries_code = code_by (List Entry × (List ℤ × (ℕ × (ℕ × ℕ))))
     (coded× (coded_list entry_code) (coded× (coded_list coded_ℤ) (coded× coded_ℕ (coded× coded_ℕ coded_ℕ))))
-    (λ h. (h.entries, (h.lits, (h.word_room, (h.lit_room, h.entry_room)))))
-    (λ p. record { entries = p.0; lits = p.1.0; word_room = p.1.1.0; lit_room = p.1.1.1.0; entry_room = p.1.1.1.1 })
+    (λ h. (h.entries, (h.lits, (h.encoding_capacity, (h.lit_capacity, h.entry_capacity)))))
+    (λ p. record {
+      entries = p.0;
+      lits = p.1.0;
+      encoding_capacity = p.1.1.0;
+      lit_capacity = p.1.1.1.0;
+      entry_capacity = p.1.1.1.1;
+    })
     (λ _. refl)
 
 abbrev pub recorded_code : Coded Recorded

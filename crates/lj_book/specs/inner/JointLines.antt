@@ -4,7 +4,7 @@ use Rattle.lj_clause.specs.Lemma.{LemmaValue}
 use Rattle.lj_clause.specs.ClauseMap.{ClauseMap}
 use Rattle.lj_clause.specs.Rat.{HintGroup}
 use Rattle.lj_text.specs.declared.line.Addition.{Addition}
-use Rattle.lj_text.specs.Steps.{first_walk, recorded_form}
+use Rattle.lj_text.specs.Steps.{first_propagation, recorded_form}
 use Rattle.lj_hint.specs.declared.rat_refusal.RatRefusal.TheVariants as rats
 use Rattle.lj_hint.specs.declared.live_line.LineRefusal.{LineRefusal}
 use Rattle.lj_hint.specs.declared.live_line.LineRefusal.TheVariants.{Stuck, Rat}
@@ -16,7 +16,7 @@ use Rattle.lj_book.specs.declared.entry.Entry.{Entry}
 use Rattle.lj_book.specs.Tables.{joint_of}
 use Rattle.lj_book.specs.State.{State, next, live}
 use Rattle.lj_book.specs.Calls.{repeated_after, unless_refused, free_refusal, if_free}
-use Rattle.lj_book.specs.Inside.{walk_refusal, test_refusal}
+use Rattle.lj_book.specs.Inside.{propagation_refusal, test_refusal}
 
 -- the reply for a bound number, and the refusal of one that isn't
 abbrev pub if_bound : {A : Type 0} → ℕ → Option ℕ → (ℕ → Result A Refusal) → Result A Refusal
@@ -76,7 +76,8 @@ addition_of_parts number lemma parts = record
 
 -- the recorded form of an addition in joint numbers, or the refusal of its test
 abbrev pub tested_line : ClauseMap → Addition → Result Addition Refusal
-tested_line p a = unless_refused (walk_refusal p a (first_walk p a)) (recorded_form p a)
+tested_line p a = unless_refused (propagation_refusal p a (first_propagation p a))
+    (recorded_form p a)
 
 -- the same of an addition under a joint number whose parts are these, or their first refusal
 abbrev pub tested_parts : ClauseMap → ℕ → LemmaValue → Result LineParts Refusal

@@ -17,4 +17,4 @@ pub record IsKept (s : State) (clauses : ClauseMap) (count : ℕ) (refuted : Opt
 -- the place of the first empty clause, where this clause enters at that place
 abbrev pub refuted_after : Option ℕ → ℕ → LiteralSet → Option ℕ
 refuted_after None place c = if fin.len c == 0 then Some place else None
-refuted_after (Some first) place c = Some first
+refuted_after (Some first) index c = Some first

@@ -4,14 +4,14 @@ use Rattle.std.specs.Prelude.{◌≡◌, ℕ, ◌+◌, ◌<◌, ◌≤◌, ◌==
 use Rattle.std.specs.List.Sorted.{IsStrictlySortedBy}
 use Rattle.std.specs.Ordering.{nat_cmp}
 use Rattle.std.specs.FinMap as fin
-use Rattle.lj_clause.specs.Literal.{place_of}
+use Rattle.lj_clause.specs.Literal.{index_of}
 use Rattle.lj_clause.specs.LiteralSet.{LiteralSet, literals}
 use Rattle.lj_clause.specs.ClauseMap.{ClauseMap}
 use Rattle.lj_book.specs.Tables.{is_among}
 
 -- the places where a clause is listed: those of its literals, and 1 where it has none
-abbrev pub places_of : LiteralSet → List ℕ
-places_of c = if length (literals c) == 0 then 1 ∷ [] else map place_of (literals c)
+abbrev pub keys_of : LiteralSet → List ℕ
+keys_of c = if length (literals c) == 0 then 1 ∷ [] else map index_of (literals c)
 
 -- a list of numbers under each place that has one
 abbrev pub Lists : Type 0
@@ -40,7 +40,7 @@ pub record AreOccurrences (m : Lists) (clause : ℕ → Option LiteralSet) (boun
   pub rising : (k : ℕ) → IsStrictlySortedBy nat_cmp (list_at m k)
   pub below : (k n : ℕ) → is_among (list_at m k) n ≡ true → n < bound
   pub exact : (n : ℕ) (c : LiteralSet) → clause n ≡ Some c → (k : ℕ)
-      → is_among (list_at m k) n ≡ is_among (places_of c) k
+      → is_among (list_at m k) n ≡ is_among (keys_of c) k
 
 -- The same of lists that may not be made yet.
 abbrev pub AreListed : Option Lists → ClauseMap → ℕ → Type 0

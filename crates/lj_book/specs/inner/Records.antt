@@ -10,7 +10,7 @@ use Rattle.lj_text.specs.Needed.{if_some}
 use Rattle.lj_book.specs.declared.entry.Call.{Call}
 use Rattle.lj_book.specs.declared.entry.Call.TheVariants as calls
 use Rattle.lj_book.specs.declared.entry.Entry.{Entry}
-use Rattle.lj_book.specs.inner.Words.{number_words, list_words, hint_groups_words, groups_numbers, number_in, list_in, hint_groups_in}
+use Rattle.lj_book.specs.inner.Encoding.{number_encoding, list_encoding, hint_groups_encoding, groups_numbers, number_in, list_in, hint_groups_in}
 
 -- the literals of a lemma: its pivot, and then those of its clause
 abbrev pub pivot_before : Option ℤ → List ℤ → List ℤ
@@ -40,29 +40,33 @@ import_kind = 3
 abbrev pub leave_kind : ℕ
 leave_kind = 4
 
-abbrev pub head_words : ℕ → ℕ → List ℕ
-head_words seat kind = number_words (8 * seat + kind)
+abbrev pub head_encoding : ℕ → ℕ → List ℕ
+head_encoding seat kind = number_encoding (8 * seat + kind)
 
 -- the words of a seat's addition, whose literals begin at this place
-abbrev pub add_words : ℕ → ℕ → Addition → ℕ → List ℕ
-add_words seat own a at =
-    head_words seat addition_kind ++ (number_words own ++ (number_words a.number ++ (number_words at
-    ++ (number_words (length (lemma_lits a.lemma)) ++ (list_words a.hints ++ hint_groups_words a.groups)))))
+abbrev pub add_encoding : ℕ → ℕ → Addition → ℕ → List ℕ
+add_encoding seat own a at =
+    head_encoding seat addition_kind ++ (number_encoding own ++
+    (number_encoding a.number ++ (number_encoding at
+    ++ (number_encoding (length (lemma_lits a.lemma)) ++
+    (list_encoding a.hints ++ hint_groups_encoding a.groups)))))
 
 -- the words of own numbers that were given up, and of the joint numbers that died
-abbrev pub drop_words : ℕ → List ℕ → List ℕ → List ℕ
-drop_words seat given died = head_words seat drop_kind ++ (list_words given ++ list_words died)
+abbrev pub drop_encoding : ℕ → List ℕ → List ℕ → List ℕ
+drop_encoding seat given died = head_encoding seat drop_kind ++
+    (list_encoding given ++ list_encoding died)
 
-abbrev pub adopt_words : ℕ → ℕ → ℕ → List ℕ
-adopt_words seat own joint = head_words seat adopt_kind ++ (number_words own ++ number_words joint)
+abbrev pub adopt_encoding : ℕ → ℕ → ℕ → List ℕ
+adopt_encoding seat own joint = head_encoding seat adopt_kind ++
+    (number_encoding own ++ number_encoding joint)
 
-abbrev pub import_words : ℕ → ℕ → LiteralSet → ℕ → List ℕ
-import_words seat own clause at =
-    head_words seat import_kind ++ (number_words own ++ (number_words at
-    ++ number_words (length (literals clause))))
+abbrev pub import_encoding : ℕ → ℕ → LiteralSet → ℕ → List ℕ
+import_encoding seat own clause at =
+    head_encoding seat import_kind ++ (number_encoding own ++ (number_encoding at
+    ++ number_encoding (length (literals clause))))
 
-abbrev pub leave_words : ℕ → List ℕ → List ℕ
-leave_words seat died = head_words seat leave_kind ++ list_words died
+abbrev pub leave_encoding : ℕ → List ℕ → List ℕ
+leave_encoding seat died = head_encoding seat leave_kind ++ list_encoding died
 
 -- the literals that words name by their place and their number, and the words behind these
 abbrev pub lits_in : List ℤ → List ℕ → List ℤ
@@ -146,19 +150,20 @@ call_lits (calls.Import own clause) = literals clause
 call_lits calls.Leave = []
 
 -- From this place on stand the words of an entry, whatever stands behind them, with the literals that it is kept by.
-pub record IsWritten (lits : List ℤ) (words : List ℕ) (start : ℕ) : Type 0 where
-  pub within : start ≤ length words
+pub record IsWritten (lits : List ℤ) (encoding : List ℕ) (start : ℕ) : Type 0 where
+  pub within : start ≤ length encoding
   pub whole : (more : List ℤ) (behind : List ℕ)
-      → read_in (lits ++ more) (drop start words ++ behind) ≡ read_in lits (drop start words)
-  pub named : (read_in lits (drop start words)).1 ≡ call_lits (read_in lits (drop start words)).0.call
-  pub seated : (entry_in lits (drop start words)).seat < 4294967296
+      → read_in (lits ++ more) (drop start encoding ++ behind) ≡ read_in lits (drop start encoding)
+  pub named : (read_in lits (drop start encoding)).1
+      ≡ call_lits (read_in lits (drop start encoding)).0.call
+  pub seated : (entry_in lits (drop start encoding)).seat < 4294967296
 
 -- Each entry stands where it begins.
 abbrev pub AreWritten : List ℤ → List ℕ → List ℕ → Type 0
-AreWritten lits words starts = AllByRecursion (IsWritten lits words) starts
+AreWritten lits encoding starts = AllByRecursion (IsWritten lits encoding) starts
 
 abbrev pub entries_in : List ℤ → List ℕ → List ℕ → List Entry
-entries_in lits words starts = map (λ start. entry_in lits (drop start words)) starts
+entries_in lits encoding starts = map (λ start. entry_in lits (drop start encoding)) starts
 
 -- how many numbers stand in the words of an addition
 abbrev pub addition_numbers : Addition → ℕ
@@ -169,6 +174,6 @@ addition_numbers a = 7 + length a.hints + groups_numbers a.groups
 pub record Entries : Type 0 where
   pub entries : List Entry
   pub lits : List ℤ
-  pub word_room : ℕ
-  pub lit_room : ℕ
-  pub entry_room : ℕ
+  pub encoding_capacity : ℕ
+  pub lit_capacity : ℕ
+  pub entry_capacity : ℕ

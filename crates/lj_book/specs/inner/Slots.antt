@@ -16,15 +16,15 @@ slot_map slots = fin.from_entries (slot_entries 0 slots)
 -- the entries of two maps in one
 abbrev pub joined_map : {V : Type 0} → fin.FinMap nat_cmp V → fin.FinMap nat_cmp V
     → fin.FinMap nat_cmp V
-joined_map near far = fin.from_entries (fin.entries near ++ fin.entries far)
+joined_map dense sparse = fin.from_entries (fin.entries dense ++ fin.entries sparse)
 
 -- the map in which each number is so much greater
 abbrev pub shifted : {V : Type 0} → ℕ → fin.FinMap nat_cmp V → fin.FinMap nat_cmp V
 shifted by m = fin.from_entries (map (λ e. (by + e.0, e.1)) (fin.entries m))
 
 -- no number is in both maps
-abbrev pub AreApart : {V : Type 0} → fin.FinMap nat_cmp V → fin.FinMap nat_cmp V → Type 0
-AreApart near far = (q : ℕ) → is_some (fin.get near q) ≡ true → fin.get far q ≡ None
+abbrev pub AreDisjoint : {V : Type 0} → fin.FinMap nat_cmp V → fin.FinMap nat_cmp V → Type 0
+AreDisjoint dense sparse = (q : ℕ) → is_some (fin.get dense q) ≡ true → fin.get sparse q ≡ None
 
 -- every number of the map is below the end
 abbrev pub AreBefore : {V : Type 0} → ℕ → fin.FinMap nat_cmp V → Type 0

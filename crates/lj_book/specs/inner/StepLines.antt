@@ -5,7 +5,7 @@ use Rattle.lj_clause.specs.Literal.{lit_cmp}
 use Rattle.lj_text.specs.declared.step.Step.{Step}
 use Rattle.lj_text.specs.Steps.{adds_empty}
 use Rattle.lj_text.specs.StepText.{step_text, greatest_with}
-use Rattle.lj_text.specs.WordWriting.{WordState, WasGiven}
+use Rattle.lj_text.specs.TokenWriting.{TokenState, WasGiven}
 
 -- the literals that an addition is kept by, as they are written: the pivot stands once
 abbrev pub kept_as_written : List ℤ → List ℤ
@@ -27,7 +27,8 @@ ends_proof None = false
 ends_proof (Some step) = adds_empty step
 
 -- A writer of words was given a front of the whole text, and this is left of it.
-pub record Remains (before : WordState) (whole : List ℕ) (now : WordState) (rest : List ℕ) : Type 0 where
+pub record Remains (before : TokenState) (whole : List ℕ) (now : TokenState) (rest : List ℕ) : Type
+    0 where
   pub front : List ℕ
   pub given : WasGiven before front now
   pub parts : front ++ rest ≡ whole

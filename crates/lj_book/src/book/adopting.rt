@@ -29,7 +29,7 @@ impl Book {
         if let Some(refusal) = self.free_refusal(seat, own) {
             return Err(refusal);
         }
-        if !self.ledger.is_live(joint) {
+        if !self.clause_log.is_live(joint) {
             return Err(Refusal::NoSuchClause);
         }
         Ok(self.bind_live(seat, own, joint, None)?)
@@ -66,8 +66,8 @@ impl Book {
         ensures number { result ≡ least_number (live self.old) clause.now }
         ensures same { self.new ≡ self.old }
     {
-        self.ledger.make_lists();
-        self.ledger.least_number(clause)
+        self.clause_log.make_lists();
+        self.clause_log.least_number(clause)
     }
 
     /// The refusal of a binding of this own number, whatever it is to be bound to.
@@ -105,10 +105,10 @@ impl Book {
             (binding_entry seat (binding_call own joint (option_copied imported.entry)))) }
         ensures err { OnErr result (self.new ≡ self.old) }
     {
-        self.ledger.reserve_binding(imported)?;
-        let place = self.ledger.history().len();
+        self.clause_log.reserve_binding(imported)?;
+        let place = self.clause_log.history().len();
         self.tables.bind(seat, own, joint)?;
-        self.ledger.push_binding(seat, own, joint, imported);
+        self.clause_log.push_binding(seat, own, joint, imported);
         Ok(place)
     }
 }

@@ -5,11 +5,11 @@ ghost use Rattle.lj_book.specs.History.{after_entry, IsReached};
 ghost use Rattle.lj_book.specs.Calls.{IsReply, IsReplyBy};
 ghost use Rattle.lj_book.specs.Inside.{inside_reply, inside_entry};
 ghost use Rattle.lj_book.specs.Solo.{view_of};
-ghost use Rattle.lj_book.specs.Views.{IsClosedAlone, IsFullOrShort};
+ghost use Rattle.lj_book.specs.Views.{IsClosedAlone, IsFullOrNoMemory};
 ghost use Rattle.lj_book.specs.inner.JointLines.{addition_of_parts, inside_line};
 
 use crate::book::Book;
-use crate::book::telling::entry_of_line;
+use crate::book::with_entry::entry_of_line;
 use crate::entry::{Added, Entry};
 use crate::joint_line::{clear, put_first};
 use crate::lent_addition::LentAddition;
@@ -31,7 +31,7 @@ impl Book {
     ) -> Result<Added, Refusal>
         requires { IsClosedAlone (view_of self.old seat) seat addition.now read }
         ensures reply { IsReply result (inside_reply self.old seat addition.now) }
-        ensures refusal { IfErr result IsFullOrShort }
+        ensures refusal { IfErr result IsFullOrNoMemory }
         ensures ok { OnOk result
             (self.new ≡ after_entry self.old (inside_entry self.old seat addition.now)) }
         ensures err { OnErr result (self.new ≡ self.old) }
@@ -48,7 +48,7 @@ impl Book {
     ///
     /// # Errors
     /// As [`Book::add_closed`].
-    pub fn add_closed_telling(
+    pub fn add_closed_with_entry(
         &mut self,
         seat: u32,
         addition: &Addition,
@@ -57,7 +57,7 @@ impl Book {
         requires { IsClosedAlone (view_of self.old seat) seat addition.now read }
         ensures reply { IsReplyBy (λ told. told.0) result
             (inside_reply self.old seat addition.now) }
-        ensures refusal { IfErr result IsFullOrShort }
+        ensures refusal { IfErr result IsFullOrNoMemory }
         ensures told { IfOk result (λ told. told.1 ≡ inside_entry self.old seat addition.now) }
         ensures ok { OnOk result
             (self.new ≡ after_entry self.old (inside_entry self.old seat addition.now)) }
@@ -65,7 +65,7 @@ impl Book {
     {
         let (mut hints, mut groups) = self.lend_joints();
         clear(&mut groups);
-        let told = self.enter_closed_telling(seat, addition, read, &mut hints, &groups);
+        let told = self.enter_closed_with_entry(seat, addition, read, &mut hints, &groups);
         self.joints = hints;
         self.joint_groups = groups;
         told
@@ -86,7 +86,7 @@ impl Book {
         requires closed { IsClosedAlone (view_of self.old seat) seat addition.now read }
         requires groups { groups.now ≡ [] }
         ensures reply { IsReply result (inside_reply self.old seat addition.now) }
-        ensures refusal { IfErr result IsFullOrShort }
+        ensures refusal { IfErr result IsFullOrNoMemory }
         ensures ok { OnOk result
             (self.new ≡ after_entry self.old (inside_entry self.old seat addition.now)) }
         ensures err { OnErr result (self.new ≡ self.old) }
@@ -101,11 +101,11 @@ impl Book {
         }
     }
 
-    /// As [`Book::add_closed_telling`], with lists for the hints and the groups in joint numbers.
+    /// As [`Book::add_closed_with_entry`], with lists for the hints and the groups in joint numbers.
     ///
     /// # Errors
     /// As [`Book::add_closed`].
-    fn enter_closed_telling(
+    fn enter_closed_with_entry(
         &mut self,
         seat: u32,
         addition: &Addition,
@@ -117,7 +117,7 @@ impl Book {
         requires groups { groups.now ≡ [] }
         ensures reply { IsReplyBy (λ told. told.0) result
             (inside_reply self.old seat addition.now) }
-        ensures refusal { IfErr result IsFullOrShort }
+        ensures refusal { IfErr result IsFullOrNoMemory }
         ensures told { IfOk result (λ told. told.1 ≡ inside_entry self.old seat addition.now) }
         ensures ok { OnOk result
             (self.new ≡ after_entry self.old (inside_entry self.old seat addition.now)) }
@@ -153,7 +153,7 @@ impl Book {
         ensures reply { IsReplyBy
             (λ _. addition_of_parts (next self.now) addition.now.lemma (hints.new, []))
             result (inside_line self.now seat addition.now) }
-        ensures refusal { IfErr result IsFullOrShort }
+        ensures refusal { IfErr result IsFullOrNoMemory }
         ensures reached { IsReached self.now }
     {
         if self.added >= self.max_steps {

@@ -10,23 +10,23 @@ ghost use Rattle.lj_book.specs.Inside.{inside_reply, inside_entry};
 ghost use Rattle.lj_book.specs.inner.JointLines.{addition_of_parts, joint_parts, tested_parts, inside_line, line_entry};
 
 use crate::book::Book;
+use crate::clause_log::ClauseLog;
 use crate::committing::{enter_addition, refuted_at};
 use crate::entry::Added;
 use crate::joint_line::{clear, joint_line};
-use crate::ledger::Ledger;
 use crate::lent_addition::LentAddition;
 use crate::line_tests::tested_line;
 use crate::refusal::Refusal;
 use crate::seat_tables::SeatTables;
 use lj_clause::{Lemma, NoMemory};
-use lj_hint::Marks;
+use lj_hint::Propagator;
 use lj_text::{Addition, Groups, Numbers};
 use std::mem::replace;
 
 impl Book {
     /// Tests a seat's addition over the live clauses, those of all seats, and enters it in recorded form: by hinted
     /// unit propagation over its first list, or else by resolution asymmetric tautology on its pivot (Cruz-Filipe et
-    /// al., CADE 2017). The room may have served any walk before.
+    /// al., CADE 2017). The propagator may have served any propagation before.
     ///
     /// Takes O(log n) time, amortized, for each number of the line, each hint that is read and each literal of the lemma
     /// and of these hints. Where the first list stays open, takes that time for each literal of the candidates too and for
@@ -43,7 +43,7 @@ impl Book {
         &mut self,
         seat: u32,
         addition: &Addition,
-        marks: &mut Marks,
+        propagator: &mut Propagator,
     ) -> Result<Added, Refusal>
         ensures reply { IsReply result (inside_reply self.old seat addition.now) }
         ensures refused { IfSome (free_refusal self.old seat addition.now.number)
@@ -57,16 +57,16 @@ impl Book {
         if let Some(refusal) = self.free_refusal(seat, own) {
             return Err(refusal);
         }
-        let ledger = &mut self.ledger;
+        let clause_log = &mut self.clause_log;
         let (hints, joints) = (&mut self.joints, &mut self.joint_groups);
         if let Err(refusal) = recorded_line(
-            ledger,
+            clause_log,
             &self.tables,
             seat,
             addition,
             hints,
             joints,
-            marks,
+            propagator,
         ) {
             return Err(refusal);
         }
@@ -75,8 +75,8 @@ impl Book {
         }
         let _ = has_pivot(&addition.lemma);
         let step = LentAddition::new(joint, &addition.lemma, &self.joints, &self.joint_groups);
-        let place = self.ledger.history().len();
-        enter_addition(&mut self.ledger, &mut self.tables, seat, own, &step)?;
+        let place = self.clause_log.history().len();
+        enter_addition(&mut self.clause_log, &mut self.tables, seat, own, &step)?;
         self.refuted = refuted_at(self.refuted, place, &step.clause);
         clear(&mut self.joint_groups);
         self.added += 1;
@@ -87,8 +87,8 @@ impl Book {
     pub(crate) fn lend_joints(&mut self) -> (Numbers, Groups)
         ensures { self.new ≡ self.old }
     {
-        let alloc = self.ledger.allocator();
-        let hints = replace(&mut self.joints, Numbers::from_short(Vec::new(alloc)));
+        let alloc = self.clause_log.allocator();
+        let hints = replace(&mut self.joints, Numbers::from_u32s(Vec::new(alloc)));
         let groups = replace(&mut self.joint_groups, Groups::new(alloc));
         (hints, groups)
     }
@@ -113,7 +113,7 @@ impl Book {
         addition: &Addition,
         hints: &mut Numbers,
         groups: &mut Groups,
-        marks: &mut Marks,
+        propagator: &mut Propagator,
     ) -> Result<(), Refusal>
         ensures reply { IsReplyBy
             (λ _. addition_of_parts (next self.old) addition.now.lemma (hints.new, groups.new))
@@ -128,15 +128,15 @@ impl Book {
         if let Some(refusal) = self.free_refusal(seat, addition.number) {
             return Err(refusal);
         }
-        let ledger = &mut self.ledger;
+        let clause_log = &mut self.clause_log;
         if let Err(refusal) = recorded_line(
-            ledger,
+            clause_log,
             &self.tables,
             seat,
             addition,
             hints,
             groups,
-            marks,
+            propagator,
         ) {
             return Err(refusal);
         }
@@ -165,8 +165,8 @@ impl Book {
         let _ = has_pivot(&addition.lemma);
         let own = addition.number;
         let joint = step.number;
-        let place = self.ledger.history().len();
-        enter_addition(&mut self.ledger, &mut self.tables, seat, own, step)?;
+        let place = self.clause_log.history().len();
+        enter_addition(&mut self.clause_log, &mut self.tables, seat, own, step)?;
         self.refuted = refuted_at(self.refuted, place, &step.clause);
         self.added += 1;
         Ok(Added { place, joint })
@@ -180,25 +180,32 @@ impl Book {
 /// As [`Book::add_inside`], but for what is refused before the line is read, and [`Refusal::Full`].
 #[inline(always)]
 fn recorded_line(
-    ledger: &mut Ledger,
+    clause_log: &mut ClauseLog,
     tables: &SeatTables,
     seat: u32,
     addition: &Addition,
     hints: &mut Numbers,
     joints: &mut Groups,
-    marks: &mut Marks,
+    propagator: &mut Propagator,
 ) -> Result<(), Refusal>
     ensures reply { (number : ℕ) → IsReplyBy
         (λ _. addition_of_parts number addition.now.lemma (hints.new, joints.new)) result
-        (tested_parts ledger.old.live number addition.now.lemma
+        (tested_parts clause_log.old.live number addition.now.lemma
         (joint_parts (joint_of tables.now seat) addition.now)) }
-    ensures same { ledger.new ≡ ledger.old }
+    ensures same { clause_log.new ≡ clause_log.old }
 {
-    let alloc = ledger.allocator();
+    let alloc = clause_log.allocator();
     if let Err(refusal) = joint_line(alloc, tables, seat, addition, hints, joints) {
         return Err(refusal);
     }
-    tested_line(alloc, ledger, &addition.lemma, hints, joints, marks)
+    tested_line(
+        alloc,
+        clause_log,
+        &addition.lemma,
+        hints,
+        joints,
+        propagator,
+    )
 }
 
 /// Whether the lemma has a pivot, which then is a literal of its clause.

@@ -4,7 +4,7 @@ ghost use Rattle.lj_book.specs.History.{after_entry};
 ghost use Rattle.lj_book.specs.Calls.{IsReply, leave_reply, leave_entry};
 
 use crate::book::Book;
-use crate::dying::{no_longer_held, rising};
+use crate::dying::{rising, without_holder};
 use crate::refusal::Refusal;
 use lj_text::Numbers;
 
@@ -24,14 +24,14 @@ impl Book {
         if !self.tables.is_here(seat) {
             return Err(Refusal::SeatGone);
         }
-        let alloc = self.ledger.allocator();
+        let alloc = self.clause_log.allocator();
         let numbers = Numbers::new(self.tables.own_numbers(alloc, seat)?);
         let joints = rising(self.tables.joints(alloc, seat, &numbers)?);
-        self.ledger.reserve_deaths(0, joints.len())?;
-        let place = self.ledger.history().len();
+        self.clause_log.reserve_deaths(0, joints.len())?;
+        let place = self.clause_log.history().len();
         self.tables.leave(seat, &numbers);
-        let died = no_longer_held(&self.tables, joints);
-        self.ledger.push_leave(seat, &died);
+        let died = without_holder(&self.tables, joints);
+        self.clause_log.push_leave(seat, &died);
         Ok(place)
     }
 }

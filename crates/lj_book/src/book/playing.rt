@@ -13,7 +13,7 @@ use crate::book::Book;
 use crate::event::{Event, Pending, Reply};
 use crate::refusal::Refusal;
 use lj_clause::{Clause, NoMemory};
-use lj_hint::{Case, Marks, Tested};
+use lj_hint::{Case, Propagator, Tested};
 use lj_text::{Addition, Numbers};
 use std::alloc::Global;
 use std::mem;
@@ -22,7 +22,7 @@ impl Book {
     /// Plays the events one after another, from nothing pending, and answers one reply for each.
     ///
     /// A take gives up what is pending for its seat, and where it is accepted its case is pending then. A test of a
-    /// pending case leaves its receipt pending where the walk closes, nothing where it doesn't, and the case where
+    /// pending case leaves its receipt pending where the propagation closes, nothing where it doesn't, and the case where
     /// memory is short. A commit of a pending receipt leaves nothing pending. A test where no case is pending, and a
     /// commit where no receipt is, answer [`Reply::Nothing`]. The other events are calls, and leave what is pending.
     ///
@@ -39,27 +39,32 @@ impl Book {
             → IsAlone self.old events.now replies.items self.new seat) }
         ensures err { OnErr result (self.new ≡ self.old) }
     {
-        let alloc = self.ledger.allocator();
+        let alloc = self.clause_log.allocator();
         let mut replies = Vec::with_capacity(alloc, events.len())?;
         let mut pending = nothing_pending(alloc, self.tables.len())?;
-        let mut marks = Marks::new(alloc);
+        let mut propagator = Propagator::new(alloc);
         for event in events {
-            let reply = self.answer(event, &mut pending, &mut marks);
+            let reply = self.answer(event, &mut pending, &mut propagator);
             replies.push(reply).unwrap();
         }
         Ok(replies)
     }
 
     /// The reply to one event.
-    fn answer(&mut self, event: &Event, pending: &mut [Pending], marks: &mut Marks) -> Reply
+    fn answer(
+        &mut self,
+        event: &Event,
+        pending: &mut [Pending],
+        propagator: &mut Propagator,
+    ) -> Reply
         ensures { IsAnswered (record { state = self.old; pending = pending.old }) event.now result
             (record { state = self.new; pending = pending.new }) }
     {
         match event {
             Event::Take(seat, addition) => self.answer_take(*seat, addition, pending),
-            Event::Test(seat) => answer_test(*seat, pending, marks),
+            Event::Test(seat) => answer_test(*seat, pending, propagator),
             Event::Commit(seat) => self.answer_commit(*seat, pending),
-            Event::Inside(seat, addition) => self.answer_inside(*seat, addition, marks),
+            Event::Inside(seat, addition) => self.answer_inside(*seat, addition, propagator),
             Event::Drop(seat, numbers) => self.answer_drop(*seat, numbers),
             Event::Adopt(seat, own, joint) => self.answer_adopt(*seat, *own, *joint),
             Event::Import(seat, own, clause) => self.answer_import(*seat, *own, clause),
@@ -100,13 +105,18 @@ impl Book {
         }
     }
 
-    fn answer_inside(&mut self, seat: u32, addition: &Addition, marks: &mut Marks) -> Reply
+    fn answer_inside(
+        &mut self,
+        seat: u32,
+        addition: &Addition,
+        propagator: &mut Propagator,
+    ) -> Reply
         ensures { (pending : List Pending)
             → IsAnswered (record { state = self.old; pending = pending })
             (events.Inside seat addition.now) result
             (record { state = self.new; pending = pending }) }
     {
-        match self.add_inside(seat, addition, marks) {
+        match self.add_inside(seat, addition, propagator) {
             Ok(added) => Reply::Added(added),
             Err(refusal) => Reply::Refused(refusal),
         }
@@ -193,13 +203,13 @@ fn take_pending(pending: &mut [Pending], seat: u32) -> Pending
 }
 
 /// The reply to the test of what is pending for a seat.
-fn answer_test(seat: u32, pending: &mut [Pending], marks: &mut Marks) -> Reply
+fn answer_test(seat: u32, pending: &mut [Pending], propagator: &mut Propagator) -> Reply
     ensures { IsTestOf (slice_index_or pending.old seat pendings.Nothing) pending.old
         (slice_set pending.old seat) result pending.new }
 {
     match take_pending(pending, seat) {
         Pending::Case(case) => {
-            let (reply, after) = tested(case, marks);
+            let (reply, after) = tested(case, propagator);
             set_pending(pending, seat, after);
             reply
         }
@@ -211,10 +221,10 @@ fn answer_test(seat: u32, pending: &mut [Pending], marks: &mut Marks) -> Reply
 }
 
 /// The reply to the test of a case, and what is pending after it.
-fn tested(case: Case, marks: &mut Marks) -> (Reply, Pending)
+fn tested(case: Case, propagator: &mut Propagator) -> (Reply, Pending)
     ensures { IsTested case (λ after. after) result.0 result.1 }
 {
-    match case.test(marks) {
+    match case.test(propagator) {
         Tested::Closed(receipt) => (Reply::Closed, Pending::Receipt(receipt)),
         Tested::Open(_) => (Reply::Open, Pending::Nothing),
         Tested::Stuck(place) => (Reply::Stuck(place), Pending::Nothing),

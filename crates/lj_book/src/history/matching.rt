@@ -2,14 +2,14 @@
 ghost use Rattle.std.specs.Prelude.{◌≡◌, ◌↔◌, ◌<◌, IsTrue};
 ghost use Rattle.lj_clause.specs.LiteralSet.{literals, from_literals};
 ghost use Rattle.lj_text.specs.Needed.{if_some};
-ghost use Rattle.lj_book.specs.inner.Words.{number_in, list_in, hint_groups_in};
+ghost use Rattle.lj_book.specs.inner.Encoding.{number_in, list_in, hint_groups_in};
 ghost use Rattle.lj_book.specs.inner.Records.{lemma_lits, lits_in, call_lits, addition_in, call_in, step_in, entry_in, read_in, named_in};
 
 use super::reading::named;
 use super::{ADDITION, ADOPT, DROP, IMPORT, KINDS};
+use crate::encoding::{groups_match, list_matches, number, numbers_match};
 use crate::entry::{Call, Entry};
 use crate::same::same_lemma;
-use crate::words::{groups_match, list_matches, number, numbers_match};
 use lj_clause::{Lemma, Lit};
 use lj_text::{Addition, Step};
 
@@ -34,23 +34,23 @@ pub(super) fn same_lits(lits: &[Lit], others: &[Lit]) -> bool
 }
 
 /// Whether the hints and the groups at the front of the words are those of the addition.
-fn are_hints_of(words: &[u32], addition: &Addition) -> bool
-    ensures { IsTrue result ↔ (((list_in words.now).0 ≡ addition.now.hints)
-        × ((hint_groups_in (list_in words.now).1).0 ≡ addition.now.groups)) }
+fn are_hints_of(encoding: &[u32], addition: &Addition) -> bool
+    ensures { IsTrue result ↔ (((list_in encoding.now).0 ≡ addition.now.hints)
+        × ((hint_groups_in (list_in encoding.now).1).0 ≡ addition.now.groups)) }
 {
-    match list_matches(words, &addition.hints) {
+    match list_matches(encoding, &addition.hints) {
         Some(rest) => groups_match(rest, &addition.groups).is_some(),
         None => false,
     }
 }
 
 /// Whether the addition behind its own number is this one.
-fn is_added(lits: &[Lit], words: &[u32], addition: &Addition) -> bool
-    requires { lits_in lits.now (number_in words.now).1
-        ≡ lemma_lits (addition_in lits.now words.now).lemma }
-    ensures { IsTrue result ↔ (addition_in lits.now words.now ≡ addition.now) }
+fn is_added(lits: &[Lit], encoding: &[u32], addition: &Addition) -> bool
+    requires { lits_in lits.now (number_in encoding.now).1
+        ≡ lemma_lits (addition_in lits.now encoding.now).lemma }
+    ensures { IsTrue result ↔ (addition_in lits.now encoding.now ≡ addition.now) }
 {
-    let (joint, rest) = number(words);
+    let (joint, rest) = number(encoding);
     let (literals, rest) = named(lits, rest);
     let _ = addition.lemma.pivot();
     if joint != addition.number {
@@ -63,13 +63,14 @@ fn is_added(lits: &[Lit], words: &[u32], addition: &Addition) -> bool
 }
 
 /// Whether the words behind the first number of an addition are those of this call and this step.
-fn is_addition(lits: &[Lit], words: &[u32], call: &Call, step: &Option<Step>) -> bool
-    requires { lits_in lits.now (number_in (number_in words.now).1).1
-        ≡ lemma_lits (addition_in lits.now (number_in words.now).1).lemma }
+fn is_addition(lits: &[Lit], encoding: &[u32], call: &Call, step: &Option<Step>) -> bool
+    requires { lits_in lits.now (number_in (number_in encoding.now).1).1
+        ≡ lemma_lits (addition_in lits.now (number_in encoding.now).1).lemma }
     ensures { IsTrue result
-        ↔ ((call_in lits.now 0 words.now ≡ call.now) × (step_in lits.now 0 words.now ≡ step.now)) }
+        ↔ ((call_in lits.now 0 encoding.now ≡ call.now)
+        × (step_in lits.now 0 encoding.now ≡ step.now)) }
 {
-    let (found, rest) = number(words);
+    let (found, rest) = number(encoding);
     match (call, step) {
         (Call::Add { own, lemma }, Some(Step::Add(addition))) => {
             found == *own && same_lemma(lemma, &addition.lemma) && is_added(lits, rest, addition)
@@ -79,38 +80,38 @@ fn is_addition(lits: &[Lit], words: &[u32], call: &Call, step: &Option<Step>) ->
 }
 
 /// Whether the deletion of the list at the front of the words, if it has a number, is this step.
-fn is_deletion(words: &[u32], step: &Option<Step>) -> bool
-    ensures { IsTrue result ↔ (if_some (list_in words.now).0 ≡ step.now) }
+fn is_deletion(encoding: &[u32], step: &Option<Step>) -> bool
+    ensures { IsTrue result ↔ (if_some (list_in encoding.now).0 ≡ step.now) }
 {
     match step {
         Some(Step::Delete { numbers }) => {
-            !numbers.is_empty() && list_matches(words, numbers).is_some()
+            !numbers.is_empty() && list_matches(encoding, numbers).is_some()
         }
         Some(Step::Add(_)) => false,
-        None => numbers_match(words, &[]).is_some(),
+        None => numbers_match(encoding, &[]).is_some(),
     }
 }
 
 /// Whether the words behind the first number of a drop are those of this call and this step.
-fn is_drop(lits: &[Lit], words: &[u32], call: &Call, step: &Option<Step>) -> bool
-    ensures { IsTrue result ↔ ((call_in lits.now 1 words.now ≡ call.now)
-        × (step_in lits.now 1 words.now ≡ step.now)) }
+fn is_drop(lits: &[Lit], encoding: &[u32], call: &Call, step: &Option<Step>) -> bool
+    ensures { IsTrue result ↔ ((call_in lits.now 1 encoding.now ≡ call.now)
+        × (step_in lits.now 1 encoding.now ≡ step.now)) }
 {
     let Call::Drop { numbers } = call else {
         return false;
     };
-    match list_matches(words, numbers) {
+    match list_matches(encoding, numbers) {
         Some(rest) => is_deletion(rest, step),
         None => false,
     }
 }
 
 /// Whether the words behind the first number of an adoption are those of this call and this step.
-fn is_adoption(lits: &[Lit], words: &[u32], call: &Call, step: &Option<Step>) -> bool
-    ensures { IsTrue result ↔ ((call_in lits.now 2 words.now ≡ call.now)
-        × (step_in lits.now 2 words.now ≡ step.now)) }
+fn is_adoption(lits: &[Lit], encoding: &[u32], call: &Call, step: &Option<Step>) -> bool
+    ensures { IsTrue result ↔ ((call_in lits.now 2 encoding.now ≡ call.now)
+        × (step_in lits.now 2 encoding.now ≡ step.now)) }
 {
-    let (found, rest) = number(words);
+    let (found, rest) = number(encoding);
     let (bound, _) = number(rest);
     match call {
         Call::Adopt { own, joint } => found == *own && bound == *joint && step.is_none(),
@@ -119,13 +120,13 @@ fn is_adoption(lits: &[Lit], words: &[u32], call: &Call, step: &Option<Step>) ->
 }
 
 /// Whether the words behind the first number of an import are those of this call and this step.
-fn is_import(lits: &[Lit], words: &[u32], call: &Call, step: &Option<Step>) -> bool
-    requires { lits_in lits.now (number_in words.now).1
-        ≡ literals (from_literals (lits_in lits.now (number_in words.now).1)) }
-    ensures { IsTrue result ↔ ((call_in lits.now 3 words.now ≡ call.now)
-        × (step_in lits.now 3 words.now ≡ step.now)) }
+fn is_import(lits: &[Lit], encoding: &[u32], call: &Call, step: &Option<Step>) -> bool
+    requires { lits_in lits.now (number_in encoding.now).1
+        ≡ literals (from_literals (lits_in lits.now (number_in encoding.now).1)) }
+    ensures { IsTrue result ↔ ((call_in lits.now 3 encoding.now ≡ call.now)
+        × (step_in lits.now 3 encoding.now ≡ step.now)) }
 {
-    let (found, rest) = number(words);
+    let (found, rest) = number(encoding);
     let (literals, _) = named(lits, rest);
     let Call::Import { own, clause } = call else {
         return false;
@@ -140,28 +141,29 @@ fn is_import(lits: &[Lit], words: &[u32], call: &Call, step: &Option<Step>) -> b
 }
 
 /// Whether the words behind the first number of an entry of a kind are those of this call and this step.
-fn is_of_kind(lits: &[Lit], kind: u64, words: &[u32], call: &Call, step: &Option<Step>) -> bool
-    requires { named_in lits.now kind words.now ≡ call_lits (call_in lits.now kind words.now) }
-    ensures { IsTrue result ↔ ((call_in lits.now kind words.now ≡ call.now)
-        × (step_in lits.now kind words.now ≡ step.now)) }
+fn is_of_kind(lits: &[Lit], kind: u64, encoding: &[u32], call: &Call, step: &Option<Step>) -> bool
+    requires { named_in lits.now kind encoding.now
+        ≡ call_lits (call_in lits.now kind encoding.now) }
+    ensures { IsTrue result ↔ ((call_in lits.now kind encoding.now ≡ call.now)
+        × (step_in lits.now kind encoding.now ≡ step.now)) }
 {
     match kind {
-        ADDITION => is_addition(lits, words, call, step),
-        DROP => is_drop(lits, words, call, step),
-        ADOPT => is_adoption(lits, words, call, step),
-        IMPORT => is_import(lits, words, call, step),
-        _ => matches!(call, Call::Leave) && is_deletion(words, step),
+        ADDITION => is_addition(lits, encoding, call, step),
+        DROP => is_drop(lits, encoding, call, step),
+        ADOPT => is_adoption(lits, encoding, call, step),
+        IMPORT => is_import(lits, encoding, call, step),
+        _ => matches!(call, Call::Leave) && is_deletion(encoding, step),
     }
 }
 
 /// Whether the entry whose words these begin with is this one.
-pub(super) fn is_entry(lits: &[Lit], words: &[u32], entry: &Entry) -> bool
-    requires named { (read_in lits.now words.now).1
-        ≡ call_lits (read_in lits.now words.now).0.call }
-    requires seated { (entry_in lits.now words.now).seat < 4294967296 }
-    ensures { IsTrue result ↔ (entry_in lits.now words.now ≡ entry.now) }
+pub(super) fn is_entry(lits: &[Lit], encoding: &[u32], entry: &Entry) -> bool
+    requires named { (read_in lits.now encoding.now).1
+        ≡ call_lits (read_in lits.now encoding.now).0.call }
+    requires seated { (entry_in lits.now encoding.now).seat < 4294967296 }
+    ensures { IsTrue result ↔ (entry_in lits.now encoding.now ≡ entry.now) }
 {
-    let (head, rest) = number(words);
+    let (head, rest) = number(encoding);
     head / KINDS == u64::from(entry.seat)
         && is_of_kind(lits, head % KINDS, rest, &entry.call, &entry.step)
 }

@@ -1,38 +1,38 @@
 //! Entries that are read from words and literals.
 ghost use Rattle.std.specs.Prelude.{◌≡◌, ◌≢◌, ◌<◌, IfOk, OnErr, None, drop, option_copied, option_map, slice_get};
 ghost use Rattle.lj_text.specs.Needed.{if_some};
-ghost use Rattle.lj_book.specs.inner.Words.{number_in, list_in};
+ghost use Rattle.lj_book.specs.inner.Encoding.{number_in, list_in};
 ghost use Rattle.lj_book.specs.inner.Records.{some_lits, lits_in, behind_lits, addition_in, seat_in, call_in, step_in, entry_in};
 
 use super::{ADDITION, ADOPT, DROP, IMPORT, KINDS};
+use crate::encoding::{behind_list, groups, list, number};
 use crate::entry::{Call, Entry};
-use crate::words::{behind_list, groups, list, number};
 use lj_clause::{Clause, Lemma, Lit, NoMemory};
 use lj_text::{Addition, Step};
 use std::alloc::Global;
 
 /// The words of the entry at a place, and what stands behind them.
-pub(super) fn words_at<'a>(starts: &[u64], words: &'a [u32], place: u64) -> Option<&'a [u32]>
+pub(super) fn encoding_at<'a>(starts: &[u64], encoding: &'a [u32], place: u64) -> Option<&'a [u32]>
     ensures { option_copied result
-        ≡ option_map (λ start. drop start words.now) (slice_get starts.now place) }
+        ≡ option_map (λ start. drop start encoding.now) (slice_get starts.now place) }
 {
     let start = *starts.get(place as usize)?;
-    Some(words_from(words, start))
+    Some(encoding_from(encoding, start))
 }
 
 /// The words from a place on.
-pub(super) fn words_from(words: &[u32], start: u64) -> &[u32]
-    ensures { result.now ≡ drop start words.now }
+pub(super) fn encoding_from(encoding: &[u32], start: u64) -> &[u32]
+    ensures { result.now ≡ drop start encoding.now }
 {
-    &words[words.len().min(start as usize)..]
+    &encoding[encoding.len().min(start as usize)..]
 }
 
 /// The literals that words name by their place and their number, and what stands behind.
-pub(super) fn named<'a, 'b>(lits: &'a [Lit], words: &'b [u32]) -> (&'a [Lit], &'b [u32])
-    ensures lits { result.0.now ≡ lits_in lits.now words.now }
-    ensures rest { result.1.now ≡ behind_lits words.now }
+pub(super) fn named<'a, 'b>(lits: &'a [Lit], encoding: &'b [u32]) -> (&'a [Lit], &'b [u32])
+    ensures lits { result.0.now ≡ lits_in lits.now encoding.now }
+    ensures rest { result.1.now ≡ behind_lits encoding.now }
 {
-    let (at, rest) = number(words);
+    let (at, rest) = number(encoding);
     let (count, rest) = number(rest);
     (some_lits(lits, at, count), rest)
 }
@@ -49,10 +49,10 @@ fn some_lits(lits: &[Lit], at: u64, count: u64) -> &[Lit]
 ///
 /// # Errors
 /// [`NoMemory`] where a growth was refused.
-fn addition(alloc: Global, lits: &[Lit], words: &[u32]) -> Result<Addition, NoMemory>
-    ensures { IfOk result (λ addition. addition ≡ addition_in lits.now words.now) }
+fn addition(alloc: Global, lits: &[Lit], encoding: &[u32]) -> Result<Addition, NoMemory>
+    ensures { IfOk result (λ addition. addition ≡ addition_in lits.now encoding.now) }
 {
-    let (joint, rest) = number(words);
+    let (joint, rest) = number(encoding);
     let (literals, rest) = named(lits, rest);
     let (hints, rest) = list(alloc, rest)?;
     Ok(Addition {
@@ -67,11 +67,11 @@ fn addition(alloc: Global, lits: &[Lit], words: &[u32]) -> Result<Addition, NoMe
 ///
 /// # Errors
 /// [`NoMemory`] where a growth was refused.
-fn deletion(alloc: Global, words: &[u32]) -> Result<Option<Step>, NoMemory>
-    ensures same { IfOk result (λ step. step ≡ if_some (list_in words.now).0) }
-    ensures some { OnErr result (if_some (list_in words.now).0 ≢ None) }
+fn deletion(alloc: Global, encoding: &[u32]) -> Result<Option<Step>, NoMemory>
+    ensures same { IfOk result (λ step. step ≡ if_some (list_in encoding.now).0) }
+    ensures some { OnErr result (if_some (list_in encoding.now).0 ≢ None) }
 {
-    let (numbers, _) = list(alloc, words)?;
+    let (numbers, _) = list(alloc, encoding)?;
     if numbers.is_empty() {
         return Ok(None);
     }
@@ -86,19 +86,19 @@ pub(super) fn step(
     alloc: Global,
     lits: &[Lit],
     kind: u64,
-    words: &[u32],
+    encoding: &[u32],
 ) -> Result<Option<Step>, NoMemory>
-    ensures same { IfOk result (λ step. step ≡ step_in lits.now kind words.now) }
-    ensures some { OnErr result (step_in lits.now kind words.now ≢ None) }
+    ensures same { IfOk result (λ step. step ≡ step_in lits.now kind encoding.now) }
+    ensures some { OnErr result (step_in lits.now kind encoding.now ≢ None) }
 {
     match kind {
         ADDITION => {
-            let (_, rest) = number(words);
+            let (_, rest) = number(encoding);
             Ok(Some(Step::Add(addition(alloc, lits, rest)?)))
         }
-        DROP => deletion(alloc, behind_list(words)),
+        DROP => deletion(alloc, behind_list(encoding)),
         ADOPT | IMPORT => Ok(None),
-        _ => deletion(alloc, words),
+        _ => deletion(alloc, encoding),
     }
 }
 
@@ -106,10 +106,10 @@ pub(super) fn step(
 ///
 /// # Errors
 /// [`NoMemory`] where a growth was refused.
-fn call(alloc: Global, lits: &[Lit], kind: u64, words: &[u32]) -> Result<Call, NoMemory>
-    ensures { IfOk result (λ call. call ≡ call_in lits.now kind words.now) }
+fn call(alloc: Global, lits: &[Lit], kind: u64, encoding: &[u32]) -> Result<Call, NoMemory>
+    ensures { IfOk result (λ call. call ≡ call_in lits.now kind encoding.now) }
 {
-    let (own, rest) = number(words);
+    let (own, rest) = number(encoding);
     Ok(match kind {
         ADDITION => {
             let (_, rest) = number(rest);
@@ -120,7 +120,7 @@ fn call(alloc: Global, lits: &[Lit], kind: u64, words: &[u32]) -> Result<Call, N
             }
         }
         DROP => {
-            let (numbers, _) = list(alloc, words)?;
+            let (numbers, _) = list(alloc, encoding)?;
             Call::Drop { numbers }
         }
         ADOPT => {
@@ -142,12 +142,12 @@ fn call(alloc: Global, lits: &[Lit], kind: u64, words: &[u32]) -> Result<Call, N
 ///
 /// # Errors
 /// [`NoMemory`] where a growth was refused.
-pub(super) fn entry(alloc: Global, lits: &[Lit], words: &[u32]) -> Result<Entry, NoMemory>
-    requires { (entry_in lits.now words.now).seat < 4294967296 }
+pub(super) fn entry(alloc: Global, lits: &[Lit], encoding: &[u32]) -> Result<Entry, NoMemory>
+    requires { (entry_in lits.now encoding.now).seat < 4294967296 }
     ensures { IfOk result
-        (λ entry. entry ≡ entry_in lits.now words.now) }
+        (λ entry. entry ≡ entry_in lits.now encoding.now) }
 {
-    let (head, rest) = number(words);
+    let (head, rest) = number(encoding);
     let kind = head % KINDS;
     Ok(Entry {
         seat: (head / KINDS) as u32,
@@ -163,20 +163,20 @@ pub(super) fn entry(alloc: Global, lits: &[Lit], words: &[u32]) -> Result<Entry,
 pub(super) fn entry_step(
     alloc: Global,
     lits: &[Lit],
-    words: &[u32],
+    encoding: &[u32],
 ) -> Result<Option<Step>, NoMemory>
-    ensures same { IfOk result (λ step. step ≡ (entry_in lits.now words.now).step) }
-    ensures some { OnErr result ((entry_in lits.now words.now).step ≢ None) }
+    ensures same { IfOk result (λ step. step ≡ (entry_in lits.now encoding.now).step) }
+    ensures some { OnErr result ((entry_in lits.now encoding.now).step ≢ None) }
 {
-    let (head, rest) = number(words);
+    let (head, rest) = number(encoding);
     step(alloc, lits, head % KINDS, rest)
 }
 
 /// The seat of the entry whose words these begin with.
-pub(super) fn seat(words: &[u32]) -> u32
-    requires { seat_in (number_in words.now).0 < 4294967296 }
-    ensures { result ≡ seat_in (number_in words.now).0 }
+pub(super) fn seat(encoding: &[u32]) -> u32
+    requires { seat_in (number_in encoding.now).0 < 4294967296 }
+    ensures { result ≡ seat_in (number_in encoding.now).0 }
 {
-    let (head, _) = number(words);
+    let (head, _) = number(encoding);
     (head / KINDS) as u32
 }

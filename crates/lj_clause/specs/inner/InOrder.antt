@@ -9,9 +9,9 @@ filler = negsuc 134217726
 
 -- The literals stand at the front, and fillers behind them.
 abbrev pub IsFilledUp : List ℤ → List ℤ → Type 0
-IsFilledUp lits room = room ≡ lits ++ replicate (length room - length lits) filler
+IsFilledUp lits scratch = scratch ≡ lits ++ replicate (length scratch - length lits) filler
 
 -- The first literals, so many, are in strict order, and the others are fillers.
 abbrev pub IsInOrder : ℕ → List ℤ → Type 0
-IsInOrder count room = IsStrictlySortedBy lit_cmp (take count room)
-    × (drop count room ≡ replicate (length room - count) filler)
+IsInOrder count scratch = IsStrictlySortedBy lit_cmp (take count scratch)
+    × (drop count scratch ≡ replicate (length scratch - count) filler)

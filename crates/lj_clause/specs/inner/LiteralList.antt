@@ -6,7 +6,7 @@ use Rattle.lj_clause.specs.declared.literal_list.LiteralList.TheVariants as list
 
 abbrev pub literals_in : LiteralList → List ℤ
 literals_in lists.Nothing = []
-literals_in (lists.Few count lits) = take count lits
+literals_in (lists.Inline count lits) = take count lits
 literals_in (lists.Eight count lits) = take count (arc_value lits)
 literals_in (lists.Sixteen count lits) = take count (arc_value lits)
 literals_in (lists.Many lits) = (arc_value lits).items

@@ -1,7 +1,7 @@
 -- Lists of hints by their index.
 use Rattle.std.specs.Prelude.{ℕ, List, map, Option, None, slice_index_or}
 use Rattle.lj_clause.specs.LiteralSet.{LiteralSet}
-use Rattle.lj_clause.specs.Walk.{Hint}
+use Rattle.lj_clause.specs.Propagation.{Hint}
 
 -- a hint that names nothing
 abbrev pub no_hint : Hint

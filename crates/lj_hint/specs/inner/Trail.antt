@@ -3,8 +3,8 @@ use Rattle.std.specs.Prelude.{◌≡◌, List, [], ◌∷◌, ◌++◌, ℤ, if�
 use Rattle.lj_clause.specs.LiteralSet.{holds, from_literals}
 
 -- the trail and one literal more, where it isn't there already
-abbrev pub with_mark : List ℤ → ℤ → List ℤ
-with_mark trail l = if holds (from_literals trail) l then trail else trail ++ l ∷ []
+abbrev pub with_assigned : List ℤ → ℤ → List ℤ
+with_assigned trail l = if holds (from_literals trail) l then trail else trail ++ l ∷ []
 
 -- the second trail begins with the first
 abbrev pub Extends : List ℤ → List ℤ → Type 0

@@ -8,7 +8,7 @@ use Rattle.lj_run.specs.declared.reading.Miss.{Miss}
 use Rattle.lj_run.specs.declared.reading.Next.{Next}
 use Rattle.lj_run.specs.declared.reading.Next.TheVariants as nexts
 use Rattle.lj_run.specs.declared.reading.Miss.TheVariants.{Failed, AtFault}
-use Rattle.lj_run.specs.Reading.{FailsAt, IsRoomRefused, AreWhole}
+use Rattle.lj_run.specs.Reading.{FailsAt, IsMemoryRefused, AreWhole}
 
 -- The reader may go on: it has told no fault, and was told of the end only where the source has ended.
 pub record MayRead (reader : LinesRead) (ended : Bool) : Type 0 where
@@ -47,7 +47,7 @@ pub record LineRead (max : ℕ) (fed : List ℕ) (handed : ℕ) (reader : LinesR
   pub ended : next ≡ nexts.End → HasEnded after
   pub whole : AreWhole max (fed ++ piece) after (with_handed handed next)
 
--- the next line of a text is at fault, or a read failed; of the want of memory see IsRoomRefused
+-- the next line of a text is at fault, or a read failed; of the want of memory see IsMemoryRefused
 abbrev pub IsMiss : ℕ → List ℕ → ℕ → ℕ → Miss → Type 0
 IsMiss max text handed at Failed = FailsAt max text handed at
 IsMiss max text handed at (AtFault fault) = is_line_no_memory fault.kind ≡ false
@@ -55,9 +55,9 @@ IsMiss max text handed at (AtFault fault) = is_line_no_memory fault.kind ≡ fal
     ≡ Some (record { line = fault.line; says = Err fault.kind })
 
 -- what holds of its line where memory was refused
-abbrev pub IfOutOfRoom : Miss → (ℕ → Type 0) → Type 0
-IfOutOfRoom Failed P = Unit {0}
-IfOutOfRoom (AtFault fault) P = is_line_no_memory fault.kind ≡ true → P fault.line
+abbrev pub IfOutOfMemory : Miss → (ℕ → Type 0) → Type 0
+IfOutOfMemory Failed P = Unit {0}
+IfOutOfMemory (AtFault fault) P = is_line_no_memory fault.kind ≡ true → P fault.line
 
 -- how many lines are known with this one: a fault is that of a whole line
 abbrev pub with_missed : ℕ → Miss → ℕ
@@ -72,7 +72,7 @@ pub record LineMissed (max : ℕ) (fed : List ℕ) (handed at : ℕ) (before aft
   pub gave : HasGiven before after piece
   pub same : take handed (all_said max (fed ++ piece)) ≡ take handed (all_said max fed)
   pub is : IsMiss max (fed ++ piece) handed at miss
-  pub no_room : IfOutOfRoom miss (IsRoomRefused max (fed ++ piece) after.ended handed)
+  pub no_memory_left : IfOutOfMemory miss (IsMemoryRefused max (fed ++ piece) after.ended handed)
   pub whole : AreWhole max (fed ++ piece) after (with_missed handed miss)
 
 -- how many reads failed

@@ -13,7 +13,7 @@ use crate::outcome::{End, Report, RunFault};
 use crate::watch::Watch;
 use lj_book::Book;
 use lj_clause::{Formula, NoMemory};
-use lj_share::{Blank, Gate, Opening, Seat, Shared};
+use lj_share::{BookId, Gate, OpeningParts, Seat, Shared};
 use lj_text::Source;
 use std::alloc::{AllocError, Global};
 use std::snapshot::Snapshot;
@@ -25,7 +25,7 @@ use std::thread::{self, Promise, Threads};
 /// # Errors
 /// Want of memory outside the streams, and [`RunFault::Unconfirmed`].
 pub(crate) fn run_opened<
-    L: Opening + Send + Sync,
+    L: BookId + Send + Sync,
     R: Threads + Wait + Sync,
     S: Source + Drop + Send,
     G: Gate + Sync,
@@ -33,7 +33,7 @@ pub(crate) fn run_opened<
 >(
     rt: &R,
     alloc: Global,
-    blank: Blank,
+    opening_parts: OpeningParts,
     formula: Formula,
     streams: Vec<S>,
     closing: Option<S>,
@@ -41,10 +41,10 @@ pub(crate) fn run_opened<
     gate: &G,
     watch: &V,
 ) -> Result<(Vec<Report<S>>, Book), RunFault>
-    requires name { blank.name ≡ L.name }
-    requires parts { (blank.parts ≡ L.parts)
-        × (blank.parts ≡ length (streams_by_seat streams.items closing)) }
-    requires lists { blank.lists ≡ L.lists }
+    requires name { opening_parts.name ≡ L.name }
+    requires parts { (opening_parts.parts ≡ L.parts)
+        × (opening_parts.parts ≡ length (streams_by_seat streams.items closing)) }
+    requires lists { opening_parts.lists ≡ L.lists }
     requires formula { formula ≡ L.formula }
     requires seats { L.seats ≡ length (streams_by_seat streams.items closing) }
     requires limit { max_steps ≡ L.max_steps }
@@ -57,7 +57,13 @@ pub(crate) fn run_opened<
         formula max_steps (streams_by_seat streams.items closing)) }
 {
     let count = streams.len() + usize::from(closing.is_some());
-    let (shared, seats) = Shared::<L>::open(alloc, blank, formula, count as u32, max_steps)?;
+    let (shared, seats) = Shared::<L>::open(
+        alloc,
+        opening_parts,
+        formula,
+        count as u32,
+        max_steps,
+    )?;
     let ran = run_all(rt, alloc, &shared, gate, watch, seats, streams, closing)?;
     let (seats, reports) = parted(alloc, ran)?;
     let Ok(closed) = shared.close(seats) else {
@@ -71,7 +77,7 @@ pub(crate) fn run_opened<
 
 /// Runs the streams beside one another, and then the closing one, each under its seat.
 fn run_all<
-    L: Opening + Send + Sync,
+    L: BookId + Send + Sync,
     R: Threads + Wait + Sync,
     S: Source + Drop + Send,
     G: Gate + Sync,
@@ -124,7 +130,7 @@ fn run_all<
 }
 
 /// Each stream with its seat.
-fn jobs_of<L: Opening, S: Drop>(
+fn jobs_of<L: BookId, S: Drop>(
     alloc: Global,
     seats: Vec<Seat<L>>,
     streams: Vec<S>,
@@ -140,9 +146,9 @@ fn jobs_of<L: Opening, S: Drop>(
 
 /// What a worker on a thread of its own leaves of the seat and the stream that it was given.
 #[derive(Drop)]
-struct RunsBeside<L: Opening, S>(Snapshot<(Seat<L>, S)>);
+struct RunsBeside<L: BookId, S>(Snapshot<(Seat<L>, S)>);
 
-impl<L: Opening, S: Source> Promise<Ran<L, S>> for RunsBeside<L, S> {
+impl<L: BookId, S: Source> Promise<Ran<L, S>> for RunsBeside<L, S> {
     ghost kept_by = { λ promise ran. HasRun (source_state S.given S.ended S.rest S.failures)
         L.formula L.seats L.max_steps promise.0.value ran.seat ran.report };
 }
@@ -150,7 +156,7 @@ impl<L: Opening, S: Source> Promise<Ran<L, S>> for RunsBeside<L, S> {
 /// Runs streams under their seats, each by a worker on a thread of its own. Where a thread is refused, it answers once the
 /// workers that were started have ended.
 fn run_beside<
-    L: Opening + Send + Sync,
+    L: BookId + Send + Sync,
     R: Threads + Wait + Sync,
     S: Source + Drop + Send,
     G: Gate + Sync,
@@ -194,7 +200,7 @@ fn run_beside<
 }
 
 /// The seats and the reports of streams that ran.
-fn parted<L: Opening, S: Drop>(
+fn parted<L: BookId, S: Drop>(
     alloc: Global,
     ran: Vec<Ran<L, S>>,
 ) -> Result<(Vec<Seat<L>>, Vec<Report<S>>), NoMemory>

@@ -8,20 +8,20 @@ use crate::outcome::Report;
 use crate::stream::run_stream;
 use crate::watch::{StreamWatch, Watch};
 use lj_book::Refusal;
-use lj_share::{Gate, Numbered, Opening, Seat, Shared};
+use lj_share::{BookId, Gate, Numbered, Seat, Shared};
 use lj_text::Source;
 use std::alloc::Global;
 use std::sync::Wait;
 
 /// A seat of a shared book, and the gate round its lines.
 #[derive(Drop)]
-struct SharedSeat<'a, L: Opening, G> {
+struct SharedSeat<'a, L: BookId, G> {
     shared: &'a Shared<L>,
     gate: &'a G,
     seat: Seat<L>,
 }
 
-impl<'a, L: Opening, G: Gate> Entering for SharedSeat<'a, L, G> {
+impl<'a, L: BookId, G: Gate> Entering for SharedSeat<'a, L, G> {
     ghost use Rattle.std.specs.Prelude.{length};
     ghost use Rattle.lj_clause.specs.Truth.{IsUnsatisfiable};
     ghost use Rattle.lj_share.specs.Refusals.{IsLineRefused};
@@ -59,13 +59,13 @@ impl<'a, L: Opening, G: Gate> Entering for SharedSeat<'a, L, G> {
 
 /// What comes of a stream: its seat, which has the calls of its lines, and its report.
 #[derive(Drop)]
-pub(crate) struct Ran<L: Opening, S> {
+pub(crate) struct Ran<L: BookId, S> {
     pub seat: Seat<L>,
     pub report: Report<S>,
 }
 
 /// Runs a stream under its seat, and reports of it.
-pub(crate) fn run_worker<L: Opening, R: Wait, S: Source, G: Gate, V: Watch>(
+pub(crate) fn run_worker<L: BookId, R: Wait, S: Source, G: Gate, V: Watch>(
     rt: &R,
     alloc: Global,
     shared: &Shared<L>,

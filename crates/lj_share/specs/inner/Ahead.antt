@@ -3,9 +3,9 @@ use Rattle.std.specs.Prelude.{◌≡◌, ◌<◌, ℕ, false, not, List, [], ◌
 use Rattle.std.specs.FinMap as fin
 use Rattle.lj_clause.specs.ClauseMap.{ClauseMap, FormulaValue}
 use Rattle.lj_clause.specs.LiteralSet.{negations}
-use Rattle.lj_clause.specs.Walk.{walk}
+use Rattle.lj_clause.specs.Propagation.{propagate}
 use Rattle.lj_hint.specs.Ending.{ending_of}
-use Rattle.lj_hint.specs.declared.walk.Ending.{Ending}
+use Rattle.lj_hint.specs.declared.propagate.Ending.{Ending}
 use Rattle.lj_text.specs.declared.line.Line.{Line}
 use Rattle.lj_text.specs.declared.line.Line.TheVariants as lines
 use Rattle.lj_text.specs.declared.line.Addition.{Addition}
@@ -33,7 +33,7 @@ abbrev pub first_unseen : ClauseMap → List ℕ → Option ℕ
 first_unseen m [] = None
 first_unseen m (own ∷ owns) = if is_some (fin.get m own) then first_unseen m owns else Some own
 
--- By these clauses, whoever sees them, the walk of the addition closes after so many of its hints.
+-- By these clauses, whoever sees them, the propagation of the addition closes after so many of its hints.
 abbrev pub IsClosedBy : ClauseMap → Addition → ℕ → Type 0
 IsClosedBy m a read = (view : View) (seat : ℕ) → AreSeen m view → IsClosedAlone view seat a read
 
@@ -53,13 +53,13 @@ abbrev pub clauses_behind : ClauseMap → List Numbered → ClauseMap
 clauses_behind m [] = m
 clauses_behind m (l ∷ ls) = clauses_behind (clauses_after_line m l.line) ls
 
--- the addition has no groups, its number is bound to none of these clauses, and the walk over its hints ends so
-pub record IsWalkedTo (m : ClauseMap) (a : Addition) (end : Ending) : Type 0 where
+-- the addition has no groups, its number is bound to none of these clauses, and propagation over its hints ends so
+pub record IsPropagatedTo (m : ClauseMap) (a : Addition) (end : Ending) : Type 0 where
   pub free : is_some (fin.get m a.number) ≡ false
   pub none : a.groups ≡ []
-  pub ends_so : end ≡ ending_of (walk m (negations a.lemma.clause) a.hints)
+  pub ends_so : end ≡ ending_of (propagate m (negations a.lemma.clause) a.hints)
 
--- These clauses decide the line, where it is an addition: its walk closes after so many of its hints.
+-- These clauses decide the line, where it is an addition: its propagation closes after so many of its hints.
 abbrev pub IsTestedLine : ClauseMap → Line → ℕ → Type 0
 IsTestedLine m (lines.Add a) read = IsClosedBy m a read
 IsTestedLine m (lines.Delete numbers) read = Unit {0}

@@ -6,7 +6,7 @@ use Rattle.lj_hint.specs.inner.Codes.{pair_code}
 use Rattle.lj_book.specs.declared.entry.Call.{Call}
 use Rattle.lj_book.specs.inner.Codes.{call_code}
 use Rattle.lj_book.specs.Solo.{View}
-use Rattle.lj_share.specs.Seats.{SeatValue, BlankValue, NoteValue}
+use Rattle.lj_share.specs.Seats.{SeatValue, OpeningPartsValue, NoteValue}
 
 -- how a proof stores what a seat sees
 abbrev pub view_code : Coded View
@@ -19,11 +19,13 @@ seat_code = code_by (ℕ × (List Call × View)) (coded× coded_ℕ (coded× (co
     (λ p. record { number = p.0; calls = p.1.0; view = p.1.1 }) (λ _. refl)
 
 -- how a proof stores what an opening is made of
-abbrev pub blank_code : Coded BlankValue
-blank_code = code_by (ℕ × (ℕ × List ℕ)) (coded× coded_ℕ (coded× coded_ℕ (coded_list coded_ℕ)))
+abbrev pub opening_parts_code : Coded OpeningPartsValue
+opening_parts_code = code_by (ℕ × (ℕ × List ℕ))
+    (coded× coded_ℕ (coded× coded_ℕ (coded_list coded_ℕ)))
     (λ b. (b.name, (b.parts, b.lists))) (λ p. record { name = p.0; parts = p.1.0; lists = p.1.1 }) (λ _. refl)
 
 -- how a proof stores a note
 abbrev pub note_code : Coded NoteValue
-note_code = code_by (ℕ × Option ℕ) (coded× coded_ℕ (coded_option coded_ℕ)) (λ n. (n.cell, n.place))
-    (λ p. record { cell = p.0; place = p.1 }) (λ _. refl)
+note_code = code_by (ℕ × Option ℕ) (coded× coded_ℕ (coded_option coded_ℕ))
+    (λ n. (n.cell, n.position))
+    (λ p. record { cell = p.0; position = p.1 }) (λ _. refl)

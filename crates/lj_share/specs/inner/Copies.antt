@@ -6,8 +6,8 @@ use Rattle.lj_share.specs.Seats.{SeatValue}
 use Rattle.lj_share.specs.inner.Codes.{seat_code}
 
 -- the half of the copy under the lock
-unfoldable pub desk_copy_owns : ℕ → SeatValue → Fml
-desk_copy_owns name seat = fauth name (seat_code.code seat)
+unfoldable pub book_copy_owns : ℕ → SeatValue → Fml
+book_copy_owns name seat = fauth name (seat_code.code seat)
 
 -- the half of the seat's copy
 unfoldable pub seat_copy_owns : ℕ → SeatValue → Fml

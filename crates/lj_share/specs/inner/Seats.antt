@@ -15,8 +15,8 @@ use Rattle.lj_hint.specs.Case.{CaseValue}
 use Rattle.lj_book.specs.Calls.{case_with, repeated_after, pairs_of, group_pairs_of}
 use Rattle.lj_text.specs.declared.line.Line.{Line}
 use Rattle.lj_text.specs.declared.line.Line.TheVariants as lines
-use Rattle.lj_share.specs.declared.seat.Alone.{Alone}
-use Rattle.lj_share.specs.declared.seat.Alone.TheVariants.{Closed, Open}
+use Rattle.lj_share.specs.declared.seat.Unlocked.{Unlocked}
+use Rattle.lj_share.specs.declared.seat.Unlocked.TheVariants.{Closed, Open}
 use Rattle.lj_share.specs.Seats.{SeatValue, seat_of_book, IsOpenedAs, with_bound}
 use Rattle.lj_share.specs.Refusals.{HoldsInAState}
 use Rattle.lj_share.specs.inner.Bindings.{BindingsValue, bound_at}
@@ -28,7 +28,7 @@ AreShown state shown = (seat : ℕ) (value : SeatValue) → slice_get shown seat
 
 -- What the lock keeps: the book is that of the opening, the total of its ledger is the number of entries, all of the ledger
 -- is with the seats, and the copies show the book's seats.
-pub record IsDesk (formula : FormulaValue) (seats max_steps : ℕ) (book : State)
+pub record IsLockedBook (formula : FormulaValue) (seats max_steps : ℕ) (book : State)
     (shown : List SeatValue) (total parts amount : ℕ) : Type 0 where
   pub opened : IsOpenedAs formula seats max_steps book
   pub counted : length book.history ≡ total
@@ -221,13 +221,13 @@ number_refusal f kept (lines.Import own c) = kept_refusal f kept own
 
 -- ---- tests
 
--- what holds of the hints that were read, where the walk closed
-abbrev pub IfClosed : Alone → (ℕ → Type 0) → Type 0
+-- what holds of the hints that were read, where the propagation closed
+abbrev pub IfClosed : Unlocked → (ℕ → Type 0) → Type 0
 IfClosed (Closed read) P = P read
 IfClosed Open P = Unit {0}
 
 -- The test of a line of the seat with this view came to this end. Only an addition is tested.
-abbrev pub IsTestedAs : View → ℕ → Line → Alone → Type 0
-IsTestedAs view seat (lines.Add a) alone = IfClosed alone (IsClosedAlone view seat a)
-IsTestedAs view seat (lines.Delete numbers) alone = Unit {0}
-IsTestedAs view seat (lines.Import own clause) alone = Unit {0}
+abbrev pub IsTestedAs : View → ℕ → Line → Unlocked → Type 0
+IsTestedAs view seat (lines.Add a) unlocked = IfClosed unlocked (IsClosedAlone view seat a)
+IsTestedAs view seat (lines.Delete numbers) unlocked = Unit {0}
+IsTestedAs view seat (lines.Import own clause) unlocked = Unit {0}

@@ -6,7 +6,7 @@ use Rattle.std.specs.List.{list_all}
 use Rattle.lj_text.specs.declared.cnf.fault.CnfFault.{CnfFault}
 use Rattle.lj_text.specs.declared.cnf.fault.CnfFaultKind.{CnfFaultKind}
 use Rattle.lj_text.specs.declared.cnf.fault.CnfFaultKind.TheVariants.{BadNumber, VariableRange, NoMemory}
-use Rattle.lj_text.specs.Cnf.{Place, place_at}
+use Rattle.lj_text.specs.Cnf.{BodyToken, body_token_at}
 use Rattle.lj_text.specs.CnfReading.{Begun, formula_after}
 use Rattle.lj_clause.specs.declared.lit.TheConstants.{MAX_VARIABLE}
 use Rattle.lj_clause.specs.declared.formula.TheConstants.{MAX_CLAUSES}
@@ -37,15 +37,15 @@ IsNumberUpTo variables number (Err VariableRange) = (n : ℤ) × (number ≡ Som
 IsNumberUpTo variables number (Err kind) = ⊥
 
 -- the tokens of a line, and what follows them
-abbrev pub places_behind : ℕ → List (List ℕ) → List Place → List Place
-places_behind line tokens rest = map (place_at line) tokens ++ rest
+abbrev pub body_tokens_behind : ℕ → List (List ℕ) → List BodyToken → List BodyToken
+body_tokens_behind line tokens rest = map (body_token_at line) tokens ++ rest
 
 -- the clauses go on behind the tokens, or the formula ends, or there is a fault
-abbrev pub Goes : ℕ → ℕ → List (List ℕ) → List Place → Begun → Begun → Result Bool CnfFaultKind
+abbrev pub Goes : ℕ → ℕ → List (List ℕ) → List BodyToken → Begun → Begun → Result Bool CnfFaultKind
     → Type 0
 Goes last line tokens rest old new (Ok true) = formula_after old last
-    (places_behind line tokens rest) ≡ Ok (formula_of new.variables new.clauses)
+    (body_tokens_behind line tokens rest) ≡ Ok (formula_of new.variables new.clauses)
 Goes last line tokens rest old new (Ok false) = formula_after old last
-    (places_behind line tokens rest) ≡ formula_after new last rest
+    (body_tokens_behind line tokens rest) ≡ formula_after new last rest
 Goes last line tokens rest old new (Err kind) = IsCnfTold kind line
-    (formula_after old last (places_behind line tokens rest))
+    (formula_after old last (body_tokens_behind line tokens rest))

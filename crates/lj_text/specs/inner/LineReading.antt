@@ -10,8 +10,8 @@ use Rattle.lj_text.specs.declared.line.Line.{Line}
 use Rattle.lj_text.specs.LinesRead.{is_line_no_memory}
 
 -- the tokens of a line as numbers, where they are
-abbrev pub words_of : List ℕ → List (Option ℤ)
-words_of bytes = map number_of (tokens_of bytes)
+abbrev pub token_numbers : List ℕ → List (Option ℤ)
+token_numbers bytes = map number_of (tokens_of bytes)
 
 -- the fault is what the grammar tells, unless memory ran out
 abbrev pub IsLineTold : {Y : Type 0} → LineFaultKind → Result Y LineFaultKind → Type 0
@@ -53,10 +53,10 @@ behind_groups front read = with_read (λ gs. front ++ gs) read
 
 -- Numbers were read on, from some bytes to others: as hints, and as numbers of a deletion.
 pub record IsReadOn (old : List ℕ) (bytes : List ℕ) (new : List ℕ) (rest : List ℕ) : Type 0 where
-  pub hints : (ended : Bool) → behind_hints new (hints_of ended (words_of rest))
-      ≡ behind_hints old (hints_of ended (words_of bytes))
-  pub numbers : (ended : Bool) → behind_numbers new (numbers_of ended (words_of rest))
-      ≡ behind_numbers old (numbers_of ended (words_of bytes))
+  pub hints : (ended : Bool) → behind_hints new (hints_of ended (token_numbers rest))
+      ≡ behind_hints old (hints_of ended (token_numbers bytes))
+  pub numbers : (ended : Bool) → behind_numbers new (numbers_of ended (token_numbers rest))
+      ≡ behind_numbers old (numbers_of ended (token_numbers bytes))
 
 -- hints and groups behind a candidate are its group and the others
 abbrev pub group_before : ℕ → List ℕ × List HintGroup → List HintGroup
@@ -67,7 +67,7 @@ abbrev pub HintsGive : Bool → List ℕ → Result (Option (ℕ × Bor (List �
     → Result (List ℕ × List HintGroup) LineFaultKind → Type 0
 HintsGive ended hints result read = MatchResult result
     (λ found. MatchOption found (read ≡ Ok (hints, [])) (λ next. read
-    ≡ with_read (λ r. (hints, group_before next.0 r)) (hints_of ended (words_of next.1.now))))
+    ≡ with_read (λ r. (hints, group_before next.0 r)) (hints_of ended (token_numbers next.1.now))))
     (λ kind. IsLineTold kind read)
 
 -- what a line says: nothing, a line or its fault

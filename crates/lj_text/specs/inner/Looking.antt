@@ -7,7 +7,7 @@ use Rattle.lj_text.specs.declared.line.Line.{Line}
 use Rattle.lj_text.specs.Bytes.{line_number, lines_of}
 use Rattle.lj_text.specs.Lines.{Said, said_from, whole_said_from, all_said_from, all_but_last}
 use Rattle.lj_text.specs.LinesRead.{LinesRead, HasNoLineEnd, IsSaidAt, IsSaidRight, text_of_lines, is_line_no_memory}
-use Rattle.lj_text.specs.inner.LinesHeld.{reader_past}
+use Rattle.lj_text.specs.inner.LinesBuffered.{reader_past}
 
 -- what was found
 abbrev pub said_of : ℕ → Option Line → List Said

@@ -6,7 +6,7 @@ use Rattle.std.specs.Str.{byte}
 use Rattle.lj_text.specs.Bytes.{decimal_value, is_blank, is_filled, number_of, tokens_of}
 use Rattle.lj_text.specs.Lines.{literals_then}
 use Rattle.lj_text.specs.LinesRead.{HasNoLineEnd}
-use Rattle.lj_text.specs.inner.LineReading.{IsReadOn, behind_literals, words_of}
+use Rattle.lj_text.specs.inner.LineReading.{IsReadOn, behind_literals, token_numbers}
 
 -- A number of few digits stands at the front, and then a space.
 pub record IsShortNumber (bytes : List ℕ) (value : ℕ) (after : List ℕ) : Type 0 where
@@ -41,8 +41,8 @@ pub record AreLiteralsAhead (max : ℕ) (old : List ℤ) (bytes : List ℕ) (new
   pub bytes_is : bytes ≡ front ++ rest
   pub none_within : HasNoLineEnd front
   pub read : (ended : Bool) (tail : List ℕ)
-      → behind_literals new (literals_then max ended (words_of tail))
-      ≡ behind_literals old (literals_then max ended (words_of (front ++ tail)))
+      → behind_literals new (literals_then max ended (token_numbers tail))
+      ≡ behind_literals old (literals_then max ended (token_numbers (front ++ tail)))
 
 -- A line stands at the front that a line feed ends, and what is said of it is true.
 pub record BeginsByLine (IsRight : List ℕ → Type 0) (bytes after : List ℕ) : Type 0 where

@@ -20,9 +20,9 @@ others_from [] (suc n) = 0
 others_from (b ∷ bs) (suc n) = 2 * others_from bs n
 
 -- the word with these bytes, the lowest first
-abbrev pub word_of : List ℕ → ℕ
-word_of [] = 0
-word_of (b ∷ bs) = b + 256 * word_of bs
+abbrev pub number_in_token : List ℕ → ℕ
+number_in_token [] = 0
+number_in_token (b ∷ bs) = b + 256 * number_in_token bs
 
 -- the number with these digits, the highest first
 abbrev pub number_of_counts : List ℕ → ℕ
@@ -39,4 +39,5 @@ AreCounts ds = AllByRecursion (λ d. d ≤ 9) ds
 
 -- the first n of eight bytes as the upper ones of a word, each as far as it is behind the digit 0
 abbrev pub moved_up : List ℕ → ℕ → ℕ
-moved_up bytes n = (bit_xor (word_of (take 8 bytes)) 3472328296227680304 * 2 ^ (64 - 8 * n)) % 18446744073709551616
+moved_up bytes n = (bit_xor (number_in_token (take 8 bytes)) 3472328296227680304 * 2 ^
+    (64 - 8 * n)) % 18446744073709551616

@@ -2,14 +2,14 @@
 
 ghost use Rattle.std.specs.Prelude.{◌≡◌, ◌<◌, ◌+◌, ◌*◌, ℕ, Some, None, IfSome, IfNone, option_map, option_and_then, pos};
 ghost use Rattle.lj_text.specs.Bytes.{digits_value, negative, number_of};
-ghost use Rattle.lj_text.specs.inner.HeldNumbers.{IsWord, Counts};
+ghost use Rattle.lj_text.specs.inner.TokenNumbers.{IsTokenNumber, Counts};
 
 /// The greatest number of a clause.
 pub(super) const GREATEST: u64 = 9_223_372_036_854_775_807;
 
 /// What a token says.
 #[derive(Clone, Copy, Debug, PartialEq, Eq)]
-pub(crate) enum Word {
+pub(crate) enum TokenNumber {
     /// The token is no number.
     NoNumber,
     Zero,
@@ -54,37 +54,37 @@ pub(crate) fn digits_value(digits: &[u8]) -> Option<u64>
 }
 
 /// What digits without a sign say.
-fn unsigned(digits: &[u8]) -> Word
-    ensures { IsWord result (option_map pos (digits_value digits.now)) }
+fn unsigned(digits: &[u8]) -> TokenNumber
+    ensures { IsTokenNumber result (option_map pos (digits_value digits.now)) }
 {
     match digits_value(digits) {
-        None => Word::NoNumber,
-        Some(0) => Word::Zero,
+        None => TokenNumber::NoNumber,
+        Some(0) => TokenNumber::Zero,
         Some(value) => if value > GREATEST {
-            Word::Beyond
+            TokenNumber::Beyond
         } else {
-            Word::Positive(value)
+            TokenNumber::Positive(value)
         },
     }
 }
 
 /// What digits after a `-` say.
-fn negative(digits: &[u8]) -> Word
-    ensures { IsWord result (option_and_then negative (digits_value digits.now)) }
+fn negative(digits: &[u8]) -> TokenNumber
+    ensures { IsTokenNumber result (option_and_then negative (digits_value digits.now)) }
 {
     match digits_value(digits) {
-        None | Some(0) => Word::NoNumber,
+        None | Some(0) => TokenNumber::NoNumber,
         Some(value) => if value > GREATEST {
-            Word::Beyond
+            TokenNumber::Beyond
         } else {
-            Word::Negative(value)
+            TokenNumber::Negative(value)
         },
     }
 }
 
 /// What a token says.
-pub(crate) fn word_of(token: &[u8]) -> Word
-    ensures { IsWord result (number_of token.now) }
+pub(crate) fn number_in_token(token: &[u8]) -> TokenNumber
+    ensures { IsTokenNumber result (number_of token.now) }
 {
     match token {
         [b'-', digits @ ..] => negative(digits),

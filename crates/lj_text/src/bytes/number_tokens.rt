@@ -2,11 +2,11 @@
 ghost use Rattle.std.specs.Prelude.{◌≡◌, ◌-◌, ◌<◌, ◌≤◌, ℕ, true, [], ◌∷◌, length, IfNone, IfSome, negsuc, suc};
 ghost use Rattle.std.specs.Char.{is_ascii_digit};
 ghost use Rattle.std.specs.Str.{byte};
-ghost use Rattle.lj_text.specs.inner.LineReading.{words_of};
+ghost use Rattle.lj_text.specs.inner.LineReading.{token_numbers};
 ghost use Rattle.lj_text.specs.Bytes.{tokens_of};
-ghost use Rattle.lj_text.specs.inner.HeldNumbers.{BeginsToken, BeginsWord, IsNumberAhead};
+ghost use Rattle.lj_text.specs.inner.TokenNumbers.{BeginsToken, BeginsTokenNumber, IsNumberAhead};
 
-use super::digits::{GREATEST, Word, word_of};
+use super::digits::{GREATEST, TokenNumber, number_in_token};
 use super::tokens::{after_blanks, is_blank, next_token};
 
 /// Up to this, a digit more leaves a number within `GREATEST`.
@@ -44,24 +44,25 @@ fn digits_behind(first: u8, bytes: &[u8]) -> Option<(u64, &[u8])>
 
 /// The number at the front that begins with this digit.
 #[inline(always)]
-fn unsigned(digit: u8, bytes: &[u8]) -> Option<(Word, &[u8])>
+fn unsigned(digit: u8, bytes: &[u8]) -> Option<(TokenNumber, &[u8])>
     requires { is_ascii_digit digit ≡ true }
-    ensures word { IfSome result (λ found. BeginsToken (digit ∷ bytes.now) found.0 found.1.now) }
+    ensures token_number { IfSome result (λ found. BeginsToken (digit ∷ bytes.now) found.0
+        found.1.now) }
     ensures shorter { IfSome result (λ found. length found.1.now ≤ length bytes.now) }
 {
     let (value, after) = digits_behind(digit - b'0', bytes)?;
     if value == 0 {
-        Some((Word::Zero, after))
+        Some((TokenNumber::Zero, after))
     } else {
-        Some((Word::Positive(value), after))
+        Some((TokenNumber::Positive(value), after))
     }
 }
 
 /// The number at the front that begins with `-` and this digit, where it isn't 0.
 #[inline(always)]
-fn negative(digit: u8, bytes: &[u8]) -> Option<(Word, &[u8])>
+fn negative(digit: u8, bytes: &[u8]) -> Option<(TokenNumber, &[u8])>
     requires { is_ascii_digit digit ≡ true }
-    ensures word { IfSome result
+    ensures token_number { IfSome result
         (λ found. BeginsToken (byte "-" ∷ digit ∷ bytes.now) found.0 found.1.now) }
     ensures shorter { IfSome result (λ found. length found.1.now ≤ length bytes.now) }
 {
@@ -69,25 +70,25 @@ fn negative(digit: u8, bytes: &[u8]) -> Option<(Word, &[u8])>
     if value == 0 {
         None
     } else {
-        Some((Word::Negative(value), after))
+        Some((TokenNumber::Negative(value), after))
     }
 }
 
 /// What the first token says, and what follows it, whatever the token is.
 #[cold]
-fn any_word(bytes: &[u8]) -> Option<(Word, &[u8])>
+fn any_token_number(bytes: &[u8]) -> Option<(TokenNumber, &[u8])>
     ensures none { IfNone result (tokens_of bytes.now ≡ []) }
     ensures some { IfSome result (λ found. BeginsToken bytes.now found.0 found.1.now) }
     ensures shorter { IfSome result (λ found. length found.1.now < length bytes.now) }
 {
     let (token, after) = next_token(bytes)?;
-    Some((word_of(token), after))
+    Some((number_in_token(token), after))
 }
 
 /// What a token at the front says that is a number, and not among the greatest, and what follows it.
 #[inline(always)]
-fn number_ahead(bytes: &[u8]) -> Option<(Word, &[u8])>
-    ensures word { IfSome result (λ found. BeginsToken bytes.now found.0 found.1.now) }
+fn number_ahead(bytes: &[u8]) -> Option<(TokenNumber, &[u8])>
+    ensures token_number { IfSome result (λ found. BeginsToken bytes.now found.0 found.1.now) }
     ensures shorter { IfSome result (λ found. length found.1.now < length bytes.now) }
 {
     match bytes {
@@ -99,7 +100,7 @@ fn number_ahead(bytes: &[u8]) -> Option<(Word, &[u8])>
 
 /// What the first token says, and what follows it. Takes time linear in the bytes that it passes.
 #[inline(always)]
-pub(crate) fn first_word(bytes: &[u8]) -> Option<(Word, &[u8])>
+pub(crate) fn first_token_number(bytes: &[u8]) -> Option<(TokenNumber, &[u8])>
     ensures none { IfNone result (tokens_of bytes.now ≡ []) }
     ensures some { IfSome result (λ found. BeginsToken bytes.now found.0 found.1.now) }
     ensures shorter { IfSome result (λ found. length found.1.now < length bytes.now) }
@@ -110,16 +111,16 @@ pub(crate) fn first_word(bytes: &[u8]) -> Option<(Word, &[u8])>
     }
     match number_ahead(rest) {
         Some(found) => Some(found),
-        None => any_word(rest),
+        None => any_token_number(rest),
     }
 }
 
 /// The same, of the tokens as numbers.
 #[inline(always)]
-pub(crate) fn next_word(bytes: &[u8]) -> Option<(Word, &[u8])>
-    ensures none { IfNone result (words_of bytes.now ≡ []) }
-    ensures some { IfSome result (λ found. BeginsWord bytes.now found.0 found.1.now) }
+pub(crate) fn next_token_number(bytes: &[u8]) -> Option<(TokenNumber, &[u8])>
+    ensures none { IfNone result (token_numbers bytes.now ≡ []) }
+    ensures some { IfSome result (λ found. BeginsTokenNumber bytes.now found.0 found.1.now) }
     ensures shorter { IfSome result (λ found. length found.1.now < length bytes.now) }
 {
-    first_word(bytes)
+    first_token_number(bytes)
 }

@@ -4,7 +4,7 @@ ghost use Rattle.std.specs.Prelude.{◌≡◌, ◌+◌, ◌-◌, ◌<◌, ◌≤
 ghost use Rattle.std.specs.List.{list_all};
 ghost use Rattle.std.specs.Char.{is_ascii_digit};
 ghost use Rattle.lj_text.specs.inner.ShortNumbers.{IsShortNumber};
-ghost use Rattle.lj_text.specs.inner.Windows.{AreBytes, AreCounts, moved_up, number_of_counts, others_of, word_of};
+ghost use Rattle.lj_text.specs.inner.Windows.{AreBytes, AreCounts, moved_up, number_of_counts, others_of, number_in_token};
 
 use std::simd::prelude::*;
 
@@ -72,7 +72,7 @@ pub(crate) fn others_in(window: &[u8; WINDOW]) -> u64
 #[inline(always)]
 fn word_at(window: &[u8], start: usize) -> u64
     requires { start + 8 ≤ length window.now }
-    ensures word { result ≡ word_of (take 8 (drop start window.now)) }
+    ensures token_number { result ≡ number_in_token (take 8 (drop start window.now)) }
     ensures bytes { AreBytes (take 8 (drop start window.now)) }
 {
     u64::from_le_bytes([
@@ -100,18 +100,18 @@ pub(crate) fn first_space(window: &[u8; WINDOW]) -> usize
 
 /// Whether each byte of a word is at most 9.
 #[inline(always)]
-fn are_digits(word: u64) -> bool
+fn are_digits(token_number: u64) -> bool
     ensures { result ≡ true → (bytes : List ℕ) → length bytes ≡ 8 → AreBytes bytes
-        → word ≡ word_of bytes → AreCounts bytes }
+        → token_number ≡ number_in_token bytes → AreCounts bytes }
 {
-    (word.wrapping_add(ABOVE) | word) & UPPER == 0
+    (token_number.wrapping_add(ABOVE) | token_number) & UPPER == 0
 }
 
 /// The number with these eight digits, the first of them the lowest byte.
 #[inline(always)]
 fn value_of(digits: u64) -> u32
     ensures { (counts : List ℕ) → length counts ≡ 8 → AreCounts counts
-        → digits ≡ word_of counts → result ≡ number_of_counts counts }
+        → digits ≡ number_in_token counts → result ≡ number_of_counts counts }
 {
     let pairs = (digits.wrapping_mul(TENS) >> 8) & PAIRS;
     let fours = (pairs.wrapping_mul(HUNDREDS) >> 16) & FOURS;
@@ -123,7 +123,8 @@ fn value_of(digits: u64) -> u32
 #[inline(always)]
 fn word_within(window: &[u8; WINDOW], start: usize, end: usize) -> Option<u64>
     requires { (start + 8 ≤ length window.now) × (end < length window.now) }
-    ensures word { IfSome result (λ word. word ≡ moved_up (drop start window.now) (end - start)) }
+    ensures token_number { IfSome result (λ token_number. token_number
+        ≡ moved_up (drop start window.now) (end - start)) }
     ensures bytes { IfSome result (λ _. AreBytes (take 8 (drop start window.now))) }
     ensures some { IfSome result (λ _. start < end) }
     ensures few { IfSome result (λ _. end ≤ start + 8) }

@@ -3,14 +3,14 @@ ghost use Rattle.std.specs.Prelude.{◌≡◌, ◌≤◌, ◌∷◌, ◌++◌, �
 ghost use Rattle.std.specs.Str.{byte};
 ghost use Rattle.lj_clause.specs.ClauseMap.{formula_of};
 ghost use Rattle.lj_text.specs.Bytes.{begins, number_of};
-ghost use Rattle.lj_text.specs.Cnf.{Place, Percent, Number, number_at, place_at};
+ghost use Rattle.lj_text.specs.Cnf.{BodyToken, Percent, Number, number_at, body_token_at};
 ghost use Rattle.lj_text.specs.inner.CnfReading.{Goes, IsCnfTold, IsNumberUpTo};
 ghost use Rattle.lj_text.specs.CnfReading.{formula_after, is_literal_kept};
 ghost use Rattle.lj_text.specs.CnfRead.{is_cnf_no_memory};
 ghost use Rattle.lj_clause.specs.declared.lit.TheConstants.{MAX_VARIABLE};
 
 use super::fault::CnfFaultKind;
-use crate::bytes::{Word, word_of};
+use crate::bytes::{TokenNumber, number_in_token};
 use lj_clause::{Clause, Formula, Lit};
 use std::alloc::Global;
 use std::marker::Model;
@@ -73,7 +73,7 @@ impl Body {
         requires in_range { unsigned_abs number ≤ self.old.variables }
         ensures left { MatchResult result (λ _. 0 < self.old.left)
             (λ kind. is_cnf_no_memory kind ≡ true → 0 < self.old.left) }
-        ensures reads { (last line : ℕ) (rest : List Place)
+        ensures reads { (last line : ℕ) (rest : List BodyToken)
             → MatchResult result (λ _. formula_after self.old last (Number line number ∷ rest)
             ≡ formula_after self.new last rest) (λ kind. IsCnfTold kind line
             (formula_after self.old last (Number line number ∷ rest))) }
@@ -94,7 +94,7 @@ impl Body {
     fn close_clause(&mut self) -> Result<(), CnfFaultKind>
         ensures left { MatchResult result (λ _. 0 < self.old.left)
             (λ kind. is_cnf_no_memory kind ≡ true → 0 < self.old.left) }
-        ensures reads { (last line : ℕ) (rest : List Place)
+        ensures reads { (last line : ℕ) (rest : List BodyToken)
             → MatchResult result (λ _. formula_after self.old last (Number line (pos 0) ∷ rest)
             ≡ formula_after self.new last rest) (λ kind. IsCnfTold kind line
             (formula_after self.old last (Number line (pos 0) ∷ rest))) }
@@ -111,8 +111,8 @@ impl Body {
 
     /// Takes a token that begins with `%`, which ends the formula where a clause would begin.
     fn take_percent(&self) -> Result<(), CnfFaultKind>
-        ensures no_room { IfErr result (λ kind. is_cnf_no_memory kind ≡ false) }
-        ensures reads { (last line : ℕ) (rest : List Place)
+        ensures no_memory { IfErr result (λ kind. is_cnf_no_memory kind ≡ false) }
+        ensures reads { (last line : ℕ) (rest : List BodyToken)
             → MatchResult result (λ _. formula_after self.now last (Percent line ∷ rest)
             ≡ Ok (formula_of self.now.variables self.now.clauses))
             (λ kind. IsCnfTold kind line (formula_after self.now last (Percent line ∷ rest))) }
@@ -128,10 +128,10 @@ impl Body {
 
     /// Takes a token that isn't to end the formula.
     fn take_number(&mut self, token: &[u8]) -> Result<(), CnfFaultKind>
-        ensures room { MatchResult result
+        ensures memory { MatchResult result
             (λ _. is_literal_kept self.old (number_of token.now) ≡ true) (λ kind. is_cnf_no_memory
             kind ≡ true → is_literal_kept self.old (number_of token.now) ≡ true) }
-        ensures reads { (last line : ℕ) (rest : List Place) → MatchResult result
+        ensures reads { (last line : ℕ) (rest : List BodyToken) → MatchResult result
             (λ _. formula_after self.old last (number_at line (number_of token.now) ∷ rest)
             ≡ formula_after self.new last rest) (λ kind. IsCnfTold kind line
             (formula_after self.old last (number_at line (number_of token.now) ∷ rest))) }
@@ -146,11 +146,11 @@ impl Body {
 
     /// Takes a token, and answers whether it ends the formula.
     pub(super) fn take(&mut self, token: &[u8]) -> Result<bool, CnfFaultKind>
-        ensures room { MatchResult result
+        ensures memory { MatchResult result
             (λ ended. ended ≡ false → is_literal_kept self.old (number_of token.now) ≡ true)
             (λ kind. is_cnf_no_memory kind ≡ true
             → is_literal_kept self.old (number_of token.now) ≡ true) }
-        ensures reads { (last line : ℕ) (rest : List Place)
+        ensures reads { (last line : ℕ) (rest : List BodyToken)
             → Goes last line (token.now ∷ []) rest self.old self.new result }
     {
         if is_percent(token) {
@@ -163,7 +163,7 @@ impl Body {
 
     /// The formula at the end of the input.
     pub(super) fn close(self) -> Result<Formula, CnfFaultKind>
-        ensures no_room { IfErr result (λ kind. is_cnf_no_memory kind ≡ false) }
+        ensures no_memory { IfErr result (λ kind. is_cnf_no_memory kind ≡ false) }
         ensures reads { (last : ℕ)
             → MatchResult result (λ formula. formula_after self last [] ≡ Ok formula)
             (λ kind. IsCnfTold kind last (formula_after self last [])) }
@@ -190,11 +190,13 @@ fn number_up_to(token: &[u8], variables: u32) -> Result<i32, CnfFaultKind>
     requires { variables ≤ MAX_VARIABLE }
     ensures { IsNumberUpTo variables (number_of token.now) result }
 {
-    match word_of(token) {
-        Word::NoNumber => Err(CnfFaultKind::BadNumber),
-        Word::Zero => Ok(0),
-        Word::Positive(variable) if variable <= u64::from(variables) => Ok(variable as i32),
-        Word::Negative(variable) if variable <= u64::from(variables) => Ok(-(variable as i32)),
+    match number_in_token(token) {
+        TokenNumber::NoNumber => Err(CnfFaultKind::BadNumber),
+        TokenNumber::Zero => Ok(0),
+        TokenNumber::Positive(variable) if variable <= u64::from(variables) => Ok(variable as i32),
+        TokenNumber::Negative(variable) if variable <= u64::from(variables) => Ok(
+            -(variable as i32),
+        ),
         _ => Err(CnfFaultKind::VariableRange),
     }
 }

@@ -20,11 +20,11 @@ fn three_tokens(bytes: &[u8]) -> Option<(&[u8], &[u8], &[u8])>
     ensures some { IfSome result
         (λ found. tokens_of bytes.now ≡ found.0.now ∷ found.1.now ∷ found.2.now ∷ []) }
 {
-    let (word, after) = next_token(bytes)?;
+    let (token_number, after) = next_token(bytes)?;
     let (variables, after) = next_token(after)?;
     let (clauses, after) = next_token(after)?;
     match next_token(after) {
-        None => Some((word, variables, clauses)),
+        None => Some((token_number, variables, clauses)),
         Some(_) => None,
     }
 }
@@ -33,7 +33,7 @@ fn three_tokens(bytes: &[u8]) -> Option<(&[u8], &[u8], &[u8])>
 fn read_sizes(max: u32, bytes: &[u8]) -> Result<(u32, u32), CnfFaultKind>
     requires { max ≤ MAX_VARIABLE }
     ensures in_range { IfOk result (λ sizes. sizes.0 ≤ max) }
-    ensures no_room { IfErr result (λ kind. is_cnf_no_memory kind ≡ false) }
+    ensures no_memory { IfErr result (λ kind. is_cnf_no_memory kind ≡ false) }
     ensures sizes { (line : ℕ)
         → MatchResult result (λ sizes. header_after max line (tokens_of bytes.now) ≡ Ok sizes)
         (λ kind. IsCnfTold kind line (header_after max line (tokens_of bytes.now))) }
@@ -72,7 +72,7 @@ fn is_header(token: &[u8]) -> bool
 pub(super) fn read_header(max: u32, token: &[u8], after: &[u8]) -> Result<(u32, u32), CnfFaultKind>
     requires { max ≤ MAX_VARIABLE }
     ensures in_range { IfOk result (λ sizes. sizes.0 ≤ max) }
-    ensures no_room { IfErr result (λ kind. is_cnf_no_memory kind ≡ false) }
+    ensures no_memory { IfErr result (λ kind. is_cnf_no_memory kind ≡ false) }
     ensures sizes { (line : ℕ) → MatchResult result
         (λ sizes. header_of max line (token.now ∷ tokens_of after.now) ≡ Ok sizes)
         (λ kind. IsCnfTold kind line (header_of max line (token.now ∷ tokens_of after.now))) }

@@ -3,9 +3,9 @@ ghost use Rattle.std.specs.Prelude.{◌≡◌, ◌<◌, ◌≤◌, ◌+◌, ◌�
 ghost use Rattle.lj_clause.specs.Memory.{no_memory};
 ghost use Rattle.lj_text.specs.Bytes.{line_number, tokens_of};
 ghost use Rattle.lj_text.specs.LinesRead.{HasNoLineEnd, last_number};
-ghost use Rattle.lj_text.specs.CnfRead.{IsAnswer, HasFaultAlready, EndsByNumber, NeedsRoom, cnf_fault_of, is_cnf_no_memory};
-ghost use Rattle.lj_text.specs.inner.CnfHeld.{NeedsRoomFrom, Taken};
-ghost use Rattle.lj_text.specs.inner.CnfResuming.{Reads, asks_room, kept_fault, formula_from_state};
+ghost use Rattle.lj_text.specs.CnfRead.{IsAnswer, HasFaultAlready, EndsByNumber, NeedsMemory, cnf_fault_of, is_cnf_no_memory};
+ghost use Rattle.lj_text.specs.inner.CnfBuffered.{NeedsMemoryFrom, Taken};
+ghost use Rattle.lj_text.specs.inner.CnfResuming.{Reads, asks_memory, kept_fault, formula_from_state};
 ghost use Rattle.lj_clause.specs.declared.lit.TheConstants.{MAX_VARIABLE};
 
 use super::fault::{CnfFault, CnfFaultKind};
@@ -25,7 +25,7 @@ pub struct CnfReader {
     alloc: Global,
     max: u32,
     /// The line that is being read.
-    held: Vec<u8>,
+    buffer: Vec<u8>,
     /// Its number.
     line: u64,
     state: State,
@@ -34,14 +34,14 @@ pub struct CnfReader {
 
 impl Model for CnfReader {
     ghost use Rattle.lj_text.specs.CnfRead.{CnfRead};
-    ghost use Rattle.lj_text.specs.inner.CnfHeld.{IsCnfHeld};
+    ghost use Rattle.lj_text.specs.inner.CnfBuffered.{IsCnfBuffered};
     ghost use Rattle.lj_text.specs.inner.CnfResuming.{kept_fault};
 
     ghost Value = { CnfRead };
 
     ghost view = { λ r. record { max = r.max; fed = r.fed.bytes; fault = kept_fault r.state } };
 
-    ghost invariant = { λ r. IsCnfHeld r.max r.line r.held.items r.state r.fed.bytes };
+    ghost invariant = { λ r. IsCnfBuffered r.max r.line r.buffer.items r.state r.fed.bytes };
 }
 
 impl CnfReader {
@@ -53,7 +53,7 @@ impl CnfReader {
         CnfReader {
             alloc,
             max,
-            held: Vec::new(alloc),
+            buffer: Vec::new(alloc),
             line: 1,
             state: State::Header,
             fed: BytesSoFar::new(),
@@ -74,8 +74,8 @@ impl CnfReader {
             → HasFaultAlready self.new.max self.new.fed fault) }
 
         // Want of memory comes only where a line needs room, and is told at that line.
-        ensures room { self.old.fault ≡ None → IfErr result (λ fault. is_cnf_no_memory fault.kind
-            ≡ true → NeedsRoom self.old.max self.old.fed piece.now fault.line) }
+        ensures memory { self.old.fault ≡ None → IfErr result (λ fault. is_cnf_no_memory fault.kind
+            ≡ true → NeedsMemory self.old.max self.old.fed piece.now fault.line) }
 
         ensures max { self.new.max ≡ self.old.max }
     {
@@ -89,7 +89,7 @@ impl CnfReader {
             self.max,
             state,
             self.line,
-            &mut self.held,
+            &mut self.buffer,
             piece,
         );
         let fault = fault_of(&state);
@@ -114,13 +114,13 @@ impl CnfReader {
         // Each fault is told at the last line, and want of memory only where that one needs room.
         ensures line { self.fault ≡ None
             → IfErr result (λ fault. fault.line ≡ last_number self.fed) }
-        ensures room { self.fault ≡ None → IfErr result
+        ensures memory { self.fault ≡ None → IfErr result
             (λ fault. is_cnf_no_memory fault.kind ≡ true → EndsByNumber self.max self.fed) }
     {
         if let Some(fault) = fault_of(&self.state) {
             return Err(fault);
         }
-        let state = after_line(self.state, self.alloc, self.max, self.line, &self.held);
+        let state = after_line(self.state, self.alloc, self.max, self.line, &self.buffer);
         close(state, self.line)
     }
 }
@@ -147,32 +147,32 @@ fn refused_at(line: u64, e: AllocError) -> State
 }
 
 /// The state behind a line of which a part is held, and nothing is held then unless memory ran out.
-fn after_held_line(
+fn after_buffered_line(
     state: State,
     alloc: Global,
     max: u32,
     number: u64,
-    held: &mut Vec<u8>,
+    buffer: &mut Vec<u8>,
     front: &[u8],
 ) -> State
     requires max { max ≤ MAX_VARIABLE }
-    requires none { HasNoLineEnd held.old.items }
-    ensures none { HasNoLineEnd held.new.items }
-    ensures done { kept_fault result ≡ None → held.new.items ≡ [] }
+    requires none { HasNoLineEnd buffer.old.items }
+    ensures none { HasNoLineEnd buffer.new.items }
+    ensures done { kept_fault result ≡ None → buffer.new.items ≡ [] }
     ensures told { kept_fault state ≡ None → IfSome (kept_fault result) (λ fault. (fault.line
-        ≡ number) × (is_cnf_no_memory fault.kind ≡ true → (0 < length held.old.items)
-        ⊎ ((held.old.items ≡ []) × (asks_room state (tokens_of front.now) ≡ true)))) }
+        ≡ number) × (is_cnf_no_memory fault.kind ≡ true → (0 < length buffer.old.items)
+        ⊎ ((buffer.old.items ≡ []) × (asks_memory state (tokens_of front.now) ≡ true)))) }
     ensures reads { (n : ℕ) → number ≡ line_number n → (lines : List (List ℕ)) → Reads max (n + 1)
-        lines result (formula_from_state max n state ((held.old.items ++ front.now) ∷ lines)) }
+        lines result (formula_from_state max n state ((buffer.old.items ++ front.now) ∷ lines)) }
 {
-    if held.is_empty() {
+    if buffer.is_empty() {
         return after_line(state, alloc, max, number, front);
     }
-    if let Err(e) = held.extend_from_slice(front) {
+    if let Err(e) = buffer.extend_from_slice(front) {
         return refused_at(number, e);
     }
-    let next = after_line(state, alloc, max, number, held);
-    held.clear();
+    let next = after_line(state, alloc, max, number, buffer);
+    buffer.clear();
     next
 }
 
@@ -184,22 +184,22 @@ fn take_piece(
     max: u32,
     before: State,
     first: u64,
-    held: &mut Vec<u8>,
+    buffer: &mut Vec<u8>,
     piece: &[u8],
 ) -> (State, u64)
     requires max { max ≤ MAX_VARIABLE }
-    requires none { HasNoLineEnd held.old.items }
-    ensures taken { Taken max first before held.old.items piece.now result.0 result.1
-        held.new.items }
-    ensures room { kept_fault before ≡ None
+    requires none { HasNoLineEnd buffer.old.items }
+    ensures taken { Taken max first before buffer.old.items piece.now result.0 result.1
+        buffer.new.items }
+    ensures memory { kept_fault before ≡ None
         → IfSome (kept_fault result.0) (λ fault. is_cnf_no_memory fault.kind ≡ true
-        → NeedsRoomFrom max first before held.old.items piece.now fault.line) }
+        → NeedsMemoryFrom max first before buffer.old.items piece.now fault.line) }
 {
     let mut state = before;
     let mut number = first;
     let mut rest = piece;
     while let Some((front, after)) = first_line(rest, 0) {
-        match after_held_line(state, alloc, max, number, held, front) {
+        match after_buffered_line(state, alloc, max, number, buffer, front) {
             State::Faulty(fault) => return (State::Faulty(fault), number),
             next => state = next,
         }
@@ -209,7 +209,7 @@ fn take_piece(
     if rest.is_empty() {
         return (state, number);
     }
-    match held.extend_from_slice(rest) {
+    match buffer.extend_from_slice(rest) {
         Ok(()) => (state, number),
         Err(e) => (refused_at(number, e), number),
     }

@@ -1,12 +1,12 @@
 //! How far a formula was read.
 ghost use Rattle.std.specs.Prelude.{◌≡◌, ◌≤◌, ◌+◌, ◌∷◌, ℕ, List, [], true, false, None, IfSome, IfErr, MatchResult, Ok, Err};
 ghost use Rattle.lj_text.specs.Bytes.{tokens_of, line_number};
-ghost use Rattle.lj_text.specs.Cnf.{Place, header_of, body_of};
+ghost use Rattle.lj_text.specs.Cnf.{BodyToken, header_of, body_of};
 ghost use Rattle.lj_text.specs.Lines.{then_read};
-ghost use Rattle.lj_text.specs.inner.CnfReading.{IsCnfTold, Goes, places_behind};
+ghost use Rattle.lj_text.specs.inner.CnfReading.{IsCnfTold, Goes, body_tokens_behind};
 ghost use Rattle.lj_text.specs.CnfReading.{formula_after, keeps_first};
 ghost use Rattle.lj_text.specs.CnfRead.{is_cnf_no_memory};
-ghost use Rattle.lj_text.specs.inner.CnfResuming.{Reads, ReadsOn, asks_room, kept_fault, formula_from_state};
+ghost use Rattle.lj_text.specs.inner.CnfResuming.{Reads, ReadsOn, asks_memory, kept_fault, formula_from_state};
 ghost use Rattle.lj_clause.specs.declared.lit.TheConstants.{MAX_VARIABLE};
 
 use super::body::Body;
@@ -31,9 +31,9 @@ pub(super) enum State {
 
 /// Takes the tokens of a line of the clauses, and answers whether one of them ends the formula.
 fn take_tokens(body: &mut Body, bytes: &[u8]) -> Result<bool, CnfFaultKind>
-    ensures room { IfErr result
+    ensures memory { IfErr result
         (λ kind. is_cnf_no_memory kind ≡ true → keeps_first body.old (tokens_of bytes.now) ≡ true) }
-    ensures reads { (last line : ℕ) (rest : List Place)
+    ensures reads { (last line : ℕ) (rest : List BodyToken)
         → Goes last line (tokens_of bytes.now) rest body.old body.new result }
 {
     let mut left = bytes;
@@ -64,8 +64,8 @@ fn begin(alloc: Global, max: u32, number: u64, token: &[u8], after: &[u8]) -> St
 fn go_on(mut body: Body, number: u64, bytes: &[u8]) -> State
     ensures told { IfSome (kept_fault result) (λ fault. (fault.line ≡ number)
         × (is_cnf_no_memory fault.kind ≡ true → keeps_first body (tokens_of bytes.now) ≡ true)) }
-    ensures reads { (last : ℕ) (rest : List Place) → ReadsOn last rest result
-        (formula_after body last (places_behind number (tokens_of bytes.now) rest)) }
+    ensures reads { (last : ℕ) (rest : List BodyToken) → ReadsOn last rest result
+        (formula_after body last (body_tokens_behind number (tokens_of bytes.now) rest)) }
 {
     match take_tokens(&mut body, bytes) {
         Ok(true) => State::Ended(body),
@@ -79,7 +79,7 @@ pub(super) fn after_line(state: State, alloc: Global, max: u32, number: u64, byt
     requires { max ≤ MAX_VARIABLE }
     ensures told { kept_fault state ≡ None
         → IfSome (kept_fault result) (λ fault. (fault.line ≡ number)
-        × (is_cnf_no_memory fault.kind ≡ true → asks_room state (tokens_of bytes.now) ≡ true)) }
+        × (is_cnf_no_memory fault.kind ≡ true → asks_memory state (tokens_of bytes.now) ≡ true)) }
     ensures reads { (n : ℕ) → number ≡ line_number n → (lines : List (List ℕ))
         → Reads max (n + 1) lines result (formula_from_state max n state (bytes.now ∷ lines)) }
 {

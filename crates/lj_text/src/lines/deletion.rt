@@ -1,10 +1,10 @@
 //! Lists of numbers.
 ghost use Rattle.lj_text.specs.Lines.{numbers_of};
-ghost use Rattle.lj_text.specs.inner.LineReading.{Gives, behind_numbers, words_of};
+ghost use Rattle.lj_text.specs.inner.LineReading.{Gives, behind_numbers, token_numbers};
 
 use super::closing::{check_closed, cut_short};
 use super::fault::LineFaultKind;
-use crate::bytes::{Word, next_word};
+use crate::bytes::{TokenNumber, next_token_number};
 use crate::numbers::Numbers;
 
 /// The numbers up to the closing 0.
@@ -13,7 +13,7 @@ pub(super) fn read_numbers(
     ended: bool,
     bytes: &[u8],
 ) -> Result<(), LineFaultKind>
-    ensures { Gives (λ _. numbers.new) result (numbers_of ended (words_of bytes.now)) }
+    ensures { Gives (λ _. numbers.new) result (numbers_of ended (token_numbers bytes.now)) }
 {
     numbers.clear();
     read_rest(numbers, ended, bytes)
@@ -26,22 +26,22 @@ pub(super) fn read_rest(
     bytes: &[u8],
 ) -> Result<(), LineFaultKind>
     ensures { Gives (λ _. numbers.new) result
-        (behind_numbers numbers.old (numbers_of ended (words_of bytes.now))) }
+        (behind_numbers numbers.old (numbers_of ended (token_numbers bytes.now))) }
 {
     let mut rest = numbers.read_short(bytes);
     loop {
-        let Some((word, after)) = next_word(rest) else {
+        let Some((token_number, after)) = next_token_number(rest) else {
             return Err(cut_short(ended));
         };
-        match word {
-            Word::Positive(number) => numbers.push(number)?,
-            Word::Zero => {
+        match token_number {
+            TokenNumber::Positive(number) => numbers.push(number)?,
+            TokenNumber::Zero => {
                 check_closed(after)?;
                 return Ok(());
             }
-            Word::NoNumber => return Err(LineFaultKind::BadNumber),
-            Word::Negative(_) => return Err(LineFaultKind::Syntax),
-            Word::Beyond => return Err(LineFaultKind::NumberRange),
+            TokenNumber::NoNumber => return Err(LineFaultKind::BadNumber),
+            TokenNumber::Negative(_) => return Err(LineFaultKind::Syntax),
+            TokenNumber::Beyond => return Err(LineFaultKind::NumberRange),
         }
         rest = numbers.read_short(after);
     }

@@ -1,13 +1,15 @@
 //! Lists of literals.
 ghost use Rattle.std.specs.Prelude.{◌≡◌, ◌<◌, ◌≤◌, Bool, true, length, drop};
 ghost use Rattle.lj_text.specs.Lines.{literals_then};
-ghost use Rattle.lj_text.specs.inner.LineReading.{Gives, behind_literals, words_of};
+ghost use Rattle.lj_text.specs.inner.LineReading.{Gives, behind_literals, token_numbers};
 ghost use Rattle.lj_text.specs.inner.ShortNumbers.{AreLiteralsAhead};
 ghost use Rattle.lj_clause.specs.declared.lit.TheConstants.{MAX_VARIABLE};
 
 use super::closing::cut_short;
 use super::fault::LineFaultKind;
-use crate::bytes::{WINDOW, Word, next_word, number_within, short_integer, spaces_in};
+use crate::bytes::{
+    TokenNumber, WINDOW, next_token_number, number_within, short_integer, spaces_in,
+};
 use lj_clause::Lit;
 
 /// Takes the short literals at the front behind the others, and answers what follows them. Takes time linear in the bytes
@@ -18,8 +20,8 @@ pub(super) fn short_literals<'a>(literals: &mut Vec<Lit>, max: u32, bytes: &'a [
     ensures ahead { AreLiteralsAhead max literals.old.items bytes.now
         literals.new.items result.now }
     ensures read { (ended : Bool)
-        → behind_literals literals.new.items (literals_then max ended (words_of result.now))
-        ≡ behind_literals literals.old.items (literals_then max ended (words_of bytes.now)) }
+        → behind_literals literals.new.items (literals_then max ended (token_numbers result.now))
+        ≡ behind_literals literals.old.items (literals_then max ended (token_numbers bytes.now)) }
     ensures within { length result.now ≤ length bytes.now }
 {
     let mut rest = bytes;
@@ -94,8 +96,8 @@ pub(super) fn read_literals<'a>(
     bytes: &'a [u8],
 ) -> Result<&'a [u8], LineFaultKind>
     requires { max ≤ MAX_VARIABLE }
-    ensures { Gives (λ rest. (literals.new.items, words_of rest.now)) result
-        (literals_then max ended (words_of bytes.now)) }
+    ensures { Gives (λ rest. (literals.new.items, token_numbers rest.now)) result
+        (literals_then max ended (token_numbers bytes.now)) }
 {
     literals.clear();
     let rest = short_literals(literals, max, bytes);
@@ -113,20 +115,20 @@ fn read_rest<'a>(
     bytes: &'a [u8],
 ) -> Result<&'a [u8], LineFaultKind>
     requires { max ≤ MAX_VARIABLE }
-    ensures { Gives (λ rest. (literals.new.items, words_of rest.now)) result
-        (behind_literals literals.old.items (literals_then max ended (words_of bytes.now))) }
+    ensures { Gives (λ rest. (literals.new.items, token_numbers rest.now)) result
+        (behind_literals literals.old.items (literals_then max ended (token_numbers bytes.now))) }
 {
     let mut rest = bytes;
     loop {
-        let (number, after) = match next_word(rest) {
-            Some((Word::Positive(variable), after)) if variable <= u64::from(max) => {
+        let (number, after) = match next_token_number(rest) {
+            Some((TokenNumber::Positive(variable), after)) if variable <= u64::from(max) => {
                 (variable as i32, after)
             }
-            Some((Word::Negative(variable), after)) if variable <= u64::from(max) => {
+            Some((TokenNumber::Negative(variable), after)) if variable <= u64::from(max) => {
                 (-(variable as i32), after)
             }
-            Some((Word::Zero, after)) => return Ok(after),
-            Some((Word::NoNumber, _)) => return Err(LineFaultKind::BadNumber),
+            Some((TokenNumber::Zero, after)) => return Ok(after),
+            Some((TokenNumber::NoNumber, _)) => return Err(LineFaultKind::BadNumber),
             Some(_) => return Err(LineFaultKind::NumberRange),
             None => return Err(cut_short(ended)),
         };

@@ -7,10 +7,10 @@ ghost use Rattle.lj_text.specs.LinesRead.{is_line_no_memory, HasNoLineEnd};
 ghost use Rattle.lj_text.specs.inner.Looking.{Looked, LookedBehind, Fails, FailsToEnd};
 ghost use Rattle.lj_clause.specs.declared.lit.TheConstants.{MAX_VARIABLE};
 
+use super::buffer::InputBuffer;
 use super::fault::LineFault;
-use super::held::Held;
 use super::parse::parse;
-use super::room::Room;
+use super::scratch::Scratch;
 use crate::line::Line;
 
 /// What a look at the whole lines ahead found.
@@ -30,7 +30,7 @@ pub(super) struct Found {
 
 /// What the bytes of the line with this number say.
 fn parse_at(
-    room: &mut Room,
+    scratch: &mut Scratch,
     max: u32,
     ended: bool,
     bytes: &[u8],
@@ -44,7 +44,7 @@ fn parse_at(
     ensures right { IfErr result (λ fault. is_line_no_memory fault.kind ≡ true
         → IsOk (line_of max ended (tokens_of bytes.now))) }
 {
-    match parse(room, max, ended, bytes) {
+    match parse(scratch, max, ended, bytes) {
         Ok(line) => Ok(line),
         Err(kind) => Err(LineFault { kind, line: number }),
     }
@@ -55,10 +55,10 @@ fn parse_at(
 /// stand in no order.
 #[cold]
 pub(super) fn look(
-    room: &mut Room,
+    scratch: &mut Scratch,
     max: u32,
     first: u64,
-    ahead: &Held,
+    ahead: &InputBuffer,
     searched: usize,
 ) -> Result<Found, LineFault>
     requires max { max ≤ MAX_VARIABLE }
@@ -76,7 +76,7 @@ pub(super) fn look(
     let mut number = first;
     while let Some((bytes, after)) = rest.first_line(none_before) {
         let next = number.saturating_add(1);
-        match parse_at(room, max, true, bytes, number)? {
+        match parse_at(scratch, max, true, bytes, number)? {
             None => {}
             Some(line) => {
                 return Ok(Found {
@@ -104,10 +104,10 @@ pub(super) fn look(
 /// The same, and where no whole line says anything, what the last one says, which the input ends; and whether it
 /// came to that.
 pub(super) fn look_to_end(
-    room: &mut Room,
+    scratch: &mut Scratch,
     max: u32,
     first: u64,
-    ahead: &Held,
+    ahead: &InputBuffer,
     searched: usize,
 ) -> Result<(Found, bool), LineFault>
     requires max { max ≤ MAX_VARIABLE }
@@ -118,12 +118,12 @@ pub(super) fn look_to_end(
         (Looked max k ahead.now found.0 × IsSome found.0.line))
         (λ fault. FailsToEnd max k ahead.now fault) }
 {
-    let found = look(room, max, first, ahead, searched)?;
+    let found = look(scratch, max, first, ahead, searched)?;
     if found.line.is_some() {
         return Ok((found, false));
     }
     let last = ahead.last(found.searched);
-    let line = parse_at(room, max, false, last, found.number)?;
+    let line = parse_at(scratch, max, false, last, found.number)?;
     let behind = Found {
         line,
         at: found.number,

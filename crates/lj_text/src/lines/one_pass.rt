@@ -3,13 +3,13 @@ ghost use Rattle.std.specs.Prelude.{◌≡◌, ◌<◌, ◌≤◌, Ok, Some, len
 ghost use Rattle.lj_text.specs.Bytes.{tokens_of};
 ghost use Rattle.lj_text.specs.Lines.{addition_of, deletion_of, hints_of, numbers_of};
 ghost use Rattle.lj_clause.specs.Lemma.{lemma_of};
-ghost use Rattle.lj_text.specs.inner.LineReading.{line_said, words_of};
+ghost use Rattle.lj_text.specs.inner.LineReading.{line_said, token_numbers};
 ghost use Rattle.lj_text.specs.inner.ShortNumbers.{BeginsByLine, BeginsNumber};
 ghost use Rattle.lj_clause.specs.declared.lit.TheConstants.{MAX_VARIABLE};
 
 use super::cut::first_line;
 use super::literals::short_literals;
-use super::room::Room;
+use super::scratch::Scratch;
 use super::{deletion, hints};
 use crate::boxed::Boxed;
 use crate::bytes::short_number;
@@ -23,25 +23,25 @@ use crate::numbers::Numbers;
 fn proof_at_front<'a>(
     hints: &mut Numbers,
     groups: &mut Groups,
-    room: &mut Numbers,
+    scratch: &mut Numbers,
     bytes: &'a [u8],
 ) -> Option<&'a [u8]>
     ensures read { IfSome result (λ after. BeginsByLine
-        (λ line. hints_of true (words_of line) ≡ Ok (hints.new, groups.new))
+        (λ line. hints_of true (token_numbers line) ≡ Ok (hints.new, groups.new))
         bytes.now after.now) }
     ensures shorter { IfSome result (λ after. length after.now < length bytes.now) }
 {
-    room.clear();
+    scratch.clear();
     groups.clear();
-    let rest = room.read_short(bytes);
+    let rest = scratch.read_short(bytes);
     if let [b'0', b'\n', after @ ..] = rest {
-        return match hints.take_over(room) {
+        return match hints.take_over(scratch) {
             Ok(()) => Some(after),
             Err(_) => None,
         };
     }
     let (line, after) = first_line(rest, 0)?;
-    match hints::read_rest(hints, groups, room, true, line) {
+    match hints::read_rest(hints, groups, scratch, true, line) {
         Ok(()) => Some(after),
         Err(_) => None,
     }
@@ -51,7 +51,7 @@ fn proof_at_front<'a>(
 #[inline(always)]
 fn numbers_at_front<'a>(numbers: &mut Numbers, bytes: &'a [u8]) -> Option<&'a [u8]>
     ensures read { IfSome result (λ after. BeginsByLine
-        (λ line. numbers_of true (words_of line) ≡ Ok numbers.new) bytes.now after.now) }
+        (λ line. numbers_of true (token_numbers line) ≡ Ok numbers.new) bytes.now after.now) }
     ensures shorter { IfSome result (λ after. length after.now < length bytes.now) }
 {
     numbers.clear();
@@ -70,57 +70,61 @@ fn numbers_at_front<'a>(numbers: &mut Numbers, bytes: &'a [u8]) -> Option<&'a [u
 /// end. Answers what follows that: none as above.
 #[inline(always)]
 fn write_at_front<'a>(
-    place: &mut Addition,
-    room: &mut Room,
+    target: &mut Addition,
+    scratch: &mut Scratch,
     number: u64,
     bytes: &'a [u8],
 ) -> Option<&'a [u8]>
-    ensures number { IfSome result (λ _. place.new.number ≡ number) }
-    ensures lemma { IfSome result (λ _. place.new.lemma ≡ lemma_of room.old.literals.items) }
+    ensures number { IfSome result (λ _. target.new.number ≡ number) }
+    ensures lemma { IfSome result (λ _. target.new.lemma ≡ lemma_of scratch.old.literals.items) }
     ensures read { IfSome result (λ after. BeginsByLine
-        (λ line. hints_of true (words_of line) ≡ Ok (place.new.hints, place.new.groups))
+        (λ line. hints_of true (token_numbers line) ≡ Ok (target.new.hints, target.new.groups))
         bytes.now after.now) }
     ensures shorter { IfSome result (λ after. length after.now < length bytes.now) }
 {
     let after = proof_at_front(
-        &mut place.hints,
-        &mut place.groups,
-        &mut room.numbers,
+        &mut target.hints,
+        &mut target.groups,
+        &mut scratch.numbers,
         bytes,
     )?;
-    if place.lemma.put(room.alloc, &mut room.literals).is_err() {
+    if target
+        .lemma
+        .put(scratch.alloc, &mut scratch.literals)
+        .is_err()
+    {
         return None;
     }
-    place.number = number;
+    target.number = number;
     Some(after)
 }
 
 /// The addition at the front, behind its number, and what follows its line: none as above.
 #[inline(always)]
 fn addition_at_front<'a>(
-    room: &mut Room,
+    scratch: &mut Scratch,
     max: u32,
     number: u64,
     bytes: &'a [u8],
 ) -> Option<(Line, &'a [u8])>
     requires { max ≤ MAX_VARIABLE }
     ensures read { IfSome result (λ found. BeginsByLine
-        (λ line. addition_of max true number (words_of line) ≡ Ok found.0)
+        (λ line. addition_of max true number (token_numbers line) ≡ Ok found.0)
         bytes.now found.1.now) }
     ensures shorter { IfSome result (λ found. length found.1.now < length bytes.now) }
 {
-    room.literals.clear();
-    let rest = short_literals(&mut room.literals, max, bytes);
+    scratch.literals.clear();
+    let rest = short_literals(&mut scratch.literals, max, bytes);
     let [b'0', b' ', proof @ ..] = rest else {
         return None;
     };
-    let Ok(mut place) = room.addition() else {
+    let Ok(mut target) = scratch.addition() else {
         return None;
     };
-    match write_at_front(&mut place, room, number, proof) {
-        Some(after) => Some((Line::Add(Boxed::from_box(place)), after)),
+    match write_at_front(&mut target, scratch, number, proof) {
+        Some(after) => Some((Line::Add(Boxed::from_box(target)), after)),
         None => {
-            room.take_back(place);
+            scratch.take_back(target);
             None
         }
     }
@@ -128,13 +132,13 @@ fn addition_at_front<'a>(
 
 /// The deletion at the front, behind its `d`, and what follows its line: none as above.
 #[inline(always)]
-fn deletion_at_front<'a>(room: &mut Room, bytes: &'a [u8]) -> Option<(Line, &'a [u8])>
+fn deletion_at_front<'a>(scratch: &mut Scratch, bytes: &'a [u8]) -> Option<(Line, &'a [u8])>
     ensures read { IfSome result (λ found. BeginsByLine
-        (λ line. deletion_of true (words_of line) ≡ Ok found.0) bytes.now found.1.now) }
+        (λ line. deletion_of true (token_numbers line) ≡ Ok found.0) bytes.now found.1.now) }
     ensures shorter { IfSome result (λ found. length found.1.now < length bytes.now) }
 {
-    let after = numbers_at_front(&mut room.numbers, bytes)?;
-    match room.deletion() {
+    let after = numbers_at_front(&mut scratch.numbers, bytes)?;
+    match scratch.deletion() {
         Ok(line) => Some((line, after)),
         Err(_) => None,
     }
@@ -153,7 +157,7 @@ fn begins_number(byte: u8) -> bool
 /// and O(n log n) time for literals that stand in no order.
 #[inline(always)]
 pub(super) fn line_at_front<'a>(
-    room: &mut Room,
+    scratch: &mut Scratch,
     max: u32,
     bytes: &'a [u8],
 ) -> Option<(Line, &'a [u8])>
@@ -165,9 +169,9 @@ pub(super) fn line_at_front<'a>(
 {
     let (number, rest) = short_number(bytes)?;
     match rest {
-        [b'd', b' ', numbers @ ..] => deletion_at_front(room, numbers),
+        [b'd', b' ', numbers @ ..] => deletion_at_front(scratch, numbers),
         [first, ..] if number != 0 && begins_number(*first) => {
-            addition_at_front(room, max, u64::from(number), rest)
+            addition_at_front(scratch, max, u64::from(number), rest)
         }
         _ => None,
     }

@@ -3,7 +3,7 @@ ghost use Rattle.std.specs.Prelude.{◌≡◌, ◌≤◌, ◌∷◌, IfErr, IfOk
 ghost use Rattle.lj_text.specs.Bytes.{number_of, tokens_of, is_silent};
 ghost use Rattle.lj_clause.specs.Lemma.{lemma_of};
 ghost use Rattle.lj_text.specs.Lines.{addition_of, hints_of, with_read, deletion_of, import_of, after_zero, after_number, greatest, line_of};
-ghost use Rattle.lj_text.specs.inner.LineReading.{Gives, IsLineTold, words_of, line_said};
+ghost use Rattle.lj_text.specs.inner.LineReading.{Gives, IsLineTold, token_numbers, line_said};
 ghost use Rattle.lj_text.specs.LinesRead.{is_line_no_memory};
 ghost use Rattle.lj_text.specs.declared.line.Line.TheVariants.{Add};
 ghost use Rattle.lj_clause.specs.declared.lit.TheConstants.{MAX_VARIABLE};
@@ -14,84 +14,86 @@ use super::fault::LineFaultKind;
 use super::hints::read_proof;
 use super::judge::judge;
 use super::literals::read_literals;
-use super::room::Room;
+use super::scratch::Scratch;
 use crate::boxed::Boxed;
-use crate::bytes::{Word, after_blanks, first_word, next_token, short_number, word_of};
+use crate::bytes::{
+    TokenNumber, after_blanks, first_token_number, next_token, number_in_token, short_number,
+};
 use crate::line::{Addition, Line};
 use lj_clause::Clause;
 
 /// The literals, hints and groups of an addition.
 fn addition(
-    room: &mut Room,
+    scratch: &mut Scratch,
     max: u32,
     ended: bool,
     number: u64,
     bytes: &[u8],
 ) -> Result<Line, LineFaultKind>
     requires { max ≤ MAX_VARIABLE }
-    ensures { Gives (λ line. line) result (addition_of max ended number (words_of bytes.now)) }
+    ensures { Gives (λ line. line) result (addition_of max ended number (token_numbers bytes.now)) }
 {
-    let rest = read_literals(&mut room.literals, max, ended, bytes)?;
-    let mut place = room.addition()?;
-    write_addition(&mut place, room, ended, number, rest)?;
-    Ok(Line::Add(Boxed::from_box(place)))
+    let rest = read_literals(&mut scratch.literals, max, ended, bytes)?;
+    let mut target = scratch.addition()?;
+    write_addition(&mut target, scratch, ended, number, rest)?;
+    Ok(Line::Add(Boxed::from_box(target)))
 }
 
 /// Writes an addition into a place: the literals that were read, and its hints and groups.
 fn write_addition(
-    place: &mut Addition,
-    room: &mut Room,
+    target: &mut Addition,
+    scratch: &mut Scratch,
     ended: bool,
     number: u64,
     bytes: &[u8],
 ) -> Result<(), LineFaultKind>
-    ensures { Gives (λ _. Add place.new) result (with_read
+    ensures { Gives (λ _. Add target.new) result (with_read
         (λ read. Add (record {
           number = number;
-          lemma = lemma_of room.old.literals.items;
+          lemma = lemma_of scratch.old.literals.items;
           hints = read.0;
           groups = read.1;
         }))
-        (hints_of ended (words_of bytes.now))) }
+        (hints_of ended (token_numbers bytes.now))) }
 {
     read_proof(
-        &mut place.hints,
-        &mut place.groups,
-        &mut room.numbers,
+        &mut target.hints,
+        &mut target.groups,
+        &mut scratch.numbers,
         ended,
         bytes,
     )?;
-    place.lemma.put(room.alloc, &mut room.literals)?;
-    place.number = number;
+    target.lemma.put(scratch.alloc, &mut scratch.literals)?;
+    target.number = number;
     Ok(())
 }
 
 /// The numbers of a deletion.
-fn deletion(room: &mut Room, ended: bool, bytes: &[u8]) -> Result<Line, LineFaultKind>
-    ensures { Gives (λ line. line) result (deletion_of ended (words_of bytes.now)) }
+fn deletion(scratch: &mut Scratch, ended: bool, bytes: &[u8]) -> Result<Line, LineFaultKind>
+    ensures { Gives (λ line. line) result (deletion_of ended (token_numbers bytes.now)) }
 {
-    read_numbers(&mut room.numbers, ended, bytes)?;
-    Ok(room.deletion()?)
+    read_numbers(&mut scratch.numbers, ended, bytes)?;
+    Ok(scratch.deletion()?)
 }
 
 /// The literals of an import.
 fn import(
-    room: &mut Room,
+    scratch: &mut Scratch,
     max: u32,
     ended: bool,
     number: u64,
     bytes: &[u8],
 ) -> Result<Line, LineFaultKind>
     requires { max ≤ MAX_VARIABLE }
-    ensures { Gives (λ line. line) result (import_of max ended number (words_of bytes.now)) }
+    ensures { Gives (λ line. line) result (import_of max ended number (token_numbers bytes.now)) }
 {
-    let rest = read_literals(&mut room.literals, max, ended, bytes)?;
+    let rest = read_literals(&mut scratch.literals, max, ended, bytes)?;
     check_closed(rest)?;
     Ok(Line::Import {
         number,
         clause: Boxed::new(
-            room.alloc,
-            Clause::from_room(room.alloc, &mut room.literals)?,
+            scratch.alloc,
+            Clause::from_scratch(scratch.alloc, &mut scratch.literals)?,
         )?,
     })
 }
@@ -100,14 +102,15 @@ fn import(
 pub(super) fn after_zero(max: u32, token: &[u8]) -> LineFaultKind
     requires { max ≤ MAX_VARIABLE }
     ensures value { result ≡ after_zero max token.now }
-    ensures no_room { is_line_no_memory result ≡ false }
+    ensures no_memory { is_line_no_memory result ≡ false }
 {
     match token {
         [b'i'] => LineFaultKind::Syntax,
-        _ => match word_of(token) {
-            Word::NoNumber => LineFaultKind::BadNumber,
-            Word::Zero => LineFaultKind::Syntax,
-            Word::Positive(n) | Word::Negative(n) if n <= u64::from(max) => LineFaultKind::Syntax,
+        _ => match number_in_token(token) {
+            TokenNumber::NoNumber => LineFaultKind::BadNumber,
+            TokenNumber::Zero => LineFaultKind::Syntax,
+            TokenNumber::Positive(n) | TokenNumber::Negative(n) if n <= u64::from(max) =>
+                LineFaultKind::Syntax,
             _ => LineFaultKind::NumberRange,
         },
     }
@@ -115,7 +118,7 @@ pub(super) fn after_zero(max: u32, token: &[u8]) -> LineFaultKind
 
 /// What follows a line's first number.
 fn after_number(
-    room: &mut Room,
+    scratch: &mut Scratch,
     max: u32,
     ended: bool,
     number: u64,
@@ -126,18 +129,18 @@ fn after_number(
 {
     let rest = after_blanks(bytes);
     match rest {
-        [b'd', ..] | [b'i', ..] | [] => after_any_number(room, max, ended, number, rest),
+        [b'd', ..] | [b'i', ..] | [] => after_any_number(scratch, max, ended, number, rest),
         _ => if number == 0 {
-            after_any_number(room, max, ended, number, rest)
+            after_any_number(scratch, max, ended, number, rest)
         } else {
-            addition(room, max, ended, number, rest)
+            addition(scratch, max, ended, number, rest)
         },
     }
 }
 
 /// The same, whatever it is.
 fn after_any_number(
-    room: &mut Room,
+    scratch: &mut Scratch,
     max: u32,
     ended: bool,
     number: u64,
@@ -148,10 +151,10 @@ fn after_any_number(
 {
     match next_token(bytes) {
         None => Err(cut_short(ended)),
-        Some(([b'd'], after)) => deletion(room, ended, after),
+        Some(([b'd'], after)) => deletion(scratch, ended, after),
         Some((token, _)) if number == 0 => Err(after_zero(max, token)),
-        Some(([b'i'], after)) => import(room, max, ended, number, after),
-        Some(_) => addition(room, max, ended, number, bytes),
+        Some(([b'i'], after)) => import(scratch, max, ended, number, after),
+        Some(_) => addition(scratch, max, ended, number, bytes),
     }
 }
 
@@ -166,28 +169,28 @@ fn first_number(ended: bool, bytes: &[u8]) -> Result<(u64, &[u8]), LineFaultKind
     if let Some((number, after)) = short_number(bytes) {
         return Ok((u64::from(number), after));
     }
-    match first_word(bytes) {
+    match first_token_number(bytes) {
         None => Err(cut_short(ended)),
-        Some((Word::NoNumber, _)) => Err(LineFaultKind::BadNumber),
-        Some((Word::Zero, after)) => Ok((0, after)),
-        Some((Word::Positive(number), after)) => Ok((number, after)),
-        Some((Word::Negative(_), _)) => Err(LineFaultKind::Syntax),
-        Some((Word::Beyond, _)) => Err(LineFaultKind::NumberRange),
+        Some((TokenNumber::NoNumber, _)) => Err(LineFaultKind::BadNumber),
+        Some((TokenNumber::Zero, after)) => Ok((0, after)),
+        Some((TokenNumber::Positive(number), after)) => Ok((number, after)),
+        Some((TokenNumber::Negative(_), _)) => Err(LineFaultKind::Syntax),
+        Some((TokenNumber::Beyond, _)) => Err(LineFaultKind::NumberRange),
     }
 }
 
 /// The line that isn't silent.
-fn line(room: &mut Room, max: u32, ended: bool, bytes: &[u8]) -> Result<Line, LineFaultKind>
+fn line(scratch: &mut Scratch, max: u32, ended: bool, bytes: &[u8]) -> Result<Line, LineFaultKind>
     requires { max ≤ MAX_VARIABLE }
     ensures { Gives (λ line. line) result (line_of max ended (tokens_of bytes.now)) }
 {
     let (number, after) = first_number(ended, bytes)?;
-    after_number(room, max, ended, number, after)
+    after_number(scratch, max, ended, number, after)
 }
 
 /// The same, where want of memory is told only of a line that is right: another line's fault comes before it.
 fn line_or_fault(
-    room: &mut Room,
+    scratch: &mut Scratch,
     max: u32,
     ended: bool,
     bytes: &[u8],
@@ -197,7 +200,7 @@ fn line_or_fault(
     ensures right { IfErr result
         (λ kind. is_line_no_memory kind ≡ true → IsOk (line_of max ended (tokens_of bytes.now))) }
 {
-    match line(room, max, ended, bytes) {
+    match line(scratch, max, ended, bytes) {
         Err(LineFaultKind::NoMemory(e)) => {
             judge(max, ended, bytes)?;
             Err(LineFaultKind::NoMemory(e))
@@ -208,7 +211,7 @@ fn line_or_fault(
 
 /// What the bytes of a line say: nothing where it is silent. Takes time linear in the bytes, but for a lemma's sorting.
 pub(super) fn parse(
-    room: &mut Room,
+    scratch: &mut Scratch,
     max: u32,
     ended: bool,
     bytes: &[u8],
@@ -223,6 +226,6 @@ pub(super) fn parse(
     match rest {
         [] => Ok(None),
         [b'c', ..] => Ok(None),
-        _ => Ok(Some(line_or_fault(room, max, ended, rest)?)),
+        _ => Ok(Some(line_or_fault(scratch, max, ended, rest)?)),
     }
 }

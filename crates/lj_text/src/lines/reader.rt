@@ -3,15 +3,15 @@ ghost use Rattle.std.specs.Prelude.{◌≡◌, ◌+◌, ◌≤◌, ◌++◌, ◌
 ghost use Rattle.lj_text.specs.Bytes.{line_number};
 ghost use Rattle.lj_text.specs.Lines.{whole_said, all_said};
 ghost use Rattle.lj_text.specs.LinesRead.{LineReaderStandsAt, IsReadingAt, IsSaidAt, IsSaidRight, wants_memory, line_answer, handed_out, fault_of, line_number_of, last_number};
-ghost use Rattle.lj_text.specs.inner.LinesHeld.{IsAhead, reader_past, reader_with_fault};
+ghost use Rattle.lj_text.specs.inner.LinesBuffered.{IsAhead, reader_past, reader_with_fault};
 ghost use Rattle.lj_text.specs.inner.Looking.{Looked, LookedBehind, Fails, FailsToEnd, IsTaken};
 ghost use Rattle.lj_clause.specs.declared.lit.TheConstants.{MAX_VARIABLE};
 
+use super::buffer::InputBuffer;
 use super::fault::{LineFault, LineFaultKind};
-use super::held::Held;
 use super::look::{Found, look, look_to_end};
 use super::one_pass::line_at_front;
-use super::room::Room;
+use super::scratch::Scratch;
 use crate::line::Line;
 use std::alloc::Global;
 use std::marker::Model;
@@ -21,9 +21,9 @@ use std::marker::Model;
 /// It holds what was fed behind the last line that it handed out.
 #[derive(Debug, Drop)]
 pub struct LineReader {
-    room: Room,
+    scratch: Scratch,
     max: u32,
-    held: Held,
+    buffer: InputBuffer,
     /// No line ends among the first `searched` bytes that are held.
     searched: usize,
     /// The number of the line to be read.
@@ -35,20 +35,20 @@ pub struct LineReader {
 
 impl Model for LineReader {
     ghost use Rattle.lj_text.specs.LinesRead.{LinesRead};
-    ghost use Rattle.lj_text.specs.inner.LinesHeld.{IsHeld};
+    ghost use Rattle.lj_text.specs.inner.LinesBuffered.{IsBuffered};
 
     ghost Value = { LinesRead };
 
     ghost view = { λ r. record {
       max = r.max;
-      ahead = r.held;
+      ahead = r.buffer;
       line = r.line;
       at = r.at;
       finished = r.finished;
       fault = r.fault;
     } };
 
-    ghost invariant = { λ r. IsHeld r.max r.searched r.line r.held };
+    ghost invariant = { λ r. IsBuffered r.max r.searched r.line r.buffer };
 }
 
 impl LineReader {
@@ -60,9 +60,9 @@ impl LineReader {
         ensures fresh { (result.finished ≡ false) × (result.fault ≡ None) × (result.at ≡ 1) }
     {
         LineReader {
-            room: Room::new(alloc),
+            scratch: Scratch::new(alloc),
             max,
-            held: Held::new(alloc),
+            buffer: InputBuffer::new(alloc),
             searched: 0,
             line: 1,
             at: 1,
@@ -90,7 +90,7 @@ impl LineReader {
         if let Some(fault) = self.fault {
             return Err(fault);
         }
-        match self.held.push(piece) {
+        match self.buffer.push(piece) {
             Ok(()) => Ok(()),
             Err(e) => Err(LineFault {
                 kind: e.into(),
@@ -219,10 +219,10 @@ impl LineReader {
     {
         match line {
             Line::Add(addition) => {
-                let mut place = addition.into_box();
-                place.hints.let_go_of_many();
-                place.groups.let_go_of_many();
-                self.room.take_back(place);
+                let mut target = addition.into_box();
+                target.hints.let_go_of_many();
+                target.groups.let_go_of_many();
+                self.scratch.take_back(target);
             }
             Line::Delete(_) | Line::Import { .. } => {}
         }
@@ -238,11 +238,11 @@ impl LineReader {
 
     /// How many bytes it holds of what was fed: those not yet handed out, and beside them at most a piece of 65,536.
     /// Takes constant time.
-    pub fn held(&self) -> u128
+    pub fn buffered(&self) -> u128
         ensures all { length self.now.ahead ≤ result }
         ensures few { result ≤ length self.now.ahead + 65536 }
     {
-        self.held.room()
+        self.buffer.scratch()
     }
 
     /// Takes the first line, where it is whole and in the usual form: whoever looks on reads any other, also one for which
@@ -256,10 +256,10 @@ impl LineReader {
         if self.searched != 0 {
             return None;
         }
-        let bytes = self.held.front();
-        let (line, after) = line_at_front(&mut self.room, self.max, bytes)?;
+        let bytes = self.buffer.front();
+        let (line, after) = line_at_front(&mut self.scratch, self.max, bytes)?;
         let count = bytes.len() - after.len();
-        self.held.pass_line(count);
+        self.buffer.pass_line(count);
         self.at = self.line;
         self.line = self.line.saturating_add(1);
         Some(line)
@@ -274,10 +274,10 @@ impl LineReader {
         ensures same { self.new ≡ self.old }
     {
         look(
-            &mut self.room,
+            &mut self.scratch,
             self.max,
             self.line,
-            &self.held,
+            &self.buffer,
             self.searched,
         )
     }
@@ -292,10 +292,10 @@ impl LineReader {
         ensures same { self.new ≡ self.old }
     {
         look_to_end(
-            &mut self.room,
+            &mut self.scratch,
             self.max,
             self.line,
-            &self.held,
+            &self.buffer,
             self.searched,
         )
     }
@@ -306,7 +306,7 @@ impl LineReader {
         ensures line { result ≡ found.line }
         ensures passed { self.new ≡ reader_past self.old found }
     {
-        self.held.keep_last(found.left);
+        self.buffer.keep_last(found.left);
         self.searched = found.searched;
         self.line = found.number;
         self.at = found.at;

@@ -2,7 +2,7 @@
 ghost use Rattle.std.specs.Prelude.{◌≡◌, ◌<◌, ◌≤◌, ◌++◌, ℕ, List, false, length, take, get_or, IsTrue, IfOk, OnOk, OnErr};
 ghost use Rattle.std.specs.List.{AllByRecursion, concat};
 ghost use Rattle.std.specs.Str.{byte};
-ghost use Rattle.lj_text.specs.inner.LinesHeld.{EndsLine, HasNoLateEnd, IsLineRun, IsLetGo, IsDoneWithin, IsWithinFirst};
+ghost use Rattle.lj_text.specs.inner.LinesBuffered.{EndsLine, HasNoLateEnd, IsLineRun, IsLetGo, IsDoneWithin, IsWithinFirst};
 
 use memchr::memchr;
 use std::alloc::{AllocError, Global};
@@ -132,11 +132,11 @@ pub(super) fn push_piece(
 
 /// Lets go of the runs that end at a place or before it, and tells the place among the others. Takes time linear in the
 /// runs that it lets go of.
-pub(super) fn let_go(runs: &mut VecDeque<Run>, place: u128) -> u128
-    ensures gone { IsLetGo runs.old.items runs.new.items place result }
+pub(super) fn let_go(runs: &mut VecDeque<Run>, position: u128) -> u128
+    ensures gone { IsLetGo runs.old.items runs.new.items position result }
     ensures within { IsWithinFirst result runs.new.items }
 {
-    let mut left = place;
+    let mut left = position;
     while let Some(run) = runs.front() {
         let size = run.bytes().len() as u128;
         if left < size {

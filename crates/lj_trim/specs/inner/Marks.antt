@@ -8,8 +8,8 @@ use Rattle.lj_text.specs.Needed.{NumberSet, has, all_hints}
 use Rattle.lj_trim.specs.declared.marks.Marks.{Marks}
 
 abbrev pub is_marked : Marks → ℕ → Bool
-is_marked m n = if nat_lt n (length m.near.items) then slice_index_or m.near.items n false
-    else contains nat_cmp m.far n
+is_marked m n = if nat_lt n (length m.dense.items) then slice_index_or m.dense.items n false
+    else contains nat_cmp m.sparse n
 
 abbrev pub AreMarked : Marks → List ℕ → Type 0
 AreMarked m ns = AllByRecursion (λ n. is_marked m n ≡ true) ns

@@ -1,15 +1,15 @@
 use Rattle.std.proofs.Common.{◌≡◌, ap, ◌∙◌, arith}
 use Rattle.std.specs.FinMap as fin
 use Rattle.lj_text.specs.declared.line.Addition.{Addition}
-use Rattle.lj_book.specs.Tables.{Table, with_table, is_here, is_held}
+use Rattle.lj_book.specs.Tables.{Table, with_table, is_here, has_holder}
 use Rattle.lj_book.proofs.TableLaws.{none_held, put_and_taken, here-with_table}
 use Rattle.lj_book.specs.inner.Holders.{holders_of}
 use Rattle.lj_book.proofs.committing.enter_addition.Goals as goal
 
-pub bind-requires-clause-room : goal.bind-requires-clause-room
-bind-requires-clause-room c =
-    let unheld = ap (λ (a : Addition). is_held c.args.tables.now a.number) c.step.view_is ∙ c.requires.unheld in
-    let none : holders_of c.args.tables.now c.step.inside.number ≡ 0 = none_held c.args.tables.now c.step.inside.number unheld in
+pub bind-requires-clause-capacity : goal.bind-requires-clause-capacity
+bind-requires-clause-capacity c =
+    let no_holder = ap (λ (a : Addition). has_holder c.args.tables.now a.number) c.step.view_is ∙ c.requires.no_holder in
+    let none : holders_of c.args.tables.now c.step.inside.number ≡ 0 = none_held c.args.tables.now c.step.inside.number no_holder in
     omega arith
 
 pub returns-in-Err-clause-err : goal.returns-in-Err-clause-err

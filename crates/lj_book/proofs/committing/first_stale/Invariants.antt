@@ -3,4 +3,4 @@ use Rattle.lj_book.specs.Calls.{first_stale}
 use Rattle.lj_book.proofs.committing.first_stale.Given as goal
 
 abbrev pub invariant-loop-pair : goal.invariant-loop-pair
-invariant-loop-pair l = first_stale l.ledger.live (drop l.pair-index l.listed) ≡ first_stale l.ledger.live l.listed
+invariant-loop-pair l = first_stale l.clause_log.live (drop l.pair-index l.listed) ≡ first_stale l.clause_log.live l.listed

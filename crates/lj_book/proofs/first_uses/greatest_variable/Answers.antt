@@ -3,7 +3,7 @@ use Rattle.std.specs.Prelude.{ℤ}
 use Rattle.std.specs.Option.{option_copied}
 use Rattle.lj_clause.specs.Literal.{lit_cmp, variable_of}
 use Rattle.std.specs.List.Sorted.{IsStrictlySortedBy}
-use Rattle.lj_book.proofs.PlaceLaws.{literals_rise}
+use Rattle.lj_book.proofs.RangeLaws.{literals_rise}
 use Rattle.lj_book.proofs.FirstUseLaws.{up_to_all, up_to_last, up_to_more, up_to_none}
 use Rattle.lj_book.proofs.first_uses.greatest_variable.Goals as goal
 

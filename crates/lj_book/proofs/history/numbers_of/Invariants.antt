@@ -1,5 +1,5 @@
 use Rattle.std.proofs.Common.{◌+◌, ◌≤◌, ◌<◌, ◌^◌}
-use Rattle.lj_book.specs.inner.Words.{groups_numbers}
+use Rattle.lj_book.specs.inner.Encoding.{groups_numbers}
 use Rattle.lj_book.specs.inner.Records.{addition_numbers}
 use Rattle.lj_book.proofs.history.numbers_of.Given as goal
 

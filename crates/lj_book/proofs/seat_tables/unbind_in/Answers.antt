@@ -13,6 +13,6 @@ returns-clause-holders c =
     let here = sym c.in-Some.ensures.before in
     λ q.
     one_less m c.insert.new.self j q c.insert.result (c.requires j here)
-    (subst (λ (k : ℕ). OnOk c.insert.result (c.insert.new.self ≡ fin.insert m j (k - 1))) c.count-held.ensures c.insert.ensures.ok)
+    (subst (λ (k : ℕ). OnOk c.insert.result (c.insert.new.self ≡ fin.insert m j (k - 1))) c.count-holder_count.ensures c.insert.ensures.ok)
     (err_then c.insert.result _ _ c.insert.ensures.absent (λ none. subst (λ (n : ℕ). n ≤ n - 1) (sym (ap count_or_none none)) (omega arith)))
     ∙ ap (λ o. one_if_at o q + count_at c.insert.new.self q) (sym here)

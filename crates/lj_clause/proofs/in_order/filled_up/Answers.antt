@@ -7,4 +7,4 @@ pub returns-clause-filled : goal.returns-clause-filled
 returns-clause-filled g c =
     let lits = c.args.lits.now.items in
     let extended = c.extend_from_slice.ensures.items ∙ ap (λ ok. cond ok (lits ++ replicate g.row.N c.filler.result) lits) c.if-is_err.ensures.negation ∙ ap (λ l. lits ++ replicate g.row.N l) c.filler.ensures in
-    copied-front lits c.deref.result.now g.row.N c.first_chunk.result c.copied-room.result c.requires (c.deref.ensures.value ∙ extended) c.copied-room.ensures c.first_chunk.ensures.cases
+    copied-front lits c.deref.result.now g.row.N c.first_chunk.result c.copied-scratch.result c.requires (c.deref.ensures.value ∙ extended) c.copied-scratch.ensures c.first_chunk.ensures.cases

@@ -3,7 +3,7 @@ use Rattle.std.specs.Prelude.{List, [], ◌∷◌, ◌++◌}
 use Rattle.lj_hint.specs.declared.pair.Pair.{Pair}
 use Rattle.lj_hint.specs.Hints.{named_hints}
 use Rattle.lj_hint.specs.inner.Hints.{hint_number}
-use Rattle.lj_hint.proofs.Walks.{numbers_more}
+use Rattle.lj_hint.proofs.Propagations.{numbers_more}
 use Rattle.lj_hint.proofs.hint_list.joint_numbers.Goals as goal
 
 named_count : (ps : List Pair) → length (named_hints ps) ≡ length ps

@@ -11,7 +11,7 @@ use Rattle.lj_hint.proofs.live_line.test_open.Goals as goal
 pub returns : goal.returns
 returns g c =
     let live = g.L.Clauses.clauses c.args.live.now in
-    let a = from_literals c.args.held.now in
+    let a = from_literals c.args.assigned.now in
     let q = c.in-Some.pivot in
     let given : List HintGroup = c.args.groups.now in
     let reply : List HintGroup → Result (List HintGroup) RatRefusal = λ gs. rat_told (rat_over a q (groups_in live gs) (candidates live q)) in

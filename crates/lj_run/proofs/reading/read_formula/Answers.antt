@@ -37,6 +37,6 @@ loop-preserved g c =
       finite = tt;
       unfailed = search rules;
       max = search rules;
-      room = search rules;
+      scratch = search rules;
       gave = read_further c.loop.reader c.pull_formula.new.reader (seen c.args.source.now) (seen c.loop.source) (seen c.pull_formula.new.source) c.loop.invariant.gave c.in-Ok-false.ensures.onward;
     }

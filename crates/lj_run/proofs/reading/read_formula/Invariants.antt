@@ -11,6 +11,6 @@ invariant-loop g l =
       finite : (goal.iterator-loop g).is_finite l.iterator';
       unfailed : g.F.Source.failures l.source ≡ 0;
       max : l.reader.max ≡ MAX_VARIABLE;
-      room : length l.room ≡ 65536;
+      scratch : length l.scratch ≡ 65536;
       gave : HasGiven (seen l.fn.source) (seen l.source) l.reader.fed;
     }

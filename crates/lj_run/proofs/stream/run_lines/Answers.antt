@@ -10,7 +10,7 @@ use Rattle.lj_run.specs.inner.Joint.{report_of}
 use Rattle.lj_run.specs.declared.reading.Next.TheVariants as nexts
 use Rattle.lj_run.specs.inner.Reading.{LineRead, LineMissed}
 use Rattle.lj_run.specs.inner.Tally.{with_end}
-use Rattle.lj_run.proofs.StreamLemmas.{EnteredBefore, entered_more, entered_begin, lines_entered, block_entered, run_stopped, run_ended, run_missed, run_missed_ahead, run_without_room, run_ended_within}
+use Rattle.lj_run.proofs.StreamLemmas.{EnteredBefore, entered_more, entered_begin, lines_entered, block_entered, run_stopped, run_ended, run_missed, run_missed_ahead, run_without_memory, run_ended_within}
 use Rattle.lj_run.proofs.stream.run_lines.Goals as goal
 use Rattle.lj_clause.specs.declared.lit.TheConstants.{MAX_VARIABLE}
 
@@ -62,7 +62,7 @@ loop-preserved-in-Ok-More g c =
       empty = i.empty;
       ended = c.in-Ok-More.ensures.ended;
       max = c.in-Ok-More.ensures.max ∙ i.max;
-      room = search rules;
+      scratch = search rules;
       known = i.known;
       runs = subst (λ (o : Option _). EnteredBefore (λ lines. g.E.Entering.entered c.args.seat.now lines c.loop.seat) (seen c.args.source.now) after c.loop.tally new o) (sym c.in_default.is) runs;
     }
@@ -91,7 +91,7 @@ returns-in-Err-fill g c =
     let told = subst (λ o. LineRead c.loop.reader.max r.text r.handed mid before after o) c.in-Ok-Line.field-0-is (c.in-Ok-Line.ensures.next r.text r.handed r.stands) in
     let read = subst (λ m. LineRead m r.text r.handed mid before after (nexts.Line c.in-Ok-Line.line)) i.max told in
     let at = c.at-in-Err-fill.ensures ∙ ap (λ (q : LinesRead). q.at) c.in-Err-fill.ensures.kept in
-    let run = run_without_room seen (λ lines. g.E.Entering.entered c.args.seat.now lines c.loop.seat) (g.E.Entering.refused c.loop.seat) (g.E.Entering.stopped c.loop.seat) (g.E.Entering.goes_on c.loop.seat) c.args.source.now c.loop.source c.next_line.new.source c.loop.tally c.loop.reader mid r c.in-Ok-Line.line c.in-Err-fill.e c.at-in-Err-fill.result at read c.in-Ok-Line.ensures.unfailed (c.is_stopped.ensures.goes_on c.if-is_stopped.false) in
+    let run = run_without_memory seen (λ lines. g.E.Entering.entered c.args.seat.now lines c.loop.seat) (g.E.Entering.refused c.loop.seat) (g.E.Entering.stopped c.loop.seat) (g.E.Entering.goes_on c.loop.seat) c.args.source.now c.loop.source c.next_line.new.source c.loop.tally c.loop.reader mid r c.in-Ok-Line.line c.in-Err-fill.e c.at-in-Err-fill.result at read c.in-Ok-Line.ensures.unfailed (c.is_stopped.ensures.goes_on c.if-is_stopped.false) in
     let ended = c.ending-in-Err-fill.ensures ∙ ap (λ e. with_end c.loop.tally e None) c.out_of_memory.ensures in
     subst (λ (t : Tally). IsStreamRun (λ lines. g.E.Entering.entered c.args.seat.now lines c.loop.seat) (g.E.Entering.refused c.loop.seat) (g.E.Entering.stopped c.loop.seat) (g.E.Entering.goes_on c.loop.seat) seen c.args.source.now (report_of t c.next_line.new.source)) (sym ended) run
 
@@ -152,7 +152,7 @@ loop-preserved g c =
       empty = c.take_back.ensures.empty;
       ended = c.in-Ok-Line.ensures.ended;
       max = ap (λ (q : LinesRead). q.max) c.take_back.ensures.reader ∙ c.in-Ok.ensures.max ∙ max;
-      room = search rules;
+      scratch = search rules;
       known = c.enter_block.ensures.known;
       runs = subst (λ (q : LinesRead). EnteredBefore (λ lines. g.E.Entering.entered c.args.seat.now lines seat) (seen c.args.source.now) after more q c.in-Ok.behind) (sym c.take_back.ensures.reader) runs;
     }

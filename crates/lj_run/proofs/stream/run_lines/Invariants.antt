@@ -16,7 +16,7 @@ invariant-loop g l =
       empty : l.lines.items ≡ [];
       ended : l.ended ≡ true → HasEnded (seen l.source);
       max : l.reader.max ≡ MAX_VARIABLE;
-      room : length l.room ≡ 65536;
+      scratch : length l.scratch ≡ 65536;
       known : l.tally.added + l.tally.deleted + l.tally.imported ≤ g.E.Entering.known l.seat;
       runs : EnteredBefore (λ lines. g.E.Entering.entered l.fn.seat lines l.seat) (seen l.fn.source) (seen l.source) l.tally l.reader l.fault;
     }

@@ -6,7 +6,7 @@ use Rattle.lj_clause.specs.ClauseMap.{ClauseMap}
 use Rattle.lj_share.specs.inner.Seats.{clauses_seen, pairs_seen}
 use Rattle.lj_share.specs.inner.Ahead.{AreKept, clauses_behind}
 use Rattle.lj_share.proofs.AheadLaws.{behind_next, tested_next}
-use Rattle.lj_share.proofs.RunLaws.{begun_next, dead_next, kept_after, kept_opening}
+use Rattle.lj_share.proofs.RunLaws.{begun_next, dead_next, kept_after, kept_id}
 use Rattle.lj_share.proofs.runs.begin_lines.Goals as goal
 
 pub loop-k-init : goal.loop-k-init
@@ -16,18 +16,18 @@ loop-k-init g c = record {
   there = c.requires.own.0;
   here = c.requires.here;
   dead = c.requires.none;
-  kept = kept_opening g.L.Opening.formula c.args.kept.now c.args.dead.now c.args.place.now.view c.requires.none c.requires.own;
+  kept = kept_id g.L.BookId.formula c.args.kept.now c.args.dead.now c.args.account.now.view c.requires.none c.requires.own;
   many = refl;
 }
 
 pub loop-k-preserved : goal.loop-k-preserved
 loop-k-preserved g c =
-    let f = g.L.Opening.formula in
+    let f = g.L.BookId.formula in
     let i = c.loop-k.invariant in
     let ls = c.args.lines.now in
     let reads = c.loop-k.reads in
     let k = c.loop-k.k in
-    let view = c.args.place.now.view in
+    let view = c.args.account.now.view in
     let m = clauses_seen view in
     let below = c.loop-k-test.true in
     let end = c.min-end.ensures in

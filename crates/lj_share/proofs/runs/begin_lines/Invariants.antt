@@ -8,8 +8,8 @@ use Rattle.lj_share.proofs.runs.begin_lines.Given as goal
 -- the lines so far are tested and begun, the numbers that they delete are dead, and the clauses behind them are kept
 abbrev pub invariant-loop-k : goal.invariant-loop-k
 invariant-loop-k g l =
-    let f = g.L.Opening.formula in
-    let view = l.fn.place.view in
+    let f = g.L.BookId.formula in
+    let view = l.fn.account.view in
     let m = clauses_seen view in
     record {
       tested : AreTested m l.fn.lines l.reads l.k;

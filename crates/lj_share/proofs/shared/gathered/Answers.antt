@@ -16,7 +16,7 @@ loop-seat-preserved g c =
     record {
       parts = (let a = c.merge.ensures.parts in let b = c.into_parts-number.ensures.parts in let d = i.parts in omega (arith, a, b, d, long));
       amount = (let a = c.merge.ensures.amount in let b = c.into_parts-number.ensures.amount in let d = i.amount in omega (arith, a, b, d, made));
-      shown = subst (AreShown book) (sym (shown_again book c.into_parts-number.result.0 _ c.loop-seat.lists c.follow.new.self i.shown c.follow.ensures.agree c.follow.ensures.desk)) i.shown;
+      shown = subst (AreShown book) (sym (shown_again book c.into_parts-number.result.0 _ c.loop-seat.lists c.follow.new.self i.shown c.follow.ensures.agree c.follow.ensures.locked_book)) i.shown;
       seats = λ left. i.seats (subst (AreSeatsIn book) (sym step) (seats_on book c.loop-seat.lists c.in-Some.seat c.next.new.self.rest.items i.shown at left));
     }
 

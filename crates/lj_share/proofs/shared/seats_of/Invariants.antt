@@ -11,7 +11,7 @@ invariant-loop-copy g l =
       amount : l.rest.amount ≡ 0;
       many : l.number + length left ≡ length l.fn.copies.items;
       out : l.out.items ≡ new_seats l.fn.formula l.number;
-      named : map (λ c. c.name) left ≡ drop l.number g.L.Opening.lists;
+      named : map (λ c. c.name) left ≡ drop l.number g.L.BookId.lists;
       long : length l.lists ≡ length l.fn.copies.items;
       shown : (k : ℕ) (value : SeatValue) → k < l.number → slice_get l.lists k ≡ Some value → value ≡ seat_of_book l.fn.book k;
     }

@@ -1,7 +1,7 @@
 use Rattle.lj_tests.proofs.shared.two_provers_on_threads_close_their_book_together.Given as goal
 
-abbrev pub ghosts-prove_beside-L-Opening : goal.ghosts-prove_beside-L-Opening
-ghosts-prove_beside-L-Opening g a = record { formula = a.formula; seats = 2; max_steps = 9; lists = a.blank.lists }
+abbrev pub ghosts-prove_beside-L-BookId : goal.ghosts-prove_beside-L-BookId
+ghosts-prove_beside-L-BookId g a = record { formula = a.formula; seats = 2; max_steps = 9; lists = a.opening_parts.lists }
 
 abbrev pub ghosts-prove_beside-L-Ledger : goal.ghosts-prove_beside-L-Ledger
-ghosts-prove_beside-L-Ledger g a = record { name = a.blank.name; parts = a.blank.parts }
+ghosts-prove_beside-L-Ledger g a = record { name = a.opening_parts.name; parts = a.opening_parts.parts }

@@ -5,7 +5,7 @@ use Rattle.lj_text.specs.StepText.{step_text, greatest_with}
 use Rattle.lj_text.specs.Writing.{IsCutShort}
 use Rattle.lj_text.specs.inner.Writing.{Wrote, Broke}
 use Rattle.lj_text.proofs.WritingLemmas.{broke_then, broke_more, wrote_then, on_err}
-use Rattle.lj_text.proofs.WrittenWords.{text-more, greatest-more, text_parts}
+use Rattle.lj_text.proofs.WrittenTokens.{text-more, greatest-more, text_parts}
 use Rattle.lj_text.proofs.writer.write_proof.Goals as goal
 
 cut_short_of : (t0 t1 x : List ℕ) → Broke t0 [] t1 x → IsCutShort t1 (t0 ++ x)
@@ -26,7 +26,7 @@ returns-in_err-write_step-clause-cut_short g c =
     let x = c.as_step-step.result.now in
     let lt = within f c.args.steps.now i c.loop-lender-test.true in
     let is = lent_at f c.args.steps.now i c.lender-item.result x c.loop-lender-test.true c.lender-item.is c.as_step-step.ensures in
-    let P : ℕ → Type 0 = λ n. Broke (g.W.Sink.taken c.loop-lender.sink) c.loop-lender.held (g.W.Sink.taken c.write_step.new.sink) (step_text n x) in
+    let P : ℕ → Type 0 = λ n. Broke (g.W.Sink.taken c.loop-lender.sink) c.loop-lender.buffer (g.W.Sink.taken c.write_step.new.sink) (step_text n x) in
     let broke = subst P c.loop-lender.invariant.greatest_is c.in_err-write_step.ensures.broke in
     on_err c.from_residual.result _ (cut_short_of (g.W.Sink.taken c.args.sink.now) _ _ (subst (Broke _ _ _) (text_parts c.args.clauses steps i x lt is)
     (broke_then _ _ _ _ _ _ _ c.loop-lender.invariant.wrote (broke_more _ _ _ _ _ broke))))
@@ -39,7 +39,7 @@ loop-lender-preserved g c =
     let x = c.as_step-step.result.now in
     let lt = within f c.args.steps.now i c.loop-lender-test.true in
     let is = lent_at f c.args.steps.now i c.lender-item.result x c.loop-lender-test.true c.lender-item.is c.as_step-step.ensures in
-    let P : ℕ → Type 0 = λ n. Wrote (g.W.Sink.taken c.loop-lender.sink) c.loop-lender.held (g.W.Sink.taken c.write_step.new.sink) c.write_step.new.held (step_text n x) in
+    let P : ℕ → Type 0 = λ n. Wrote (g.W.Sink.taken c.loop-lender.sink) c.loop-lender.buffer (g.W.Sink.taken c.write_step.new.sink) c.write_step.new.buffer (step_text n x) in
     let wrote = subst P c.loop-lender.invariant.greatest_is c.in_ok-write_step.ensures.wrote in
     record {
       wrote = subst (Wrote _ _ _ _) (sym (text-more c.args.clauses steps i x lt is))

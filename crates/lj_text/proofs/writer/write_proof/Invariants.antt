@@ -9,7 +9,7 @@ abbrev pub invariant-loop-lender : goal.invariant-loop-lender
 invariant-loop-lender g l =
     let steps = map g.S.AsStep.step l.steps in
     record {
-      wrote : Wrote (g.W.Sink.taken l.fn.sink) [] (g.W.Sink.taken l.sink) l.held (text_after l.clauses (take l.lender-index steps));
+      wrote : Wrote (g.W.Sink.taken l.fn.sink) [] (g.W.Sink.taken l.sink) l.buffer (text_after l.clauses (take l.lender-index steps));
       greatest_is : l.greatest ≡ greatest_number l.clauses (take l.lender-index steps);
       unfailed : g.W.Sink.failures l.sink ≡ 0;
     }

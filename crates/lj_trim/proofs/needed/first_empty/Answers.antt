@@ -4,4 +4,4 @@ use Rattle.lj_trim.proofs.needed.first_empty.Goals as goal
 
 pub returns-then-adds_empty_clause-clause-some : goal.returns-then-adds_empty_clause-clause-some
 returns-then-adds_empty_clause-clause-some c =
-    (c.loop-place-test.true, up_to-found c.args.steps.now c.loop-place.place c.index-steps-place.result c.loop-place.invariant c.loop-place-test.true c.index-steps-place.is (sym c.adds_empty_clause.ensures ∙ c.if-adds_empty_clause.true))
+    (c.loop-position-test.true, up_to-found c.args.steps.now c.loop-position.position c.index-steps-position.result c.loop-position.invariant c.loop-position-test.true c.index-steps-position.is (sym c.adds_empty_clause.ensures ∙ c.if-adds_empty_clause.true))

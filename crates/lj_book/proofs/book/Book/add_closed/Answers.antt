@@ -11,6 +11,6 @@ returns-clause-reply c = subst (λ (t : State). IsReply c.enter_closed-added.res
 
 pub returns-clause-ok : goal.returns-clause-ok
 returns-clause-ok c =
-    let s : State = record { formula = c.self.inside.formula; max_steps = c.self.inside.max_steps; tables = c.self.inside.tables; history = c.self.inside.ledger.history.entries } in
+    let s : State = record { formula = c.self.inside.formula; max_steps = c.self.inside.max_steps; tables = c.self.inside.tables; history = c.self.inside.clause_log.history.entries } in
     subst (λ (t : State). OnOk c.enter_closed-added.result (s ≡ after_entry t (inside_entry t c.args.seat c.args.addition.now))) c.lend_joints-hints.ensures
     (subst (λ (u : State). OnOk c.enter_closed-added.result (u ≡ after_entry c.lend_joints-hints.new.self (inside_entry c.lend_joints-hints.new.self c.args.seat c.args.addition.now))) (sym c.self.view_is) c.enter_closed-added.ensures.ok)

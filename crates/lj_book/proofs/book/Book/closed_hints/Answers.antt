@@ -21,9 +21,9 @@ returns-in-Some-clause-reply c =
     let sound : IsSound s = subst IsSound c.self.view_is (IsSound-reached _ c.self.invariant.reached) in
     let here = closed_here s c.args.seat c.args.addition.now c.args.read sound c.requires in
     let counted = c.self.invariant.additions in
-    let room : addition_count s.history < s.max_steps = subst (λ (t : State). addition_count t.history < t.max_steps) c.self.view_is (omega arith) in
+    let capacity : addition_count s.history < s.max_steps = subst (λ (t : State). addition_count t.history < t.max_steps) c.self.view_is (omega arith) in
     let at : table_of s.tables c.args.seat ≡ Some c.in-Some.table.now = ap (λ (t : State). table_of t.tables c.args.seat) (sym c.self.view_is) ∙ sym c.in-Some.ensures in
-    closed_reply s c.args.seat c.args.addition.now c.args.read c.in-Some.table.now c.put_first.new.joints c.put_first.result here room at c.put_first.ensures
+    closed_reply s c.args.seat c.args.addition.now c.args.read c.in-Some.table.now c.put_first.new.joints c.put_first.result here capacity at c.put_first.ensures
 
 pub returns-in-Some-clause-refusal : goal.returns-in-Some-clause-refusal
 returns-in-Some-clause-refusal c =

@@ -9,30 +9,30 @@ use Rattle.lj_book.proofs.book.Book.inside_line.Goals as goal
 
 pub returns-in-Err-clause-reply : goal.returns-in-Err-clause-reply
 returns-in-Err-clause-reply c =
-    let s : State = record { formula = c.self.inside.formula; max_steps = c.self.inside.max_steps; tables = c.self.inside.tables; history = c.self.inside.ledger.history.entries } in
+    let s : State = record { formula = c.self.inside.formula; max_steps = c.self.inside.max_steps; tables = c.self.inside.tables; history = c.self.inside.clause_log.history.entries } in
     let a = c.args.addition.now in
     let free : free_refusal s c.args.seat a.number ≡ None = ap (λ (t : State). free_refusal t c.args.seat a.number) c.self.view_is ∙ sym c.free_refusal.ensures ∙ c.in_default.is in
     refusal_passes c.in-Err.refusal _ _
-    (λ x one. ap (λ (t : State). inside_line t c.args.seat a) (sym c.self.view_is) ∙ parts_refused c.self.inside.ledger.live s c.args.seat a x c.self.invariant.lives free one)
+    (λ x one. ap (λ (t : State). inside_line t c.args.seat a) (sym c.self.view_is) ∙ parts_refused c.self.inside.clause_log.live s c.args.seat a x c.self.invariant.lives free one)
     (c.in-Err.ensures.reply (next s))
 
 pub returns-then-added-max_steps-clause-reply : goal.returns-then-added-max_steps-clause-reply
 returns-then-added-max_steps-clause-reply c =
-    let s : State = record { formula = c.self.inside.formula; max_steps = c.self.inside.max_steps; tables = c.self.inside.tables; history = c.self.inside.ledger.history.entries } in
+    let s : State = record { formula = c.self.inside.formula; max_steps = c.self.inside.max_steps; tables = c.self.inside.tables; history = c.self.inside.clause_log.history.entries } in
     let a = c.args.addition.now in
     let free : free_refusal s c.args.seat a.number ≡ None = ap (λ (t : State). free_refusal t c.args.seat a.number) c.self.view_is ∙ sym c.free_refusal.ensures ∙ c.in_default.is in
     let step = addition_of_parts (next s) a.lemma (c.recorded_line.new.hints, c.recorded_line.new.joints) in
     let full : s.max_steps ≤ addition_count s.history = let counted = c.self.invariant.additions in omega arith in
     ap (λ (t : State). inside_line t c.args.seat a) (sym c.self.view_is)
-    ∙ parts_full c.self.inside.ledger.live s c.args.seat a step c.self.invariant.lives free (c.in_default-recorded_line.ensures.reply (next s)) full
+    ∙ parts_full c.self.inside.clause_log.live s c.args.seat a step c.self.invariant.lives free (c.in_default-recorded_line.ensures.reply (next s)) full
 
 pub returns-clause-reply : goal.returns-clause-reply
 returns-clause-reply c =
-    let s : State = record { formula = c.self.inside.formula; max_steps = c.self.inside.max_steps; tables = c.self.inside.tables; history = c.self.inside.ledger.history.entries } in
+    let s : State = record { formula = c.self.inside.formula; max_steps = c.self.inside.max_steps; tables = c.self.inside.tables; history = c.self.inside.clause_log.history.entries } in
     let a = c.args.addition.now in
     let free : free_refusal s c.args.seat a.number ≡ None = ap (λ (t : State). free_refusal t c.args.seat a.number) c.self.view_is ∙ sym c.free_refusal.ensures ∙ c.in_default.is in
     let made : State → Addition = λ t. addition_of_parts (next t) a.lemma (c.recorded_line.new.hints, c.recorded_line.new.joints) in
-    let room : addition_count s.history < s.max_steps = let counted = c.self.invariant.additions in omega arith in
+    let capacity : addition_count s.history < s.max_steps = let counted = c.self.invariant.additions in omega arith in
     ap (λ (t : State). inside_line t c.args.seat a) (sym c.self.view_is)
-    ∙ parts_passed c.self.inside.ledger.live s c.args.seat a (made s) c.self.invariant.lives free (c.in_default-recorded_line.ensures.reply (next s)) room
+    ∙ parts_passed c.self.inside.clause_log.live s c.args.seat a (made s) c.self.invariant.lives free (c.in_default-recorded_line.ensures.reply (next s)) capacity
     ∙ ap (λ (t : State). Ok (made t)) c.self.view_is

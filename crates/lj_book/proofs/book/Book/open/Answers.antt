@@ -10,5 +10,5 @@ pub invariant_of-result : goal.invariant_of-result
 invariant_of-result c =
     let f = c.args.formula in
     let tables = c.in_ok-tables.ensures ∙ ap (λ (n : ℕ). replicate c.args.seats (Some (up_to n))) c.len.ensures.len in
-    let is = same_state f c.args.max_steps c.in_ok-tables.tables (replicate c.args.seats (Some (up_to _))) c.in_ok-ledger.ledger.history.entries _ tables c.in_ok-ledger.ensures.entries in
-    subst (λ (s : State). IsKept s c.in_ok-ledger.ledger.live 0 None) (sym is) (IsKept-opening f c.args.seats c.args.max_steps c.in_ok-ledger.ledger.live c.requires c.in_ok-ledger.ensures.live)
+    let is = same_state f c.args.max_steps c.in_ok-tables.tables (replicate c.args.seats (Some (up_to _))) c.in_ok-clause_log.clause_log.history.entries _ tables c.in_ok-clause_log.ensures.entries in
+    subst (λ (s : State). IsKept s c.in_ok-clause_log.clause_log.live 0 None) (sym is) (IsKept-opening f c.args.seats c.args.max_steps c.in_ok-clause_log.clause_log.live c.requires c.in_ok-clause_log.ensures.live)

@@ -31,7 +31,7 @@ loop-event-preserved c =
     let counted : vec_len c.push.new.self ≡ vec_len c.loop-event.replies + 1 =
     c.push.ensures.len ∙ ap (λ (b : Bool). cond b (vec_len c.loop-event.replies + 1) (vec_len c.loop-event.replies)) (ap is_ok c.unwrap.ensures) in
     let len = c.loop-event.invariant.len in
-    let room = c.loop-event.invariant.room in
+    let capacity = c.loop-event.invariant.capacity in
     let grown = c.push.ensures.capacity in
     record {
       run =
@@ -40,7 +40,7 @@ loop-event-preserved c =
           (subst (λ (ds : List Event). IsRun w ds (rs ++ c.answer-reply.result ∷ []) u) (sym more)
           (IsRun-push w (take i es) rs v u c.event-item.result c.answer-reply.result c.loop-event.invariant.run answered)));
       len = omega arith;
-      room = omega arith;
+      capacity = omega arith;
     }
 
 pub returns-clause-alone : goal.returns-clause-alone

@@ -7,5 +7,5 @@ abbrev pub invariant-loop-event : goal.invariant-loop-event
 invariant-loop-event l = record {
   run : IsRun (nothing_pending l.fn.self) (take l.event-index l.events) l.replies.items (record { state = l.self; pending = l.pending.items });
   len : vec_len l.replies ≡ l.event-index;
-  room : length l.events ≤ vec_capacity l.replies;
+  capacity : length l.events ≤ vec_capacity l.replies;
 }

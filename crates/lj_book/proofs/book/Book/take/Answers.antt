@@ -9,8 +9,8 @@ use Rattle.lj_book.proofs.book.Book.take.Goals as goal
 
 pub returns-clause-reply : goal.returns-clause-reply
 returns-clause-reply c =
-    let s : State = record { formula = c.self.inside.formula; max_steps = c.self.inside.max_steps; tables = c.self.inside.tables; history = c.self.inside.ledger.history.entries } in
+    let s : State = record { formula = c.self.inside.formula; max_steps = c.self.inside.max_steps; tables = c.self.inside.tables; history = c.self.inside.clause_log.history.entries } in
     let a = c.args.addition.now in
     subst (λ (r : Result CaseValue Refusal). IsReply c.case_of.result r)
-    (take_is s c.self.inside.ledger.live c.args.seat a (sym c.is_here.ensures ∙ c.if-not-is_here.false) (sym c.is_bound.ensures ∙ c.if-is_bound.false) c.self.invariant.lives ∙ ap (λ (t : State). take_reply t c.args.seat a) c.self.view_is)
+    (take_is s c.self.inside.clause_log.live c.args.seat a (sym c.is_here.ensures ∙ c.if-not-is_here.false) (sym c.is_bound.ensures ∙ c.if-is_bound.false) c.self.invariant.lives ∙ ap (λ (t : State). take_reply t c.args.seat a) c.self.view_is)
     c.case_of.ensures

@@ -7,6 +7,6 @@ use Rattle.lj_book.proofs.book.laws.refuted_is_unsatisfiable.Goals as goal
 
 pub returns : goal.returns
 returns c =
-    let s : State = record { formula = c.book.inside.formula; max_steps = c.book.inside.max_steps; tables = c.book.inside.tables; history = c.book.inside.ledger.history.entries } in
+    let s : State = record { formula = c.book.inside.formula; max_steps = c.book.inside.max_steps; tables = c.book.inside.tables; history = c.book.inside.clause_log.history.entries } in
     subst (λ (t : State). IsSome (verdict t.history) → IsUnsatisfiable t.formula) c.book.view_is
-    (λ some. refuted_unsatisfiable s c.book.inside.ledger.live c.book.inside.added c.book.inside.refuted c.book.invariant (ap is_some c.book.invariant.first_empty ∙ some))
+    (λ some. refuted_unsatisfiable s c.book.inside.clause_log.live c.book.inside.added c.book.inside.refuted c.book.invariant (ap is_some c.book.invariant.first_empty ∙ some))

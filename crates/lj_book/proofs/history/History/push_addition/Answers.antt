@@ -5,37 +5,37 @@ use Rattle.lj_text.specs.declared.line.Addition.{Addition}
 use Rattle.lj_text.specs.declared.step.Step.TheVariants.{Add}
 use Rattle.lj_book.specs.declared.entry.Call.TheVariants as calls
 use Rattle.lj_book.specs.declared.entry.Entry.{Entry}
-use Rattle.lj_book.specs.inner.Records.{entry_of, lemma_lits, add_words, AreWritten, entries_in}
+use Rattle.lj_book.specs.inner.Records.{entry_of, lemma_lits, add_encoding, AreWritten, entries_in}
 use Rattle.lj_book.proofs.RecordLaws.{addition_back, more_written, more_entries}
 use Rattle.lj_book.proofs.history.History.push_addition.Goals as goal
 
 pub invariant_of-self : goal.invariant_of-self
 invariant_of-self c =
     let ls : List ℤ = c.self.inside.lits.items in
-    let ws : List ℕ = c.self.inside.words.items in
+    let ws : List ℕ = c.self.inside.encoding.items in
     let ss : List ℕ = c.self.inside.starts.items in
     let lemma : IsLemma c.args.step.now.lemma = subst (λ (a : Addition). IsLemma a.lemma) c.step.view_is c.pivot.ensures.lemma in
     let new : List ℤ = lemma_lits c.args.step.now.lemma in
-    let words : List ℕ = add_words c.args.seat c.args.own c.args.step.now (length ls) in
+    let encoding : List ℕ = add_encoding c.args.seat c.args.own c.args.step.now (length ls) in
     let entry : Entry = entry_of c.args.seat (calls.Add c.args.own c.args.step.now.lemma) (Some (Add c.args.step.now)) in
-    let at : c.len-start.result ≡ length ws = c.len-start.ensures ∙ c.self.inside.words.ok.0 in
+    let at : c.len-start.result ≡ length ws = c.len-start.ensures ∙ c.self.inside.encoding.ok.0 in
     let starts : c.push_reserved.new.self.items ≡ ss ++ length ws ∷ [] = c.push_reserved.ensures.items ∙ ap (λ (k : ℕ). ss ++ k ∷ []) at in
-    subst (λ (xs : List ℤ). AreWritten xs c.put_addition.new.words.items c.push_reserved.new.self.items) (sym c.put_addition.ensures.lits)
-    (subst (λ (us : List ℕ). AreWritten (ls ++ new) us c.push_reserved.new.self.items) (sym c.put_addition.ensures.words)
-    (subst (λ (us : List ℕ). AreWritten (ls ++ new) (ws ++ words) us) (sym starts)
-    (more_written ls new ws words ss entry (omega (arith, c.ranges.seat)) refl (λ all more there. addition_back all c.args.seat c.args.own c.args.step.now (length ls) more lemma there) c.self.invariant)))
+    subst (λ (xs : List ℤ). AreWritten xs c.put_addition.new.encoding.items c.push_reserved.new.self.items) (sym c.put_addition.ensures.lits)
+    (subst (λ (us : List ℕ). AreWritten (ls ++ new) us c.push_reserved.new.self.items) (sym c.put_addition.ensures.encoding)
+    (subst (λ (us : List ℕ). AreWritten (ls ++ new) (ws ++ encoding) us) (sym starts)
+    (more_written ls new ws encoding ss entry (omega (arith, c.ranges.seat)) refl (λ all more there. addition_back all c.args.seat c.args.own c.args.step.now (length ls) more lemma there) c.self.invariant)))
 
 pub returns-clause-entries : goal.returns-clause-entries
 returns-clause-entries c =
     let ls : List ℤ = c.self.inside.lits.items in
-    let ws : List ℕ = c.self.inside.words.items in
+    let ws : List ℕ = c.self.inside.encoding.items in
     let ss : List ℕ = c.self.inside.starts.items in
     let lemma : IsLemma c.args.step.now.lemma = subst (λ (a : Addition). IsLemma a.lemma) c.step.view_is c.pivot.ensures.lemma in
     let new : List ℤ = lemma_lits c.args.step.now.lemma in
-    let words : List ℕ = add_words c.args.seat c.args.own c.args.step.now (length ls) in
+    let encoding : List ℕ = add_encoding c.args.seat c.args.own c.args.step.now (length ls) in
     let entry : Entry = entry_of c.args.seat (calls.Add c.args.own c.args.step.now.lemma) (Some (Add c.args.step.now)) in
-    let at : c.len-start.result ≡ length ws = c.len-start.ensures ∙ c.self.inside.words.ok.0 in
+    let at : c.len-start.result ≡ length ws = c.len-start.ensures ∙ c.self.inside.encoding.ok.0 in
     let starts : c.push_reserved.new.self.items ≡ ss ++ length ws ∷ [] = c.push_reserved.ensures.items ∙ ap (λ (k : ℕ). ss ++ k ∷ []) at in
-    (λ i. entries_in (c.put_addition.ensures.lits i) (c.put_addition.ensures.words i) (starts i))
-    ∙ more_entries ls new ws words ss entry (λ all more there. addition_back all c.args.seat c.args.own c.args.step.now (length ls) more lemma there) c.self.invariant
+    (λ i. entries_in (c.put_addition.ensures.lits i) (c.put_addition.ensures.encoding i) (starts i))
+    ∙ more_entries ls new ws encoding ss entry (λ all more there. addition_back all c.args.seat c.args.own c.args.step.now (length ls) more lemma there) c.self.invariant
     ∙ ap (λ (es : List Entry). es ++ entry ∷ []) (ap (λ h. h.entries) c.self.view_is)

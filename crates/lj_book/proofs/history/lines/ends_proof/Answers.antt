@@ -1,6 +1,6 @@
 use Rattle.std.proofs.Common.{◌≡◌, ℕ, ℤ, List, ap, sym, ◌∙◌, length}
 use Rattle.std.specs.Prelude.{◌==◌}
-use Rattle.lj_book.specs.inner.Words.{number_in}
+use Rattle.lj_book.specs.inner.Encoding.{number_in}
 use Rattle.lj_book.specs.inner.Records.{lits_in, step_in}
 use Rattle.lj_book.specs.inner.StepLines.{ends_proof}
 use Rattle.lj_book.proofs.StepLineLemmas.{kept_none}
@@ -9,7 +9,7 @@ use Rattle.lj_book.proofs.history.lines.ends_proof.Goals as goal
 pub returns : goal.returns
 returns c =
     let ls : List ℤ = c.args.lits.now in
-    let ws : List ℕ = c.args.words.now in
+    let ws : List ℕ = c.args.encoding.now in
     let kept : List ℤ = lits_in ls (number_in (number_in ws).1).1 in
     let is : c.named.result.0.now ≡ kept =
     c.named.ensures.lits ∙ ap (lits_in ls) (c.number-2.ensures.rest ∙ ap (λ us. (number_in us).1) c.number.ensures.rest) in

@@ -13,13 +13,13 @@ use Rattle.lj_book.proofs.history.lines.write_entries.Goals as goal
 pub returns-then-ends_proof : goal.returns-then-ends_proof
 returns-then-ends_proof g c =
     let ls : List ℤ = c.args.lits.now in
-    let ws : List ℕ = c.args.words.now in
+    let ws : List ℕ = c.args.encoding.now in
     let ss : List ℕ = c.args.starts.now in
     let i : ℕ = c.loop-start.start-index in
     let n : ℕ = c.loop-start.greatest in
     let left : List Step = filter_map (step_at ls ws) (drop (i + 1) ss) in
     let there : step_in ls (c.number-head.result.0 % 8) c.number-head.result.1.now ≡ step_at ls ws (get_or ss i 0) =
-    step_there ls ws _ _ _ _ c.words_from.ensures c.number-head.ensures.number c.number-head.ensures.rest in
+    step_there ls ws _ _ _ _ c.encoding_from.ensures c.number-head.ensures.number c.number-head.ensures.rest in
     let ends : ends_proof (step_at ls ws (get_or ss i 0)) ≡ true = ap ends_proof (sym there) ∙ sym c.ends_proof.ensures ∙ c.if-ends_proof.true in
     record {
       given = given_as _ _ _ _ (remains_none _ _ _
@@ -32,13 +32,13 @@ returns-then-ends_proof g c =
 pub loop-start-preserved : goal.loop-start-preserved
 loop-start-preserved g c =
     let ls : List ℤ = c.args.lits.now in
-    let ws : List ℕ = c.args.words.now in
+    let ws : List ℕ = c.args.encoding.now in
     let ss : List ℕ = c.args.starts.now in
     let i : ℕ = c.loop-start.start-index in
     let n : ℕ = c.loop-start.greatest in
     let left : List Step = filter_map (step_at ls ws) (drop (i + 1) ss) in
     let there : step_in ls (c.number-head.result.0 % 8) c.number-head.result.1.now ≡ step_at ls ws (get_or ss i 0) =
-    step_there ls ws _ _ _ _ c.words_from.ensures c.number-head.ensures.number c.number-head.ensures.rest in
+    step_there ls ws _ _ _ _ c.encoding_from.ensures c.number-head.ensures.number c.number-head.ensures.rest in
     let goes_on : ends_proof (step_at ls ws (get_or ss i 0)) ≡ false = ap ends_proof (sym there) ∙ sym c.ends_proof.ensures ∙ c.if-ends_proof.false in
     record {
       remains = remains_as _ _ _ _ _
@@ -51,7 +51,7 @@ loop-start-preserved g c =
 pub returns : goal.returns
 returns g c =
     let ls : List ℤ = c.args.lits.now in
-    let ws : List ℕ = c.args.words.now in
+    let ws : List ℕ = c.args.encoding.now in
     let ss : List ℕ = c.args.starts.now in
     let none : drop c.loop-start.start-index ss ≡ [] = drop_of_length-le ss c.loop-start-test.false in
     record {

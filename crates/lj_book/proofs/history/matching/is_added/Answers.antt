@@ -1,7 +1,7 @@
 use Rattle.std.proofs.Common.{◌≡◌, ap, sym, ◌∙◌, rules}
 use Rattle.std.specs.Prelude.{ℤ, List, ℕ}
 use Rattle.lj_text.specs.declared.line.Addition.{Addition}
-use Rattle.lj_book.specs.inner.Words.{number_in, list_in, hint_groups_in}
+use Rattle.lj_book.specs.inner.Encoding.{number_in, list_in, hint_groups_in}
 use Rattle.lj_book.specs.inner.Records.{lits_in, behind_lits, lemma_lits}
 use Rattle.lj_book.proofs.RecordLaws.{same_addition}
 use Rattle.lj_book.proofs.history.matching.is_added.Goals as goal
@@ -9,7 +9,7 @@ use Rattle.lj_book.proofs.history.matching.is_added.Goals as goal
 pub returns : goal.returns
 returns c =
     let ls : List ℤ = c.args.lits.now in
-    let ws : List ℕ = c.args.words.now in
+    let ws : List ℕ = c.args.encoding.now in
     let a : Addition = c.args.addition.now in
     let number : (number_in ws).0 ≡ a.number = sym c.number-joint.ensures.number ∙ c.if-joint-addition.false in
     let same : lits_in ls (number_in ws).1 ≡ lemma_lits a.lemma = search rules in

@@ -22,7 +22,7 @@ pushed : (c : goal.After-is_ok) → c.push.new.self.items ≡ c.self.inside.link
 pushed c = c.push.ensures.items ∙ ap (λ b. cond b (c.self.inside.links.items ++ link c ∷ []) c.self.inside.links.items) (c.is_err.ensures.negation ∙ ap not c.if-is_err.false)
 
 there : (c : goal.After-is_ok) → c.last_of-before.result ≤ length c.self.inside.links.items
-there c = subst (λ (x : ℕ). x ≤ length c.self.inside.links.items) (sym c.last_of-before.ensures) (last_there c.self.inside.links.items c.self.inside.lasts c.args.place c.self.invariant)
+there c = subst (λ (x : ℕ). x ≤ length c.self.inside.links.items) (sym c.last_of-before.ensures) (last_there c.self.inside.links.items c.self.inside.lasts c.args.key c.self.invariant)
 
 pub invariant_of-self-2 : goal.invariant_of-self-2
 invariant_of-self-2 c =
@@ -31,8 +31,8 @@ invariant_of-self-2 c =
     let n : length more ≡ length c.self.inside.links.items + 1 = length-append c.self.inside.links.items (link c ∷ []) in
     subst (λ (xs : List Link). AreChains xs c.set.new.self) (sym (pushed c))
     (either_way c.set.result _ _ _ c.set.ensures.ok c.set.ensures.err
-    (λ e. subst (AreChains more) (sym e) (chains_set more c.self.inside.lasts c.args.place (c.len-count.result + 1) are (let l = c.len-count.ensures in omega (arith, n, l))))
-    (λ e. subst (AreChains more) (sym e) (chains_unset more c.self.inside.lasts c.args.place are)))
+    (λ e. subst (AreChains more) (sym e) (chains_set more c.self.inside.lasts c.args.key (c.len-count.result + 1) are (let l = c.len-count.ensures in omega (arith, n, l))))
+    (λ e. subst (AreChains more) (sym e) (chains_unset more c.self.inside.lasts c.args.key are)))
 
 pub returns : goal.returns
 returns c = λ ok.
@@ -40,6 +40,6 @@ returns c = λ ok.
     let l = c.len-count.ensures in
     let count : c.len-count.result ≡ length c.self.inside.links.items = omega (arith, l) in
     (λ i. chained (pushed c i) (done i))
-    ∙ ap (λ (n : ℕ). chained (c.self.inside.links.items ++ link c ∷ []) (fin.insert c.self.inside.lasts c.args.place (n + 1))) count
-    ∙ number_linked c.self.inside.links.items c.self.inside.lasts c.args.place (link c) c.self.invariant c.last_of-before.ensures
-    ∙ ap (λ (m : Lists). with_number m c.args.place c.args.number) c.self.view_is
+    ∙ ap (λ (n : ℕ). chained (c.self.inside.links.items ++ link c ∷ []) (fin.insert c.self.inside.lasts c.args.key (n + 1))) count
+    ∙ number_linked c.self.inside.links.items c.self.inside.lasts c.args.key (link c) c.self.invariant c.last_of-before.ensures
+    ∙ ap (λ (m : Lists). with_number m c.args.key c.args.number) c.self.view_is

@@ -12,5 +12,5 @@ returns c =
     c.first_before.ensures
     ∙ ap (λ (ns : List ℕ). slice_get (filter (λ n. is_clause c.args.wanted.now (fin.get c.args.clauses.now n)) ns) 0)
     ((λ i. chain (c.deref.ensures.value i) (c.last_of.ensures i))
-    ∙ sym (list_chained c.self.inside.links.items c.self.inside.lasts c.args.place)
-    ∙ ap (λ (m : Lists). list_at m c.args.place) c.self.view_is)
+    ∙ sym (list_chained c.self.inside.links.items c.self.inside.lasts c.args.key)
+    ∙ ap (λ (m : Lists). list_at m c.args.key) c.self.view_is)

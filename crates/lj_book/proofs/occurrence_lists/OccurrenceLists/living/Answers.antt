@@ -12,5 +12,5 @@ returns c =
     if_ok_then c.living_before.result _ _ c.living_before.ensures (λ v e. e
     ∙ ap (filter (λ n. fin.contains_key c.args.clauses.now n))
     ((λ i. chain (c.deref.ensures.value i) (c.last_of.ensures i))
-    ∙ sym (list_chained c.self.inside.links.items c.self.inside.lasts c.args.place)
-    ∙ ap (λ (m : Lists). list_at m c.args.place) c.self.view_is))
+    ∙ sym (list_chained c.self.inside.links.items c.self.inside.lasts c.args.key)
+    ∙ ap (λ (m : Lists). list_at m c.args.key) c.self.view_is))

@@ -5,4 +5,4 @@ use Rattle.lj_book.proofs.occurrence_lists.OccurrenceLists.relink.Given as goal
 
 -- the first numbers are there
 abbrev pub invariant-loop-number : goal.invariant-loop-number
-invariant-loop-number l = (k : ℕ) → list_at l.self k ≡ with_list l.fn.self l.place (take l.number-index l.numbers) k
+invariant-loop-number l = (k : ℕ) → list_at l.self k ≡ with_list l.fn.self l.key (take l.number-index l.numbers) k

@@ -8,5 +8,5 @@ use Rattle.lj_book.proofs.opened.Opened.keys.Goals as goal
 pub returns : goal.returns
 returns c =
     if_ok_then c.keys_of.result _ _ c.keys_of.ensures (λ keys e. e
-    ∙ ap (λ words. fin.keys (slot_map (opened_slots 0 words c.self.inside.end))) c.deref.ensures.value
+    ∙ ap (λ encoding. fin.keys (slot_map (opened_slots 0 encoding c.self.inside.end))) c.deref.ensures.value
     ∙ ap fin.keys c.self.view_is)

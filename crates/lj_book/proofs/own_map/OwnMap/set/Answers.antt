@@ -2,9 +2,9 @@ use Rattle.std.proofs.Common.{◌≡◌, ap, refl, sym, ◌∙◌, subst, Bool, 
 use Rattle.std.specs.Ordering.{nat_cmp, eq_by_cmp}
 use Rattle.std.specs.Cmp.{nat_cmp_total}
 use Rattle.std.specs.FinMap as fin
-use Rattle.lj_book.specs.inner.Slots.{joined_map, AreApart}
+use Rattle.lj_book.specs.inner.Slots.{joined_map, AreDisjoint}
 use Rattle.lj_book.proofs.NumberMaps.{same_map}
-use Rattle.lj_book.proofs.Slots.{insert_near, apart-insert_near, either_way, ok_then}
+use Rattle.lj_book.proofs.Slots.{insert_dense, apart-insert_dense, either_way, ok_then}
 use Rattle.lj_book.proofs.own_map.OwnMap.set.Goals as goal
 
 set_again : {V : Type 0} (m : fin.FinMap nat_cmp V) (k : ℕ) (x : V) → fin.insert (fin.remove m k) k x ≡ fin.insert m k x
@@ -20,17 +20,17 @@ set_again {V} m k x = same_map _ _ (λ q.
 
 pub invariant_of-self : goal.invariant_of-self
 invariant_of-self g c =
-    let near = c.self.inside.near in
-    let far = c.self.inside.far in
-    let absent : fin.get far c.args.key ≡ None = c.self.invariant c.args.key (sym c.contains_key.ensures ∙ c.if-contains_key.true) in
+    let dense = c.self.inside.dense in
+    let sparse = c.self.inside.sparse in
+    let absent : fin.get sparse c.args.key ≡ None = c.self.invariant c.args.key (sym c.contains_key.ensures ∙ c.if-contains_key.true) in
     either_way c.insert.result _ _ _ c.insert.ensures.ok c.insert.ensures.err
-    (λ e. subst (λ m. AreApart m far) (sym e) (apart-insert_near near far c.args.key c.args.value c.self.invariant absent))
-    (λ e. subst (λ m. AreApart m far) (sym e) c.self.invariant)
+    (λ e. subst (λ m. AreDisjoint m sparse) (sym e) (apart-insert_dense dense sparse c.args.key c.args.value c.self.invariant absent))
+    (λ e. subst (λ m. AreDisjoint m sparse) (sym e) c.self.invariant)
 
 pub returns-then-contains_key-clause-ok : goal.returns-then-contains_key-clause-ok
 returns-then-contains_key-clause-ok g c =
-    ok_then c.insert.result _ _ c.insert.ensures.ok (λ e. ap (λ m. joined_map m c.self.inside.far) e
-    ∙ insert_near c.self.inside.near c.self.inside.far c.args.key c.args.value
+    ok_then c.insert.result _ _ c.insert.ensures.ok (λ e. ap (λ m. joined_map m c.self.inside.sparse) e
+    ∙ insert_dense c.self.inside.dense c.self.inside.sparse c.args.key c.args.value
     ∙ ap (λ m. fin.insert m c.args.key c.args.value) c.self.view_is)
 
 pub returns-clause-ok : goal.returns-clause-ok

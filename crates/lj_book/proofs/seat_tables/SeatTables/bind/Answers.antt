@@ -25,7 +25,7 @@ invariant_of-self c =
     let lt = here_in_range ts c.args.seat (ap (λ (us : Tables). is_here us c.args.seat) c.self.view_is ∙ c.requires.here) in
     let at = table_of-at ts c.args.seat c.index_mut.result.now lt ∙ sym c.index_mut.ensures.value ∙ c.in-Some.is in
     let free = free_in_table ts c.args.seat c.args.own c.in-Some.table at (ap (λ (us : Tables). is_bound us c.args.seat c.args.own) c.self.view_is ∙ c.requires.unbound) in
-    invariant-bind ts c.args.seat c.args.own c.args.joint (c.count-held.result + 1) c.in-Some.table c.bind_in.new.table c.self.inside.holders c.bind_in.new.holders c.bind_in.result at c.self.invariant free (ap (λ (k : ℕ). k + 1) c.count-held.ensures) c.bind_in.ensures.table c.bind_in.ensures.holders c.bind_in.ensures.err
+    invariant-bind ts c.args.seat c.args.own c.args.joint (c.count-holder_count.result + 1) c.in-Some.table c.bind_in.new.table c.self.inside.holders c.bind_in.new.holders c.bind_in.result at c.self.invariant free (ap (λ (k : ℕ). k + 1) c.count-holder_count.ensures) c.bind_in.ensures.table c.bind_in.ensures.holders c.bind_in.ensures.err
 
 pub returns-in-Some-clause-ok : goal.returns-in-Some-clause-ok
 returns-in-Some-clause-ok c =

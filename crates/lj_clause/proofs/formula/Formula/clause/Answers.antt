@@ -11,11 +11,11 @@ got : {X : Type 0} (xs : List X) (i : ℕ) (r : Option (Bor X)) → IsGetResult 
 got xs i None h = sym (slice_get_past xs i h.3)
 got xs i (Some x) h = ap Some h.1 ∙ sym (slice_get-get_or xs i x.now h.3.0)
 
-pub returns-in_err-place : goal.returns-in_err-place
-returns-in_err-place c = ap option_copied c.from_residual.ensures ∙ sym (clause_zero c.args.self.now c.args.number (omega (arith, c.in_err-place.ensures)))
+pub returns-in_err-index : goal.returns-in_err-index
+returns-in_err-index c = ap option_copied c.from_residual.ensures ∙ sym (clause_zero c.args.self.now c.args.number (omega (arith, c.in_err-index.ensures)))
 
 pub returns : goal.returns
 returns c =
-    got c.deref.result.now c.in_ok-place.place c.get.result c.get.ensures.lookup
-    ∙ ap (λ xs. slice_get xs c.in_ok-place.place) (c.deref.ensures.value ∙ ap (λ (f : FormulaValue). f.clauses) c.self.view_is)
-    ∙ sym (clause_at c.args.self.now c.args.number c.in_ok-place.place (omega (arith, c.in_ok-place.ensures.0, c.in_ok-place.ensures.1)))
+    got c.deref.result.now c.in_ok-index.index c.get.result c.get.ensures.lookup
+    ∙ ap (λ xs. slice_get xs c.in_ok-index.index) (c.deref.ensures.value ∙ ap (λ (f : FormulaValue). f.clauses) c.self.view_is)
+    ∙ sym (clause_at c.args.self.now c.args.number c.in_ok-index.index (omega (arith, c.in_ok-index.ensures.0, c.in_ok-index.ensures.1)))

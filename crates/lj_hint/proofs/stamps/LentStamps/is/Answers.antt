@@ -9,6 +9,6 @@ returns-in-Some c =
     let read = c.in-Some.ensures.lookup in
     ap (λ n. n == c.args.stamp)
     (read.3.1 0
-    ∙ ap (λ (xs : List ℕ). slice_index xs c.args.place) c.self.invariant
-    ∙ sym (dense_stamp c.self.inside.stamps.now c.args.place (omega (arith, ap (length {A = ℕ}) c.self.invariant, read.3.0)))
-    ∙ ap (λ (s : Stamped). stamp_at s c.args.place) c.self.view_is)
+    ∙ ap (λ (xs : List ℕ). slice_index xs c.args.index) c.self.invariant
+    ∙ sym (dense_stamp c.self.inside.stamps.now c.args.index (omega (arith, ap (length {A = ℕ}) c.self.invariant, read.3.0)))
+    ∙ ap (λ (s : Stamped). stamp_at s c.args.index) c.self.view_is)

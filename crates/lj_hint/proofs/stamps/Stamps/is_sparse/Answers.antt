@@ -7,14 +7,14 @@ use Rattle.lj_hint.proofs.stamps.Stamps.is_sparse.Goals as goal
 
 pub returns-in-Some : goal.returns-in-Some
 returns-in-Some c =
-    subst (λ (s : Stamped). (c.in-Some.found.now == c.args.stamp) ≡ (stamp_at s c.args.place == c.args.stamp)) c.self.view_is
+    subst (λ (s : Stamped). (c.in-Some.found.now == c.args.stamp) ≡ (stamp_at s c.args.index == c.args.stamp)) c.self.view_is
     (ap (λ n. n == c.args.stamp)
-    (found_sparse c.self.inside.dense.items c.self.inside.sparse.entries c.args.place _ (subst (λ (s : Stamped). length s.0 ≤ c.args.place) (sym c.self.view_is) c.requires) c.in-Some.ensures.value))
+    (found_sparse c.self.inside.dense.items c.self.inside.sparse.entries c.args.index _ (subst (λ (s : Stamped). length s.0 ≤ c.args.index) (sym c.self.view_is) c.requires) c.in-Some.ensures.value))
 
 pub returns-in-None : goal.returns-in-None
 returns-in-None c =
-    let none = found_sparse c.self.inside.dense.items c.self.inside.sparse.entries c.args.place _ (subst (λ (s : Stamped). length s.0 ≤ c.args.place) (sym c.self.view_is) c.requires) c.in-None.ensures.value in
-    subst (λ (s : Stamped). (c.args.stamp == 0) ≡ (stamp_at s c.args.place == c.args.stamp)) c.self.view_is
+    let none = found_sparse c.self.inside.dense.items c.self.inside.sparse.entries c.args.index _ (subst (λ (s : Stamped). length s.0 ≤ c.args.index) (sym c.self.view_is) c.requires) c.in-None.ensures.value in
+    subst (λ (s : Stamped). (c.args.stamp == 0) ≡ (stamp_at s c.args.index == c.args.stamp)) c.self.view_is
     (turned c.args.stamp 0 ∙ ap (λ n. n == c.args.stamp) none)
   where
     turned : (a b : ℕ) → (a == b) ≡ (b == a)

@@ -43,7 +43,7 @@ pub returns-in_ok-jobs_of-in-None : goal.returns-in_ok-jobs_of-in-None
 returns-in_ok-jobs_of-in-None g c =
     let seen = source_state g.S.Source.given g.S.Source.ended g.S.Source.rest g.S.Source.failures in
     let jobs = c.in_ok-jobs_of-in-None.ensures ∙ ap (λ o. zip c.args.seats.items (streams_by_seat c.args.streams.items o)) (sym c.in-None.is) in
-    subst (λ js. IfOk c.run_beside.result (λ ran. AllZip (λ job r. HasRun seen g.L.Opening.formula g.L.Opening.seats g.L.Opening.max_steps job r.seat r.report) js ran.items)) jobs c.run_beside.ensures
+    subst (λ js. IfOk c.run_beside.result (λ ran. AllZip (λ job r. HasRun seen g.L.BookId.formula g.L.BookId.seats g.L.BookId.max_steps job r.seat r.report) js ran.items)) jobs c.run_beside.ensures
 
 pub returns-in_ok-push-in-Some : goal.returns-in_ok-push-in-Some
 returns-in_ok-push-in-Some g c =
@@ -52,8 +52,8 @@ returns-in_ok-push-in-Some g c =
     let seats = c.pop.new.self.items in
     let all = c.requires.seats ∙ ap (λ o. length (streams_by_seat c.args.streams.items o)) c.in-Some.is in
     let many = length_before c.args.seats.items seats c.in-Some-pop.seat c.args.streams.items c.in-Some.stream c.in-Some-pop.ensures.items all in
-    let ran = subst (λ js. AllZip (λ job r. HasRun seen g.L.Opening.formula g.L.Opening.seats g.L.Opening.max_steps job r.seat r.report) js rs) c.in_ok-jobs_of-in-Some.ensures c.in_ok-ran-in-Some.ensures in
-    let more = all_zipped_more (λ job r. HasRun seen g.L.Opening.formula g.L.Opening.seats g.L.Opening.max_steps job r.seat r.report) (zip seats c.args.streams.items) rs (c.in-Some-pop.seat, c.in-Some.stream) c.run_worker.result ran c.run_worker.ensures in
+    let ran = subst (λ js. AllZip (λ job r. HasRun seen g.L.BookId.formula g.L.BookId.seats g.L.BookId.max_steps job r.seat r.report) js rs) c.in_ok-jobs_of-in-Some.ensures c.in_ok-ran-in-Some.ensures in
+    let more = all_zipped_more (λ job r. HasRun seen g.L.BookId.formula g.L.BookId.seats g.L.BookId.max_steps job r.seat r.report) (zip seats c.args.streams.items) rs (c.in-Some-pop.seat, c.in-Some.stream) c.run_worker.result ran c.run_worker.ensures in
     let jobs = sym (zip_more seats c.args.streams.items c.in-Some-pop.seat c.in-Some.stream many) ∙ ap (λ ss. zip ss (streams_by_seat c.args.streams.items (Some c.in-Some.stream))) (sym c.in-Some-pop.ensures.items) ∙ ap (λ o. zip c.args.seats.items (streams_by_seat c.args.streams.items o)) (sym c.in-Some.is) in
-    subst (λ xs. AllZip (λ job r. HasRun seen g.L.Opening.formula g.L.Opening.seats g.L.Opening.max_steps job r.seat r.report) (zip c.args.seats.items (streams_by_seat c.args.streams.items c.args.closing)) xs) (sym c.in_ok-push-in-Some.ensures.items)
-    (subst (λ js. AllZip (λ job r. HasRun seen g.L.Opening.formula g.L.Opening.seats g.L.Opening.max_steps job r.seat r.report) js (rs ++ c.run_worker.result ∷ [])) jobs more)
+    subst (λ xs. AllZip (λ job r. HasRun seen g.L.BookId.formula g.L.BookId.seats g.L.BookId.max_steps job r.seat r.report) (zip c.args.seats.items (streams_by_seat c.args.streams.items c.args.closing)) xs) (sym c.in_ok-push-in-Some.ensures.items)
+    (subst (λ js. AllZip (λ job r. HasRun seen g.L.BookId.formula g.L.BookId.seats g.L.BookId.max_steps job r.seat r.report) js (rs ++ c.run_worker.result ∷ [])) jobs more)

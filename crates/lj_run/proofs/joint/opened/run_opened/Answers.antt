@@ -25,8 +25,8 @@ unreachable-requires g c =
     let n = c.len.result + c.from.result in
     let many = streams_counted c.args.streams.items c.args.closing c.len.result c.from.result (search rules) (search rules) in
     let seats = ap length c.in_ok-shared.ensures.seats ∙ length-new_seats c.args.formula n ∙ many in
-    let ran = as_many_ran seen g.L.Opening.formula g.L.Opening.seats g.L.Opening.max_steps (λ r. r.seat) (λ r. r.report) c.in_ok-shared.seats.items streams c.in_ok-ran.ran.items seats c.in_ok-ran.ensures in
-    no_other_test (length c.in_ok-seats.seats.items) g.L.Opening.seats (ap length c.in_ok-seats.ensures.seats ∙ ran ∙ sym c.requires.seats) c.in_default.ensures.all
+    let ran = as_many_ran seen g.L.BookId.formula g.L.BookId.seats g.L.BookId.max_steps (λ r. r.seat) (λ r. r.report) c.in_ok-shared.seats.items streams c.in_ok-ran.ran.items seats c.in_ok-ran.ensures in
+    no_other_test (length c.in_ok-seats.seats.items) g.L.BookId.seats (ap length c.in_ok-seats.ensures.seats ∙ ran ∙ sym c.requires.seats) c.in_default.ensures.all
 
 pub returns-then-not-are_confirmed-clause-fault : goal.returns-then-not-are_confirmed-clause-fault
 returns-then-not-are_confirmed-clause-fault g c =
@@ -35,10 +35,10 @@ returns-then-not-are_confirmed-clause-fault g c =
     let reports = c.in_ok-seats.reports.items in
     let s = c.in-Ok.closed in
     let many = streams_counted c.args.streams.items c.args.closing c.len.result c.from.result (search rules) (search rules) in
-    let opened = opened_by g.L.Opening.formula c.args.formula g.L.Opening.seats (length streams) g.L.Opening.max_steps c.args.max_steps s c.requires.formula c.requires.seats c.requires.limit c.book.ensures.opened in
-    let ran = beside_of seen g.L.Opening.formula g.L.Opening.seats g.L.Opening.max_steps (λ r. r.seat) (λ r. r.report) s (c.len.result + c.from.result) c.in_ok-shared.seats.items streams c.in_ok-ran.ran.items c.in_ok-seats.seats.items reports
+    let opened = opened_by g.L.BookId.formula c.args.formula g.L.BookId.seats (length streams) g.L.BookId.max_steps c.args.max_steps s c.requires.formula c.requires.seats c.requires.limit c.book.ensures.opened in
+    let ran = beside_of seen g.L.BookId.formula g.L.BookId.seats g.L.BookId.max_steps (λ r. r.seat) (λ r. r.report) s (c.len.result + c.from.result) c.in_ok-shared.seats.items streams c.in_ok-ran.ran.items c.in_ok-seats.seats.items reports
     (c.in_ok-shared.ensures.seats ∙ ap (λ f. new_seats f (c.len.result + c.from.result)) c.requires.formula) many c.in_ok-ran.ensures c.in_ok-seats.ensures.seats c.in_ok-seats.ensures.reports c.in-Ok.ensures.seats in
-    let run = run_by seen g.L.Opening.formula c.args.formula g.L.Opening.seats (length streams) g.L.Opening.max_steps c.args.max_steps s streams reports c.requires.formula c.requires.seats c.requires.limit ran in
+    let run = run_by seen g.L.BookId.formula c.args.formula g.L.BookId.seats (length streams) g.L.BookId.max_steps c.args.max_steps s streams reports c.requires.formula c.requires.seats c.requires.limit ran in
     let told = ap (λ b. list_all (λ r. is_confirmed (has_verdict b) r.end) reports) (sym c.book.ensures.book) ∙ ap (list_all (λ r. is_confirmed (has_verdict c.book.result.now) r.end)) (sym c.deref.ensures.value) ∙ sym c.are_confirmed.ensures in
     unconfirmed seen c.args.formula c.args.max_steps streams reports s opened c.in-Ok.ensures.legal run (told ∙ c.if-not-are_confirmed.true)
 
@@ -49,11 +49,11 @@ returns-clause-ran g c =
     let reports = c.in_ok-seats.reports.items in
     let s = c.in-Ok.closed in
     let many = streams_counted c.args.streams.items c.args.closing c.len.result c.from.result (search rules) (search rules) in
-    let opened = opened_by g.L.Opening.formula c.args.formula g.L.Opening.seats (length streams) g.L.Opening.max_steps c.args.max_steps s c.requires.formula c.requires.seats c.requires.limit c.book.ensures.opened in
-    let ran = beside_of seen g.L.Opening.formula g.L.Opening.seats g.L.Opening.max_steps (λ r. r.seat) (λ r. r.report) s (c.len.result + c.from.result) c.in_ok-shared.seats.items streams c.in_ok-ran.ran.items c.in_ok-seats.seats.items reports
+    let opened = opened_by g.L.BookId.formula c.args.formula g.L.BookId.seats (length streams) g.L.BookId.max_steps c.args.max_steps s c.requires.formula c.requires.seats c.requires.limit c.book.ensures.opened in
+    let ran = beside_of seen g.L.BookId.formula g.L.BookId.seats g.L.BookId.max_steps (λ r. r.seat) (λ r. r.report) s (c.len.result + c.from.result) c.in_ok-shared.seats.items streams c.in_ok-ran.ran.items c.in_ok-seats.seats.items reports
     (c.in_ok-shared.ensures.seats ∙ ap (λ f. new_seats f (c.len.result + c.from.result)) c.requires.formula) many c.in_ok-ran.ensures c.in_ok-seats.ensures.seats c.in_ok-seats.ensures.reports c.in-Ok.ensures.seats in
-    let run = run_by seen g.L.Opening.formula c.args.formula g.L.Opening.seats (length streams) g.L.Opening.max_steps c.args.max_steps s streams reports c.requires.formula c.requires.seats c.requires.limit ran in
-    let counted = c.in-Ok.ensures.entries ∙ ap entries_made c.in_ok-seats.ensures.seats ∙ entries_counted seen g.L.Opening.formula g.L.Opening.seats g.L.Opening.max_steps (λ r. r.seat) (λ r. r.report) (zip c.in_ok-shared.seats.items streams) c.in_ok-ran.ran.items c.in_ok-ran.ensures
+    let run = run_by seen g.L.BookId.formula c.args.formula g.L.BookId.seats (length streams) g.L.BookId.max_steps c.args.max_steps s streams reports c.requires.formula c.requires.seats c.requires.limit ran in
+    let counted = c.in-Ok.ensures.entries ∙ ap entries_made c.in_ok-seats.ensures.seats ∙ entries_counted seen g.L.BookId.formula g.L.BookId.seats g.L.BookId.max_steps (λ r. r.seat) (λ r. r.report) (zip c.in_ok-shared.seats.items streams) c.in_ok-ran.ran.items c.in_ok-ran.ensures
     ∙ ap (sum_by accepted_count) (sym c.in_ok-seats.ensures.reports) in
     let told = ap (λ b. list_all (λ r. is_confirmed (has_verdict b) r.end) reports) (sym c.book.ensures.book) ∙ ap (list_all (λ r. is_confirmed (has_verdict c.book.result.now) r.end)) (sym c.deref.ensures.value) ∙ sym c.are_confirmed.ensures in
     let book = book_of_run seen c.args.formula c.args.max_steps streams reports s opened c.in-Ok.ensures.legal counted run (told ∙ c.if-not-are_confirmed.false) in

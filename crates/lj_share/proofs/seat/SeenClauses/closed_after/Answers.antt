@@ -12,4 +12,4 @@ pub returns-clause-closed : goal.returns-clause-closed
 returns-clause-closed g c =
     let m = c.args.self.now in
     let a = c.args.addition.now in
-    closed_by c.walks_go_by_clauses.ensures.ending m a c.args.read c.requires (behind_closed m a c.args.read c.requires ∙ sym c.first_unseen.ensures ∙ c.in_default.is)
+    closed_by c.propagations_go_by_clauses.ensures.ending m a c.args.read c.requires (behind_closed m a c.args.read c.requires ∙ sym c.first_unseen.ensures ∙ c.in_default.is)

@@ -7,10 +7,10 @@ pub returns-in-Some : goal.returns-in-Some
 returns-in-Some g c =
     let m = c.args.self.now in
     let a = c.args.addition.now in
-    unseen_by m a c.in-Some.own c.requires.free (behind_stuck m a c.args.place c.requires ∙ ap (λ (k : ℕ). first_unseen m (drop k a.hints)) (sym c.saturating_sub.ensures) ∙ sym c.first_unseen.ensures ∙ c.in-Some.is)
+    unseen_by m a c.in-Some.own c.requires.free (behind_stuck m a c.args.position c.requires ∙ ap (λ (k : ℕ). first_unseen m (drop k a.hints)) (sym c.saturating_sub.ensures) ∙ sym c.first_unseen.ensures ∙ c.in-Some.is)
 
 pub returns-in-None : goal.returns-in-None
 returns-in-None g c =
     let m = c.args.self.now in
     let a = c.args.addition.now in
-    stuck_by c.walks_go_by_clauses.ensures.ending m a c.args.place c.requires (behind_stuck m a c.args.place c.requires ∙ ap (λ (k : ℕ). first_unseen m (drop k a.hints)) (sym c.saturating_sub.ensures) ∙ sym c.first_unseen.ensures ∙ c.in-None.is)
+    stuck_by c.propagations_go_by_clauses.ensures.ending m a c.args.position c.requires (behind_stuck m a c.args.position c.requires ∙ ap (λ (k : ℕ). first_unseen m (drop k a.hints)) (sym c.saturating_sub.ensures) ∙ sym c.first_unseen.ensures ∙ c.in-None.is)

@@ -13,17 +13,17 @@ use Rattle.lj_share.proofs.shared.Shared.commit.Goals as goal
 pub returns-in-Err-clause-refusal : goal.returns-in-Err-clause-refusal
 returns-in-Err-clause-refusal g c =
     let k = c.seat.inside.own in
-    let view = c.seat.inside.place.view in
+    let view = c.seat.inside.account.view in
     let are = subst (λ (f : FormulaValue). IsOwnOf f k view) (sym c.self.invariant.1) c.seat.invariant in
     let is = own_decided c.self.inside.formula k view c.own-own.result c.in-Err.refusal are c.in-Err.ensures.refusal in
     inr (subst (λ (s : SeatValue). IsDecided (solo_refusal s.view c.args.receipt.own) c.in-Err.refusal) c.seat.view_is (subst (λ (n : ℕ). IsDecided (solo_refusal view n) c.in-Err.refusal) c.own-own.ensures is))
 
 pub invariant_of-seat-2 : goal.invariant_of-seat-2
 invariant_of-seat-2 g c =
-    let f = g.L.Opening.formula in
+    let f = g.L.BookId.formula in
     let k = c.seat.inside.own in
     let l = c.bind_ahead.new.kept in
-    let view = c.seat.inside.place.view in
+    let view = c.seat.inside.account.view in
     let clause = c.clause.result.now in
     let first : Line = lines.Import c.own-own.result clause in
     let line : Line = lines.Import c.args.receipt.own c.args.receipt.lemma.clause in
@@ -31,6 +31,6 @@ invariant_of-seat-2 g c =
     let same : first ≡ line = λ i. lines.Import (c.own-own.ensures i) (clause_is i) in
     let begun = subst (λ (x : Line). IsLineBegun f x k l) same (subst (λ (x : FormulaValue). IsLineBegun x first k l) c.self.invariant.1 c.in_default.ensures.begun) in
     elim c.match-answer.branch [
-      | in-Ok w ↦ rw w.seat-inside-is (own_finished f k l w.settle.new.kept view c.commit-answer.new.place.view line w.in-Ok.joint c.seat.invariant begun (subst (λ (x : Line). IsFinished x w.in-Ok.joint l w.settle.new.kept) same (w.settle.ensures clause)) w.in-Ok.ensures.view)
+      | in-Ok w ↦ rw w.seat-inside-is (own_finished f k l w.settle.new.kept view c.commit-answer.new.account.view line w.in-Ok.joint c.seat.invariant begun (subst (λ (x : Line). IsFinished x w.in-Ok.joint l w.settle.new.kept) same (w.settle.ensures clause)) w.in-Ok.ensures.view)
       | in-Err-answer w ↦ rw w.seat-inside-is (subst (λ (s : SeatValue). IsOwnOf f w.unbind.new.kept s.view) (sym w.in-Err-answer.ensures.kept) (own_taken_back f k l w.unbind.new.kept view line c.seat.invariant begun (subst (λ (x : Line). IsTakenBack x l w.unbind.new.kept) same (w.unbind.ensures clause))))
     ]

@@ -21,7 +21,7 @@ returns-then-is_some-clause-calls g c =
 pub returns-then-is_some-clause-refused : goal.returns-then-is_some-clause-refused
 returns-then-is_some-clause-refused g c =
     let after = c.enter_some-entered.new.seat in
-    subst (λ (o : Option Numbered). IfSome c.enter_some-entered.result.1 (λ e. (x : Numbered) × (o ≡ Some x) × IsLineRefused g.L.Opening.formula g.L.Opening.seats g.L.Opening.max_steps after x.line e))
+    subst (λ (o : Option Numbered). IfSome c.enter_some-entered.result.1 (λ e. (x : Numbered) × (o ≡ Some x) × IsLineRefused g.L.BookId.formula g.L.BookId.seats g.L.BookId.max_steps after x.line e))
     (get_behind c.args.lines.now c.loop.done c.enter_some-entered.result.0) c.enter_some-entered.ensures.refused
 
 pub returns-then-done-lines-clause-entered : goal.returns-then-done-lines-clause-entered

@@ -15,7 +15,7 @@ returns-in-Ok-clause-entered g c =
 
 pub returns-in-Err-clause-refused : goal.returns-in-Err-clause-refused
 returns-in-Err-clause-refused g c =
-    let o = g.L.Opening in
+    let o = g.L.BookId in
     let ls = c.args.lines.now in
     let k = c.enter_run-entered.result.0 in
     let found = c.in-Some.ensures.lookup in

@@ -7,4 +7,4 @@ returns c =
     let window = c.args.window.now in
     let e = c.in_ok-digits.ensures in
     let w = window-at window c.args.start c.args.end e.bytes c.requires.within.0 e.some e.few in
-    record { number = number-at window c.args.start c.args.end c.value_of.result w e.some c.requires.within.1 e.space c.requires.digits (λ counts eight all is. c.value_of.ensures counts eight all (e.word ∙ is)) }
+    record { number = number-at window c.args.start c.args.end c.value_of.result w e.some c.requires.within.1 e.space c.requires.digits (λ counts eight all is. c.value_of.ensures counts eight all (e.token_number ∙ is)) }

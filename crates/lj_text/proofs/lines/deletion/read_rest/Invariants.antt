@@ -1,10 +1,10 @@
 use Rattle.std.proofs.Common.{◌≡◌, length}
 use Rattle.lj_text.specs.Lines.{numbers_of}
-use Rattle.lj_text.specs.inner.LineReading.{words_of, behind_numbers}
+use Rattle.lj_text.specs.inner.LineReading.{token_numbers, behind_numbers}
 use Rattle.lj_text.proofs.lines.deletion.read_rest.Given as goal
 
-abbrev pub invariant-loop-word : goal.invariant-loop-word
-invariant-loop-word l = (behind_numbers l.numbers (numbers_of l.ended (words_of l.rest)) ≡ behind_numbers l.fn.numbers (numbers_of l.ended (words_of l.bytes)))
+abbrev pub invariant-loop-token_number : goal.invariant-loop-token_number
+invariant-loop-token_number l = (behind_numbers l.numbers (numbers_of l.ended (token_numbers l.rest)) ≡ behind_numbers l.fn.numbers (numbers_of l.ended (token_numbers l.bytes)))
 
-abbrev pub decreases-loop-word : goal.decreases-loop-word
-decreases-loop-word l = length l.rest
+abbrev pub decreases-loop-token_number : goal.decreases-loop-token_number
+decreases-loop-token_number l = length l.rest

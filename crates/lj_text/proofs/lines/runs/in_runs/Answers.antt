@@ -1,7 +1,7 @@
 use Rattle.std.proofs.Common.{◌≡◌, ◌<◌, List, ℕ, [], ◌∷◌, ◌++◌, length, take, sym, ap, ◌∙◌, subst, arith}
 use Rattle.std.proofs.lemmas.List.{take_all, take-append-drop}
 use Rattle.std.specs.List.{AllByRecursion, concat}
-use Rattle.lj_text.specs.inner.LinesHeld.{HasNoLateEnd, IsLineRun}
+use Rattle.lj_text.specs.inner.LinesBuffered.{HasNoLateEnd, IsLineRun}
 use Rattle.lj_text.proofs.RunLemmas.{all-runs_more, concat-more}
 use Rattle.lj_text.proofs.lines.runs.in_runs.Goals as goal
 

@@ -1,6 +1,6 @@
 use Rattle.std.proofs.Common.{◌≡◌, ◌≤◌, ◌<◌, ◌++◌, length, take}
 use Rattle.std.specs.List.{AllByRecursion, concat}
-use Rattle.lj_text.specs.inner.LinesHeld.{EndsLine, HasNoLateEnd, IsLineRun}
+use Rattle.lj_text.specs.inner.LinesBuffered.{EndsLine, HasNoLateEnd, IsLineRun}
 use Rattle.lj_text.proofs.lines.runs.in_runs.Given as goal
 
 abbrev pub invariant-loop-count : goal.invariant-loop-count

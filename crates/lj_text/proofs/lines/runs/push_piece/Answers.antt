@@ -3,7 +3,7 @@ use Rattle.std.proofs.lemmas.Bool.Decides.{nat_tests}
 use Rattle.std.proofs.lemmas.Grind.{common_steps}
 use Rattle.std.specs.Prelude.{is_ok}
 use Rattle.std.proofs.lemmas.List.{take-append-drop}
-use Rattle.lj_text.specs.inner.LinesHeld.{IsLineRun}
+use Rattle.lj_text.specs.inner.LinesBuffered.{IsLineRun}
 use Rattle.lj_text.proofs.RunLemmas.{all-runs_more, all-appended, joined-piece, ok-appended}
 use Rattle.lj_text.proofs.lines.runs.push_piece.Goals as goal
 

@@ -5,7 +5,7 @@ use Rattle.lj_run.proofs.joint.worker.SharedSeatEntering.enter_lines.Goals as go
 
 pub returns-clause-within : goal.returns-clause-within
 returns-clause-within g c =
-    entered_within c.args.lines.now c.enter_lines.result.0 c.enter_lines.result.1 (λ e line. IsLineRefused g.L.Opening.formula g.L.Opening.seats g.L.Opening.max_steps c.enter_lines.new.seat line.line e) c.enter_lines.ensures.all c.enter_lines.ensures.refused
+    entered_within c.args.lines.now c.enter_lines.result.0 c.enter_lines.result.1 (λ e line. IsLineRefused g.L.BookId.formula g.L.BookId.seats g.L.BookId.max_steps c.enter_lines.new.seat line.line e) c.enter_lines.ensures.all c.enter_lines.ensures.refused
 
 pub returns-clause-entered : goal.returns-clause-entered
 returns-clause-entered g c =
@@ -13,11 +13,11 @@ returns-clause-entered g c =
 
 pub returns-clause-known : goal.returns-clause-known
 returns-clause-known g c =
-    calls_many c.args.self.now.seat.calls c.enter_lines.new.seat.calls c.args.lines.now c.enter_lines.result.0 (entered_within c.args.lines.now c.enter_lines.result.0 c.enter_lines.result.1 (λ e line. IsLineRefused g.L.Opening.formula g.L.Opening.seats g.L.Opening.max_steps c.enter_lines.new.seat line.line e) c.enter_lines.ensures.all c.enter_lines.ensures.refused) c.enter_lines.ensures.calls
+    calls_many c.args.self.now.seat.calls c.enter_lines.new.seat.calls c.args.lines.now c.enter_lines.result.0 (entered_within c.args.lines.now c.enter_lines.result.0 c.enter_lines.result.1 (λ e line. IsLineRefused g.L.BookId.formula g.L.BookId.seats g.L.BookId.max_steps c.enter_lines.new.seat line.line e) c.enter_lines.ensures.all c.enter_lines.ensures.refused) c.enter_lines.ensures.calls
 
 pub returns-clause-all : goal.returns-clause-all
 returns-clause-all g c = λ none. inl (c.enter_lines.ensures.all none)
 
 pub returns-clause-refused : goal.returns-clause-refused
 returns-clause-refused g c =
-    with_unit c.args.lines.now c.enter_lines.result.0 c.enter_lines.result.1 (λ e line. IsLineRefused g.L.Opening.formula g.L.Opening.seats g.L.Opening.max_steps c.enter_lines.new.seat line.line e) c.enter_lines.ensures.refused
+    with_unit c.args.lines.now c.enter_lines.result.0 c.enter_lines.result.1 (λ e line. IsLineRefused g.L.BookId.formula g.L.BookId.seats g.L.BookId.max_steps c.enter_lines.new.seat line.line e) c.enter_lines.ensures.refused

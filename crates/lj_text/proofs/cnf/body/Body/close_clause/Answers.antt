@@ -23,7 +23,7 @@ returns-clause-reads c last line rest =
 pub invariant_of-self-2 : goal.invariant_of-self-2
 invariant_of-self-2 c =
     let v = c.self.inside in
-    let held = c.self.invariant in
+    let buffer = c.self.invariant in
     let clause : from_literals v.literals.items ≡ c.in_ok-clause.clause = ap from_literals (sym c.deref.ensures.value) ∙ sym c.in_ok-clause.ensures in
     let pushed : v.clauses.items ++ from_literals v.literals.items ∷ [] ≡ c.push.new.self.items = ap (λ cl. v.clauses.items ++ cl ∷ []) clause ∙ sym c.in_ok-push.ensures.items in
     let P : List LiteralSet → Type 0 = λ cs. list_all (names_up_to v.variables) cs ≡ true in
@@ -31,9 +31,9 @@ invariant_of-self-2 c =
     let none : length c.clear.new.self.items ≡ 0 = ap length c.clear.ensures.items in
     let count : length c.push.new.self.items ≡ length v.clauses.items + 1 = ap length (sym pushed) ∙ length-append v.clauses.items (from_literals v.literals.items ∷ []) in
     record {
-      variables = held.variables;
+      variables = buffer.variables;
       left = λ h. absurd (omega arith);
-      count = omega (arith, held.count);
-      clauses = subst P pushed (clauses-pushed v.variables v.clauses.items v.literals.items held.clauses held.literals);
+      count = omega (arith, buffer.count);
+      clauses = subst P pushed (clauses-pushed v.variables v.clauses.items v.literals.items buffer.clauses buffer.literals);
       literals = subst Q (sym c.clear.ensures.items) refl;
     }

@@ -1,8 +1,8 @@
 use Rattle.std.proofs.Common.{length, Option, Ok, sym, ap, ◌∙◌, subst}
 use Rattle.lj_text.specs.Lines.{Said}
 use Rattle.lj_text.specs.LinesRead.{LinesRead, IsSaidAt, IsSaidRight, line_answer, line_number_of, last_number}
-use Rattle.lj_text.specs.inner.LinesHeld.{reader_past}
-use Rattle.lj_text.proofs.ReaderLemmas.{at_true, at_false, all-at, all-found, behind-found, answers, stands-passed, stands-behind, place-some, place-behind, ahead-found, ahead-behind, within-of, stands-of, stands-kept, kept-at, kept-max}
+use Rattle.lj_text.specs.inner.LinesBuffered.{reader_past}
+use Rattle.lj_text.proofs.ReaderLemmas.{at_true, at_false, all-at, all-found, behind-found, answers, stands-passed, stands-behind, target-some, target-behind, ahead-found, ahead-behind, within-of, stands-of, stands-kept, kept-at, kept-max}
 use Rattle.lj_text.proofs.lines.reader.LineReader.finish.Goals as goal
 
 pub pass-line-requires : goal.pass-line-requires
@@ -38,7 +38,7 @@ returns-in-Ok-default-true-clause-at c text given reading memory =
     let s = within-of r text given (sym (ap (λ (v : LinesRead). v.finished) c.self.view_is) ∙ c.if-self.false) reading.stands in
     let p = at_true c.in-Ok-default-true.field-0-1 _ _ c.in-Ok-default-true.field-0-1-test (c.in-Ok-default-true.ensures.found (length s.lines) s.line_is) in
     let now = c.self-in-Ok-default-true.view_is ∙ c.pass-line.ensures.passed in
-    ap (λ (v : LinesRead). v.at) now ∙ place-behind r text given c.in-Ok-default-true.found s p
+    ap (λ (v : LinesRead). v.at) now ∙ target-behind r text given c.in-Ok-default-true.found s p
 
 pub returns-in-Ok-default-false-clause-answer : goal.returns-in-Ok-default-false-clause-answer
 returns-in-Ok-default-false-clause-answer c text given reading memory =
@@ -62,7 +62,7 @@ returns-in-Ok-default-false-clause-at c text given reading memory =
     let r = c.args.self.now in
     let s = within-of r text given (sym (ap (λ (v : LinesRead). v.finished) c.self.view_is) ∙ c.if-self.false) reading.stands in
     let p = at_false c.in-Ok-default-false.field-0-1 _ _ c.in-Ok-default-false.field-0-1-test (c.in-Ok-default-false.ensures.found (length s.lines) s.line_is) in
-    ap (λ (v : LinesRead). v.at) c.pass.ensures.passed ∙ place-some r text given c.in-Ok-default-false.found s p.0 p.1
+    ap (λ (v : LinesRead). v.at) c.pass.ensures.passed ∙ target-some r text given c.in-Ok-default-false.found s p.0 p.1
 
 pub returns-in-Err-clause-answer : goal.returns-in-Err-clause-answer
 returns-in-Err-clause-answer c text given reading memory =

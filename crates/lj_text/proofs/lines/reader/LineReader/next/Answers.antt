@@ -5,7 +5,7 @@ use Rattle.lj_text.specs.declared.lines.fault.LineFault.{LineFault}
 use Rattle.lj_text.specs.Bytes.{line_number}
 use Rattle.lj_text.specs.Lines.{Said}
 use Rattle.lj_text.specs.LinesRead.{HasNoLineEnd, LinesRead, IsSaidAt, IsSaidRight, line_answer, line_number_of, last_number}
-use Rattle.lj_text.specs.inner.LinesHeld.{reader_past}
+use Rattle.lj_text.specs.inner.LinesBuffered.{reader_past}
 use Rattle.lj_text.specs.inner.Looking.{Looked, Fails, IsTaken}
 use Rattle.lj_text.proofs.ReaderLemmas.{whole-at, taken-answer, taken-stands, taken-at, ahead-found, within-of, kept-at}
 use Rattle.lj_text.proofs.lines.reader.LineReader.next.Goals as goal

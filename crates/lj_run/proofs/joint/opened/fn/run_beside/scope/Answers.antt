@@ -29,7 +29,7 @@ returns g c =
     let list = YieldsList-from_vec c.captures.jobs.items gives.0 (gives.1 ∙ c.captures.jobs.ok.0) in
     let done = YieldsList-end list c.loop-job.yielded c.loop-job.job-iterator c.loop-job.yielded_by c.next.result c.next.new.self c.in-None.is c.next.ensures.steps in
     let jobs = c.loop-job.invariant.jobs ∙ (sym (map-id c.loop-job.yielded) ∙ done.0) in
-    subst (λ js. AllZip (λ job r. HasRun seen g.L.Opening.formula g.L.Opening.seats g.L.Opening.max_steps job r.seat r.report) js rs) jobs (zip_each (λ job r. HasRun seen g.L.Opening.formula g.L.Opening.seats g.L.Opening.max_steps job r.seat r.report) (λ w. w.promise.0.value) ws rs same (λ i w r a b.
+    subst (λ js. AllZip (λ job r. HasRun seen g.L.BookId.formula g.L.BookId.seats g.L.BookId.max_steps job r.seat r.report) js rs) jobs (zip_each (λ job r. HasRun seen g.L.BookId.formula g.L.BookId.seats g.L.BookId.max_steps job r.seat r.report) (λ w. w.promise.0.value) ws rs same (λ i w r a b.
     let keeps = c.in_ok-join_promised.ensures.each i r (subst (λ n. i < n) (sym c.loop-job.workers.ok.0) (got_below ws i w a)) in
     let handle = keeps.1.handle_is ∙ get_or_from_slice_get ws i w keeps.1.handle a in
-    subst (λ x. HasRun seen g.L.Opening.formula g.L.Opening.seats g.L.Opening.max_steps w.promise.0.value x.seat x.report) (get_or_from_slice_get rs i r r b) (subst (λ h. HasRun seen g.L.Opening.formula g.L.Opening.seats g.L.Opening.max_steps h.promise.0.value (slice_index_or rs i r).seat (slice_index_or rs i r).report) handle keeps.1.kept)))
+    subst (λ x. HasRun seen g.L.BookId.formula g.L.BookId.seats g.L.BookId.max_steps w.promise.0.value x.seat x.report) (get_or_from_slice_get rs i r r b) (subst (λ h. HasRun seen g.L.BookId.formula g.L.BookId.seats g.L.BookId.max_steps h.promise.0.value (slice_index_or rs i r).seat (slice_index_or rs i r).report) handle keeps.1.kept)))

@@ -1,5 +1,0 @@
-use Rattle.lj_book.specs.inner.Words.{number_in, list_in, Matches}
-use Rattle.lj_book.proofs.words.matching.left_match.Given as goal
-
-abbrev pub invariant-loop-wanted : goal.invariant-loop-wanted
-invariant-loop-wanted l = Matches number_in (list_in l.words) l.fn.numbers l.rest l.wanted-iterator

@@ -1,8 +1,0 @@
-use Rattle.std.proofs.Common.{◌≡◌, take, length}
-use Rattle.lj_hint.proofs.true_lits.TrueLits.take_back.Given as goal
-
-abbrev pub invariant-loop-self : goal.invariant-loop-self
-invariant-loop-self l = take l.len l.self-inside.trail ≡ take l.len l.initial.self-inside.trail
-
-abbrev pub decreases-loop-self : goal.decreases-loop-self
-decreases-loop-self l = length l.self-inside.trail

@@ -1,7 +1,0 @@
-use Rattle.std.proofs.Common.{refl, ◌∙◌}
-use Rattle.clap.specs.Matches.{found_of}
-use Rattle.lj_run.proofs.WordsLemmas.{flag_is}
-use Rattle.lj_run.proofs.words.is_given.Goals as goal
-
-pub returns : goal.returns
-returns c = c.eq.ensures ∙ flag_is (found_of c.args.matches.now) c.args.name.now c.get_str.result _ c.get_str.ensures refl

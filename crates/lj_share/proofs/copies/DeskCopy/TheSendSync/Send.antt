@@ -1,8 +1,0 @@
--- A half of a name names no thread's key, so it may go to another thread.
-use denote.Param.Send.{IsSend}
-use Rattle.lj_share.specs.inner.Copies.{desk_copy_owns}
-use Rattle.lj_share.specs.contracts.copies.DeskCopy.{the_row}
-
-pub send : IsSend the_row
-unfolding desk_copy_owns
-send = record { owned = λ d vs. ((λ vss. (tt, tt)), tt); leaving = λ k f vs. tt }

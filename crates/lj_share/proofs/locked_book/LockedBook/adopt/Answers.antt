@@ -1,0 +1,47 @@
+use Rattle.std.proofs.Common.{Some, inr, sym, ap, ◌∙◌, subst}
+use Rattle.lj_clause.specs.ClauseMap.{FormulaValue}
+use Rattle.lj_text.specs.declared.line.Line.{Line}
+use Rattle.lj_text.specs.declared.line.Line.TheVariants as lines
+use Rattle.lj_share.specs.Seats.{SeatValue, seat_of_book}
+use Rattle.lj_share.specs.inner.Seats.{IsLineBegun, IsOwnOf}
+use Rattle.lj_share.proofs.Adopting.{adopted_view}
+use Rattle.lj_share.proofs.KeptLaws.{own_decided, own_finished, own_taken_back}
+use Rattle.lj_share.proofs.Opened.{locked_book_in, made_in, opened_on}
+use Rattle.lj_share.proofs.locked_book.LockedBook.adopt.Goals as goal
+
+pub returns-in-Ok-clause-made : goal.returns-in-Ok-clause-made
+returns-in-Ok-clause-made g c = made_in c.agree.ensures.views _ _ _ _ _ _ c.agree.ensures.legal c.count_one.ensures.legal c.number.ensures c.in-Ok.ensures.ok c.agree.ensures.seat c.agree.ensures.kept c.count_one.ensures.seat tt
+
+pub count_one-requires-clause-opened : goal.count_one-requires-clause-opened
+count_one-requires-clause-opened g c = opened_on _ _ _ _ _ _ c.in-Ok.ensures.ok c.self.invariant.opened
+
+pub invariant_of-self-in-Ok : goal.invariant_of-self-in-Ok
+invariant_of-self-in-Ok g c = locked_book_in c.agree.ensures.views _ _ _ _ _ _ _ _ _ _ _ _ _ _ c.agree.ensures.legal c.count_one.ensures.legal c.number.ensures c.in-Ok.ensures.ok c.count_one.ensures.entries c.agree.ensures.lists c.count_one.ensures.lists c.self.invariant
+
+pub returns-in-Err-clause-refusal : goal.returns-in-Err-clause-refusal
+returns-in-Err-clause-refusal g c =
+    let are = subst (λ (f : FormulaValue). IsOwnOf f c.args.kept.now c.args.account.now.view) (sym c.requires.formula) c.requires.own in
+    inr (own_decided c.args.formula.now c.args.kept.now c.args.account.now.view c.args.own c.in-Err.refusal are c.in-Err.ensures.refusal)
+
+pub returns-in-Ok-clause-own : goal.returns-in-Ok-clause-own
+returns-in-Ok-clause-own g c =
+    let f = g.L.BookId.formula in
+    let k = c.args.kept.now in
+    let l = c.bind_ahead.new.kept in
+    let clause = c.in_ok-clause.clause in
+    let line : Line = lines.Import c.args.own clause in
+    let begun = subst (λ (x : FormulaValue). IsLineBegun x line k l) c.requires.formula c.in_default-bind_ahead.ensures.begun in
+    let number = c.number.ensures ∙ ap (λ (s : SeatValue). s.number) c.agree.ensures.kept in
+    let lives = sym c.clause.ensures ∙ c.in-Some.is ∙ ap Some (sym c.in_ok-clause.ensures) in
+    let view = adopted_view c.agree.ensures.views c.self.inside.book c.adopt_with_entry.new.self c.number.result c.args.own c.args.joint clause c.args.account.now c.count_one.new.self c.agree.ensures.legal c.count_one.ensures.legal c.in-Ok.ensures.ok number c.agree.ensures.seat (c.count_one.ensures.seat ∙ ap (λ (s : SeatValue). seat_of_book c.adopt_with_entry.new.self s.number) c.agree.ensures.kept) lives in
+    own_finished f k l c.settle.new.kept c.args.account.now.view c.count_one.new.self.view line c.args.joint c.requires.own begun (c.settle.ensures clause) view
+
+pub returns-clause-own : goal.returns-clause-own
+returns-clause-own g c =
+    let f = g.L.BookId.formula in
+    let k = c.args.kept.now in
+    let l = c.bind_ahead.new.kept in
+    let clause = c.in_ok-clause.clause in
+    let line : Line = lines.Import c.args.own clause in
+    let begun = subst (λ (x : FormulaValue). IsLineBegun x line k l) c.requires.formula c.in_default-bind_ahead.ensures.begun in
+    subst (λ (s : SeatValue). IsOwnOf f c.unbind.new.kept s.view) (sym c.agree.ensures.kept) (own_taken_back f k l c.unbind.new.kept c.args.account.now.view line c.requires.own begun (c.unbind.ensures clause))

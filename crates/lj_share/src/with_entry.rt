@@ -1,0 +1,126 @@
+//! Calls on the book that tell a copy of their entry where it is asked for, and the joint number that an own number is bound to.
+ghost use Rattle.std.specs.Prelude.{◌≡◌, IfOk, IfErr, OnOk, OnErr, Some, is_ok, true};
+ghost use Rattle.lj_book.specs.Calls.{IsRefusal, drop_entry, drop_reply, import_entry, import_reply};
+ghost use Rattle.lj_book.specs.History.{after_entry};
+ghost use Rattle.lj_book.specs.Inside.{inside_entry, inside_reply};
+ghost use Rattle.lj_book.specs.Solo.{view_of};
+ghost use Rattle.lj_book.specs.Views.{IsClosedAlone};
+ghost use Rattle.lj_book.specs.Lookup.{least_number};
+ghost use Rattle.lj_book.specs.State.{live, next};
+ghost use Rattle.lj_share.specs.inner.WithEntry.{IsAsked};
+
+use lj_book::{Book, Entry, Refusal};
+use lj_clause::Clause;
+use lj_hint::Propagator;
+use lj_text::{Addition, Numbers};
+
+/// Tests a seat's addition, and enters it.
+///
+/// # Errors
+/// As [`Book::add_inside`].
+pub(crate) fn add_inside(
+    book: &mut Book,
+    seat: u32,
+    addition: &Addition,
+    propagator: &mut Propagator,
+    with_entry: bool,
+) -> Result<(Option<Entry>, u64), Refusal>
+    ensures ok { OnOk result
+        (book.new ≡ after_entry book.old (inside_entry book.old seat addition.now)) }
+    ensures told { IfOk result (λ told. IsAsked with_entry (inside_entry book.old seat addition.now)
+        told.0) }
+    ensures joint { IfOk result (λ told. told.1 ≡ next book.old) }
+    ensures err { OnErr result (book.new ≡ book.old) }
+    ensures accepted { OnOk result (is_ok (inside_reply book.old seat addition.now) ≡ true) }
+    ensures refusal { IfErr result (λ e. IsRefusal e (inside_reply book.old seat addition.now)) }
+{
+    if with_entry {
+        let (added, entry) = book.add_inside_with_entry(seat, addition, propagator)?;
+        return Ok((Some(entry), added.joint));
+    }
+    let added = book.add_inside(seat, addition, propagator)?;
+    Ok((None, added.joint))
+}
+
+/// Enters a seat's addition that closes by what the seat sees, after so many of its hints.
+///
+/// # Errors
+/// As [`Book::add_closed`].
+pub(crate) fn add_closed(
+    book: &mut Book,
+    seat: u32,
+    addition: &Addition,
+    read: usize,
+    with_entry: bool,
+) -> Result<(Option<Entry>, u64), Refusal>
+    requires { IsClosedAlone (view_of book.old seat) seat addition.now read }
+    ensures ok { OnOk result
+        (book.new ≡ after_entry book.old (inside_entry book.old seat addition.now)) }
+    ensures told { IfOk result (λ told. IsAsked with_entry (inside_entry book.old seat addition.now)
+        told.0) }
+    ensures joint { IfOk result (λ told. told.1 ≡ next book.old) }
+    ensures err { OnErr result (book.new ≡ book.old) }
+    ensures accepted { OnOk result (is_ok (inside_reply book.old seat addition.now) ≡ true) }
+    ensures refusal { IfErr result (λ e. IsRefusal e (inside_reply book.old seat addition.now)) }
+{
+    if with_entry {
+        let (added, entry) = book.add_closed_with_entry(seat, addition, read)?;
+        return Ok((Some(entry), added.joint));
+    }
+    let added = book.add_closed(seat, addition, read)?;
+    Ok((None, added.joint))
+}
+
+/// Gives own numbers of a seat up.
+///
+/// # Errors
+/// As [`Book::drop_numbers`].
+pub(crate) fn drop_numbers(
+    book: &mut Book,
+    seat: u32,
+    numbers: &Numbers,
+    with_entry: bool,
+) -> Result<Option<Entry>, Refusal>
+    ensures ok { OnOk result
+        (book.new ≡ after_entry book.old (drop_entry book.old seat numbers.now)) }
+    ensures told { IfOk result (IsAsked with_entry (drop_entry book.old seat numbers.now)) }
+    ensures err { OnErr result (book.new ≡ book.old) }
+    ensures accepted { OnOk result (is_ok (drop_reply book.old seat numbers.now) ≡ true) }
+    ensures refusal { IfErr result (λ e. IsRefusal e (drop_reply book.old seat numbers.now)) }
+{
+    if with_entry {
+        let (_, entry) = book.drop_with_entry(seat, numbers)?;
+        return Ok(Some(entry));
+    }
+    book.drop_numbers(seat, numbers)?;
+    Ok(None)
+}
+
+/// Binds a seat's own number to a live clause with exactly these literals.
+///
+/// # Errors
+/// As [`Book::import`].
+pub(crate) fn import(
+    book: &mut Book,
+    seat: u32,
+    own: u64,
+    clause: &Clause,
+    with_entry: bool,
+) -> Result<(Option<Entry>, u64), Refusal>
+    ensures ok { OnOk result
+        (book.new ≡ after_entry book.old (import_entry seat own clause.now)) }
+    ensures told { IfOk result (λ told. IsAsked with_entry (import_entry seat own clause.now)
+        told.0) }
+    ensures found { IfOk result
+        (λ told. least_number (live book.old) clause.now ≡ Some told.1) }
+    ensures err { OnErr result (book.new ≡ book.old) }
+    ensures accepted { OnOk result (is_ok (import_reply book.old seat own clause.now) ≡ true) }
+    ensures refusal { IfErr result (λ e. IsRefusal e (import_reply book.old seat own clause.now)) }
+{
+    if with_entry {
+        let (imported, entry) = book.import_with_entry(seat, own, clause)?;
+        return Ok((Some(entry), imported.joint));
+    }
+    let imported = book.import(seat, own, clause)?;
+    Ok((None, imported.joint))
+}
