@@ -109,7 +109,7 @@ fn with_error_flags<'a>(alloc: Global, command: Command<'a>) -> Result<Command<'
 }
 
 /// The version that `--version` tells.
-const VERSION: &str = "0.1.0";
+const VERSION: &str = "0.2.0";
 
 /// The program without its arguments.
 fn without_arguments<'a>(alloc: Global) -> Command<'a>
