@@ -1,11 +1,11 @@
 //! Seats.
-ghost use Rattle.std.specs.Prelude.{◌≡◌, length, drop, Some, Err, IfOk, IfErr, IfSome, slice_get};
+ghost use Rattle.std.specs.Prelude.{◌≡◌, length, drop, Some, Err, IfOk, IfErr, IfSome, slice_get, true};
 ghost use Rattle.lj_book.specs.Calls.{IsReply};
 ghost use Rattle.lj_book.specs.Solo.{solo_refusal, solo_take};
 ghost use Rattle.lj_book.specs.Views.{IsClosedAlone, decided_refusal};
 ghost use Rattle.lj_share.specs.Refusals.{IsDecided, line_refusal};
 ghost use Rattle.lj_hint.specs.declared.propagate.Ending.TheVariants.{ClosedAfter, StuckAt};
-ghost use Rattle.lj_share.specs.inner.Ahead.{IsClosedBy, IsRefusedBy, IsPropagatedTo, first_unseen};
+ghost use Rattle.lj_share.specs.inner.Ahead.{IsClosedBy, IsOpenBy, IsRefusedBy, IsPropagatedTo, first_unseen};
 ghost use Rattle.lj_share.specs.inner.Seats.{IfClosed, IsOwnOf, IsSeatOf, IsTestedAs, clauses_seen};
 
 use crate::account::Account;
@@ -106,7 +106,7 @@ impl<L: BookId> Seat<L> {
             Line::Add(addition) if addition.groups.is_empty() => {
                 self.test_addition(formula, addition)
             }
-            Line::Add(addition) => self.test_case(alloc, formula, addition),
+            Line::Add(addition) => self.test_groups(alloc, formula, addition),
             Line::Delete(_) | Line::Import { .. } => Ok(Unlocked::Open),
         }
     }
@@ -127,6 +127,42 @@ impl<L: BookId> Seat<L> {
             return Err(Refusal::SeatGone);
         };
         test_alone(&self.account, own, formula, &mut self.scratch, addition)
+    }
+
+    /// The test of an addition with groups. One whose first list stays open is left to the book, which looks its groups up; any
+    /// other is tested as a case.
+    ///
+    /// # Errors
+    /// As [`Seat::test`].
+    fn test_groups(
+        &mut self,
+        alloc: Global,
+        formula: &Formula,
+        addition: &Addition,
+    ) -> Result<Unlocked, Refusal>
+        requires { formula.now ≡ L.formula }
+        ensures closed { IfOk result (λ unlocked. IfClosed unlocked
+            (IsClosedAlone self.old.view self.old.number addition.now)) }
+        ensures refusal { IfErr result
+            (IsDecided (decided_refusal self.old.view self.old.number addition.now)) }
+        ensures kept { self.new ≡ self.old }
+    {
+        if self.stays_open(formula, addition) {
+            return Ok(Unlocked::Open);
+        }
+        self.test_case(alloc, formula, addition)
+    }
+
+    /// Whether the propagation of an addition over its first list stays open, by what the seat sees; false where memory was refused.
+    fn stays_open(&mut self, formula: &Formula, addition: &Addition) -> bool
+        requires { formula.now ≡ L.formula }
+        ensures open { result ≡ true → IsOpenBy (clauses_seen self.old.view) addition.now }
+        ensures kept { self.new ≡ self.old }
+    {
+        let Some(own) = &self.own else {
+            return false;
+        };
+        stays_open_alone(&self.account, own, formula, &mut self.scratch, addition)
     }
 
     /// The test of an addition as a case, which looks its groups up too.
@@ -225,6 +261,29 @@ fn test_alone<L: BookId>(
     seen.test(addition, &mut scratch.propagator)
 }
 
+/// Whether the propagation of an addition over its first list stays open, by what its seat sees, and keeps; false where memory was
+/// refused.
+fn stays_open_alone<L: BookId>(
+    account: &Account<L>,
+    own: &OwnClauses,
+    formula: &Formula,
+    scratch: &mut Room,
+    addition: &Addition,
+) -> bool
+    requires formula { formula.now ≡ L.formula }
+    requires own { IsOwnOf L.formula (Some own.now) account.now.view }
+    ensures open { result ≡ true → IsOpenBy (clauses_seen account.now.view) addition.now }
+{
+    let seen = SeenClauses {
+        account,
+        ahead: &[],
+        dead: &scratch.dead,
+        own,
+        formula,
+    };
+    seen.stays_open(addition, &mut scratch.propagator)
+}
+
 /// The clauses that a seat sees behind lines that aren't entered yet, lent.
 #[derive(Drop)]
 pub(crate) struct SeenClauses<'a, L: BookId> {
@@ -292,6 +351,18 @@ impl<L: BookId> SeenClauses<'_, L> {
             Ok(Ending::StaysOpen) => Ok(Unlocked::Open),
             Ok(Ending::StuckAt(position)) => Err(self.stuck_at(addition, position)),
             Err(refused) => Err(Refusal::NoMemory(refused)),
+        }
+    }
+
+    /// Whether the propagation of an addition over its first list stays open; false where memory was refused.
+    pub(crate) fn stays_open(&self, addition: &Addition, propagator: &mut Propagator) -> bool
+        ensures { result ≡ true → IsOpenBy self.now addition.now }
+    {
+        let _ = &self.account;
+        let _ = &self.ahead;
+        match propagate_first(self, &addition.lemma, &addition.hints, propagator) {
+            Ok(Ending::StaysOpen) => true,
+            Ok(_) | Err(_) => false,
         }
     }
 

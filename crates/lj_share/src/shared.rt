@@ -265,24 +265,43 @@ impl<L: BookId> Shared<L> {
             × (slice_get lines.now result.0 ≡ Some line)
             × IsLineRefused L.formula L.seats L.max_steps seat.new line.line e) }
     {
-        let (entered, refusal) = self.enter_run(rt, seat, lines, reads, joints, gate);
-        if refusal.is_some() {
+        let (entered, refusal, open) = self.enter_run(rt, seat, lines, reads, joints, gate);
+        if refusal.is_some() || entered > 0 && !open {
             return (entered, refusal);
         }
-        if entered > 0 {
-            return (entered, None);
-        }
-        let Some(first) = lines.get(entered) else {
+        let Some(next) = lines.get(entered) else {
             return (entered, None);
         };
-        match self.enter_at(rt, seat, &first.line, first.at, gate) {
+        match self.enter_next(rt, seat, next, open, gate) {
             Ok(()) => (entered + 1, None),
             Err(refusal) => (entered, Some(refusal)),
         }
     }
 
+    /// Enters a line behind a run. One that is known to stay open goes to the book at once.
+    fn enter_next<R: Wait, G: Gate>(
+        &self,
+        rt: &R,
+        seat: &mut Seat<L>,
+        next: &Numbered,
+        open: bool,
+        gate: &G,
+    ) -> Result<(), Refusal>
+        ensures made { OnOk result (IsMaking (call_of next.now.line) seat.old seat.new) }
+        ensures free { OnOk result (line_refusal seat.old next.now.line ≡ None) }
+        ensures kept { OnErr result (seat.new ≡ seat.old) }
+        ensures refusal { IfErr result (IsLineRefused L.formula L.seats L.max_steps seat.old
+            next.now.line) }
+    {
+        if open {
+            self.hand_over(rt, seat, &next.line, next.at, gate, Unlocked::Open, false)?;
+            return Ok(());
+        }
+        self.enter_at(rt, seat, &next.line, next.at, gate)
+    }
+
     /// Enters the run that these lines start with in one hold of the lock, up to the first line that the book refuses; gives how many
-    /// lines were entered, and the refusal.
+    /// lines were entered, the refusal, and whether the line behind is an addition that what the seat sees leaves open.
     fn enter_run<R: Wait, G: Gate>(
         &self,
         rt: &R,
@@ -291,7 +310,7 @@ impl<L: BookId> Shared<L> {
         reads: &mut [usize],
         joints: &mut [u64],
         gate: &G,
-    ) -> (usize, Option<Refusal>)
+    ) -> (usize, Option<Refusal>, bool)
         requires { length reads.old ≡ length joints.old }
         ensures entered { AreEntered seat.old (take result.0 lines.now) seat.new }
         ensures reads { length reads.new ≡ length reads.old }
@@ -307,9 +326,9 @@ impl<L: BookId> Shared<L> {
             own,
             scratch,
         } = seat;
-        let count = begin_run(account, own, &self.formula, scratch, lines, reads);
+        let (count, open) = begin_run(account, own, &self.formula, scratch, lines, reads);
         if count == 0 {
-            return (0, None);
+            return (0, None, open);
         }
         let run = &lines[..count];
         pass_all(gate, number, run);
@@ -320,7 +339,7 @@ impl<L: BookId> Shared<L> {
         answered_all(gate, number, run);
         finish_run(own, run, joints, entered);
         take_back_run(own, run, entered);
-        (entered, refusal)
+        (entered, refusal, open)
     }
 
     /// Hands a line in, and gives its token where one is asked for.

@@ -6,6 +6,7 @@ use Rattle.lj_clause.specs.LiteralSet.{negations}
 use Rattle.lj_clause.specs.Propagation.{propagate}
 use Rattle.lj_hint.specs.Ending.{ending_of}
 use Rattle.lj_hint.specs.declared.propagate.Ending.{Ending}
+use Rattle.lj_hint.specs.declared.propagate.Ending.TheVariants.{StaysOpen}
 use Rattle.lj_text.specs.declared.line.Line.{Line}
 use Rattle.lj_text.specs.declared.line.Line.TheVariants as lines
 use Rattle.lj_text.specs.declared.line.Addition.{Addition}
@@ -36,6 +37,10 @@ first_unseen m (own ∷ owns) = if is_some (fin.get m own) then first_unseen m o
 -- By these clauses, whoever sees them, the propagation of the addition closes after so many of its hints.
 abbrev pub IsClosedBy : ClauseMap → Addition → ℕ → Type 0
 IsClosedBy m a read = (view : View) (seat : ℕ) → AreSeen m view → IsClosedAlone view seat a read
+
+-- By these clauses the propagation of the addition over its first list stays open.
+abbrev pub IsOpenBy : ClauseMap → Addition → Type 0
+IsOpenBy m a = StaysOpen ≡ ending_of (propagate m (negations a.lemma.clause) a.hints)
 
 -- By these clauses, whoever sees them, the addition is refused so; memory may be short in its place.
 abbrev pub IsRefusedBy : ClauseMap → Addition → Refusal → Type 0
