@@ -1,5 +1,5 @@
 """Makes scripts with what they have to print, by a fixed generator and plain scans (`plain_book.py`): lists of events that are
-played as a book, as a list and as a shared book, walks and RAT tests over small formulas, and walks and lines that are long.
+played as a book, as a list and as a shared book, propagations and RAT tests over small formulas, and propagations and lines that are long.
 `scripts()` gives them, each as its name, its text and its output."""
 import plain_book
 from plain_book import Book, Refused, in_order, words
@@ -224,7 +224,7 @@ def lists_of_events():
         yield script.named(f"lists {first} to {first + LISTS_OF_A_SCRIPT - 1}")
 
 
-# ---- walks and RAT tests
+# ---- propagations and RAT tests
 
 
 def add_propagation(script, clauses, lemma, hints):
@@ -254,12 +254,12 @@ def small_propagations():
             groups = [(random.of(numbers), [random.of(numbers) for _ in range(random.below(3))]) for _ in range(random.below(5))]
             hints = [random.of(numbers) for _ in range(random.below(3))]
             add_rat(script, clauses, (random.literals(2), hints, groups))
-    yield script.named("small walks")
+    yield script.named("small propagations")
 
 
 def long_propagations():
-    """Walks that hold many literals: near the greatest one, and so often that the list of stamps grows, in walks of more
-    literals than a room is kept for and of fewer. No old stamp counts, so a walk of 1 alone is stuck each time."""
+    """Propagations that assign many literals: near the greatest one, and so often that the list of stamps grows, in some of more
+    literals than memory is kept for and some of fewer. No old stamp counts, so a propagation of 1 alone is stuck each time."""
     for name, first, count, times in (
         ("great literals", 134_215_000, 1500, 2),
         ("few great literals", 134_215_000, 300, 9),

@@ -39,7 +39,7 @@ def hints_and_groups(numbers):
 
 
 def propagate(held, hints, clause_of):
-    """The walk of a set of literals over hints: Closed and how many hints it read, Open and the set, or Stuck and the place."""
+    """The propagation of a set of literals over hints: Closed and how many hints it read, Open and the set, or Stuck and the place."""
     held = set(held)
     if any(-literal in held for literal in held):
         return "Closed", 0

@@ -1,5 +1,5 @@
 """Plays scripts of `lj_script` on a plain book: what each has to print, also where one of its calls is refused memory. Scripts of
-walks, of texts and of faults aren't played here."""
+propagations, of texts and of faults aren't played here."""
 from plain_book import Book, Refused, hints_and_groups, in_order, trimmed, words
 
 NO_MEMORY = "Refused(NoMemory)"

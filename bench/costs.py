@@ -187,18 +187,18 @@ def trimmed_chain_of_falling_numbers(count):
 # Walks and seats
 
 
-def walk_of_many_hints(count):
+def propagation_of_many_hints(count):
     return Input(formula([[1], [2, 3]]), [f"3 2 0 {text([1] * count)}\n"])
 
 
-def walks_along_a_chain(count):
-    """Lemmas whose walk takes each clause of a chain. Up to 511 variables, no stamp stands in a tree."""
+def propagations_along_a_chain(count):
+    """Lemmas whose propagation takes each clause of a chain. Up to 511 variables, no stamp stands in a tree."""
     clauses = [[-k, k + 1] for k in range(1, count + 1)]
     proof = f"-1 {count + 1} 0 {text(range(1, count + 1))}"
     return Input(formula(clauses), [lines(f"{count + 1 + k} {proof}" for k in range(100))])
 
 
-def walks_of_a_long_lemma(count):
+def propagations_of_a_long_lemma(count):
     """Lemmas of many literals, and a hint for each that leaves one literal more."""
     clauses = [*([k, -count - k] for k in range(1, count + 1)), range(count + 1, 2 * count + 1)]
     proof = f"{text(range(1, count + 1))} {text(range(1, count + 2))}"
@@ -232,9 +232,9 @@ def rows():
     yield Row("a chain that is trimmed, beside one that isn't", whole, trimmed, 1.38)
     yield twice("a chain that is trimmed", trimmed_chain, 3_000)
     yield twice("a chain of falling numbers that is trimmed", trimmed_chain_of_falling_numbers, 800)
-    yield twice("a walk of many hints", walk_of_many_hints, 2_000)
-    yield twice("walks along a chain", walks_along_a_chain, 200)
-    yield twice("walks of a long lemma", walks_of_a_long_lemma, 120)
+    yield twice("a propagation of many hints", propagation_of_many_hints, 2_000)
+    yield twice("propagations along a chain", propagations_along_a_chain, 200)
+    yield twice("propagations of a long lemma", propagations_of_a_long_lemma, 120)
     alone, among = one_busy_seat(1, "--in-turn"), one_busy_seat(64, "--in-turn")
     yield Row("a seat among 63 idle ones, beside it alone", alone, among, 1.11)
     yield Row("a seat among 63 on threads, beside it among one", one_busy_seat(2), one_busy_seat(64), 1.08)

@@ -138,7 +138,7 @@ stream 'imports under every second number' few.cnf 600000 'BEGIN { for (i = 2; i
 stream 'lemmas of nine literals, behind an import' few.cnf 300000 \
     'BEGIN { print "2 i 1 0"; for (i = 3; i < n; i++) print i " 1 2 3 4 5 6 7 8 9 0 1 0" }'
 # (A stamp takes longer for a variable whose stamp is not in the list of the first ones, so the half has many such too.)
-stream 'a walk over many clauses' 'BEGIN {
+stream 'a propagation over many clauses' 'BEGIN {
     print "p cnf " n " " n + 1
     for (i = 1; i <= n; i++) print i " 0"
     for (i = 1; i <= n; i++) printf "-%d ", i
@@ -167,7 +167,7 @@ stream 'lemmas of nine literals in every third variable, behind an import' all.c
 stream 'lemmas of sixteen variables anywhere below ten million' all.cnf 55000 'BEGIN {
     srand(1)
     for (i = 2; i < n; i++) { printf i; for (j = 0; j < 16; j++) printf " %d", 2 + int(9999997 * rand()); print " 0 0" } }'
-stream 'a long clause walked and deleted' all.cnf 4000000 'BEGIN {
+stream 'a long clause read and deleted' all.cnf 4000000 'BEGIN {
     for (line = 2; line < 4; line++) { printf line; for (i = 1; i <= n; i++) printf " %d", i; print " 0 " line - 1 " 0" }
     print "4 d 2 3 0" }'
 stream 'an import of a long clause' \

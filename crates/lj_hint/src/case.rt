@@ -101,7 +101,7 @@ impl Case {
         *self.hints.allocator()
     }
 
-    /// The propagation of the lemma's negation over the first list of hints; the groups aren't looked at. The room may
+    /// The propagation of the lemma's negation over the first list of hints; the groups aren't looked at. The propagator may
     /// have served any propagation before, and may serve any after, whatever the answer. Takes O(n log n) time for the n
     /// literals that it reads.
     pub fn test(self, propagator: &mut Propagator) -> Tested

@@ -11,8 +11,8 @@ use crate::propagator::Propagator;
 use lj_clause::{Clause, Lemma, NoMemory};
 use lj_text::Numbers;
 
-/// The propagation of a lemma's negation over hints that are looked up by number. The propagator may have served any propagation before, and may
-/// serve any after.
+/// The propagation of a lemma's negation over hints that are looked up by number. The propagator may have served any
+/// propagation before, and may serve any after.
 ///
 /// Each hint is looked up once at most. Takes constant time for each literal that the propagation reads, or O(log n) where its
 /// variable is beyond 2,047 and propagations have held less than half so many literals.

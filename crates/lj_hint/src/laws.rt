@@ -9,15 +9,15 @@ pub fn receipt_implies()
     ensures implied { ReceiptImplies }
 {}
 
-/// Walks over two lists of hints that name the same clauses, place by place, end alike, under whatever numbers: closed after
-/// as many hints, stuck at the same place, or open with the same literals. Takes constant time.
+/// Propagations over two lists of hints that name the same clauses, place by place, end alike, under whatever numbers: closed
+/// after as many hints, stuck at the same place, or open with the same literals. Takes constant time.
 pub fn propagations_go_by_clauses()
     ensures ending { PropagationsGoByClauses }
     ensures open { OpenPropagationsGoByClauses }
 {}
 
-/// Walks, the test of candidates, the reply to a line and receipts commute with a renaming of variables that is one to one.
-/// Takes constant time.
+/// Propagations, the test of candidates, the reply to a line and receipts commute with a renaming of variables that is one to
+/// one. Takes constant time.
 pub fn propagations_commute_with_renamings()
     ensures tests { TestsCommuteWithRenamings }
     ensures ending { EndingOfImage }

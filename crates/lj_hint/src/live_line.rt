@@ -41,13 +41,14 @@ pub enum LineRefusal {
 }
 
 /// The test of a lemma over live clauses, whose hints and groups are joint numbers: hinted unit propagation over the
-/// first list and, where that stays open, the test of the pivot's candidates. The propagator may have served any propagation before.
+/// first list and, where that stays open, the test of the pivot's candidates. The propagator may have served any propagation
+/// before.
 ///
-/// Each hint is looked up once. Takes constant time for each literal that a propagation reads, or O(log n) where its variable is
-/// beyond 2,047 and propagations have held less than half so many literals. Where the first propagation stays open, takes the candidates'
-/// look-up, constant time for each of them and O(log c) for each group, with c candidates. Room for the groups of a line and
-/// of its candidates, by eight bytes a candidate, or sixteen with more than eight groups, and four a group, is freed at its
-/// end.
+/// Each hint is looked up once. Takes constant time for each literal that a propagation reads, or O(log n) where its variable
+/// is beyond 2,047 and propagations have held less than half so many literals. Where the first propagation stays open, takes
+/// the candidates' look-up, constant time for each of them and O(log c) for each group, with c candidates. Memory for the
+/// groups of a line and of its candidates, eight bytes a candidate, or sixteen with more than eight groups, and four a group,
+/// is freed at its end.
 ///
 /// # Errors
 /// The first of [`LineRefusal::Stuck`], [`RatRefusal::EmptyOpen`] for a lemma without a pivot and the refusal of the

@@ -22,12 +22,12 @@ use lj_text::Groups;
 
 /// The test of a case whose propagation stays open, by resolution asymmetric tautology: the
 /// candidates are the live clauses that hold the negation of the lemma's pivot, their hints those of the case. The
-/// groups come back by rising candidate, one for each, cut after its closing hint. The propagator may have served any propagation
-/// before.
+/// groups come back by rising candidate, one for each, cut after its closing hint. The propagator may have served any
+/// propagation before.
 ///
 /// Takes the time of the first propagation again, O(log c) for each group, with c candidates, and for each candidate constant
-/// time for each literal that its propagation reads, or O(log n) where its variable is beyond 2,047 and propagations have held less than
-/// half so many literals.
+/// time for each literal that its propagation reads, or O(log n) where its variable is beyond 2,047 and propagations have
+/// held less than half so many literals.
 ///
 /// # Errors
 /// [`RatRefusal::EmptyOpen`] for a lemma without a pivot, else that of the first candidate that isn't covered, and

@@ -25,8 +25,8 @@ impl Propagator {
         Propagator::after(alloc, 0)
     }
 
-    /// A propagator that has served so many propagations, so that a test reaches the last propagation that is counted. Takes no memory, and
-    /// constant time.
+    /// A propagator that has served so many propagations, so that a test reaches the last propagation that is counted. Takes
+    /// no memory, and constant time.
     pub fn after(alloc: Global, propagations: u32) -> Propagator
         ensures { result ≡ tt }
     {

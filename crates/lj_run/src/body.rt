@@ -27,10 +27,10 @@ use std::sync::Wait;
 use std::thread::Threads;
 use std::time::Clock;
 
-/// Does what the words ask for, and answers the status that the program is to end with. The words are those after the program's
-/// own name. With `--progress` it tells on the standard error of the runtime how far the streams are, at most once a second, and nothing
-/// of that goes to `err`. The memory of a run's steps is left to the system, which takes it back when the program ends. Takes the time of
-/// the run that they ask for.
+/// Does what the arguments ask for, and answers the status that the program is to end with. The arguments are those after the
+/// program's own name. With `--progress` it tells on the standard error of the runtime how far the streams are, at most once a
+/// second, and nothing of that goes to `err`. The memory of a run's steps is left to the system, which takes it back when the
+/// program ends. Takes the time of the run that they ask for.
 pub fn program<R: Threads + Wait + Clock + Eprint + Sync, S: AsStr, F: Files, O: Sink, E: Sink>(
     rt: &R,
     alloc: Global,

@@ -7,7 +7,8 @@ pub trait Gate {
     /// wants.
     fn pass(&self, seat: u32, line: u64);
 
-    /// The lock is held for the line. Neither it nor a line of the same hold is entered yet. Takes what time the gate wants, in which no line is entered.
+    /// The lock is held for the line. Neither it nor a line of the same hold is entered yet. Takes what time the gate wants, in
+    /// which no line is entered.
     fn locked(&self, _seat: u32, _line: u64) {}
 
     /// The answer to the line stands. Takes what time the gate wants.

@@ -1,4 +1,4 @@
-//! The desk's copies of its seats.
+//! The locked book's copies of its seats.
 ghost use Rattle.std.specs.Prelude.{◌≡◌, [], map, All, Some, slice_get, slice_set};
 ghost use Rattle.lj_share.specs.Seats.{seat_of_book};
 
@@ -7,7 +7,7 @@ use crate::copies::{BookCopy, SeatCopy};
 use lj_book::Book;
 use std::marker::{Model, PhantomData};
 
-/// The desk's copy of each seat, by seat. They take no memory.
+/// The locked book's copy of each seat, by seat. They take no memory.
 #[derive(Drop)]
 pub(crate) struct Lists<L: BookId> {
     copies: Vec<BookCopy>,

@@ -82,8 +82,8 @@ pub struct SeatsOut<L: BookId> {
 
 impl<L: BookId> Shared<L> {
     /// A new book for so many seats, and the seats, by rising number. Each holds the clauses of the formula under their
-    /// numbers. The history takes at most `max_steps` additions. The blank is the opening's, for so many seats. Takes the time
-    /// of [`Book::open`], and for each seat a byte for each clause of the formula.
+    /// numbers. The history takes at most `max_steps` additions. The parts are those of the opening, made for so many seats.
+    /// Takes the time of [`Book::open`], and for each seat a byte for each clause of the formula.
     ///
     /// # Errors
     /// [`NoMemory`] where a growth was refused.
@@ -123,7 +123,8 @@ impl<L: BookId> Shared<L> {
     }
 
     /// Hands a line of the seat's prover to the book, and gives the token of its entry. An addition is tested outside the lock, by
-    /// what the seat sees, and then entered; one whose propagation over its first list stays open is tested and entered under the lock. Takes constant time for each number of the line and each literal of its hints, amortized, or O(log n) for numbers
+    /// what the seat sees, and then entered; one whose propagation over its first list stays open is tested and entered under the
+    /// lock. Takes constant time for each number of the line and each literal of its hints, amortized, or O(log n) for numbers
     /// beyond the slots; under the lock, the time of [`Book::add_closed`], [`Book::add_inside`], [`Book::import`] or
     /// [`Book::drop_numbers`].
     ///
@@ -200,7 +201,8 @@ impl<L: BookId> Shared<L> {
 
     /// Hands in lines of the seat's prover, in order, each as [`Shared::enter_at`] does, up to the first that is refused; gives how
     /// many were entered, and the refusal of the next one. Additions that close by what the seat sees, and deletions, are entered in
-    /// one hold of the lock, as many as follow one another. An addition of a number that such a deletion names begins the next. Takes the time of [`Shared::enter_at`] for each line.
+    /// one hold of the lock, as many as follow one another. An addition of a number that such a deletion names begins the next.
+    /// Takes the time of [`Shared::enter_at`] for each line.
     pub fn enter_lines<R: Wait, G: Gate>(
         &self,
         rt: &R,
@@ -723,7 +725,7 @@ fn seats_of<L: BookId>(
     Ok(out)
 }
 
-/// The shares of these seats, put together with the rest. Their copies agree with those of the desk.
+/// The shares of these seats, put together with the rest. Their copies agree with those of the locked book.
 fn gathered<L: BookId>(
     book: &Book,
     lists: &mut Lists<L>,

@@ -1,4 +1,4 @@
-//! Lines that are written word by word.
+//! Lines that are written token by token.
 ghost use Rattle.std.specs.Prelude.{◌≡◌, ℕ, [], ◌∷◌, false, true, OnOk, OnErr, codes};
 ghost use Rattle.std.specs.Fmt.{decimal};
 ghost use Rattle.lj_text.specs.Writing.{spaced_token};
@@ -11,7 +11,7 @@ use crate::sink::{Sink, SinkFault};
 use lj_clause::Lit;
 use std::marker::Model;
 
-/// A word of a line, behind its first number.
+/// A token of a line, behind its first number.
 #[derive(Clone, Copy, Debug, PartialEq, Eq)]
 pub enum LineToken {
     /// A number.
@@ -26,7 +26,7 @@ pub enum LineToken {
     End,
 }
 
-/// Writes a space and a word.
+/// Writes a space and a token.
 fn write_line_token<W: Sink>(
     sink: &mut W,
     buffer: &mut OutputBuffer,
@@ -51,7 +51,7 @@ fn write_line_token<W: Sink>(
     }
 }
 
-/// Writes lines word by word, for one sink that each call is handed. It is seen as what the sink hasn't taken yet and
+/// Writes lines token by token, for one sink that each call is handed. It is seen as what the sink hasn't taken yet and
 /// whether a write of the sink failed.
 ///
 /// It takes no memory: what the sink hasn't taken yet is held back in a place of fixed size, until that is full or
@@ -96,7 +96,7 @@ impl TokenWriter {
         self.failed = write_first(sink, &mut self.buffer, number).is_err();
     }
 
-    /// Writes a space and a word. Takes time linear in its digits.
+    /// Writes a space and a token. Takes time linear in its digits.
     pub fn token<W: Sink>(&mut self, sink: &mut W, token: LineToken)
         requires { MayBeGiven (token_state (W.taken sink.old) (W.failures sink.old) self.old) }
 
