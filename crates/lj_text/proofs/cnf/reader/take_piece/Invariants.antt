@@ -8,7 +8,7 @@ abbrev pub invariant-loop-front : goal.invariant-loop-front
 invariant-loop-front l = record {
   none : HasNoLineEnd l.buffer.items;
   sound : kept_fault l.fn.before ≡ None → kept_fault l.state ≡ None;
-  going : Going l.max l.first l.fn.before l.fn.buffered.items l.piece l.state l.number l.buffer.items l.rest;
+  going : Going l.max l.first l.fn.before l.fn.buffer.items l.piece l.state l.number l.buffer.items l.rest;
 }
 
 abbrev pub decreases-loop-front : goal.decreases-loop-front
