@@ -52,7 +52,7 @@ pub(crate) fn add_joint_form(
 ///
 /// # Errors
 /// As [`Book::add_inside`].
-pub(crate) fn add_joint_form_telling(
+pub(crate) fn add_joint_form_with_entry(
     joint: &mut Book,
     variables: &VariableTable,
     seat: u32,

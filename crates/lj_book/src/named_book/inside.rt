@@ -9,7 +9,7 @@ ghost use Rattle.lj_book.specs.inner.Over.{IsOver, IsOverAfter};
 use crate::book::Book;
 use crate::book::laws::history_is_legal;
 use crate::entry::{Added, Entry};
-use crate::joint_forms::{add_joint_form, add_joint_form_telling, refusal_at_limit};
+use crate::joint_forms::{add_joint_form, add_joint_form_with_entry, refusal_at_limit};
 use crate::named_book::NamedBook;
 use crate::refusal::Refusal;
 use crate::variable_table::VariableTable;
@@ -73,7 +73,7 @@ impl NamedBook {
             (self.new ≡ after_named self.old (named_inside_entry self.old seat addition.now)) }
         ensures err { OnErr result (self.new ≡ self.old) }
     {
-        add_named_telling(
+        add_named_with_entry(
             &mut self.joint,
             &mut self.variables,
             seat,
@@ -135,7 +135,7 @@ fn add_named(
 ///
 /// # Errors
 /// As [`NamedBook::add_inside`].
-fn add_named_telling(
+fn add_named_with_entry(
     joint: &mut Book,
     variables: &mut VariableTable,
     seat: u32,
@@ -169,7 +169,7 @@ fn add_named_telling(
         let _ = joint.formula().variables();
         return Err(refusal_at_limit(joint, variables, seat, addition, propagator));
     }
-    match add_joint_form_telling(joint, variables, seat, addition, propagator) {
+    match add_joint_form_with_entry(joint, variables, seat, addition, propagator) {
         Ok(told) => {
             history_is_legal(joint);
             Ok(told)

@@ -11,7 +11,7 @@ use Rattle.lj_book.specs.Calls.{IsReply, IsReplyBy}
 use Rattle.lj_book.specs.Inside.{inside_reply, inside_entry}
 use Rattle.lj_book.specs.inner.JointForms.{joint_form, is_unmoved, with_call}
 use Rattle.lj_book.proofs.JointFormLaws.{unmoved_form}
-use Rattle.lj_book.proofs.joint_forms.add_joint_form_telling.Goals as goal
+use Rattle.lj_book.proofs.joint_forms.add_joint_form_with_entry.Goals as goal
 
 pub returns-then-is_unmoved-clause-reply : goal.returns-then-is_unmoved-clause-reply
 returns-then-is_unmoved-clause-reply c =

@@ -19,7 +19,7 @@ use Rattle.lj_book.proofs.GivenBack.{given_goes_on}
 use Rattle.lj_book.proofs.OverLaws.{is_refusal}
 use Rattle.lj_book.proofs.NamedCommits.{on_err as anyway}
 use Rattle.lj_book.proofs.InsideOver.{within_reply, within_entry, within_entered, as_left, same_limit, given_reply, given_entry, given_entered, taken_back, refused_at_once, seat_within, on_ok, on_err}
-use Rattle.lj_book.proofs.named_book.inside.add_named_telling.Goals as goal
+use Rattle.lj_book.proofs.named_book.inside.add_named_with_entry.Goals as goal
 
 pub returns-then-is_within-clause-reply : goal.returns-then-is_within-clause-reply
 returns-then-is_within-clause-reply c =
@@ -167,7 +167,7 @@ returns-in-Ok-clause-ok c =
     c.in_ok-left.ensures.given
     ∙ ap (λ (b : Bool). cond b (variables_at t.top (given t.top t.variables seat c.clause.result.now)) t) c.if-not-left.false
     ∙ ap (λ (d : LiteralSet). variables_at t.top (given t.top t.variables seat d)) clause in
-    given_entered j t over seat a lemma u enough gave c.add_joint_form_telling.new.joint c.history_is_legal-in-Ok.ensures c.in-Ok.ensures.ok
+    given_entered j t over seat a lemma u enough gave c.add_joint_form_with_entry.new.joint c.history_is_legal-in-Ok.ensures c.in-Ok.ensures.ok
 
 pub take_back-requires : goal.take_back-requires
 take_back-requires c =
