@@ -111,7 +111,7 @@ pub(crate) fn close_joint_form(
 ///
 /// # Errors
 /// As [`Book::add_closed`].
-pub(crate) fn close_joint_form_telling(
+pub(crate) fn close_joint_form_with_entry(
     joint: &mut Book,
     variables: &VariableTable,
     seat: u32,

@@ -13,7 +13,7 @@ ghost use Rattle.lj_book.specs.inner.Over.{IsOver, IsOverAfter};
 use crate::book::Book;
 use crate::book::laws::history_is_legal;
 use crate::entry::{Added, Entry};
-use crate::joint_forms::{close_joint_form, close_joint_form_telling};
+use crate::joint_forms::{close_joint_form, close_joint_form_with_entry};
 use crate::named_book::NamedBook;
 use crate::refusal::Refusal;
 use crate::variable_table::VariableTable;
@@ -65,7 +65,7 @@ impl NamedBook {
             (self.new ≡ after_named self.old (named_inside_entry self.old seat addition.now)) }
         ensures err { OnErr result (self.new ≡ self.old) }
     {
-        close_named_telling(&mut self.joint, &mut self.variables, seat, addition, read)
+        close_named_with_entry(&mut self.joint, &mut self.variables, seat, addition, read)
     }
 }
 
@@ -119,7 +119,7 @@ fn close_named(
 ///
 /// # Errors
 /// As [`NamedBook::add_closed`].
-fn close_named_telling(
+fn close_named_with_entry(
     joint: &mut Book,
     variables: &mut VariableTable,
     seat: u32,
@@ -151,7 +151,7 @@ fn close_named_telling(
     if !left {
         return Err(refusal_of_closed(joint));
     }
-    match close_joint_form_telling(joint, variables, seat, addition, read) {
+    match close_joint_form_with_entry(joint, variables, seat, addition, read) {
         Ok(told) => {
             history_is_legal(joint);
             Ok(told)
