@@ -71,7 +71,7 @@ pub(crate) fn covering<G: GroupList>(
     count: usize,
     covered: Option<Groups>,
 ) -> Result<Option<Groups>, NoMemory>
-    ensures { IfOk result (λ covered. unwrap_or covered (plain_groups (G.groups groups.now))
+    ensures { IfOk result (λ all. unwrap_or all (plain_groups (G.groups groups.now))
         ≡ covered_before (G.groups groups.now) count covered) }
 {
     if covered.is_none() && groups.count() != count {
