@@ -7,13 +7,13 @@ use Rattle.lj_book.proofs.clause_log.ClauseLog.clause.Goals as goal
 
 pub clause_at-requires : goal.clause_at-requires
 clause_at-requires c =
-    subst (λ (ls : List ℤ). IsRange ls c.in-Some.key.now) (sym c.lits.ensures)
-    (c.self.invariant.ranges_are c.args.number c.in-Some.key.now (sym c.get.ensures ∙ ap option_copied c.in-Some.is))
+    subst (λ (ls : List ℤ). IsRange ls c.in-Some.range.now) (sym c.lits.ensures)
+    (c.self.invariant.ranges_are c.args.number c.in-Some.range.now (sym c.get.ensures ∙ ap option_copied c.in-Some.is))
 
 pub returns-in-Some : goal.returns-in-Some
 returns-in-Some c =
-    ap Some (c.clause_at.ensures ∙ ap (λ (ls : List ℤ). clause_in ls c.in-Some.key.now) c.lits.ensures)
-    ∙ found_placed c.self.inside.history.lits c.self.inside.ranges c.args.number c.in-Some.key.now (sym c.get.ensures ∙ ap option_copied c.in-Some.is)
+    ap Some (c.clause_at.ensures ∙ ap (λ (ls : List ℤ). clause_in ls c.in-Some.range.now) c.lits.ensures)
+    ∙ found_placed c.self.inside.history.lits c.self.inside.ranges c.args.number c.in-Some.range.now (sym c.get.ensures ∙ ap option_copied c.in-Some.is)
     ∙ ap (λ r. fin.get r.live c.args.number) c.self.view_is
 
 pub returns-in-None : goal.returns-in-None
