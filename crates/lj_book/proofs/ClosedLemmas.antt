@@ -76,7 +76,7 @@ case_joints seat a c None (Ok hs) (Ok gs) h =
     ap (λ (d : CaseValue). Ok (numbers d.hints, groups_joint d.groups)) same
 
 -- propagation over the live clauses is that of the case
-propagated_here : (s : State) (seat : ℕ) (a : Addition) (c : CaseValue) → IsGiven s → solo_take (view_of s seat) seat a ≡ Ok c → propagate (live s) (negations a.lemma.clause) (numbers c.hints) ≡ propagation_of c
+pub propagated_here : (s : State) (seat : ℕ) (a : Addition) (c : CaseValue) → IsGiven s → solo_take (view_of s seat) seat a ≡ Ok c → propagate (live s) (negations a.lemma.clause) (numbers c.hints) ≡ propagation_of c
 propagated_here s seat a c given taken = go (table_of s.tables seat) refl
   where
     at_view : (o : Option Table) → table_of s.tables seat ≡ o → solo_take (option_map (holdings_of (given_out s)) o) seat a ≡ Ok c
@@ -123,7 +123,9 @@ short_alone (refusals.MissingGroup n) r x is h = absurd (let no : ⊥ = cc in no
 short_alone (refusals.GroupStuck n place) r x is h = absurd (let no : ⊥ = cc in no)
 short_alone (refusals.GroupOpen n) r x is h = absurd (let no : ⊥ = cc in no)
 short_alone (refusals.Stale n) r x is h = absurd (let no : ⊥ = cc in no)
+short_alone refusals.PrivateVariable r x is h = absurd (let no : ⊥ = cc in no)
 short_alone refusals.NoSuchClause r x is h = absurd (let no : ⊥ = cc in no)
+short_alone refusals.NoVariableLeft r x is h = absurd (let no : ⊥ = cc in no)
 
 -- ---- what the code finds
 

@@ -130,7 +130,7 @@ no_clause_at_next s sound = go (fin.get (live s) (next s)) (not_there s sound)
     go None h = refl
     go (Some x) h = absurd (false≢true (sym h))
 
-commit_legal : (s : State) (r : ReceiptValue) → IsSound s → IsReceipt r → CanCommit s r → IsLegal s (commit_entry s r)
+pub commit_legal : (s : State) (r : ReceiptValue) → IsSound s → IsReceipt r → CanCommit s r → IsLegal s (commit_entry s r)
 commit_legal s r sound receipt can =
     let lives = all_live (live s) r.listed can.fresh in
     let a : Addition = record { number = next s; lemma = r.lemma; hints = numbers r.listed; groups = [] } in

@@ -15,7 +15,7 @@ use Rattle.lj_text.specs.declared.line.Addition.{Addition}
 use Rattle.lj_hint.specs.declared.pair.Pair.{Pair}
 use Rattle.lj_hint.specs.Hints.{named_hints}
 use Rattle.lj_hint.specs.Case.{CaseValue, propagation_of}
-use Rattle.lj_hint.specs.Images.{pair_image, IsNamedCase}
+use Rattle.lj_hint.specs.Images.{pair_image, IsNamedCase, hints_image}
 use Rattle.lj_hint.proofs.Images.{tests_commute}
 use Rattle.lj_book.specs.declared.refusal.Refusal.{Refusal}
 use Rattle.lj_book.specs.declared.refusal.Refusal.TheVariants.{NumberTaken}
@@ -26,7 +26,7 @@ use Rattle.lj_book.specs.Solo.{Holdings, View, holdings_of, view_of, solo_case, 
 use Rattle.lj_book.specs.Views.{stuck_refusal, decided_by, IsClosedAlone}
 use Rattle.lj_book.specs.Variables.{renaming_of, is_own}
 use Rattle.lj_book.specs.Named.{NamedState, top_of, names_of, beneath, given_in, IsNamedReached}
-use Rattle.lj_book.specs.NamedViews.{hints_image, take_image, named_view, pair_at, addition_beneath, DecidedBeneath, ClosedBeneath, IsOpenAlone, OpenBeneath}
+use Rattle.lj_book.specs.NamedViews.{take_image, named_view, pair_at, addition_beneath, DecidedBeneath, ClosedBeneath, IsOpenAlone, OpenBeneath}
 use Rattle.lj_book.proofs.SoloTakes.{AllHeld, IsFit, take_fits}
 use Rattle.lj_book.proofs.NamedLaws.{rules_reached, given_grows}
 use Rattle.lj_book.proofs.NamedTakes.{takes_commute}

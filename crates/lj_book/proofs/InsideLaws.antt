@@ -99,7 +99,7 @@ lives_sound s seat sound own joint e = some_clause (fin.get (live s) joint) (liv
 
 -- ---- the reply and the entry, told from the joint numbers
 
-abbrev told_by : State → LemmaValue → Result LineParts Refusal → Result Added Refusal
+abbrev pub told_by : State → LemmaValue → Result LineParts Refusal → Result Added Refusal
 told_by s lemma (Err e) = Err e
 told_by s lemma (Ok parts) = unless_refused (test_refusal s (addition_of_parts (next s) lemma parts)) (commit_told s)
 
@@ -159,6 +159,14 @@ refused_by s lemma (Ok parts) e h = go (test_refusal s (addition_of_parts (next 
     go : (o : Option Refusal) → unless_refused o (recorded_form (live s) (addition_of_parts (next s) lemma parts)) ≡ Err e → unless_refused o (commit_told s) ≡ Err e
     go None h = cc
     go (Some x) h = let same : x ≡ e = cc in ap Err same
+
+-- the reply, told so
+pub inside_told : (s : State) (seat : ℕ) (a : Addition) → IsSound s → inside_reply s seat a ≡ if_free (free_refusal s seat a.number) (told_by s a.lemma (joint_parts (joint_of s.tables seat) a))
+inside_told s seat a sound = go (free_refusal s seat a.number) refl
+  where
+    go : (o : Option Refusal) → free_refusal s seat a.number ≡ o → inside_reply s seat a ≡ if_free o (told_by s a.lemma (joint_parts (joint_of s.tables seat) a))
+    go None is = reply_free s seat a sound (can_bind s seat a.number is)
+    go (Some e) is = ap (inside_after s) (taken_refused s seat a e is)
 
 -- a refusal of the code's is that of the definition
 pub inside_refused : (s : State) (seat : ℕ) (a : Addition) (e : Refusal) → IsSound s → inside_line s seat a ≡ Err e → inside_reply s seat a ≡ Err e
@@ -238,8 +246,10 @@ refusal_passes (refusals.MissingGroup n) one whole f h = f (refusals.MissingGrou
 refusal_passes (refusals.GroupStuck n place) one whole f h = f (refusals.GroupStuck n place) h
 refusal_passes (refusals.GroupOpen n) one whole f h = f (refusals.GroupOpen n) h
 refusal_passes (refusals.Stale n) one whole f h = f (refusals.Stale n) h
+refusal_passes refusals.PrivateVariable one whole f h = f refusals.PrivateVariable h
 refusal_passes refusals.NoSuchClause one whole f h = f refusals.NoSuchClause h
 refusal_passes refusals.Full one whole f h = f refusals.Full h
+refusal_passes refusals.NoVariableLeft one whole f h = f refusals.NoVariableLeft h
 
 -- A line whose seat and numbers aren't refused.
 record IsTaken (s : State) (seat : ℕ) (a : Addition) (parts : LineParts) : Type 0 where

@@ -21,6 +21,16 @@ pub mod SoloSteps
 pub mod SoloRuns
 pub mod ViewLaws
 pub mod NamedTakes
+pub mod NamedCommits
+mod ReceiptForms
+pub mod PrivateReplies
+pub mod NamedPlays
+mod OtherViews
+pub mod EnteringLaws
+pub mod OverLaws
+pub mod FormLaws
+pub mod EntryLaws
+mod PlacedEntries
 pub mod OwnHoldings
 pub mod DecidedBeneath
 pub mod Scans
@@ -32,10 +42,17 @@ mod PrivateClauses
 mod SeenClauses
 mod PrivateCandidates
 mod PrivateRefusals
+pub mod NamedInsideLaws
+mod NewLiterals
+mod LimitLaws
+pub mod LimitReplies
+mod InsideOver
+mod JointFormLaws
 pub mod PlayLaws
 mod Slots
 mod VariableTables
 mod TakenBack
+mod GivenBack
 mod GivingLaws
 mod WithinTop
 mod Shifts

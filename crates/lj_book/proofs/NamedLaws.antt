@@ -56,7 +56,7 @@ module _ (top : ℕ) (m n : Renaming) (part : IsPartOf m n) (one : IsOneToOne to
       by None e = stays (fin.get n x) refl (low e) ∙ sym (ap (λ o. unwrap_or o x) e)
       by (Some y) e = ap (λ o. unwrap_or o x) (part x y e) ∙ sym (ap (λ o. unwrap_or o x) e)
 
-  literal_alike : (l : ℤ) → has_name top m (variable_of l) ≡ true → literal_image n l ≡ literal_image m l
+  pub literal_alike : (l : ℤ) → has_name top m (variable_of l) ≡ true → literal_image n l ≡ literal_image m l
   literal_alike (pos k) h = ap pos (alike k h)
   literal_alike (negsuc k) h = ap (λ x. neg_ℤ (pos x)) (alike (suc k) h)
 

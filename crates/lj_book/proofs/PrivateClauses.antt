@@ -52,12 +52,12 @@ bound_in None joint h = absurd (false≢true h)
 bound_in (Some t) joint h = let found = bound_at (fin.entries t) joint (fin.entries_sorted t) h in (found.0, fin.get-entries t found.0 ∙ found.1)
 
 -- A number of some seat that is bound to the joint number.
-record Holder (ts : Tables) (joint : ℕ) : Type 0 where
-  seat : ℕ
-  own : ℕ
-  bound : joint_of ts seat own ≡ Some joint
+pub record Holder (ts : Tables) (joint : ℕ) : Type 0 where
+  pub seat : ℕ
+  pub own : ℕ
+  pub bound : joint_of ts seat own ≡ Some joint
 
-holder : (ts : Tables) (joint : ℕ) → has_holder ts joint ≡ true → Holder ts joint
+pub holder : (ts : Tables) (joint : ℕ) → has_holder ts joint ≡ true → Holder ts joint
 holder [] joint h = absurd (false≢true h)
 holder (t ∷ ts) joint h =
     elim (or_cases (holds_joint joint t) (has_holder ts joint) h) [
@@ -68,14 +68,14 @@ holder (t ∷ ts) joint h =
 -- ---- a live clause is held by some seat
 
 module _ (s : State) (joint : ℕ) (c : LiteralSet) (lives : fin.get (live s) joint ≡ Some c) where
-  live_held : has_holder s.tables joint ≡ true
+  pub live_held : has_holder s.tables joint ≡ true
   live_held = by (has_holder s.tables joint) refl (sym (get-live s joint) ∙ lives)
     where
       by : (b : Bool) → has_holder s.tables joint ≡ b → cond b (fin.get (given_out s) joint) None ≡ Some c → has_holder s.tables joint ≡ true
       by true is e = is
       by false is e = absurd (cc)
 
-  seen_with : (seat own : ℕ) → joint_of s.tables seat own ≡ Some joint → pair_at (view_of s seat) own ≡ Some (record { joint = joint; clause = c })
+  pub seen_with : (seat own : ℕ) → joint_of s.tables seat own ≡ Some joint → pair_at (view_of s seat) own ≡ Some (record { joint = joint; clause = c })
   seen_with seat own bound = by (table_of s.tables seat) bound
     where
       by : (t : Option Table) → option_and_then (λ (u : Table). fin.get u own) t ≡ Some joint → pair_at (option_map (holdings_of (given_out s)) t) own ≡ Some (record { joint = joint; clause = c })

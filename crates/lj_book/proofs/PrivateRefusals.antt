@@ -10,26 +10,26 @@ use Rattle.lj_text.specs.declared.line.Addition.{Addition}
 use Rattle.lj_hint.specs.declared.pair.Pair.{Pair}
 use Rattle.lj_hint.specs.Hints.{numbers}
 use Rattle.lj_hint.specs.Case.{CaseValue, propagation_of}
-use Rattle.lj_hint.specs.Images.{pair_image, hinted_image}
+use Rattle.lj_hint.specs.Images.{pair_image, hinted_image, hints_image}
 use Rattle.lj_book.specs.declared.refusal.Refusal.{Refusal}
 use Rattle.lj_book.specs.State.{live}
 use Rattle.lj_book.specs.Inside.{joint_addition, open_refusal, propagation_refusal, rat_refusal}
 use Rattle.lj_book.specs.Solo.{view_of, solo_take}
 use Rattle.lj_book.specs.Named.{NamedState, beneath, IsNamedReached}
-use Rattle.lj_book.specs.NamedViews.{hints_image, take_image, named_view, seen_clauses, addition_beneath, IsPrivatePivot, PrivateRefusals}
+use Rattle.lj_book.specs.NamedViews.{take_image, named_view, seen_clauses, addition_beneath, IsPrivatePivot, PrivateRefusals}
 use Rattle.lj_book.proofs.SoloTakes.{take_fits}
 use Rattle.lj_book.proofs.DecidedBeneath.{with_lemma, own_names, later, joint_lemma, beneath_case, propagations, own_take, joint_take, open_so}
 use Rattle.lj_book.proofs.SeenClauses.{taken_hints_seen}
 use Rattle.lj_book.proofs.PrivateCandidates.{private_rat}
 
-same_numbers : (m : Renaming) (ps : List Pair) → numbers (map (pair_image m) ps) ≡ numbers ps
+pub same_numbers : (m : Renaming) (ps : List Pair) → numbers (map (pair_image m) ps) ≡ numbers ps
 same_numbers m [] = refl
 same_numbers m (p ∷ ps) = ap (λ ns. p.joint ∷ ns) (same_numbers m ps)
 
 abbrev joint_groups : List (Pair × List Pair) → List HintGroup
 joint_groups gs = map (λ (g : Pair × List Pair). record { candidate = g.0.joint; hints = numbers g.1 }) gs
 
-same_groups : (m : Renaming) (gs : List (Pair × List Pair)) → joint_groups (map (hinted_image m) gs) ≡ joint_groups gs
+pub same_groups : (m : Renaming) (gs : List (Pair × List Pair)) → joint_groups (map (hinted_image m) gs) ≡ joint_groups gs
 same_groups m [] = refl
 same_groups m (g ∷ gs) = λ i. record { candidate = g.0.joint; hints = same_numbers m g.1 i } ∷ same_groups m gs i
 

@@ -12,6 +12,11 @@ pub mod Worlds
 pub mod Solo
 pub mod Views
 pub mod NamedViews
+pub mod NamedInside
+pub mod NamedReplies
+pub mod NamedEntries
+pub mod NamedWorlds
+pub mod PrivateAdditions
 pub mod RefusalText
 pub mod WithEntry
 pub mod inner

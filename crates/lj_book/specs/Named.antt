@@ -5,14 +5,14 @@ use Rattle.lj_clause.specs.declared.lit.TheConstants.{MAX_VARIABLE}
 use Rattle.lj_clause.specs.LiteralSet.{LiteralSet}
 use Rattle.lj_clause.specs.Lemma.{IsLemma}
 use Rattle.lj_clause.specs.ClauseMap.{FormulaValue}
-use Rattle.lj_clause.specs.Renaming.{Renaming, image, lemma_image, is_named}
+use Rattle.lj_clause.specs.Renaming.{Renaming, image, lemma_image, is_named, inverse}
 use Rattle.lj_book.specs.declared.entry.Call.{Call}
 use Rattle.lj_book.specs.declared.entry.Call.TheVariants as calls
 use Rattle.lj_book.specs.declared.entry.Entry.{Entry}
 use Rattle.lj_book.specs.Tables.{Tables}
 use Rattle.lj_book.specs.Variables.{Variables, IsVariables, renaming_of, no_variables, given, is_own}
 use Rattle.lj_book.specs.State.{State, live, opening}
-use Rattle.lj_book.specs.History.{tables_after, IsLegal, IsReached}
+use Rattle.lj_book.specs.History.{tables_after, after_entry, IsLegal, IsReached}
 
 -- As `State`, with the variables of the seats. A call in an entry speaks its seat's variables, and a step joint ones.
 pub record NamedState : Type 0 where
@@ -52,6 +52,21 @@ beneath s = record {
   max_steps = s.max_steps;
   tables = s.tables;
   history = map (joint_entry s.variables) s.history;
+}
+
+-- what an entry of the book beneath is in its seat's variables
+abbrev pub own_entry : Variables → Entry → Entry
+own_entry v e = record
+    { seat = e.seat; call = call_image (inverse (renaming_of v e.seat)) e.call; step = e.step }
+
+-- the state over one in joint variables
+abbrev pub named_over : State → Variables → NamedState
+named_over s v = record {
+  formula = s.formula;
+  max_steps = s.max_steps;
+  tables = s.tables;
+  history = map (own_entry v) s.history;
+  variables = v;
 }
 
 -- the variables once a lemma with this clause has entered
@@ -144,3 +159,25 @@ BeneathIsReached = (s : NamedState) → IsNamedReached s → IsReached (beneath 
 -- The rules of variables hold.
 abbrev pub NamedKeepRules : Type 0
 NamedKeepRules = (s : NamedState) → IsNamedReached s → IsVariables (top_of s) s.variables
+
+-- A state lies over what lies beneath it.
+abbrev pub OverBeneath : Type 0
+OverBeneath = (s : NamedState) → IsNamedReached s → named_over (beneath s) s.variables ≡ s
+
+-- An entry that enters: it changes the book beneath by the entry in joint variables, and gives the variables out.
+pub record EntersBook (s : NamedState) (e : Entry) : Type 0 where
+  pub reached : IsNamedReached (after_named s e)
+  pub joint : beneath (after_named s e) ≡ after_entry (beneath s) (entry_beneath s e)
+  pub over : named_over (after_entry (beneath s) (entry_beneath s e))
+      (variables_behind s e.seat e.call) ≡ after_named s e
+
+-- Each legal entry enters.
+abbrev pub LegalEntriesEnter : Type 0
+LegalEntriesEnter = (s : NamedState) (e : Entry) → IsNamedReached s → IsNamedLegal s e
+    → EntersBook s e
+
+-- An entry that names rightly is legal where the book beneath takes it.
+abbrev pub TakenBeneathAreLegal : Type 0
+TakenBeneathAreLegal = (s : NamedState) (e : Entry) → IsNamedReached s
+    → NamesRightly s e.seat e.call → IsReached (after_entry (beneath s) (entry_beneath s e))
+    → IsNamedLegal s e

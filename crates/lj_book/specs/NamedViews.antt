@@ -9,8 +9,8 @@ use Rattle.lj_clause.specs.Rat.{HintGroup, candidates, rat}
 use Rattle.lj_clause.specs.Renaming.{Renaming, inverse, literal_image, image, lemma_image, is_named, entry_image}
 use Rattle.lj_text.specs.declared.line.Addition.{Addition}
 use Rattle.lj_hint.specs.declared.pair.Pair.{Pair}
-use Rattle.lj_hint.specs.Case.{CaseValue, case_of, propagation_of}
-use Rattle.lj_hint.specs.Images.{pair_image, hinted_image}
+use Rattle.lj_hint.specs.Case.{CaseValue, propagation_of}
+use Rattle.lj_hint.specs.Images.{pair_image, hints_image}
 use Rattle.lj_book.specs.declared.refusal.Refusal.{Refusal}
 use Rattle.lj_book.specs.Variables.{renaming_of, is_own, IsGiven}
 use Rattle.lj_book.specs.State.{live}
@@ -19,11 +19,6 @@ use Rattle.lj_book.specs.Inside.{joint_addition, propagation_refusal}
 use Rattle.lj_book.specs.Solo.{Holdings, View, view_of, solo_take}
 use Rattle.lj_book.specs.Views.{decided_refusal, IsClosedAlone}
 use Rattle.lj_book.specs.Named.{NamedState, top_of, names_of, beneath, given_in, IsNamedReached}
-
--- the case with the clauses of its hints renamed; its lemma stays
-abbrev pub hints_image : Renaming → CaseValue → CaseValue
-hints_image m c = case_of c.seat c.own c.lemma
-    (map (pair_image m) c.hints) (map (hinted_image m) c.groups)
 
 -- a reply to a take, likewise
 abbrev pub take_image : Renaming → Result CaseValue Refusal → Result CaseValue Refusal

@@ -20,6 +20,8 @@ refusal_text (refusals.GroupStuck joint place) = codes
     "GroupStuck(" ++ (decimal joint ++ (codes ", " ++ (decimal place ++ codes ")")))
 refusal_text (refusals.GroupOpen joint) = named_number (codes "GroupOpen") joint
 refusal_text (refusals.Stale joint) = named_number (codes "Stale") joint
+refusal_text refusals.PrivateVariable = codes "PrivateVariable"
 refusal_text refusals.NoSuchClause = codes "NoSuchClause"
 refusal_text refusals.Full = codes "Full"
+refusal_text refusals.NoVariableLeft = codes "NoVariableLeft"
 refusal_text (refusals.NoMemory _) = codes "NoMemory"

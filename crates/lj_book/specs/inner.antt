@@ -17,4 +17,8 @@ pub mod Opened
 pub mod Occurrences
 pub mod Chains
 pub mod VariableTables
-pub mod NamedReplies
+pub mod ReceiptForms
+pub mod Limits
+pub mod JointForms
+pub mod Over
+pub mod PrivateSteps

@@ -12,6 +12,7 @@ ghost use Rattle.lj_book.specs.Calls.{IsReply, drop_reply, drop_entry, commit_re
 
 mod adopting;
 mod closed;
+mod entering;
 mod inside;
 pub mod laws;
 mod leaving;
@@ -22,6 +23,7 @@ use crate::clause_log::ClauseLog;
 use crate::committing::{enter_addition, first_stale, refuted_at, step_of};
 use crate::dying::{rising, without_holder};
 use crate::entry::{Added, Dropped, Entry};
+use crate::history::History;
 use crate::lent_addition::LentAddition;
 use crate::refusal::Refusal;
 use crate::seat_tables::SeatTables;
@@ -144,6 +146,11 @@ impl Book {
         self.tables.joint(seat, own)
     }
 
+    /// Where its memory comes from.
+    pub(crate) fn allocator(&self) -> Global {
+        self.clause_log.allocator()
+    }
+
     /// The number of entries in the history. Takes constant time.
     pub fn history_len(&self) -> u64
         ensures { result ≡ length self.now.history }
@@ -175,6 +182,13 @@ impl Book {
         ensures { IsTrue result ↔ (slice_get self.now.history place ≡ Some entry.now) }
     {
         self.clause_log.history().is_entry(place, entry)
+    }
+
+    /// The history.
+    pub(crate) fn history(&self) -> &History
+        ensures { result.now.entries ≡ self.now.history }
+    {
+        self.clause_log.history()
     }
 
     /// The place of the first entry that adds the empty clause. Takes constant time.

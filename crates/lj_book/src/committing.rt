@@ -57,7 +57,7 @@ pub(crate) fn step_of(alloc: Global, receipt: &Receipt) -> Result<Addition, NoMe
 }
 
 /// The numbers of these pairs.
-fn numbers_of(alloc: Global, pairs: &[Pair]) -> Result<Numbers, NoMemory>
+pub(crate) fn numbers_of(alloc: Global, pairs: &[Pair]) -> Result<Numbers, NoMemory>
     ensures { IfOk result (λ list. list ≡ numbers pairs.now) }
 {
     let mut list = Numbers::with_capacity(alloc, pairs.len())?;

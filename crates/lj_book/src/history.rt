@@ -1,12 +1,14 @@
 //! The history of a book.
-ghost use Rattle.std.specs.Prelude.{◌≡◌, ◌≢◌, ◌↔◌, ◌+◌, ◌*◌, ◌<◌, ◌≤◌, ◌++◌, ◌∷◌, [], ◌^◌, length, IfOk, OnOk, OnErr, IsTrue, IfSome, Some, None, option_copied, slice_get, option_map};
-ghost use Rattle.lj_clause.specs.LiteralSet.{literals};
+ghost use Rattle.std.specs.Prelude.{◌≡◌, ◌≢◌, ◌↔◌, ◌+◌, ◌*◌, ◌<◌, ◌≤◌, ◌++◌, ◌∷◌, [], ◌^◌, length, IfOk, OnOk, OnErr, IsTrue, IfSome, IfNone, Some, None, option_copied, slice_get, option_map};
+ghost use Rattle.lj_clause.specs.LiteralSet.{LiteralSet, literals};
 ghost use Rattle.lj_text.specs.declared.step.Step.TheVariants.{Add};
 ghost use Rattle.lj_text.specs.Needed.{if_some, up_to_empty};
 ghost use Rattle.lj_text.specs.StepText.{proof_text};
 ghost use Rattle.lj_text.specs.Writing.{IsBeginning, IsCutShort};
 ghost use Rattle.lj_book.specs.State.{steps_of};
 ghost use Rattle.lj_book.specs.declared.entry.Call.TheVariants as calls;
+ghost use Rattle.lj_book.specs.Calls.{import_entry};
+ghost use Rattle.lj_book.specs.inner.JointLines.{line_entry};
 ghost use Rattle.lj_book.specs.inner.Records.{lemma_lits, addition_numbers, binding_call, binding_lits, entry_of};
 
 mod lines;
@@ -17,8 +19,8 @@ mod writing;
 use crate::entry::Entry;
 use crate::lent_addition::LentAddition;
 use lines::write_entries;
-use lj_clause::{Clause, Lit, NoMemory};
-use lj_text::{Numbers, Sink, SinkFault, Step, TokenWriter};
+use lj_clause::{Clause, ClauseView, Lit, NoMemory};
+use lj_text::{Addition, Numbers, Sink, SinkFault, Step, TokenWriter};
 use reading::{encoding_at, encoding_from};
 use std::alloc::Global;
 use std::marker::Model;
@@ -363,6 +365,31 @@ impl History {
         match encoding_at(&self.starts, &self.encoding, place) {
             Some(encoding) => matching::is_entry(&self.lits, encoding, entry),
             None => false,
+        }
+    }
+
+    /// Whether the entry at a place, counted from 0, is that of the seat's addition under its own number by this step. Takes
+    /// time linear in its contents, and no memory.
+    pub(crate) fn is_line(&self, place: u64, seat: u32, own: u64, addition: &Addition) -> bool
+        ensures { IsTrue result
+            ↔ (slice_get self.now.entries place ≡ Some (line_entry seat own addition.now)) }
+    {
+        match encoding_at(&self.starts, &self.encoding, place) {
+            Some(encoding) => matching::is_line(&self.lits, encoding, seat, own, addition),
+            None => false,
+        }
+    }
+
+    /// The clause of the seat's import under its own number, if the entry at a place, counted from 0, is one.
+    pub(crate) fn imported(&self, place: u64, seat: u32, own: u64) -> Option<ClauseView<'_>>
+        ensures some { IfSome result
+            (λ c. slice_get self.now.entries place ≡ Some (import_entry seat own c)) }
+        ensures none { IfNone result ((c : LiteralSet)
+            → slice_get self.now.entries place ≡ Some (import_entry seat own c) → ⊥) }
+    {
+        match encoding_at(&self.starts, &self.encoding, place) {
+            Some(encoding) => matching::imported(&self.lits, encoding, seat, own),
+            None => None,
         }
     }
 }

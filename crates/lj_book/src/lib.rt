@@ -13,15 +13,20 @@ mod entry;
 mod event;
 mod first_uses;
 mod history;
+mod inside_laws;
+mod joint_forms;
 mod joint_line;
 mod lent_addition;
 mod lent_clauses;
 mod line_tests;
 mod lit_range;
+mod named_book;
 mod number_map;
 mod occurrence_lists;
 mod opened;
 mod own_map;
+mod pending;
+mod private_laws;
 mod refusal;
 mod same;
 mod seat_table;
@@ -39,13 +44,16 @@ mod view_laws;
 pub use book::{Book, laws};
 pub use entry::{Added, Call, Dropped, Entry, Imported};
 pub use event::{Event, Reply};
+pub use inside_laws::additions_are_beneath;
+pub use named_book::{NamedBook, laws as named_laws};
 pub use own_map::OwnMap;
+pub use private_laws::private_replies_are_alone;
 pub use refusal::Refusal;
 pub use solo_laws::{fresh_receipts_are_not_stale, tidy_seats_are_alone};
 pub use steps::Steps;
 pub use variable_laws::{
     beneath_is_reached, clauses_give_variables, decided_beneath, images_are_own,
-    named_clauses_give_none, named_takes_are_alone, no_variables_at_first,
+    legal_entries_enter, named_clauses_give_none, named_takes_are_alone, no_variables_at_first,
     private_candidates_are_seen, private_clauses_are_held, private_tests_are_alone,
     seats_hold_their_own,
 };

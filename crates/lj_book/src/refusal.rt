@@ -32,10 +32,14 @@ pub enum Refusal {
     GroupOpen(u64),
     /// The first joint number that the receipt lists and that doesn't live with that very clause.
     Stale(u64),
+    /// The clause names a variable above the formula's that the seat was not given.
+    PrivateVariable,
     /// No such live clause.
     NoSuchClause,
     /// The history holds as many additions as it may.
     Full,
+    /// A new variable was needed, and all joint ones are given out.
+    NoVariableLeft,
     /// A growth of memory was refused.
     NoMemory(NoMemory),
 }
@@ -58,8 +62,10 @@ impl fmt::Display for Refusal {
             Refusal::GroupStuck(joint, place) => write!(f, "GroupStuck({joint}, {place})"),
             Refusal::GroupOpen(joint) => write!(f, "GroupOpen({joint})"),
             Refusal::Stale(joint) => write!(f, "Stale({joint})"),
+            Refusal::PrivateVariable => f.write_str("PrivateVariable"),
             Refusal::NoSuchClause => f.write_str("NoSuchClause"),
             Refusal::Full => f.write_str("Full"),
+            Refusal::NoVariableLeft => f.write_str("NoVariableLeft"),
             Refusal::NoMemory(_) => f.write_str("NoMemory"),
         }
     }

@@ -1,5 +1,5 @@
 //! Laws of the variables that seats name as they like. The functions do nothing.
-ghost use Rattle.lj_book.specs.Named.{BeneathIsReached, NamedKeepRules};
+ghost use Rattle.lj_book.specs.Named.{BeneathIsReached, NamedKeepRules, OverBeneath, LegalEntriesEnter, TakenBeneathAreLegal};
 ghost use Rattle.lj_book.specs.NamedViews.{TakesCommuteWithRenamings, NamedTakesAreAlone, SeatsHoldTheirOwn, ViewsComeBack, DecidedBeneath, ClosedBeneath, OpenBeneath, PrivateAreHeld, PrivateCandidates, GivenCandidates, NewPivotsHaveNone, PrivateRat, TakenHintsAreSeen, PrivateRefusals};
 ghost use Rattle.lj_book.specs.VariableLaws.{NoneAreVariables, EachGives, NamedGivesNothing, ImagesAreOwn, OthersOwnNone};
 
@@ -31,6 +31,14 @@ pub fn images_are_own()
 pub fn beneath_is_reached()
     ensures reached { BeneathIsReached }
     ensures rules { NamedKeepRules }
+{}
+
+/// What a legal entry leaves, in the book beneath: it takes the entry in joint variables, and what lies over it then is the
+/// whole. An entry that the book beneath takes so is legal where it names no variable that it may not. Takes constant time.
+pub fn legal_entries_enter()
+    ensures over { OverBeneath }
+    ensures leads { LegalEntriesEnter }
+    ensures legal { TakenBeneathAreLegal }
 {}
 
 /// A seat's takes are answered by what it sees in its own variables: a take by a view whose clauses are renamed is the take

@@ -1,14 +1,18 @@
 //! The variables of the seats.
-ghost use Rattle.std.specs.Prelude.{◌≡◌, ◌+◌, ◌-◌, ◌<◌, ◌≤◌, OnOk, OnErr, IfOk, IfSome, None, length, true, false, if◌then◌else◌, nat_le, replicate};
+ghost use Rattle.std.specs.Prelude.{ℕ, ◌≡◌, ◌==◌, ◌+◌, ◌-◌, ◌<◌, ◌≤◌, ◌↔◌, IsTrue, OnOk, OnErr, IfOk, IfSome, Some, None, option_map, length, true, false, if◌then◌else◌, nat_le, replicate};
 ghost use Rattle.std.specs.FinMap as fin;
 ghost use Rattle.lj_clause.specs.declared.lit.TheConstants.{MAX_VARIABLE};
 ghost use Rattle.lj_clause.specs.ClauseMap.{names_up_to};
-ghost use Rattle.lj_clause.specs.Renaming.{is_named, inverse};
+ghost use Rattle.lj_clause.specs.Renaming.{is_named, inverse, renamed, literal_image};
 ghost use Rattle.lj_book.specs.Variables.{renaming_of, no_variables, with_variable, given, is_own, IsVariables};
-ghost use Rattle.lj_book.specs.inner.VariableTables.{variables_at, variables_before, are_left, seat_names, as_joint, lemma_as_joint, as_own};
+ghost use Rattle.lj_book.specs.inner.JointForms.{is_unmoved};
+ghost use Rattle.lj_book.specs.inner.VariableTables.{variables_at, variables_before, are_left, seat_names, as_joint, lemma_as_joint, as_own, lemma_as_own};
+
+mod forms;
 
 use crate::own_map::OwnMap;
-use lj_clause::{Clause, ClauseView, Lemma, MAX_VARIABLE, NoMemory, Renames};
+use crate::same::same_pivot;
+use lj_clause::{Clause, ClauseView, Lemma, Lit, MAX_VARIABLE, NoMemory, Renames};
 use std::alloc::Global;
 use std::marker::Model;
 
@@ -67,6 +71,14 @@ impl VariableTable {
         ensures variables { IsVariables self.now.top self.now.variables }
     {
         self.top + 1 + self.owners.len() as u32
+    }
+
+    /// Whether some joint variable was given out.
+    pub(crate) fn is_any_given(&self) -> bool
+        ensures { result ≡ false
+            → (seat : ℕ) → inverse (renaming_of self.now.variables seat) ≡ fin.empty }
+    {
+        !self.owners.is_empty()
     }
 
     /// The joint variable of the seat's own one.
@@ -137,7 +149,7 @@ impl VariableTable {
     }
 
     /// Whether the variable is the formula's, or the seat has a joint one for it.
-    fn has_name(&self, seat: u32, variable: u32) -> bool
+    pub(crate) fn has_name(&self, seat: u32, variable: u32) -> bool
         ensures { result ≡ seat_names self.now seat variable }
     {
         variable <= self.top || self.joint(seat, variable).is_some()
@@ -256,6 +268,30 @@ impl VariableTable {
         Ok(Some(clause.to_clause(alloc)?.renamed(alloc, &self.to_own(seat))?))
     }
 
+    /// Whether this lemma is the joint one in the seat's variables. Takes the time of
+    /// [`VariableTable::is_joint_form`].
+    pub(crate) fn is_own_lemma(&self, seat: u32, own: &Lemma, joint: &Lemma) -> bool
+        ensures { IsTrue result
+            ↔ (lemma_as_own self.now.top self.now.variables seat joint.now ≡ Some own.now) }
+    {
+        let _ = self.next();
+        if !self.is_joint_form(seat, own.clause(), &joint.clause().view()) {
+            return false;
+        }
+        same_pivot(self.own_pivot(seat, joint.pivot()), own.pivot())
+    }
+
+    /// The joint pivot in the seat's variables.
+    fn own_pivot(&self, seat: u32, pivot: Option<Lit>) -> Option<Lit>
+        ensures { result ≡ option_map
+            (literal_image (inverse (renaming_of self.now.variables seat))) pivot }
+    {
+        match pivot {
+            Some(pivot) => Some(pivot.renamed(&self.to_own(seat))),
+            None => None,
+        }
+    }
+
     /// The renaming of the seat's own variables to joint ones.
     pub(crate) fn to_joint(&self, seat: u32) -> ToJoint<'_>
         ensures { (result.table.now ≡ self.now) × (result.seat ≡ seat) }
@@ -271,15 +307,38 @@ impl VariableTable {
     }
 
     /// Whether the clause has no variable above the formula's.
-    fn is_within(&self, clause: &Clause) -> bool
+    pub(crate) fn is_within(&self, clause: &Clause) -> bool
         ensures within { result ≡ names_up_to self.now.top clause.now }
         ensures variables { IsVariables self.now.top self.now.variables }
     {
         clause.max_variable() <= self.top
     }
 
+    /// Whether each variable of the clause is its own joint one, or has none. Takes the time of [`VariableTable::joint`] for each
+    /// literal.
+    pub(crate) fn is_unmoved(&self, seat: u32, clause: &Clause) -> bool
+        ensures { result ≡ is_unmoved (renaming_of self.now.variables seat) clause.now }
+    {
+        for lit in clause.lits() {
+            if !self.stays(seat, lit.variable()) {
+                return false;
+            }
+        }
+        true
+    }
+
+    /// Whether the variable is its own joint one, or has none.
+    fn stays(&self, seat: u32, variable: u32) -> bool
+        ensures { result ≡ (renamed (renaming_of self.now.variables seat) variable == variable) }
+    {
+        match self.joint(seat, variable) {
+            Some(joint) => joint == variable,
+            None => true,
+        }
+    }
+
     /// Whether each variable of the clause is the formula's, or the seat has a joint one for it.
-    fn is_named(&self, seat: u32, clause: &Clause) -> bool
+    pub(crate) fn is_named(&self, seat: u32, clause: &Clause) -> bool
         ensures { result ≡ is_named self.now.top (renaming_of self.now.variables seat) clause.now }
     {
         for lit in clause.lits() {
@@ -291,7 +350,7 @@ impl VariableTable {
     }
 
     /// Whether each variable of a joint clause is the formula's, or the seat's.
-    fn is_own(&self, seat: u32, clause: &ClauseView<'_>) -> bool
+    pub(crate) fn is_own(&self, seat: u32, clause: &ClauseView<'_>) -> bool
         ensures { result ≡ is_own self.now.top self.now.variables seat clause.now }
     {
         for lit in clause.lits() {

@@ -18,6 +18,11 @@ abbrev pub case_image : Renaming → CaseValue → CaseValue
 case_image m c = case_of c.seat c.own (lemma_image m c.lemma) (map (pair_image m) c.hints)
     (map (hinted_image m) c.groups)
 
+-- the case with the clauses of its hints renamed; its lemma stays
+abbrev pub hints_image : Renaming → CaseValue → CaseValue
+hints_image m c = case_of c.seat c.own c.lemma
+    (map (pair_image m) c.hints) (map (hinted_image m) c.groups)
+
 -- what a receipt becomes
 abbrev pub receipt_image : Renaming → ReceiptValue → ReceiptValue
 receipt_image m r = receipt_with r.seat r.own (lemma_image m r.lemma) (map (pair_image m) r.listed)

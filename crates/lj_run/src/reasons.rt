@@ -59,6 +59,13 @@ impl ClosedSeat<'_> {
                 format!(in alloc; "the group of {candidate} leaves it open")?
             }
             Refusal::Stale(joint) => format!(in alloc; "the clause of joint number {joint} died")?,
+            Refusal::PrivateVariable => String::from_str(
+                alloc,
+                "the clause names a variable above the formula's that the stream was never given",
+            )?,
+            Refusal::NoVariableLeft => {
+                String::from_str(alloc, "no joint variable is left for a new variable")?
+            }
             Refusal::Full => {
                 let most = self.max_steps;
                 format!(in alloc; "the run has reached its limit of additions, {most}")?

@@ -12,7 +12,7 @@ use Rattle.lj_hint.specs.Case.{CaseValue, propagation_of}
 use Rattle.lj_hint.specs.Receipt.{ReceiptValue, receipt_of}
 use Rattle.lj_hint.specs.Tested.{tested_of}
 use Rattle.lj_book.specs.declared.refusal.Refusal.{Refusal}
-use Rattle.lj_book.specs.declared.refusal.Refusal.TheVariants.{SeatGone, NumberTaken, UnknownNumber, GroupRepeated, HintNotUnit, EmptyOpen, MissingGroup, GroupStuck, GroupOpen, NoSuchClause, Stale, Full, NoMemory}
+use Rattle.lj_book.specs.declared.refusal.Refusal.TheVariants.{SeatGone, NumberTaken, UnknownNumber, GroupRepeated, HintNotUnit, EmptyOpen, MissingGroup, GroupStuck, GroupOpen, PrivateVariable, NoSuchClause, Stale, Full, NoVariableLeft, NoMemory}
 use Rattle.lj_book.specs.Calls.{IsRefusal}
 use Rattle.lj_book.specs.Solo.{View, solo_take}
 use Rattle.lj_book.specs.Views.{IsClosedAlone, decided_by, decided_refusal, stuck_refusal}
@@ -29,9 +29,11 @@ take_decided v seat a EmptyOpen is = ap decided_by is
 take_decided v seat a (MissingGroup n) is = ap decided_by is
 take_decided v seat a (GroupStuck n position) is = ap decided_by is
 take_decided v seat a (GroupOpen n) is = ap decided_by is
+take_decided v seat a PrivateVariable is = ap decided_by is
 take_decided v seat a NoSuchClause is = ap decided_by is
 take_decided v seat a (Stale n) is = ap decided_by is
 take_decided v seat a Full is = ap decided_by is
+take_decided v seat a NoVariableLeft is = ap decided_by is
 take_decided v seat a (NoMemory m) is = tt
 
 -- as many hints are listed as the propagation read

@@ -9,7 +9,7 @@ use Rattle.lj_text.specs.declared.line.Line.TheVariants as lines
 use Rattle.lj_text.specs.declared.line.Addition.{Addition}
 use Rattle.lj_hint.specs.Receipt.{ReceiptValue}
 use Rattle.lj_book.specs.declared.refusal.Refusal.{Refusal}
-use Rattle.lj_book.specs.declared.refusal.Refusal.TheVariants.{SeatGone, NumberTaken, UnknownNumber, GroupRepeated, HintNotUnit, EmptyOpen, MissingGroup, GroupStuck, GroupOpen, NoSuchClause, Stale, Full, NoMemory}
+use Rattle.lj_book.specs.declared.refusal.Refusal.TheVariants.{SeatGone, NumberTaken, UnknownNumber, GroupRepeated, HintNotUnit, EmptyOpen, MissingGroup, GroupStuck, GroupOpen, PrivateVariable, NoSuchClause, Stale, Full, NoVariableLeft, NoMemory}
 use Rattle.lj_book.specs.State.{State, live, addition_count}
 use Rattle.lj_book.specs.History.{IsReached}
 use Rattle.lj_book.specs.Tables.{is_here, is_bound}
@@ -87,9 +87,11 @@ replied reply e EmptyOpen at is = ap err_of (sym at ∙ is)
 replied reply e (MissingGroup n) at is = ap err_of (sym at ∙ is)
 replied reply e (GroupStuck n position) at is = ap err_of (sym at ∙ is)
 replied reply e (GroupOpen n) at is = ap err_of (sym at ∙ is)
+replied reply e PrivateVariable at is = ap err_of (sym at ∙ is)
 replied reply e NoSuchClause at is = ap err_of (sym at ∙ is)
 replied reply e (Stale n) at is = ap err_of (sym at ∙ is)
 replied reply e Full at is = ap err_of (sym at ∙ is)
+replied reply e NoVariableLeft at is = ap err_of (sym at ∙ is)
 replied reply e (NoMemory m) at is = tt
 
 not_gone : (bound : Bool) → whether_free true bound ≡ Some SeatGone → ⊥

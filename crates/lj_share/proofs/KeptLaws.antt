@@ -15,7 +15,7 @@ use Rattle.lj_text.specs.declared.line.Line.TheVariants as lines
 use Rattle.lj_hint.specs.declared.pair.Pair.{Pair}
 use Rattle.lj_hint.specs.Case.{CaseValue}
 use Rattle.lj_book.specs.declared.refusal.Refusal.{Refusal}
-use Rattle.lj_book.specs.declared.refusal.Refusal.TheVariants.{SeatGone, NumberTaken, UnknownNumber, GroupRepeated, HintNotUnit, EmptyOpen, MissingGroup, GroupStuck, GroupOpen, NoSuchClause, Stale, Full, NoMemory}
+use Rattle.lj_book.specs.declared.refusal.Refusal.TheVariants.{SeatGone, NumberTaken, UnknownNumber, GroupRepeated, HintNotUnit, EmptyOpen, MissingGroup, GroupStuck, GroupOpen, PrivateVariable, NoSuchClause, Stale, Full, NoVariableLeft, NoMemory}
 use Rattle.lj_book.specs.Tables.{is_among}
 use Rattle.lj_book.specs.Solo.{View, without_holdings, solo_case, solo_refusal, solo_take}
 use Rattle.lj_book.specs.Views.{HoldsTheFormula, decided_by, formula_holdings}
@@ -160,9 +160,11 @@ decided_more o q more EmptyOpen is = more EmptyOpen is
 decided_more o q more (MissingGroup n) is = more (MissingGroup n) is
 decided_more o q more (GroupStuck n position) is = more (GroupStuck n position) is
 decided_more o q more (GroupOpen n) is = more (GroupOpen n) is
+decided_more o q more PrivateVariable is = more PrivateVariable is
 decided_more o q more NoSuchClause is = more NoSuchClause is
 decided_more o q more (Stale n) is = more (Stale n) is
 decided_more o q more Full is = more Full is
+decided_more o q more NoVariableLeft is = more NoVariableLeft is
 decided_more o q more (NoMemory m) is = tt
 
 -- a refusal that is decided is one that may be told
@@ -176,9 +178,11 @@ decided_as o EmptyOpen is = is
 decided_as o (MissingGroup n) is = is
 decided_as o (GroupStuck n position) is = is
 decided_as o (GroupOpen n) is = is
+decided_as o PrivateVariable is = is
 decided_as o NoSuchClause is = is
 decided_as o (Stale n) is = is
 decided_as o Full is = is
+decided_as o NoVariableLeft is = is
 decided_as o (NoMemory m) is = tt
 
 -- a take is refused where the number is

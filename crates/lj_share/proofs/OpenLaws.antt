@@ -16,7 +16,7 @@ use Rattle.lj_hint.specs.Case.{CaseValue, propagation_of}
 use Rattle.lj_book.specs.declared.entry.Added.{Added}
 use Rattle.lj_book.specs.declared.entry.Dropped.{Dropped}
 use Rattle.lj_book.specs.declared.refusal.Refusal.{Refusal}
-use Rattle.lj_book.specs.declared.refusal.Refusal.TheVariants.{SeatGone, NumberTaken, UnknownNumber, GroupRepeated, HintNotUnit, EmptyOpen, MissingGroup, GroupStuck, GroupOpen, NoSuchClause, Stale, Full, NoMemory}
+use Rattle.lj_book.specs.declared.refusal.Refusal.TheVariants.{SeatGone, NumberTaken, UnknownNumber, GroupRepeated, HintNotUnit, EmptyOpen, MissingGroup, GroupStuck, GroupOpen, PrivateVariable, NoSuchClause, Stale, Full, NoVariableLeft, NoMemory}
 use Rattle.lj_book.specs.Lookup.{least_number}
 use Rattle.lj_book.specs.State.{State, addition_count, live, next}
 use Rattle.lj_book.specs.History.{IsReached}
@@ -43,9 +43,11 @@ told_by P short reply of EmptyOpen is = subst (λ r. IfErr r P) is of
 told_by P short reply of (MissingGroup n) is = subst (λ r. IfErr r P) is of
 told_by P short reply of (GroupStuck n position) is = subst (λ r. IfErr r P) is of
 told_by P short reply of (GroupOpen n) is = subst (λ r. IfErr r P) is of
+told_by P short reply of PrivateVariable is = subst (λ r. IfErr r P) is of
 told_by P short reply of NoSuchClause is = subst (λ r. IfErr r P) is of
 told_by P short reply of (Stale n) is = subst (λ r. IfErr r P) is of
 told_by P short reply of Full is = subst (λ r. IfErr r P) is of
+told_by P short reply of NoVariableLeft is = subst (λ r. IfErr r P) is of
 told_by P short reply of (NoMemory m) is = short (NoMemory m) tt
 
 undecided : (P : Refusal → Type 0) → ((e : Refusal) → IsWantOfMemory e → P e) → (told : Refusal) → IsDecided None told → P told
@@ -58,9 +60,11 @@ undecided P short EmptyOpen is = absurd (false≢true (ap is_some is))
 undecided P short (MissingGroup n) is = absurd (false≢true (ap is_some is))
 undecided P short (GroupStuck n position) is = absurd (false≢true (ap is_some is))
 undecided P short (GroupOpen n) is = absurd (false≢true (ap is_some is))
+undecided P short PrivateVariable is = absurd (false≢true (ap is_some is))
 undecided P short NoSuchClause is = absurd (false≢true (ap is_some is))
 undecided P short (Stale n) is = absurd (false≢true (ap is_some is))
 undecided P short Full is = absurd (false≢true (ap is_some is))
+undecided P short NoVariableLeft is = absurd (false≢true (ap is_some is))
 undecided P short (NoMemory m) is = short (NoMemory m) tt
 
 short_full : (e : Refusal) → IsWantOfMemory e → IsRatOrFull e
@@ -73,9 +77,11 @@ short_full EmptyOpen is = absurd is
 short_full (MissingGroup n) is = absurd is
 short_full (GroupStuck n position) is = absurd is
 short_full (GroupOpen n) is = absurd is
+short_full PrivateVariable is = absurd is
 short_full NoSuchClause is = absurd is
 short_full (Stale n) is = absurd is
 short_full Full is = absurd is
+short_full NoVariableLeft is = absurd is
 short_full (NoMemory m) is = tt
 
 short_found : (e : Refusal) → IsWantOfMemory e → IsNotFound e
@@ -88,9 +94,11 @@ short_found EmptyOpen is = absurd is
 short_found (MissingGroup n) is = absurd is
 short_found (GroupStuck n position) is = absurd is
 short_found (GroupOpen n) is = absurd is
+short_found PrivateVariable is = absurd is
 short_found NoSuchClause is = absurd is
 short_found (Stale n) is = absurd is
 short_found Full is = absurd is
+short_found NoVariableLeft is = absurd is
 short_found (NoMemory m) is = tt
 
 short_line : (line : Line) (e : Refusal) → IsWantOfMemory e → IsOpenRefusal line e

@@ -17,6 +17,8 @@ use Rattle.std.specs.FinMap as fin
 use Rattle.lj_book.specs.Tables.{Tables}
 use Rattle.lj_clause.specs.ClauseMap.{ClauseMap, FormulaValue}
 use Rattle.lj_book.specs.State.{State}
+use Rattle.lj_clause.specs.Renaming.{Renaming}
+use Rattle.lj_book.specs.Named.{NamedState}
 use Rattle.lj_book.specs.inner.Records.{Entries}
 use Rattle.lj_book.specs.inner.Ranges.{Recorded}
 
@@ -90,6 +92,21 @@ state_code = code_by (FormulaValue × (ℕ × (Tables × List Entry)))
     (λ s. (s.formula, (s.max_steps, (s.tables, s.history))))
     (λ p. record { formula = p.0; max_steps = p.1.0; tables = p.1.1.0; history = p.1.1.1 })
     (λ _. refl)
+
+-- how a proof stores one whose seats name variables as they like
+abbrev pub named_state_code : Coded NamedState
+named_state_code =
+    code_by (FormulaValue × (ℕ × (Tables × (List Entry × (List Renaming × ℕ)))))
+    (coded× formula_code (coded× coded_ℕ (coded× tables_code (coded× (coded_list entry_code)
+    (coded× (coded_list (fin.code coded_ℕ coded_ℕ)) coded_ℕ)))))
+    (λ s. (s.formula, (s.max_steps, (s.tables, (s.history, (s.variables.of_seats, s.variables.next))))))
+    (λ p. record {
+      formula = p.0;
+      max_steps = p.1.0;
+      tables = p.1.1.0;
+      history = p.1.1.1.0;
+      variables = record { of_seats = p.1.1.1.1.0; next = p.1.1.1.1.1 };
+    }) (λ _. refl)
 
 abbrev pub entries_code : Coded Entries
 entries_code = code_by (List Entry × (List ℤ × (ℕ × (ℕ × ℕ))))

@@ -77,3 +77,9 @@ lemma_as_joint top v seat lemma = if is_named top (renaming_of v seat) lemma.cla
 abbrev pub as_own : ℕ → Variables → ℕ → LiteralSet → Option LiteralSet
 as_own top v seat c =
     if is_own top v seat c then Some (image (inverse (renaming_of v seat)) c) else None
+
+-- a joint lemma, likewise
+abbrev pub lemma_as_own : ℕ → Variables → ℕ → LemmaValue → Option LemmaValue
+lemma_as_own top v seat lemma = if is_own top v seat lemma.clause
+    then Some (lemma_image (inverse (renaming_of v seat)) lemma)
+    else None

@@ -1,9 +1,9 @@
 //! Additions that are tested and entered in one call.
-ghost use Rattle.std.specs.Prelude.{◌≡◌, ◌==◌, ℕ, OnOk, OnErr, IfOk, IfSome, Ok, Err, true, false};
+ghost use Rattle.std.specs.Prelude.{◌≡◌, ◌==◌, ℕ, not, nat_lt, OnOk, OnErr, IfOk, IfSome, Ok, Err, true, false};
 ghost use Rattle.lj_clause.specs.Literal.{variable_of};
 ghost use Rattle.lj_clause.specs.LiteralSet.{holds};
 ghost use Rattle.lj_book.specs.History.{after_entry, IsReached};
-ghost use Rattle.lj_book.specs.State.{next};
+ghost use Rattle.lj_book.specs.State.{addition_count, next};
 ghost use Rattle.lj_book.specs.Tables.{joint_of};
 ghost use Rattle.lj_book.specs.Calls.{IsReply, IsReplyBy, free_refusal, commit_told};
 ghost use Rattle.lj_book.specs.Inside.{inside_reply, inside_entry};
@@ -91,6 +91,13 @@ impl Book {
         let hints = replace(&mut self.joints, Numbers::from_u32s(Vec::new(alloc)));
         let groups = replace(&mut self.joint_groups, Groups::new(alloc));
         (hints, groups)
+    }
+
+    /// Whether the history holds as many additions as it may.
+    pub(crate) fn is_full(&self) -> bool
+        ensures { result ≡ not (nat_lt (addition_count self.now.history) self.now.max_steps) }
+    {
+        self.added >= self.max_steps
     }
 
     /// The next joint number.

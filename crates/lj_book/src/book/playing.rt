@@ -1,22 +1,17 @@
 //! Lists of events, one after another.
-ghost use Rattle.std.specs.Prelude.{◌≡◌, ℕ, List, true, IfOk, OnOk, OnErr, IfErr, Err, replicate, slice_index_or, slice_set};
+ghost use Rattle.std.specs.Prelude.{◌≡◌, ℕ, List, true, IfOk, OnErr};
 ghost use Rattle.lj_book.specs.declared.event.Event.TheVariants as events;
 ghost use Rattle.lj_book.specs.declared.event.Pending.{Pending};
-ghost use Rattle.lj_book.specs.declared.event.Pending.TheVariants as pendings;
-ghost use Rattle.lj_book.specs.History.{after_entry};
-ghost use Rattle.lj_book.specs.Calls.{IsReply, drop_reply, drop_entry};
 ghost use Rattle.lj_book.specs.Events.{is_tidy};
-ghost use Rattle.lj_book.specs.Worlds.{IsAnswered, IsTestOf, IsTested, IsPlayed};
+ghost use Rattle.lj_book.specs.Worlds.{IsAnswered, IsPlayed};
 ghost use Rattle.lj_book.specs.Solo.{IsAlone};
 
 use crate::book::Book;
 use crate::event::{Event, Pending, Reply};
-use crate::refusal::Refusal;
+use crate::pending::{answer_test, nothing_pending, set_pending, take_pending};
 use lj_clause::{Clause, NoMemory};
-use lj_hint::{Case, Propagator, Tested};
+use lj_hint::Propagator;
 use lj_text::{Addition, Numbers};
-use std::alloc::Global;
-use std::mem;
 
 impl Book {
     /// Plays the events one after another, from nothing pending, and answers one reply for each.
@@ -165,69 +160,5 @@ impl Book {
             Ok(place) => Reply::Left(place),
             Err(refusal) => Reply::Refused(refusal),
         }
-    }
-}
-
-/// Nothing pending for any of so many seats.
-fn nothing_pending(alloc: Global, seats: usize) -> Result<Vec<Pending>, NoMemory>
-    ensures { IfOk result (λ pending. pending.items ≡ replicate seats pendings.Nothing) }
-{
-    let mut pending = Vec::new(alloc);
-    for _seat in 0..seats {
-        pending.push(Pending::Nothing)?;
-    }
-    Ok(pending)
-}
-
-/// Sets what is pending for a seat, if there is such a seat.
-fn set_pending(pending: &mut [Pending], seat: u32, value: Pending)
-    ensures { pending.new ≡ slice_set pending.old seat value }
-{
-    let at = seat as usize;
-    if at < pending.len() {
-        pending[at] = value;
-    }
-}
-
-/// Takes out what is pending for a seat.
-fn take_pending(pending: &mut [Pending], seat: u32) -> Pending
-    ensures taken { result ≡ slice_index_or pending.old seat pendings.Nothing }
-    ensures left { pending.new ≡ slice_set pending.old seat pendings.Nothing }
-{
-    let at = seat as usize;
-    if at < pending.len() {
-        mem::replace(&mut pending[at], Pending::Nothing)
-    } else {
-        Pending::Nothing
-    }
-}
-
-/// The reply to the test of what is pending for a seat.
-fn answer_test(seat: u32, pending: &mut [Pending], propagator: &mut Propagator) -> Reply
-    ensures { IsTestOf (slice_index_or pending.old seat pendings.Nothing) pending.old
-        (slice_set pending.old seat) result pending.new }
-{
-    match take_pending(pending, seat) {
-        Pending::Case(case) => {
-            let (reply, after) = tested(case, propagator);
-            set_pending(pending, seat, after);
-            reply
-        }
-        untested => {
-            set_pending(pending, seat, untested);
-            Reply::Nothing
-        }
-    }
-}
-
-/// The reply to the test of a case, and what is pending after it.
-fn tested(case: Case, propagator: &mut Propagator) -> (Reply, Pending)
-    ensures { IsTested case (λ after. after) result.0 result.1 }
-{
-    match case.test(propagator) {
-        Tested::Closed(receipt) => (Reply::Closed, Pending::Receipt(receipt)),
-        Tested::Open(_) => (Reply::Open, Pending::Nothing),
-        Tested::Stuck(place) => (Reply::Stuck(place), Pending::Nothing),
-        Tested::NoMemory(case, e) => (Reply::Refused(e.into()), Pending::Case(case)),
     }
 }

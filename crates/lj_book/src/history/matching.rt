@@ -1,7 +1,9 @@
 //! Entries that are compared with what was written.
-ghost use Rattle.std.specs.Prelude.{◌≡◌, ◌↔◌, ◌<◌, IsTrue};
-ghost use Rattle.lj_clause.specs.LiteralSet.{literals, from_literals};
+ghost use Rattle.std.specs.Prelude.{◌≡◌, ◌↔◌, ◌<◌, IsTrue, IfSome, IfNone};
+ghost use Rattle.lj_clause.specs.LiteralSet.{LiteralSet, literals, from_literals};
 ghost use Rattle.lj_text.specs.Needed.{if_some};
+ghost use Rattle.lj_book.specs.Calls.{import_entry};
+ghost use Rattle.lj_book.specs.inner.JointLines.{line_entry};
 ghost use Rattle.lj_book.specs.inner.Encoding.{number_in, list_in, hint_groups_in};
 ghost use Rattle.lj_book.specs.inner.Records.{lemma_lits, lits_in, call_lits, addition_in, call_in, step_in, entry_in, read_in, named_in};
 
@@ -10,7 +12,7 @@ use super::{ADDITION, ADOPT, DROP, IMPORT, KINDS};
 use crate::encoding::{groups_match, list_matches, number, numbers_match};
 use crate::entry::{Call, Entry};
 use crate::same::same_lemma;
-use lj_clause::{Lemma, Lit};
+use lj_clause::{ClauseView, Lemma, Lit};
 use lj_text::{Addition, Step};
 
 /// Whether these are the literals of the lemma, its pivot first.
@@ -154,6 +156,51 @@ fn is_of_kind(lits: &[Lit], kind: u64, encoding: &[u32], call: &Call, step: &Opt
         IMPORT => is_import(lits, encoding, call, step),
         _ => matches!(call, Call::Leave) && is_deletion(encoding, step),
     }
+}
+
+/// Whether the entry whose words these begin with is that of the seat's addition under its own number by this step.
+pub(super) fn is_line(
+    lits: &[Lit],
+    encoding: &[u32],
+    seat: u32,
+    own: u64,
+    addition: &Addition,
+) -> bool
+    requires { (read_in lits.now encoding.now).1
+        ≡ call_lits (read_in lits.now encoding.now).0.call }
+    ensures { IsTrue result ↔ (entry_in lits.now encoding.now ≡ line_entry seat own addition.now) }
+{
+    let (head, rest) = number(encoding);
+    let (found, behind) = number(rest);
+    if head / KINDS != u64::from(seat) || head % KINDS != ADDITION {
+        return false;
+    }
+    found == own && is_added(lits, behind, addition)
+}
+
+/// The clause of the seat's import under its own number, if the entry whose words these begin with is one.
+pub(super) fn imported<'a>(
+    lits: &'a [Lit],
+    encoding: &[u32],
+    seat: u32,
+    own: u64,
+) -> Option<ClauseView<'a>>
+    requires { (read_in lits.now encoding.now).1
+        ≡ call_lits (read_in lits.now encoding.now).0.call }
+    ensures some { IfSome result (λ c. entry_in lits.now encoding.now ≡ import_entry seat own c) }
+    ensures none { IfNone result ((c : LiteralSet)
+        → entry_in lits.now encoding.now ≡ import_entry seat own c → ⊥) }
+{
+    let (head, rest) = number(encoding);
+    let (found, behind) = number(rest);
+    if head / KINDS != u64::from(seat) || head % KINDS != IMPORT {
+        return None;
+    }
+    if found != own {
+        return None;
+    }
+    let (literals, _) = named(lits, behind);
+    Some(ClauseView::new(literals))
 }
 
 /// Whether the entry whose words these begin with is this one.

@@ -1,0 +1,190 @@
+-- An addition inside by the book in joint variables, and by the one over it.
+use Rattle.std.proofs.Common.{◌≡◌, ap, refl, sym, ◌∙◌, subst, ℕ, ◌+◌, ◌<◌, ◌≤◌, Bool, cond, true, false, length, arith}
+use Rattle.std.specs.Prelude.{ℤ, nat_le, ◌==◌, List, [], ◌∷◌, map, Option, Some, None, option_map, unwrap_or, OnOk, OnErr, Result, Ok, Err}
+use Rattle.std.specs.List.{list_all}
+use Rattle.std.proofs.lemmas.Bool.{eqb-true, le-leb}
+use Rattle.lj_clause.specs.declared.lit.TheConstants.{MAX_VARIABLE}
+use Rattle.lj_clause.specs.Literal.{variable_of}
+use Rattle.lj_clause.specs.LiteralSet.{LiteralSet, holds, literals}
+use Rattle.lj_clause.specs.Lemma.{LemmaValue, IsLemma}
+use Rattle.lj_clause.specs.ClauseMap.{names_up_to, IsFormula}
+use Rattle.lj_clause.specs.Renaming.{Renaming, has_name, renamed, literal_image, image, lemma_image}
+use Rattle.lj_clause.proofs.Images.{image-same}
+use Rattle.lj_text.specs.declared.line.Addition.{Addition}
+use Rattle.lj_book.specs.declared.entry.Added.{Added}
+use Rattle.lj_book.specs.declared.entry.Entry.{Entry}
+use Rattle.lj_book.specs.declared.refusal.Refusal.{Refusal}
+use Rattle.lj_book.specs.Variables.{Variables, IsVariables, renaming_of, with_variable, with_name, with_names, given}
+use Rattle.lj_book.specs.State.{State}
+use Rattle.lj_book.specs.History.{after_entry, IsReached}
+use Rattle.lj_book.specs.declared.entry.Call.TheVariants as calls
+use Rattle.lj_book.specs.Calls.{take_reply, free_refusal}
+use Rattle.lj_book.specs.Inside.{inside_reply, inside_step, inside_entry}
+use Rattle.lj_book.specs.Named.{NamedState, top_of, beneath, named_over, given_in, has_variables_for, entry_beneath, after_named}
+use Rattle.lj_book.specs.NamedReplies.{named_inside_after, named_inside}
+use Rattle.lj_book.specs.NamedViews.{addition_beneath}
+use Rattle.lj_book.specs.NamedInside.{if_left, named_inside_entry}
+use Rattle.lj_book.specs.inner.VariableTables.{TopVariables, variables_at, variables_before, are_left}
+use Rattle.lj_book.specs.inner.JointForms.{joint_form, with_call}
+use Rattle.lj_book.specs.inner.Limits.{limit_reply}
+use Rattle.lj_book.specs.inner.Over.{IsOver, IsOverAfter}
+use Rattle.lj_book.proofs.TableLaws.{here_in_range}
+use Rattle.lj_book.proofs.BindingLaws.{can_bind}
+use Rattle.lj_book.proofs.InsideLaws.{taken_refused}
+use Rattle.lj_book.proofs.VariableLaws.{nameless}
+use Rattle.lj_book.proofs.TakenBack.{variables_before-next, variables_before-with_variable}
+use Rattle.lj_book.proofs.WithinTop.{within_given, within_lemma}
+use Rattle.lj_book.proofs.NamedLaws.{rules_reached}
+use Rattle.lj_book.proofs.NamedInsideLaws.{replies_are_beneath}
+use Rattle.lj_book.proofs.LimitReplies.{replied_at_limit}
+use Rattle.lj_book.proofs.OverLaws.{entered}
+
+-- ---- what is given is taken back
+
+back_names : (n top : ℕ) (v : Variables) (seat : ℕ) (xs : List ℕ) → n ≤ v.next → variables_before n (with_names top v seat xs) ≡ variables_before n v
+back_names n top v seat [] le = refl
+back_names n top v seat (x ∷ xs) le = by (λ w more. back_names n top w seat xs more) (has_name top (renaming_of v seat) x) refl
+  where
+    by : ((w : Variables) → n ≤ w.next → variables_before n (with_names top w seat xs) ≡ variables_before n w)
+        → (b : Bool) → has_name top (renaming_of v seat) x ≡ b → variables_before n (with_names top (with_name top v seat x) seat xs) ≡ variables_before n v
+    by go true h = ap (λ b. variables_before n (with_names top (cond b v (with_variable v seat x)) seat xs)) h ∙ go v le
+    by go false h =
+        ap (λ b. variables_before n (with_names top (cond b v (with_variable v seat x)) seat xs)) h
+        ∙ go (with_variable v seat x) (omega arith)
+        ∙ variables_before-with_variable n v seat x (nameless top (renaming_of v seat) x h).1 le
+
+pub given_back : (top : ℕ) (v : Variables) (seat : ℕ) (c : LiteralSet) → IsVariables top v → variables_before v.next (given top v seat c) ≡ v
+given_back top v seat c is = back_names v.next top v seat (map variable_of (literals c)) (omega arith) ∙ variables_before-next top v is
+
+-- ---- clauses that stay
+
+within_stays : (top : ℕ) (v : Variables) (seat : ℕ) (lemma : LemmaValue) → IsVariables top v → IsLemma lemma → names_up_to top lemma.clause ≡ true → lemma_image (renaming_of v seat) lemma ≡ lemma
+within_stays top v seat lemma is isl within = by (has_all) (within_lemma top v seat is lemma isl within)
+  where
+    has_all : Bool
+    has_all = list_all (λ l. has_name top (renaming_of v seat) (variable_of l)) (literals lemma.clause)
+
+    by : (b : Bool) → Some lemma ≡ cond b (Some (lemma_image (renaming_of v seat) lemma)) None → lemma_image (renaming_of v seat) lemma ≡ lemma
+    by true e = let same : lemma ≡ lemma_image (renaming_of v seat) lemma = cc in sym same
+    by false e = absurd (let no : ⊥ = cc in no)
+
+-- ---- by what the book beneath answers
+
+module _ (joint : State) (t : TopVariables) (over : IsOver joint t) (seat : ℕ) (a : Addition) (lemma : IsLemma a.lemma) where
+  abbrev s : NamedState
+  s = named_over joint t.variables
+
+  abbrev below : Addition
+  below = addition_beneath s seat a
+
+  rules : IsVariables t.top t.variables
+  rules = subst (λ (n : ℕ). IsVariables n t.variables) (sym over.top) (rules_reached s over.reached).variables
+
+  -- where enough are left, the reply is that of the book beneath
+  pub same_reply : has_variables_for s seat a.lemma.clause ≡ true → inside_reply joint seat below ≡ named_inside s seat a
+  same_reply enough =
+      ap (λ (j : State). inside_reply j seat below) (sym over.below)
+      ∙ left (inside_reply (beneath s) seat below)
+      ∙ sym (ap (λ b. if_left b (inside_reply (beneath s) seat below)) enough)
+      ∙ sym (replies_are_beneath s seat a)
+    where
+      left : (r : Result Added Refusal) → r ≡ if_left true r
+      left (Ok x) = refl
+      left (Err e) = refl
+
+  -- where too few are left, it is that of the limit
+  pub same_limit : IsFormula joint.formula → has_variables_for s seat a.lemma.clause ≡ false → limit_reply joint t seat a ≡ named_inside s seat a
+  same_limit is none =
+      (λ i. limit_reply (sym over.below i) (variables_at (over.top i) t.variables) seat a)
+      ∙ sym (replied_at_limit s is over.reached seat a lemma none)
+
+  pub entered_so : (after : State) (u : TopVariables) → has_variables_for s seat a.lemma.clause ≡ true → IsReached after → after ≡ after_entry joint (inside_entry joint seat below)
+      → u.top ≡ t.top → u.variables ≡ given_in s seat a.lemma.clause → IsOverAfter s (named_inside_entry s seat a) after u
+  entered_so after u enough reached is top given =
+      let both = entered joint after t u (named_inside_entry s seat a) over reached (lemma, enough)
+      (is ∙ ap (λ (j : State). after_entry joint (inside_entry j seat below)) (sym over.below)) top given in
+      record { over = both.0; leaves = both.1 }
+
+  -- a lemma without a variable above the formula's
+  pub within_so : names_up_to t.top a.lemma.clause ≡ true → (below ≡ a) × (given_in s seat a.lemma.clause ≡ t.variables)
+  within_so within =
+      let none : given_in s seat a.lemma.clause ≡ t.variables = (λ i. given (sym over.top i) t.variables seat a.lemma.clause) ∙ within_given t.top t.variables seat rules a.lemma.clause within in (
+        (λ i. joint_form (none i) seat a) ∙ (λ i. record a { lemma = within_stays t.top t.variables seat a.lemma rules lemma within i }),
+        none,
+      )
+
+  pub within_enough : names_up_to t.top a.lemma.clause ≡ true → t.variables.next ≤ MAX_VARIABLE + 1 → has_variables_for s seat a.lemma.clause ≡ true
+  within_enough within few = ap (λ (v : Variables). nat_le v.next (MAX_VARIABLE + 1)) (within_so within).1 ∙ le-leb t.variables.next (MAX_VARIABLE + 1) few
+
+  pub within_reply : names_up_to t.top a.lemma.clause ≡ true → t.variables.next ≤ MAX_VARIABLE + 1 → inside_reply joint seat a ≡ named_inside s seat a
+  within_reply within few = ap (inside_reply joint seat) (sym (within_so within).0) ∙ same_reply (within_enough within few)
+
+  pub within_entry : names_up_to t.top a.lemma.clause ≡ true → inside_entry joint seat a ≡ named_inside_entry s seat a
+  within_entry within =
+      ap (inside_entry joint seat) (sym (within_so within).0)
+      ∙ (λ i. record { seat = seat; call = calls.Add a.number ((within_so within).0 i).lemma; step = inside_step (sym over.below i) (take_reply (sym over.below i) seat below) })
+
+  pub within_entered : (after : State) → names_up_to t.top a.lemma.clause ≡ true → t.variables.next ≤ MAX_VARIABLE + 1 → IsReached after → after ≡ after_entry joint (inside_entry joint seat a) → IsOverAfter s (named_inside_entry s seat a) after t
+  within_entered after within few reached is =
+      entered_so after t (within_enough within few) reached (is ∙ ap (λ (b : Addition). after_entry joint (inside_entry joint seat b)) (sym (within_so within).0)) refl (sym (within_so within).1)
+
+  -- what the table gives
+  pub as_left : (b : Bool) → b ≡ are_left t.top t.variables seat a.lemma.clause → has_variables_for s seat a.lemma.clause ≡ b
+  as_left b e = sym (e ∙ ap (λ n. are_left n t.variables seat a.lemma.clause) over.top)
+
+  module _ (u : TopVariables) (enough : has_variables_for s seat a.lemma.clause ≡ true) (gave : u ≡ variables_at t.top (given t.top t.variables seat a.lemma.clause)) where
+    given_is : u.variables ≡ given_in s seat a.lemma.clause
+    given_is = ap (λ (w : TopVariables). w.variables) gave ∙ ap (λ n. given n t.variables seat a.lemma.clause) over.top
+
+    form_is : joint_form u.variables seat a ≡ below
+    form_is = ap (λ (v : Variables). joint_form v seat a) given_is
+
+    pub given_reply : inside_reply joint seat (joint_form u.variables seat a) ≡ named_inside s seat a
+    given_reply = ap (inside_reply joint seat) form_is ∙ same_reply enough
+
+    pub given_entry : with_call a (inside_entry joint seat (joint_form u.variables seat a)) ≡ named_inside_entry s seat a
+    given_entry =
+        ap (λ (b : Addition). with_call a (inside_entry joint seat b)) form_is
+        ∙ ap (λ (j : State). with_call a (inside_entry j seat below)) (sym over.below)
+
+    pub given_entered : (after : State) → IsReached after → after ≡ after_entry joint (inside_entry joint seat (joint_form u.variables seat a)) → IsOverAfter s (named_inside_entry s seat a) after u
+    given_entered after reached is =
+        entered_so after u enough reached (is ∙ ap (λ (b : Addition). after_entry joint (inside_entry joint seat b)) form_is) (ap (λ (w : TopVariables). w.top) gave) given_is
+
+    pub taken_back : (before : ℕ) (w : TopVariables) → before ≡ t.variables.next → w ≡ variables_at u.top (variables_before before u.variables) → w ≡ t
+    taken_back before w next is =
+        is ∙ (λ i. variables_at (gave i).top (variables_before (next i) (gave i).variables))
+        ∙ ap (variables_at t.top) (given_back t.top t.variables seat a.lemma.clause rules)
+
+  -- what a number that isn't free is refused by
+  pub refused_at_once : (e : Refusal) → free_refusal joint seat a.number ≡ Some e → named_inside s seat a ≡ Err e
+  refused_at_once e is = ap (named_inside_after s seat) (taken_refused (beneath s) seat a e (ap (λ (j : State). free_refusal j seat a.number) over.below ∙ is))
+
+  -- a seat whose number is free is one that may be given variables
+  pub seat_within : free_refusal joint seat a.number ≡ None → seat < length t.variables.of_seats
+  seat_within free = subst (λ n. seat < n) (sym (rules_reached s over.reached).seats) (here_in_range joint.tables seat (can_bind joint seat a.number free).here)
+
+pub on_ok : {A E P Q : Type 0} (r : Result A E) → (P → Q) → OnOk r P → OnOk r Q
+on_ok (Ok x) f h = f h
+on_ok (Err e) f h = tt
+
+pub on_err : {A E P Q : Type 0} (r : Result A E) → (P → Q) → OnErr r P → OnErr r Q
+on_err (Ok x) f h = tt
+on_err (Err e) f h = f h
+
+-- ---- a book by its parts
+
+module _ {A : Type 0} (r : Result A Refusal) (j k : State) (t u : TopVariables) (e : Entry) (over : IsOver j t)
+    (ok : OnOk r (IsOverAfter (named_over j t.variables) e k u)) (err : OnErr r ((k ≡ j) × (u ≡ t))) where
+  pub over_either : IsOver k u
+  over_either = go r ok err
+    where
+      go : (q : Result A Refusal) → OnOk q (IsOverAfter (named_over j t.variables) e k u) → OnErr q ((k ≡ j) × (u ≡ t)) → IsOver k u
+      go (Ok x) after same = after.over
+      go (Err x) after same = subst (λ (v : TopVariables). IsOver k v) (sym same.1) (subst (λ (i : State). IsOver i t) (sym same.0) over)
+
+  pub left_either : OnOk r (named_over k u.variables ≡ after_named (named_over j t.variables) e)
+  left_either = on_ok r (λ (after : IsOverAfter (named_over j t.variables) e k u). after.leaves) ok
+
+  pub same_either : OnErr r (named_over k u.variables ≡ named_over j t.variables)
+  same_either = on_err r (λ (same : (k ≡ j) × (u ≡ t)). (λ i. named_over (same.0 i) (same.1 i).variables)) err

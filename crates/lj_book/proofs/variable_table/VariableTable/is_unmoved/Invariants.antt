@@ -1,0 +1,10 @@
+use Rattle.std.proofs.Common.{◌≡◌, true, take}
+use Rattle.std.specs.Prelude.{◌==◌}
+use Rattle.std.specs.List.{list_all}
+use Rattle.lj_clause.specs.Literal.{variable_of}
+use Rattle.lj_clause.specs.Renaming.{renamed}
+use Rattle.lj_book.specs.Variables.{renaming_of}
+use Rattle.lj_book.proofs.variable_table.VariableTable.is_unmoved.Given as goal
+
+abbrev pub invariant-loop-lit : goal.invariant-loop-lit
+invariant-loop-lit l = list_all (λ k. renamed (renaming_of l.self.variables l.seat) (variable_of k) == variable_of k) (take l.lit-index l.lit-items) ≡ true

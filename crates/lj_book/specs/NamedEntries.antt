@@ -1,0 +1,26 @@
+-- What receipts enter in a book whose seats name variables as they like. The calls speak the seat's variables, and the steps joint ones.
+use Rattle.std.specs.Prelude.{ℕ, [], Some}
+use Rattle.lj_clause.specs.Renaming.{Renaming, lemma_image}
+use Rattle.lj_text.specs.declared.line.Addition.{Addition}
+use Rattle.lj_text.specs.declared.step.Step.TheVariants as steps
+use Rattle.lj_hint.specs.Hints.{numbers}
+use Rattle.lj_hint.specs.Receipt.{ReceiptValue}
+use Rattle.lj_book.specs.declared.entry.Call.TheVariants as calls
+use Rattle.lj_book.specs.declared.entry.Entry.{Entry}
+use Rattle.lj_book.specs.State.{next}
+use Rattle.lj_book.specs.Named.{NamedState, beneath}
+use Rattle.lj_book.specs.NamedViews.{names_with}
+
+-- the step of a receipt under a number, with its lemma renamed
+abbrev pub receipt_step : Renaming → ℕ → ReceiptValue → Addition
+receipt_step m number r = record
+    { number = number; lemma = lemma_image m r.lemma; hints = numbers r.listed; groups = [] }
+
+-- the entry of a commit: the step has the lemma in joint variables, with those that are given to it, under the next number
+abbrev pub named_commit_entry : NamedState → ReceiptValue → Entry
+named_commit_entry s r = record {
+  seat = r.seat;
+  call = calls.Add r.own r.lemma;
+  step = Some (steps.Add
+      (receipt_step (names_with s r.seat r.lemma.clause) (next (beneath s)) r));
+}

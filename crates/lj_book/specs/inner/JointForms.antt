@@ -1,0 +1,22 @@
+-- Additions in joint variables.
+use Rattle.std.specs.Prelude.{ℕ, ◌==◌, Bool}
+use Rattle.std.specs.List.{list_all}
+use Rattle.lj_clause.specs.Literal.{variable_of}
+use Rattle.lj_clause.specs.LiteralSet.{LiteralSet, literals}
+use Rattle.lj_clause.specs.Renaming.{Renaming, renamed, lemma_image}
+use Rattle.lj_text.specs.declared.line.Addition.{Addition}
+use Rattle.lj_book.specs.declared.entry.Call.TheVariants as calls
+use Rattle.lj_book.specs.declared.entry.Entry.{Entry}
+use Rattle.lj_book.specs.Variables.{Variables, renaming_of}
+
+-- the seat's addition with its lemma renamed to the joint variables that the seat was given
+abbrev pub joint_form : Variables → ℕ → Addition → Addition
+joint_form v seat a = record a { lemma = lemma_image (renaming_of v seat) a.lemma }
+
+-- the entry with the call of this addition, as it was made
+abbrev pub with_call : Addition → Entry → Entry
+with_call a e = record e { call = calls.Add a.number a.lemma }
+
+-- whether each variable of the clause stays what it is
+abbrev pub is_unmoved : Renaming → LiteralSet → Bool
+is_unmoved m c = list_all (λ l. renamed m (variable_of l) == variable_of l) (literals c)

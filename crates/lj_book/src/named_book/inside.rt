@@ -1,0 +1,182 @@
+//! Additions that are tested and entered in one call, in their seats' variables.
+ghost use Rattle.std.specs.Prelude.{◌≡◌, None, OnOk, OnErr, IfOk, IfSome, Err};
+ghost use Rattle.lj_book.specs.Calls.{IsReply, IsReplyBy, free_refusal};
+ghost use Rattle.lj_book.specs.Named.{beneath, named_over, after_named};
+ghost use Rattle.lj_book.specs.NamedReplies.{named_inside};
+ghost use Rattle.lj_book.specs.NamedInside.{named_inside_entry};
+ghost use Rattle.lj_book.specs.inner.Over.{IsOver, IsOverAfter};
+
+use crate::book::Book;
+use crate::book::laws::history_is_legal;
+use crate::entry::{Added, Entry};
+use crate::joint_forms::{add_joint_form, add_joint_form_with_entry, refusal_at_limit};
+use crate::named_book::NamedBook;
+use crate::refusal::Refusal;
+use crate::variable_table::VariableTable;
+use lj_hint::Propagator;
+use lj_text::Addition;
+
+impl NamedBook {
+    /// Tests a seat's addition over the live clauses, those of all seats, and enters it in recorded form, as
+    /// [`Book::add_inside`](crate::Book::add_inside). Where it enters, each of its variables above the formula's has a joint
+    /// one: those that had none get the next ones, by rising number.
+    ///
+    /// Takes the time of [`Book::add_inside`](crate::Book::add_inside); where the lemma has a variable above the formula's, also
+    /// that of [`NamedBook::variable`] for each of its literals. Where one of them isn't its own joint one, takes time linear in
+    /// the addition too, and O(n log n) time for n literals.
+    ///
+    /// # Errors
+    /// The first that holds of [`Refusal::SeatGone`], [`Refusal::NumberTaken`], [`Refusal::UnknownNumber`],
+    /// [`Refusal::GroupRepeated`], [`Refusal::HintNotUnit`], [`Refusal::EmptyOpen`], [`Refusal::MissingGroup`],
+    /// [`Refusal::GroupStuck`], [`Refusal::GroupOpen`], [`Refusal::Full`] and [`Refusal::NoVariableLeft`]; and
+    /// [`Refusal::NoMemory`] where a growth was refused. No variable is given then.
+    pub fn add_inside(
+        &mut self,
+        seat: u32,
+        addition: &Addition,
+        propagator: &mut Propagator,
+    ) -> Result<Added, Refusal>
+        ensures reply { IsReply result (named_inside self.old seat addition.now) }
+        ensures refused { IfSome (free_refusal (beneath self.old) seat addition.now.number)
+            (λ e. result ≡ Err e) }
+        ensures ok { OnOk result
+            (self.new ≡ after_named self.old (named_inside_entry self.old seat addition.now)) }
+        ensures err { OnErr result (self.new ≡ self.old) }
+    {
+        add_named(
+            &mut self.joint,
+            &mut self.variables,
+            seat,
+            addition,
+            propagator,
+        )
+    }
+
+    /// As [`NamedBook::add_inside`], with a copy of the entry, whose call is in the seat's variables. Takes time linear in the
+    /// entry beside that.
+    ///
+    /// # Errors
+    /// As [`NamedBook::add_inside`].
+    pub fn add_inside_with_entry(
+        &mut self,
+        seat: u32,
+        addition: &Addition,
+        propagator: &mut Propagator,
+    ) -> Result<(Added, Entry), Refusal>
+        ensures reply { IsReplyBy (λ told. told.0) result
+            (named_inside self.old seat addition.now) }
+        ensures refused { IfSome (free_refusal (beneath self.old) seat addition.now.number)
+            (λ e. result ≡ Err e) }
+        ensures told { IfOk result
+            (λ told. told.1 ≡ named_inside_entry self.old seat addition.now) }
+        ensures ok { OnOk result
+            (self.new ≡ after_named self.old (named_inside_entry self.old seat addition.now)) }
+        ensures err { OnErr result (self.new ≡ self.old) }
+    {
+        add_named_with_entry(
+            &mut self.joint,
+            &mut self.variables,
+            seat,
+            addition,
+            propagator,
+        )
+    }
+}
+
+/// As [`NamedBook::add_inside`], with the parts of a book.
+///
+/// # Errors
+/// As [`NamedBook::add_inside`].
+fn add_named(
+    joint: &mut Book,
+    variables: &mut VariableTable,
+    seat: u32,
+    addition: &Addition,
+    propagator: &mut Propagator,
+) -> Result<Added, Refusal>
+    requires { IsOver joint.old variables.old }
+    ensures reply { IsReply result
+        (named_inside (named_over joint.old variables.old.variables) seat addition.now) }
+    ensures refused { IfSome (free_refusal joint.old seat addition.now.number)
+        (λ e. result ≡ Err e) }
+    ensures ok { OnOk result (IsOverAfter (named_over joint.old variables.old.variables)
+        (named_inside_entry (named_over joint.old variables.old.variables) seat addition.now)
+        joint.new variables.new) }
+    ensures err { OnErr result ((joint.new ≡ joint.old) × (variables.new ≡ variables.old)) }
+{
+    let before = variables.next();
+    let clause = addition.lemma.clause();
+    if variables.is_within(clause) {
+        let added = joint.add_inside(seat, addition, propagator);
+        history_is_legal(joint);
+        return added;
+    }
+    if let Some(refusal) = joint.free_refusal(seat, addition.number) {
+        return Err(refusal);
+    }
+    let left = variables.give(seat, clause)?;
+    if !left {
+        let _ = joint.formula().variables();
+        return Err(refusal_at_limit(joint, variables, seat, addition, propagator));
+    }
+    match add_joint_form(joint, variables, seat, addition, propagator) {
+        Ok(added) => {
+            history_is_legal(joint);
+            Ok(added)
+        }
+        Err(refusal) => {
+            variables.take_back(before);
+            Err(refusal)
+        }
+    }
+}
+
+/// As [`NamedBook::add_inside_with_entry`], with the parts of a book.
+///
+/// # Errors
+/// As [`NamedBook::add_inside`].
+fn add_named_with_entry(
+    joint: &mut Book,
+    variables: &mut VariableTable,
+    seat: u32,
+    addition: &Addition,
+    propagator: &mut Propagator,
+) -> Result<(Added, Entry), Refusal>
+    requires { IsOver joint.old variables.old }
+    ensures reply { IsReplyBy (λ told. told.0) result
+        (named_inside (named_over joint.old variables.old.variables) seat addition.now) }
+    ensures refused { IfSome (free_refusal joint.old seat addition.now.number)
+        (λ e. result ≡ Err e) }
+    ensures told { IfOk result (λ told. told.1 ≡ named_inside_entry
+        (named_over joint.old variables.old.variables) seat addition.now) }
+    ensures ok { OnOk result (IsOverAfter (named_over joint.old variables.old.variables)
+        (named_inside_entry (named_over joint.old variables.old.variables) seat addition.now)
+        joint.new variables.new) }
+    ensures err { OnErr result ((joint.new ≡ joint.old) × (variables.new ≡ variables.old)) }
+{
+    let before = variables.next();
+    let clause = addition.lemma.clause();
+    if variables.is_within(clause) {
+        let told = joint.add_inside_with_entry(seat, addition, propagator);
+        history_is_legal(joint);
+        return told;
+    }
+    if let Some(refusal) = joint.free_refusal(seat, addition.number) {
+        return Err(refusal);
+    }
+    let left = variables.give(seat, clause)?;
+    if !left {
+        let _ = joint.formula().variables();
+        return Err(refusal_at_limit(joint, variables, seat, addition, propagator));
+    }
+    match add_joint_form_with_entry(joint, variables, seat, addition, propagator) {
+        Ok(told) => {
+            history_is_legal(joint);
+            Ok(told)
+        }
+        Err(refusal) => {
+            variables.take_back(before);
+            Err(refusal)
+        }
+    }
+}

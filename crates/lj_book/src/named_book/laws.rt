@@ -1,0 +1,41 @@
+//! What is true of every book whose seats name variables as they like, whatever was called on it.
+ghost use Rattle.std.specs.Prelude.{◌≡◌, Some, IsSome};
+ghost use Rattle.lj_clause.specs.ClauseMap.{formula_map};
+ghost use Rattle.lj_clause.specs.Truth.{IsSatisfiable, IsUnsatisfiable};
+ghost use Rattle.lj_text.specs.Steps.{replay};
+ghost use Rattle.lj_book.specs.State.{live, steps_of, verdict};
+ghost use Rattle.lj_book.specs.Named.{beneath, IsNamedReached};
+
+use super::NamedBook;
+use crate::book::laws::{live_is_satisfiable, live_is_the_replay, refuted_is_unsatisfiable};
+
+/// The history is legal: its entries, each of them legal where it stands, lead from a new book to this one. Takes constant
+/// time.
+pub fn named_history_is_legal(book: &NamedBook)
+    ensures { IsNamedReached book.now }
+{
+    let _ = &book.joint;
+}
+
+/// The live clauses, in joint variables, are what the steps of the history make of the formula. Takes constant time.
+pub fn named_live_is_the_replay(book: &NamedBook)
+    ensures { replay (formula_map book.now.formula) (steps_of book.now.history)
+        ≡ Some (live (beneath book.now)) }
+{
+    live_is_the_replay(&book.joint);
+}
+
+/// Some assignment satisfies the live clauses, in joint variables, if one satisfies the formula. Takes constant time.
+pub fn named_live_is_satisfiable(book: &NamedBook)
+    ensures { IsSatisfiable (formula_map book.now.formula)
+        → IsSatisfiable (live (beneath book.now)) }
+{
+    live_is_satisfiable(&book.joint);
+}
+
+/// No assignment satisfies the formula, if the history has an empty clause. Takes constant time.
+pub fn named_refuted_is_unsatisfiable(book: &NamedBook)
+    ensures { IsSome (verdict book.now.history) → IsUnsatisfiable book.now.formula }
+{
+    refuted_is_unsatisfiable(&book.joint);
+}
