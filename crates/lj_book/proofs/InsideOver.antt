@@ -136,7 +136,7 @@ module _ (joint : State) (t : TopVariables) (over : IsOver joint t) (seat : ℕ)
     given_is : u.variables ≡ given_in s seat a.lemma.clause
     given_is = ap (λ (w : TopVariables). w.variables) gave ∙ ap (λ n. given n t.variables seat a.lemma.clause) over.top
 
-    form_is : joint_form u.variables seat a ≡ below
+    pub form_is : joint_form u.variables seat a ≡ below
     form_is = ap (λ (v : Variables). joint_form v seat a) given_is
 
     pub given_reply : inside_reply joint seat (joint_form u.variables seat a) ≡ named_inside s seat a

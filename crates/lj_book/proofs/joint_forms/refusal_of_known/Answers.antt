@@ -44,8 +44,8 @@ returns-then-is_full-clause-reply c =
     (c.is_full.ensures ∙ ap (λ (s : State). not (nat_lt (addition_count s.history) s.max_steps)) c.inside_line.ensures.same)
     (subst (λ (b : Addition). IsRefusal c.in-Err.refusal (inside_line c.args.joint.now c.args.seat b)) c.requires c.in-Err.ensures.reply)
 
-pub returns-in-Err-clause-reply : goal.returns-in-Err-clause-reply
-returns-in-Err-clause-reply c =
+pub returns-clause-reply : goal.returns-clause-reply
+returns-clause-reply c =
     let a : Addition = c.args.addition.now in
     let t : TopVariables = c.args.variables.now in
     let m : Renaming = renaming_of t.variables c.args.seat in

@@ -28,8 +28,8 @@ returns-then-is_within-clause-reply c =
     let seat = c.args.seat in
     let a : Addition = c.args.addition.now in
     let over = c.requires in
-    let lemma : IsLemma a.lemma = c.clause.ensures.lemma in
-    let clause : c.clause.result.now ≡ a.lemma.clause = c.clause.ensures.clause in
+    let lemma : IsLemma a.lemma = c.clause-clause.ensures.lemma in
+    let clause : c.clause-clause.result.now ≡ a.lemma.clause = c.clause-clause.ensures.clause in
     let within : names_up_to t.top a.lemma.clause ≡ true = ap (names_up_to t.top) (sym clause) ∙ sym c.is_within.ensures.within ∙ c.if-is_within.true in
     let few : t.variables.next ≤ MAX_VARIABLE + 1 = subst (λ (n : ℕ). n ≤ MAX_VARIABLE + 1) c.next-before.ensures.next c.next-before.ensures.in_range.1 in
     subst (λ (r : Result Added Refusal). IsReply c.add_inside-added.result r) (within_reply j t over seat a lemma within few) c.add_inside-added.ensures.reply
@@ -41,8 +41,8 @@ returns-then-is_within-clause-ok c =
     let seat = c.args.seat in
     let a : Addition = c.args.addition.now in
     let over = c.requires in
-    let lemma : IsLemma a.lemma = c.clause.ensures.lemma in
-    let clause : c.clause.result.now ≡ a.lemma.clause = c.clause.ensures.clause in
+    let lemma : IsLemma a.lemma = c.clause-clause.ensures.lemma in
+    let clause : c.clause-clause.result.now ≡ a.lemma.clause = c.clause-clause.ensures.clause in
     let within : names_up_to t.top a.lemma.clause ≡ true = ap (names_up_to t.top) (sym clause) ∙ sym c.is_within.ensures.within ∙ c.if-is_within.true in
     let few : t.variables.next ≤ MAX_VARIABLE + 1 = subst (λ (n : ℕ). n ≤ MAX_VARIABLE + 1) c.next-before.ensures.next c.next-before.ensures.in_range.1 in
     on_ok c.add_inside-added.result (within_entered j t over seat a lemma c.add_inside-added.new.self within few c.history_is_legal.ensures) c.add_inside-added.ensures.ok
@@ -58,8 +58,8 @@ returns-in-Some-clause-reply c =
     let seat = c.args.seat in
     let a : Addition = c.args.addition.now in
     let over = c.requires in
-    let lemma : IsLemma a.lemma = c.clause.ensures.lemma in
-    let clause : c.clause.result.now ≡ a.lemma.clause = c.clause.ensures.clause in
+    let lemma : IsLemma a.lemma = c.clause-clause.ensures.lemma in
+    let clause : c.clause-clause.result.now ≡ a.lemma.clause = c.clause-clause.ensures.clause in
     is_refusal c.in-Some.refusal (named_inside (named_over j t.variables) seat a) (refused_at_once j t over seat a lemma c.in-Some.refusal (sym c.free_refusal.ensures ∙ c.in-Some.is))
 
 pub give-requires : goal.give-requires
@@ -69,8 +69,8 @@ give-requires c =
     let seat = c.args.seat in
     let a : Addition = c.args.addition.now in
     let over = c.requires in
-    let lemma : IsLemma a.lemma = c.clause.ensures.lemma in
-    let clause : c.clause.result.now ≡ a.lemma.clause = c.clause.ensures.clause in
+    let lemma : IsLemma a.lemma = c.clause-clause.ensures.lemma in
+    let clause : c.clause-clause.result.now ≡ a.lemma.clause = c.clause-clause.ensures.clause in
     seat_within j t over seat a lemma (sym c.free_refusal.ensures ∙ c.in_default.is)
 
 pub returns-then-not-left-clause-reply : goal.returns-then-not-left-clause-reply
@@ -80,10 +80,10 @@ returns-then-not-left-clause-reply c =
     let seat = c.args.seat in
     let a : Addition = c.args.addition.now in
     let over = c.requires in
-    let lemma : IsLemma a.lemma = c.clause.ensures.lemma in
-    let clause : c.clause.result.now ≡ a.lemma.clause = c.clause.ensures.clause in
+    let lemma : IsLemma a.lemma = c.clause-clause.ensures.lemma in
+    let clause : c.clause-clause.result.now ≡ a.lemma.clause = c.clause-clause.ensures.clause in
     let kept : c.give.new.self ≡ t =
-    c.in_ok-left.ensures.given ∙ ap (λ (b : Bool). cond b (variables_at t.top (given t.top t.variables seat c.clause.result.now)) t) c.if-not-left.true in
+    c.in_ok-left.ensures.given ∙ ap (λ (b : Bool). cond b (variables_at t.top (given t.top t.variables seat c.clause-clause.result.now)) t) c.if-not-left.true in
     let formula : IsFormula j.formula = subst (λ (f : FormulaValue). IsFormula f) c.formula.ensures c.variables.ensures.formula in
     let none : has_variables_for (named_over j t.variables) seat a.lemma.clause ≡ false =
     as_left j t over seat a lemma false (sym c.if-not-left.true ∙ c.in_ok-left.ensures.left ∙ ap (are_left t.top t.variables seat) clause) in
@@ -96,10 +96,10 @@ returns-then-not-left-clause-err c =
     let seat = c.args.seat in
     let a : Addition = c.args.addition.now in
     let over = c.requires in
-    let lemma : IsLemma a.lemma = c.clause.ensures.lemma in
-    let clause : c.clause.result.now ≡ a.lemma.clause = c.clause.ensures.clause in
+    let lemma : IsLemma a.lemma = c.clause-clause.ensures.lemma in
+    let clause : c.clause-clause.result.now ≡ a.lemma.clause = c.clause-clause.ensures.clause in
     let kept : c.give.new.self ≡ t =
-    c.in_ok-left.ensures.given ∙ ap (λ (b : Bool). cond b (variables_at t.top (given t.top t.variables seat c.clause.result.now)) t) c.if-not-left.true in
+    c.in_ok-left.ensures.given ∙ ap (λ (b : Bool). cond b (variables_at t.top (given t.top t.variables seat c.clause-clause.result.now)) t) c.if-not-left.true in
     (c.refusal_at_limit.ensures.same, kept)
 
 pub returns-in-Ok-clause-reply : goal.returns-in-Ok-clause-reply
@@ -109,14 +109,14 @@ returns-in-Ok-clause-reply c =
     let seat = c.args.seat in
     let a : Addition = c.args.addition.now in
     let over = c.requires in
-    let lemma : IsLemma a.lemma = c.clause.ensures.lemma in
-    let clause : c.clause.result.now ≡ a.lemma.clause = c.clause.ensures.clause in
+    let lemma : IsLemma a.lemma = c.clause-clause.ensures.lemma in
+    let clause : c.clause-clause.result.now ≡ a.lemma.clause = c.clause-clause.ensures.clause in
     let u : TopVariables = c.give.new.self in
     let enough : has_variables_for (named_over j t.variables) seat a.lemma.clause ≡ true =
     as_left j t over seat a lemma true (sym c.if-not-left.false ∙ c.in_ok-left.ensures.left ∙ ap (are_left t.top t.variables seat) clause) in
     let gave : u ≡ variables_at t.top (given t.top t.variables seat a.lemma.clause) =
     c.in_ok-left.ensures.given
-    ∙ ap (λ (b : Bool). cond b (variables_at t.top (given t.top t.variables seat c.clause.result.now)) t) c.if-not-left.false
+    ∙ ap (λ (b : Bool). cond b (variables_at t.top (given t.top t.variables seat c.clause-clause.result.now)) t) c.if-not-left.false
     ∙ ap (λ (d : LiteralSet). variables_at t.top (given t.top t.variables seat d)) clause in
     sym (given_reply j t over seat a lemma u enough gave) ∙ c.in-Ok.ensures.reply
 
@@ -127,14 +127,14 @@ returns-in-Ok-clause-ok c =
     let seat = c.args.seat in
     let a : Addition = c.args.addition.now in
     let over = c.requires in
-    let lemma : IsLemma a.lemma = c.clause.ensures.lemma in
-    let clause : c.clause.result.now ≡ a.lemma.clause = c.clause.ensures.clause in
+    let lemma : IsLemma a.lemma = c.clause-clause.ensures.lemma in
+    let clause : c.clause-clause.result.now ≡ a.lemma.clause = c.clause-clause.ensures.clause in
     let u : TopVariables = c.give.new.self in
     let enough : has_variables_for (named_over j t.variables) seat a.lemma.clause ≡ true =
     as_left j t over seat a lemma true (sym c.if-not-left.false ∙ c.in_ok-left.ensures.left ∙ ap (are_left t.top t.variables seat) clause) in
     let gave : u ≡ variables_at t.top (given t.top t.variables seat a.lemma.clause) =
     c.in_ok-left.ensures.given
-    ∙ ap (λ (b : Bool). cond b (variables_at t.top (given t.top t.variables seat c.clause.result.now)) t) c.if-not-left.false
+    ∙ ap (λ (b : Bool). cond b (variables_at t.top (given t.top t.variables seat c.clause-clause.result.now)) t) c.if-not-left.false
     ∙ ap (λ (d : LiteralSet). variables_at t.top (given t.top t.variables seat d)) clause in
     given_entered j t over seat a lemma u enough gave c.add_joint_form.new.joint c.history_is_legal-in-Ok.ensures c.in-Ok.ensures.ok
 
@@ -145,14 +145,14 @@ take_back-requires c =
     let seat = c.args.seat in
     let a : Addition = c.args.addition.now in
     let over = c.requires in
-    let lemma : IsLemma a.lemma = c.clause.ensures.lemma in
-    let clause : c.clause.result.now ≡ a.lemma.clause = c.clause.ensures.clause in
+    let lemma : IsLemma a.lemma = c.clause-clause.ensures.lemma in
+    let clause : c.clause-clause.result.now ≡ a.lemma.clause = c.clause-clause.ensures.clause in
     let u : TopVariables = c.give.new.self in
     let enough : has_variables_for (named_over j t.variables) seat a.lemma.clause ≡ true =
     as_left j t over seat a lemma true (sym c.if-not-left.false ∙ c.in_ok-left.ensures.left ∙ ap (are_left t.top t.variables seat) clause) in
     let gave : u ≡ variables_at t.top (given t.top t.variables seat a.lemma.clause) =
     c.in_ok-left.ensures.given
-    ∙ ap (λ (b : Bool). cond b (variables_at t.top (given t.top t.variables seat c.clause.result.now)) t) c.if-not-left.false
+    ∙ ap (λ (b : Bool). cond b (variables_at t.top (given t.top t.variables seat c.clause-clause.result.now)) t) c.if-not-left.false
     ∙ ap (λ (d : LiteralSet). variables_at t.top (given t.top t.variables seat d)) clause in
     let tops = ap (λ (w : TopVariables). w.top) gave in
     let nexts = ap (λ (w : TopVariables). w.variables.next) gave in
@@ -168,14 +168,14 @@ returns-in-Err-clause-reply c =
     let seat = c.args.seat in
     let a : Addition = c.args.addition.now in
     let over = c.requires in
-    let lemma : IsLemma a.lemma = c.clause.ensures.lemma in
-    let clause : c.clause.result.now ≡ a.lemma.clause = c.clause.ensures.clause in
+    let lemma : IsLemma a.lemma = c.clause-clause.ensures.lemma in
+    let clause : c.clause-clause.result.now ≡ a.lemma.clause = c.clause-clause.ensures.clause in
     let u : TopVariables = c.give.new.self in
     let enough : has_variables_for (named_over j t.variables) seat a.lemma.clause ≡ true =
     as_left j t over seat a lemma true (sym c.if-not-left.false ∙ c.in_ok-left.ensures.left ∙ ap (are_left t.top t.variables seat) clause) in
     let gave : u ≡ variables_at t.top (given t.top t.variables seat a.lemma.clause) =
     c.in_ok-left.ensures.given
-    ∙ ap (λ (b : Bool). cond b (variables_at t.top (given t.top t.variables seat c.clause.result.now)) t) c.if-not-left.false
+    ∙ ap (λ (b : Bool). cond b (variables_at t.top (given t.top t.variables seat c.clause-clause.result.now)) t) c.if-not-left.false
     ∙ ap (λ (d : LiteralSet). variables_at t.top (given t.top t.variables seat d)) clause in
     subst (λ (r : Result Added Refusal). IsRefusal c.in-Err.refusal r) (given_reply j t over seat a lemma u enough gave) c.in-Err.ensures.reply
 
@@ -186,14 +186,14 @@ returns-in-Err-clause-err c =
     let seat = c.args.seat in
     let a : Addition = c.args.addition.now in
     let over = c.requires in
-    let lemma : IsLemma a.lemma = c.clause.ensures.lemma in
-    let clause : c.clause.result.now ≡ a.lemma.clause = c.clause.ensures.clause in
+    let lemma : IsLemma a.lemma = c.clause-clause.ensures.lemma in
+    let clause : c.clause-clause.result.now ≡ a.lemma.clause = c.clause-clause.ensures.clause in
     let u : TopVariables = c.give.new.self in
     let enough : has_variables_for (named_over j t.variables) seat a.lemma.clause ≡ true =
     as_left j t over seat a lemma true (sym c.if-not-left.false ∙ c.in_ok-left.ensures.left ∙ ap (are_left t.top t.variables seat) clause) in
     let gave : u ≡ variables_at t.top (given t.top t.variables seat a.lemma.clause) =
     c.in_ok-left.ensures.given
-    ∙ ap (λ (b : Bool). cond b (variables_at t.top (given t.top t.variables seat c.clause.result.now)) t) c.if-not-left.false
+    ∙ ap (λ (b : Bool). cond b (variables_at t.top (given t.top t.variables seat c.clause-clause.result.now)) t) c.if-not-left.false
     ∙ ap (λ (d : LiteralSet). variables_at t.top (given t.top t.variables seat d)) clause in
     (c.in-Err.ensures.err, taken_back j t over seat a lemma u enough gave c.next-before.result c.take_back.new.self c.next-before.ensures.next c.take_back.ensures)
 

@@ -1,0 +1,28 @@
+use Rattle.std.proofs.Common.{◌≡◌, sym, ◌∙◌, subst}
+use Rattle.std.specs.Prelude.{IfOk}
+use Rattle.lj_book.specs.declared.entry.Added.{Added}
+use Rattle.lj_book.specs.declared.entry.Entry.{Entry}
+use Rattle.lj_book.specs.Calls.{IsReply, IsReplyBy}
+use Rattle.lj_book.specs.Named.{NamedState, named_over, after_named}
+use Rattle.lj_book.specs.Views.{IsClosedAlone}
+use Rattle.lj_book.specs.NamedViews.{named_view}
+use Rattle.lj_book.specs.NamedReplies.{named_inside}
+use Rattle.lj_book.specs.NamedInside.{named_inside_entry}
+use Rattle.lj_book.proofs.InsideOver.{over_either, left_either, same_either, on_ok, on_err}
+use Rattle.lj_book.proofs.named_book.NamedBook.add_closed.Goals as goal
+
+pub close_named-requires-clause-closed : goal.close_named-requires-clause-closed
+close_named-requires-clause-closed c =
+    subst (λ (s : NamedState). IsClosedAlone (named_view s c.args.seat) c.args.seat c.args.addition.now c.args.read) (sym c.self.view_is) c.requires
+
+pub invariant_of-self : goal.invariant_of-self
+invariant_of-self c =
+    over_either c.close_named.result c.self.inside.joint c.close_named.new.joint c.self.inside.variables c.close_named.new.variables (named_inside_entry (named_over c.self.inside.joint c.self.inside.variables.variables) c.args.seat c.args.addition.now) c.self.invariant c.close_named.ensures.ok c.close_named.ensures.err
+
+pub returns-clause-reply : goal.returns-clause-reply
+returns-clause-reply c = subst (λ (s : NamedState). IsReply c.close_named.result (named_inside s c.args.seat c.args.addition.now)) c.self.view_is c.close_named.ensures.reply
+
+pub returns-clause-ok : goal.returns-clause-ok
+returns-clause-ok c =
+    on_ok c.close_named.result (λ e. e ∙ (λ i. after_named (c.self.view_is i) (named_inside_entry (c.self.view_is i) c.args.seat c.args.addition.now)))
+    (left_either c.close_named.result c.self.inside.joint c.close_named.new.joint c.self.inside.variables c.close_named.new.variables (named_inside_entry (named_over c.self.inside.joint c.self.inside.variables.variables) c.args.seat c.args.addition.now) c.self.invariant c.close_named.ensures.ok c.close_named.ensures.err)
