@@ -1,25 +1,23 @@
 -- An addition that closes by what its seat sees, by the book in joint variables and by the one over it.
 use Rattle.std.proofs.Common.{◌≡◌, ap, refl, sym, ◌∙◌, subst, ℕ, ◌<◌, ◌≤◌, Bool, cond, true, false, length, arith}
-use Rattle.std.specs.Prelude.{nat_lt, [], Result, Ok, Err, IfErr}
+use Rattle.std.specs.Prelude.{nat_lt, [], Ok, Err}
 use Rattle.std.proofs.lemmas.Bool.Decides.{nat_tests}
 use Rattle.lj_clause.specs.Lemma.{IsLemma}
 use Rattle.lj_clause.specs.ClauseMap.{IsFormula, names_up_to}
 use Rattle.lj_text.specs.declared.line.Addition.{Addition}
-use Rattle.lj_book.specs.declared.entry.Added.{Added}
 use Rattle.lj_book.specs.declared.refusal.Refusal.{Refusal}
-use Rattle.lj_book.specs.declared.refusal.Refusal.TheVariants as refusals
 use Rattle.lj_book.specs.declared.refusal.Refusal.TheVariants.{Full, NoVariableLeft}
 use Rattle.lj_book.specs.Variables.{given}
 use Rattle.lj_book.specs.State.{State, addition_count, next, live}
 use Rattle.lj_book.specs.History.{IsReached}
-use Rattle.lj_book.specs.Calls.{IsRefusal, free_refusal, commit_told}
+use Rattle.lj_book.specs.Calls.{IsRefusal, commit_told}
 use Rattle.lj_book.specs.Inside.{inside_reply}
 use Rattle.lj_book.specs.Solo.{view_of}
-use Rattle.lj_book.specs.Views.{IsClosedAlone, IsFullOrNoMemory}
+use Rattle.lj_book.specs.Views.{IsClosedAlone}
 use Rattle.lj_book.specs.Named.{NamedState, beneath, named_over, has_variables_for}
 use Rattle.lj_book.specs.NamedReplies.{named_inside}
 use Rattle.lj_book.specs.NamedViews.{named_view, addition_beneath}
-use Rattle.lj_book.specs.NamedInside.{if_left, IsClosedRefusal}
+use Rattle.lj_book.specs.NamedInside.{if_left}
 use Rattle.lj_book.specs.inner.JointLines.{addition_of_parts}
 use Rattle.lj_book.specs.inner.JointForms.{joint_form}
 use Rattle.lj_book.specs.inner.VariableTables.{TopVariables, variables_at}
@@ -49,37 +47,6 @@ closed_told s seat a read sound here = by (nat_lt (addition_count s.history) s.m
         let step : Addition = addition_of_parts (next s) a.lemma (here.hints, []) in
         line_replied s seat a step sound (parts_passed (live s) s seat a step refl here.free here.tested (below (addition_count s.history) s.max_steps e))
     by false e = inside_refused s seat a Full sound (closed_full s seat a read here (above (addition_count s.history) s.max_steps e))
-
--- ---- which refusals it may have
-
-pub closed_refusal : (e : Refusal) → IsFullOrNoMemory e → IsClosedRefusal e
-closed_refusal (refusals.NoMemory m) h = tt
-closed_refusal refusals.Full h = tt
-closed_refusal refusals.NoVariableLeft h = tt
-closed_refusal refusals.SeatGone h = absurd h
-closed_refusal refusals.NumberTaken h = absurd h
-closed_refusal (refusals.UnknownNumber n) h = absurd h
-closed_refusal (refusals.GroupRepeated n) h = absurd h
-closed_refusal (refusals.HintNotUnit n) h = absurd h
-closed_refusal refusals.EmptyOpen h = absurd h
-closed_refusal (refusals.MissingGroup n) h = absurd h
-closed_refusal (refusals.GroupStuck n place) h = absurd h
-closed_refusal (refusals.GroupOpen n) h = absurd h
-closed_refusal (refusals.Stale n) h = absurd h
-closed_refusal refusals.PrivateVariable h = absurd h
-closed_refusal refusals.NoSuchClause h = absurd h
-
-pub closed_refusals : {A : Type 0} (r : Result A Refusal) → IfErr r IsFullOrNoMemory → IfErr r IsClosedRefusal
-closed_refusals (Ok x) h = tt
-closed_refusals (Err e) h = closed_refusal e h
-
--- the refusal where too few joint variables are left
-pub limit_is_closed : (e : Refusal) (b : Bool) → e ≡ cond b NoVariableLeft Full → IsClosedRefusal e
-limit_is_closed e b is = subst (λ (x : Refusal). IsClosedRefusal x) (sym is) (by b)
-  where
-    by : (b : Bool) → IsClosedRefusal (cond b NoVariableLeft Full)
-    by true = tt
-    by false = tt
 
 -- ---- by what the seat sees
 

@@ -1,15 +1,14 @@
 -- An addition inside by the book in joint variables, and by the one over it.
 use Rattle.std.proofs.Common.{◌≡◌, ap, refl, sym, ◌∙◌, subst, ℕ, ◌+◌, ◌<◌, ◌≤◌, Bool, cond, true, false, length, arith}
-use Rattle.std.specs.Prelude.{ℤ, nat_le, ◌==◌, List, [], ◌∷◌, map, Option, Some, None, option_map, unwrap_or, OnOk, OnErr, Result, Ok, Err}
+use Rattle.std.specs.Prelude.{nat_le, List, [], ◌∷◌, map, Some, None, OnOk, OnErr, Result, Ok, Err}
 use Rattle.std.specs.List.{list_all}
-use Rattle.std.proofs.lemmas.Bool.{eqb-true, le-leb}
+use Rattle.std.proofs.lemmas.Bool.{le-leb}
 use Rattle.lj_clause.specs.declared.lit.TheConstants.{MAX_VARIABLE}
 use Rattle.lj_clause.specs.Literal.{variable_of}
-use Rattle.lj_clause.specs.LiteralSet.{LiteralSet, holds, literals}
+use Rattle.lj_clause.specs.LiteralSet.{LiteralSet, literals}
 use Rattle.lj_clause.specs.Lemma.{LemmaValue, IsLemma}
 use Rattle.lj_clause.specs.ClauseMap.{names_up_to, IsFormula}
-use Rattle.lj_clause.specs.Renaming.{Renaming, has_name, renamed, literal_image, image, lemma_image}
-use Rattle.lj_clause.proofs.Images.{image-same}
+use Rattle.lj_clause.specs.Renaming.{has_name, lemma_image}
 use Rattle.lj_text.specs.declared.line.Addition.{Addition}
 use Rattle.lj_book.specs.declared.entry.Added.{Added}
 use Rattle.lj_book.specs.declared.entry.Entry.{Entry}
@@ -20,7 +19,7 @@ use Rattle.lj_book.specs.History.{after_entry, IsReached}
 use Rattle.lj_book.specs.declared.entry.Call.TheVariants as calls
 use Rattle.lj_book.specs.Calls.{take_reply, free_refusal}
 use Rattle.lj_book.specs.Inside.{inside_reply, inside_step, inside_entry}
-use Rattle.lj_book.specs.Named.{NamedState, top_of, beneath, named_over, given_in, has_variables_for, entry_beneath, after_named}
+use Rattle.lj_book.specs.Named.{NamedState, beneath, named_over, given_in, has_variables_for, after_named}
 use Rattle.lj_book.specs.NamedReplies.{named_inside_after, named_inside}
 use Rattle.lj_book.specs.NamedViews.{addition_beneath}
 use Rattle.lj_book.specs.NamedInside.{if_left, named_inside_entry}
@@ -129,8 +128,23 @@ module _ (joint : State) (t : TopVariables) (over : IsOver joint t) (seat : ℕ)
       entered_so after t (within_enough within few) reached (is ∙ ap (λ (b : Addition). after_entry joint (inside_entry joint seat b)) (sym (within_so within).0)) refl (sym (within_so within).1)
 
   -- what the table gives
-  pub as_left : (b : Bool) → b ≡ are_left t.top t.variables seat a.lemma.clause → has_variables_for s seat a.lemma.clause ≡ b
+  as_left : (b : Bool) → b ≡ are_left t.top t.variables seat a.lemma.clause → has_variables_for s seat a.lemma.clause ≡ b
   as_left b e = sym (e ∙ ap (λ n. are_left n t.variables seat a.lemma.clause) over.top)
+
+  -- what it leaves, by the answer that it gave for a clause that is the lemma's
+  module _ (u : TopVariables) (c : LiteralSet) (left : Bool) (is : c ≡ a.lemma.clause) (are : left ≡ are_left t.top t.variables seat c)
+      (gives : u ≡ cond left (variables_at t.top (given t.top t.variables seat c)) t) where
+    pub given_out : left ≡ true → (has_variables_for s seat a.lemma.clause ≡ true) × (u ≡ variables_at t.top (given t.top t.variables seat a.lemma.clause))
+    given_out on = (
+      as_left true (sym on ∙ are ∙ ap (are_left t.top t.variables seat) is),
+      gives ∙ (λ i. cond (on i) (variables_at t.top (given t.top t.variables seat (is i))) t),
+    )
+
+    pub none_given : left ≡ false → (has_variables_for s seat a.lemma.clause ≡ false) × (u ≡ t)
+    none_given off = (
+      as_left false (sym off ∙ are ∙ ap (are_left t.top t.variables seat) is),
+      gives ∙ ap (λ (b : Bool). cond b (variables_at t.top (given t.top t.variables seat c)) t) off,
+    )
 
   module _ (u : TopVariables) (enough : has_variables_for s seat a.lemma.clause ≡ true) (gave : u ≡ variables_at t.top (given t.top t.variables seat a.lemma.clause)) where
     given_is : u.variables ≡ given_in s seat a.lemma.clause

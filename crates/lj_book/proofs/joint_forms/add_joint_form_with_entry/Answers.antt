@@ -1,7 +1,5 @@
-use Rattle.std.proofs.Common.{◌≡◌, ap, sym, ◌∙◌, subst, true, false}
+use Rattle.std.proofs.Common.{◌≡◌, ap, sym, ◌∙◌, subst, true}
 use Rattle.std.specs.Prelude.{IfOk, OnOk}
-use Rattle.lj_clause.specs.LiteralSet.{LiteralSet}
-use Rattle.lj_clause.specs.Lemma.{IsLemma}
 use Rattle.lj_text.specs.declared.line.Addition.{Addition}
 use Rattle.lj_book.specs.declared.entry.Added.{Added}
 use Rattle.lj_book.specs.declared.entry.Entry.{Entry}

@@ -1,15 +1,11 @@
-use Rattle.std.proofs.Common.{◌≡◌, ap, sym, ◌∙◌, subst, true, false}
-use Rattle.std.specs.Prelude.{IfOk, OnOk, Ok}
-use Rattle.lj_clause.specs.LiteralSet.{LiteralSet}
-use Rattle.lj_clause.specs.Lemma.{IsLemma}
+use Rattle.std.proofs.Common.{◌≡◌, ap, sym, ◌∙◌, subst, true}
+use Rattle.std.specs.Prelude.{IfOk, OnOk}
 use Rattle.lj_text.specs.declared.line.Addition.{Addition}
 use Rattle.lj_book.specs.declared.entry.Added.{Added}
-use Rattle.lj_book.specs.declared.entry.Call.{Call}
 use Rattle.lj_book.specs.declared.entry.Entry.{Entry}
-use Rattle.lj_book.specs.declared.refusal.Refusal.{Refusal}
 use Rattle.lj_book.specs.Variables.{renaming_of}
 use Rattle.lj_book.specs.History.{after_entry}
-use Rattle.lj_book.specs.Calls.{IsRefusal, IsReply, IsReplyBy}
+use Rattle.lj_book.specs.Calls.{IsReplyBy}
 use Rattle.lj_book.specs.Inside.{inside_reply, inside_entry}
 use Rattle.lj_book.specs.Solo.{view_of}
 use Rattle.lj_book.specs.Views.{IsClosedAlone}

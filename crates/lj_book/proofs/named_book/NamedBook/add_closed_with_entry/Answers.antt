@@ -1,14 +1,12 @@
-use Rattle.std.proofs.Common.{◌≡◌, sym, ◌∙◌, subst}
+use Rattle.std.proofs.Common.{◌≡◌, ◌∙◌, subst}
 use Rattle.std.specs.Prelude.{IfOk}
 use Rattle.lj_book.specs.declared.entry.Added.{Added}
 use Rattle.lj_book.specs.declared.entry.Entry.{Entry}
-use Rattle.lj_book.specs.Calls.{IsReply, IsReplyBy}
+use Rattle.lj_book.specs.Calls.{IsReplyBy}
 use Rattle.lj_book.specs.Named.{NamedState, named_over, after_named}
-use Rattle.lj_book.specs.Views.{IsClosedAlone}
-use Rattle.lj_book.specs.NamedViews.{named_view}
 use Rattle.lj_book.specs.NamedReplies.{named_inside}
 use Rattle.lj_book.specs.NamedInside.{named_inside_entry}
-use Rattle.lj_book.proofs.InsideOver.{over_either, left_either, same_either, on_ok, on_err}
+use Rattle.lj_book.proofs.InsideOver.{over_either, left_either, on_ok}
 use Rattle.lj_book.proofs.named_book.NamedBook.add_closed_with_entry.Goals as goal
 
 pub invariant_of-self : goal.invariant_of-self

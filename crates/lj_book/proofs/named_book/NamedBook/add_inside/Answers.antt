@@ -1,9 +1,7 @@
 use Rattle.std.proofs.Common.{◌≡◌, ◌∙◌, subst}
-use Rattle.std.specs.Prelude.{Err, IfOk, IfSome}
-use Rattle.lj_book.specs.declared.entry.Added.{Added}
-use Rattle.lj_book.specs.declared.entry.Entry.{Entry}
+use Rattle.std.specs.Prelude.{Err, IfSome}
 use Rattle.lj_book.specs.State.{State}
-use Rattle.lj_book.specs.Calls.{IsReply, IsReplyBy, free_refusal}
+use Rattle.lj_book.specs.Calls.{IsReply, free_refusal}
 use Rattle.lj_book.specs.Named.{NamedState, named_over, after_named}
 use Rattle.lj_book.specs.NamedReplies.{named_inside}
 use Rattle.lj_book.specs.NamedInside.{named_inside_entry}
