@@ -1,5 +1,6 @@
 use Rattle.std.proofs.Common.{◌≡◌, ap, sym, ◌∙◌, subst, ℕ, ◌+◌, ◌≤◌, true, arith}
 use Rattle.std.specs.Prelude.{Result}
+use Rattle.std.proofs.lemmas.Result.{on_ok_weaker}
 use Rattle.lj_clause.specs.declared.lit.TheConstants.{MAX_VARIABLE}
 use Rattle.lj_clause.specs.Lemma.{IsLemma}
 use Rattle.lj_clause.specs.ClauseMap.{FormulaValue, IsFormula, names_up_to}
@@ -10,7 +11,7 @@ use Rattle.lj_book.specs.State.{State}
 use Rattle.lj_book.specs.Calls.{IsRefusal, IsReply}
 use Rattle.lj_book.specs.inner.VariableTables.{TopVariables}
 use Rattle.lj_book.proofs.GivenBack.{given_goes_on}
-use Rattle.lj_book.proofs.InsideOver.{within_reply, within_entered, given_out, none_given, given_reply, given_entered, taken_back, on_ok}
+use Rattle.lj_book.proofs.InsideOver.{within_reply, within_entered, given_out, none_given, given_reply, given_entered, taken_back}
 use Rattle.lj_book.proofs.ClosedOver.{closed_within, closed_seat, closed_given, closed_limit}
 use Rattle.lj_book.proofs.named_book.closed.close_named.Goals as goal
 
@@ -42,7 +43,7 @@ returns-then-is_within-clause-ok c =
     let lemma : IsLemma a.lemma = c.clause-clause.ensures.lemma in
     let within : names_up_to t.top a.lemma.clause ≡ true = ap (names_up_to t.top) (sym c.clause-clause.ensures.clause) ∙ sym c.is_within.ensures.within ∙ c.if-is_within.true in
     let few : t.variables.next ≤ MAX_VARIABLE + 1 = subst (λ (n : ℕ). n ≤ MAX_VARIABLE + 1) c.next-before.ensures.next c.next-before.ensures.in_range.1 in
-    on_ok c.add_closed-added.result (within_entered j t c.requires.over c.args.seat a lemma c.add_closed-added.new.self within few c.history_is_legal.ensures) c.add_closed-added.ensures.ok
+    on_ok_weaker c.add_closed-added.result (within_entered j t c.requires.over c.args.seat a lemma c.add_closed-added.new.self within few c.history_is_legal.ensures) c.add_closed-added.ensures.ok
 
 pub give-requires : goal.give-requires
 give-requires c =

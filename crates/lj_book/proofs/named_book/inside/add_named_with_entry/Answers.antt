@@ -1,5 +1,6 @@
 use Rattle.std.proofs.Common.{◌≡◌, ap, refl, sym, ◌∙◌, subst, ℕ, ◌+◌, ◌≤◌, true, arith}
 use Rattle.std.specs.Prelude.{Result, IfOk}
+use Rattle.std.proofs.lemmas.Result.{on_ok_weaker, on_err_weaker}
 use Rattle.lj_clause.specs.declared.lit.TheConstants.{MAX_VARIABLE}
 use Rattle.lj_clause.specs.Lemma.{IsLemma}
 use Rattle.lj_clause.specs.ClauseMap.{FormulaValue, IsFormula, names_up_to}
@@ -16,7 +17,7 @@ use Rattle.lj_book.specs.inner.Limits.{limit_reply}
 use Rattle.lj_book.proofs.GivenBack.{given_goes_on}
 use Rattle.lj_book.proofs.OverLaws.{is_refusal}
 use Rattle.lj_book.proofs.NamedCommits.{on_err as anyway}
-use Rattle.lj_book.proofs.InsideOver.{within_reply, within_entry, within_entered, given_out, none_given, same_limit, given_reply, given_entry, given_entered, taken_back, refused_at_once, seat_within, on_ok, on_err}
+use Rattle.lj_book.proofs.InsideOver.{within_reply, within_entry, within_entered, given_out, none_given, same_limit, given_reply, given_entry, given_entered, taken_back, refused_at_once, seat_within}
 use Rattle.lj_book.proofs.named_book.inside.add_named_with_entry.Goals as goal
 
 pub returns-then-is_within-clause-reply : goal.returns-then-is_within-clause-reply
@@ -46,11 +47,11 @@ returns-then-is_within-clause-ok c =
     let lemma : IsLemma a.lemma = c.clause-clause.ensures.lemma in
     let within : names_up_to t.top a.lemma.clause ≡ true = ap (names_up_to t.top) (sym c.clause-clause.ensures.clause) ∙ sym c.is_within.ensures.within ∙ c.if-is_within.true in
     let few : t.variables.next ≤ MAX_VARIABLE + 1 = subst (λ (n : ℕ). n ≤ MAX_VARIABLE + 1) c.next-before.ensures.next c.next-before.ensures.in_range.1 in
-    on_ok c.add_inside_with_entry-told.result (within_entered j t c.requires c.args.seat a lemma c.add_inside_with_entry-told.new.self within few c.history_is_legal.ensures) c.add_inside_with_entry-told.ensures.ok
+    on_ok_weaker c.add_inside_with_entry-told.result (within_entered j t c.requires c.args.seat a lemma c.add_inside_with_entry-told.new.self within few c.history_is_legal.ensures) c.add_inside_with_entry-told.ensures.ok
 
 pub returns-then-is_within-clause-err : goal.returns-then-is_within-clause-err
 returns-then-is_within-clause-err c =
-    on_err c.add_inside_with_entry-told.result (λ e. (e, refl)) c.add_inside_with_entry-told.ensures.err
+    on_err_weaker c.add_inside_with_entry-told.result (λ e. (e, refl)) c.add_inside_with_entry-told.ensures.err
 
 pub returns-in-Some-clause-reply : goal.returns-in-Some-clause-reply
 returns-in-Some-clause-reply c =
