@@ -1,26 +1,26 @@
 -- An addition inside by the book in joint variables, and by the one over it.
-use Rattle.std.proofs.Common.{◌≡◌, ap, refl, sym, ◌∙◌, subst, ℕ, ◌+◌, ◌<◌, ◌≤◌, Bool, cond, true, false, length, arith}
-use Rattle.std.specs.Prelude.{ℤ, nat_le, ◌==◌, List, [], ◌∷◌, map, Option, Some, None, option_map, unwrap_or, OnOk, OnErr, Result, Ok, Err}
+use Rattle.std.proofs.Common.{◌≡◌, ap, refl, sym, ◌∙◌, subst, ℕ, ◌+◌, ◌<◌, ◌≤◌, Bool, cond, true, false, length}
+use Rattle.std.specs.Prelude.{nat_le, Some, None, OnOk, OnErr, Result, Ok, Err}
 use Rattle.std.specs.List.{list_all}
-use Rattle.std.proofs.lemmas.Bool.{eqb-true, le-leb}
+use Rattle.std.proofs.lemmas.Bool.{le-leb}
+use Rattle.std.proofs.lemmas.Result.{on_ok_weaker, on_err_weaker}
 use Rattle.lj_clause.specs.declared.lit.TheConstants.{MAX_VARIABLE}
 use Rattle.lj_clause.specs.Literal.{variable_of}
-use Rattle.lj_clause.specs.LiteralSet.{LiteralSet, holds, literals}
+use Rattle.lj_clause.specs.LiteralSet.{LiteralSet, literals}
 use Rattle.lj_clause.specs.Lemma.{LemmaValue, IsLemma}
 use Rattle.lj_clause.specs.ClauseMap.{names_up_to, IsFormula}
-use Rattle.lj_clause.specs.Renaming.{Renaming, has_name, renamed, literal_image, image, lemma_image}
-use Rattle.lj_clause.proofs.Images.{image-same}
+use Rattle.lj_clause.specs.Renaming.{has_name, lemma_image}
 use Rattle.lj_text.specs.declared.line.Addition.{Addition}
 use Rattle.lj_book.specs.declared.entry.Added.{Added}
 use Rattle.lj_book.specs.declared.entry.Entry.{Entry}
 use Rattle.lj_book.specs.declared.refusal.Refusal.{Refusal}
-use Rattle.lj_book.specs.Variables.{Variables, IsVariables, renaming_of, with_variable, with_name, with_names, given}
+use Rattle.lj_book.specs.Variables.{Variables, IsVariables, renaming_of, given}
 use Rattle.lj_book.specs.State.{State}
 use Rattle.lj_book.specs.History.{after_entry, IsReached}
 use Rattle.lj_book.specs.declared.entry.Call.TheVariants as calls
 use Rattle.lj_book.specs.Calls.{take_reply, free_refusal}
 use Rattle.lj_book.specs.Inside.{inside_reply, inside_step, inside_entry}
-use Rattle.lj_book.specs.Named.{NamedState, top_of, beneath, named_over, given_in, has_variables_for, entry_beneath, after_named}
+use Rattle.lj_book.specs.Named.{NamedState, beneath, named_over, given_in, has_variables_for, after_named}
 use Rattle.lj_book.specs.NamedReplies.{named_inside_after, named_inside}
 use Rattle.lj_book.specs.NamedViews.{addition_beneath}
 use Rattle.lj_book.specs.NamedInside.{if_left, named_inside_entry}
@@ -31,30 +31,12 @@ use Rattle.lj_book.specs.inner.Over.{IsOver, IsOverAfter}
 use Rattle.lj_book.proofs.TableLaws.{here_in_range}
 use Rattle.lj_book.proofs.BindingLaws.{can_bind}
 use Rattle.lj_book.proofs.InsideLaws.{taken_refused}
-use Rattle.lj_book.proofs.VariableLaws.{nameless}
-use Rattle.lj_book.proofs.TakenBack.{variables_before-next, variables_before-with_variable}
+use Rattle.lj_book.proofs.GivenBack.{given_taken_back}
 use Rattle.lj_book.proofs.WithinTop.{within_given, within_lemma}
 use Rattle.lj_book.proofs.NamedLaws.{rules_reached}
 use Rattle.lj_book.proofs.NamedInsideLaws.{replies_are_beneath}
 use Rattle.lj_book.proofs.LimitReplies.{replied_at_limit}
 use Rattle.lj_book.proofs.OverLaws.{entered}
-
--- ---- what is given is taken back
-
-back_names : (n top : ℕ) (v : Variables) (seat : ℕ) (xs : List ℕ) → n ≤ v.next → variables_before n (with_names top v seat xs) ≡ variables_before n v
-back_names n top v seat [] le = refl
-back_names n top v seat (x ∷ xs) le = by (λ w more. back_names n top w seat xs more) (has_name top (renaming_of v seat) x) refl
-  where
-    by : ((w : Variables) → n ≤ w.next → variables_before n (with_names top w seat xs) ≡ variables_before n w)
-        → (b : Bool) → has_name top (renaming_of v seat) x ≡ b → variables_before n (with_names top (with_name top v seat x) seat xs) ≡ variables_before n v
-    by go true h = ap (λ b. variables_before n (with_names top (cond b v (with_variable v seat x)) seat xs)) h ∙ go v le
-    by go false h =
-        ap (λ b. variables_before n (with_names top (cond b v (with_variable v seat x)) seat xs)) h
-        ∙ go (with_variable v seat x) (omega arith)
-        ∙ variables_before-with_variable n v seat x (nameless top (renaming_of v seat) x h).1 le
-
-pub given_back : (top : ℕ) (v : Variables) (seat : ℕ) (c : LiteralSet) → IsVariables top v → variables_before v.next (given top v seat c) ≡ v
-given_back top v seat c is = back_names v.next top v seat (map variable_of (literals c)) (omega arith) ∙ variables_before-next top v is
 
 -- ---- clauses that stay
 
@@ -129,14 +111,29 @@ module _ (joint : State) (t : TopVariables) (over : IsOver joint t) (seat : ℕ)
       entered_so after t (within_enough within few) reached (is ∙ ap (λ (b : Addition). after_entry joint (inside_entry joint seat b)) (sym (within_so within).0)) refl (sym (within_so within).1)
 
   -- what the table gives
-  pub as_left : (b : Bool) → b ≡ are_left t.top t.variables seat a.lemma.clause → has_variables_for s seat a.lemma.clause ≡ b
+  as_left : (b : Bool) → b ≡ are_left t.top t.variables seat a.lemma.clause → has_variables_for s seat a.lemma.clause ≡ b
   as_left b e = sym (e ∙ ap (λ n. are_left n t.variables seat a.lemma.clause) over.top)
+
+  -- what it leaves, by the answer that it gave for a clause that is the lemma's
+  module _ (u : TopVariables) (c : LiteralSet) (left : Bool) (is : c ≡ a.lemma.clause) (are : left ≡ are_left t.top t.variables seat c)
+      (gives : u ≡ cond left (variables_at t.top (given t.top t.variables seat c)) t) where
+    pub given_out : left ≡ true → (has_variables_for s seat a.lemma.clause ≡ true) × (u ≡ variables_at t.top (given t.top t.variables seat a.lemma.clause))
+    given_out on = (
+      as_left true (sym on ∙ are ∙ ap (are_left t.top t.variables seat) is),
+      gives ∙ (λ i. cond (on i) (variables_at t.top (given t.top t.variables seat (is i))) t),
+    )
+
+    pub none_given : left ≡ false → (has_variables_for s seat a.lemma.clause ≡ false) × (u ≡ t)
+    none_given off = (
+      as_left false (sym off ∙ are ∙ ap (are_left t.top t.variables seat) is),
+      gives ∙ ap (λ (b : Bool). cond b (variables_at t.top (given t.top t.variables seat c)) t) off,
+    )
 
   module _ (u : TopVariables) (enough : has_variables_for s seat a.lemma.clause ≡ true) (gave : u ≡ variables_at t.top (given t.top t.variables seat a.lemma.clause)) where
     given_is : u.variables ≡ given_in s seat a.lemma.clause
     given_is = ap (λ (w : TopVariables). w.variables) gave ∙ ap (λ n. given n t.variables seat a.lemma.clause) over.top
 
-    form_is : joint_form u.variables seat a ≡ below
+    pub form_is : joint_form u.variables seat a ≡ below
     form_is = ap (λ (v : Variables). joint_form v seat a) given_is
 
     pub given_reply : inside_reply joint seat (joint_form u.variables seat a) ≡ named_inside s seat a
@@ -154,7 +151,7 @@ module _ (joint : State) (t : TopVariables) (over : IsOver joint t) (seat : ℕ)
     pub taken_back : (before : ℕ) (w : TopVariables) → before ≡ t.variables.next → w ≡ variables_at u.top (variables_before before u.variables) → w ≡ t
     taken_back before w next is =
         is ∙ (λ i. variables_at (gave i).top (variables_before (next i) (gave i).variables))
-        ∙ ap (variables_at t.top) (given_back t.top t.variables seat a.lemma.clause rules)
+        ∙ ap (variables_at t.top) (given_taken_back t.top t.variables seat a.lemma.clause rules)
 
   -- what a number that isn't free is refused by
   pub refused_at_once : (e : Refusal) → free_refusal joint seat a.number ≡ Some e → named_inside s seat a ≡ Err e
@@ -163,14 +160,6 @@ module _ (joint : State) (t : TopVariables) (over : IsOver joint t) (seat : ℕ)
   -- a seat whose number is free is one that may be given variables
   pub seat_within : free_refusal joint seat a.number ≡ None → seat < length t.variables.of_seats
   seat_within free = subst (λ n. seat < n) (sym (rules_reached s over.reached).seats) (here_in_range joint.tables seat (can_bind joint seat a.number free).here)
-
-pub on_ok : {A E P Q : Type 0} (r : Result A E) → (P → Q) → OnOk r P → OnOk r Q
-on_ok (Ok x) f h = f h
-on_ok (Err e) f h = tt
-
-pub on_err : {A E P Q : Type 0} (r : Result A E) → (P → Q) → OnErr r P → OnErr r Q
-on_err (Ok x) f h = tt
-on_err (Err e) f h = f h
 
 -- ---- a book by its parts
 
@@ -184,7 +173,7 @@ module _ {A : Type 0} (r : Result A Refusal) (j k : State) (t u : TopVariables) 
       go (Err x) after same = subst (λ (v : TopVariables). IsOver k v) (sym same.1) (subst (λ (i : State). IsOver i t) (sym same.0) over)
 
   pub left_either : OnOk r (named_over k u.variables ≡ after_named (named_over j t.variables) e)
-  left_either = on_ok r (λ (after : IsOverAfter (named_over j t.variables) e k u). after.leaves) ok
+  left_either = on_ok_weaker r (λ (after : IsOverAfter (named_over j t.variables) e k u). after.leaves) ok
 
   pub same_either : OnErr r (named_over k u.variables ≡ named_over j t.variables)
-  same_either = on_err r (λ (same : (k ≡ j) × (u ≡ t)). (λ i. named_over (same.0 i) (same.1 i).variables)) err
+  same_either = on_err_weaker r (λ (same : (k ≡ j) × (u ≡ t)). (λ i. named_over (same.0 i) (same.1 i).variables)) err

@@ -47,6 +47,7 @@ mod NewLiterals
 mod LimitLaws
 pub mod LimitReplies
 mod InsideOver
+mod ClosedOver
 mod JointFormLaws
 pub mod PlayLaws
 mod Slots

@@ -1,10 +1,10 @@
 -- The test of an addition that needs more joint variables than are left is told by that of the literals that have joint forms.
-use Rattle.std.proofs.Common.{◌≡◌, ap, refl, sym, ◌∙◌, subst, inl, inr, ⊎_elim, ℕ, zero, suc, ◌<◌, ◌≤◌, Bool, cond, true, false, length, arith}
+use Rattle.std.proofs.Common.{◌≡◌, ap, refl, sym, ◌∙◌, subst, ⊎_elim, ℕ, zero, suc, ◌<◌, ◌≤◌, Bool, cond, true, false, length, arith}
 use Rattle.std.specs.Prelude.{ℤ, pos, negsuc, neg_ℤ, not, ◌&&◌, ◌||◌, nat_lt, nat_le, List, [], ◌∷◌, map, filter, Option, Some, None, IfSome, is_some, option_map, unwrap_or, slice_get}
 use Rattle.std.specs.List.{AllByRecursion}
 use Rattle.std.specs.Ordering.{eq_by_cmp}
 use Rattle.std.specs.Cmp.{both_ways}
-use Rattle.std.proofs.lemmas.Bool.{false≢true, false_from_ne_true, and_parts, and_from, or_cases, or_left, or_right, lt-ltb, ltb-true, le-ltb, leb-true, le-leb, cases_lt}
+use Rattle.std.proofs.lemmas.Bool.{false≢true, false_from_ne_true, and_parts, and_from, or_cases, or_left, or_right, lt-ltb, le-ltb, leb-true, cases_lt}
 use Rattle.std.specs.FinMap as fin
 use Rattle.lj_clause.specs.Literal.{lit_cmp, variable_of}
 use Rattle.lj_clause.specs.LiteralSet.{LiteralSet, no_literals, holds, with_literal, literals, from_literals, negations}
@@ -12,7 +12,7 @@ use Rattle.lj_clause.specs.Lemma.{LemmaValue, IsLemma}
 use Rattle.lj_clause.specs.ClauseMap.{ClauseMap, IsFormula}
 use Rattle.lj_clause.specs.Propagation.{Propagation, Closed, Open, Stuck, Hint, hints_in, is_contradictory, by_hint, propagate_over}
 use Rattle.lj_clause.specs.Rat.{HintGroup, groups_in, candidates, rat_over, rat, RatAnswer, Covered, MissingGroup, GroupStuck, GroupOpen}
-use Rattle.lj_clause.specs.Renaming.{Renaming, renamed, literal_image, image, lemma_image, has_name, inverse, IsOneToOne, IsPartOf}
+use Rattle.lj_clause.specs.Renaming.{Renaming, renamed, literal_image, image, lemma_image, has_name, inverse, IsOneToOne}
 use Rattle.lj_clause.proofs.Literals.{same_literal}
 use Rattle.lj_clause.proofs.LiteralSets.{holds-no_literals, holds-with_literal, holds-from_literals, holds-literals, same_set}
 use Rattle.lj_clause.proofs.Among.{among, itself, any_at, any_found, kept, passed}
@@ -25,8 +25,8 @@ use Rattle.lj_text.specs.declared.line.Addition.{Addition}
 use Rattle.lj_text.specs.Steps.{first_propagation}
 use Rattle.lj_book.specs.declared.refusal.Refusal.{Refusal}
 use Rattle.lj_book.specs.declared.refusal.Refusal.TheVariants as refusals
-use Rattle.lj_book.specs.Variables.{renaming_of, IsGiven}
-use Rattle.lj_book.specs.State.{State, live}
+use Rattle.lj_book.specs.Variables.{renaming_of}
+use Rattle.lj_book.specs.State.{live}
 use Rattle.lj_book.specs.Inside.{open_refusal, rat_refusal, propagation_refusal}
 use Rattle.lj_book.specs.Named.{NamedState, top_of, names_of, beneath, given_in, IsNamedReached}
 use Rattle.lj_book.specs.inner.JointLines.{LineParts, addition_of_parts}

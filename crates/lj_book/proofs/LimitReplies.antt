@@ -7,21 +7,20 @@ use Rattle.lj_clause.specs.Rat.{HintGroup}
 use Rattle.lj_clause.specs.Renaming.{lemma_image}
 use Rattle.lj_text.specs.declared.line.Addition.{Addition}
 use Rattle.lj_text.specs.Steps.{first_propagation, recorded_form}
-use Rattle.lj_book.specs.declared.entry.Added.{Added}
 use Rattle.lj_book.specs.declared.refusal.Refusal.{Refusal}
 use Rattle.lj_book.specs.declared.refusal.Refusal.TheVariants as refusals
 use Rattle.lj_book.specs.Tables.{is_here, is_bound, joint_of}
 use Rattle.lj_book.specs.Variables.{renaming_of}
 use Rattle.lj_book.specs.State.{State, addition_count, next, live}
-use Rattle.lj_book.specs.Calls.{IsRefusal, repeated_after, free_refusal, if_free, unless_refused, commit_told}
+use Rattle.lj_book.specs.Calls.{repeated_after, free_refusal, if_free, unless_refused, commit_told}
 use Rattle.lj_book.specs.Inside.{propagation_refusal, or_full, inside_reply}
 use Rattle.lj_book.specs.Named.{NamedState, top_of, names_of, beneath, given_in, has_variables_for, IsNamedReached}
 use Rattle.lj_book.specs.NamedReplies.{named_inside}
 use Rattle.lj_book.specs.NamedViews.{addition_beneath}
 use Rattle.lj_book.specs.NamedInside.{if_left}
-use Rattle.lj_book.specs.inner.JointLines.{LineParts, if_bound, with_joint, joints_in, with_joint_group, joint_groups_in, parts_with, joint_parts, addition_of_parts, line_by, inside_line}
+use Rattle.lj_book.specs.inner.JointLines.{LineParts, if_bound, with_joint, joints_in, with_joint_group, joint_groups_in, parts_with, joint_parts, addition_of_parts, line_by}
 use Rattle.lj_book.specs.inner.VariableTables.{variables_at}
-use Rattle.lj_book.specs.inner.Limits.{known_lemma, closes_at_once, is_new, is_lifted, limit_refusal, known_addition, whole_reply, limit_reply}
+use Rattle.lj_book.specs.inner.Limits.{known_lemma, closes_at_once, is_new, is_lifted, limit_refusal, whole_reply, limit_reply}
 use Rattle.lj_book.proofs.TableLaws.{here_in_range}
 use Rattle.lj_book.proofs.BindingLaws.{can_bind}
 use Rattle.lj_book.proofs.HistoryLaws.{IsSound-reached}

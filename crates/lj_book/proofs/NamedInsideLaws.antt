@@ -1,11 +1,9 @@
 -- An addition inside by a seat that names its variables, and the one beneath.
 use Rattle.std.proofs.Common.{◌≡◌, refl, ℕ, Bool, cond, true, false}
 use Rattle.std.specs.Prelude.{List, [], Option, Some, None, Result, Ok, Err}
-use Rattle.lj_clause.specs.Lemma.{LemmaValue}
 use Rattle.lj_clause.specs.Renaming.{lemma_image}
 use Rattle.lj_text.specs.declared.line.Addition.{Addition}
 use Rattle.lj_hint.specs.declared.pair.Pair.{Pair}
-use Rattle.lj_hint.specs.Case.{CaseValue}
 use Rattle.lj_book.specs.declared.refusal.Refusal.{Refusal}
 use Rattle.lj_book.specs.declared.refusal.Refusal.TheVariants.{SeatGone, NumberTaken, NoVariableLeft}
 use Rattle.lj_book.specs.Tables.{is_here, is_bound, joint_of}

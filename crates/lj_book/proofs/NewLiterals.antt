@@ -1,16 +1,14 @@
 -- Literals of variables that no clause has change nothing in a propagation, where no two of them contradict each other.
-use Rattle.std.proofs.Common.{◌≡◌, ap, refl, sym, ◌∙◌, subst, inl, inr, ⊎_elim, ℕ, suc, ◌==◌, Bool, cond, true, false}
+use Rattle.std.proofs.Common.{◌≡◌, ap, refl, sym, ◌∙◌, subst, ⊎_elim, ℕ, ◌==◌, Bool, cond, true, false}
 use Rattle.std.specs.Prelude.{ℤ, pos, neg_ℤ, int_lt, not, ◌||◌, ◌&&◌, ◌⊎◌, List, [], ◌∷◌, filter, Option, Some, None, IfSome, is_some, unwrap_or}
-use Rattle.std.specs.List.{list_any, AllByRecursion}
+use Rattle.std.specs.List.{AllByRecursion}
 use Rattle.std.specs.Ordering.{eq_by_cmp}
 use Rattle.std.specs.Cmp.{both_ways}
-use Rattle.std.proofs.lemmas.Bool.{false≢true, false_from_ne_true, and_parts, and_from, or_cases, or_left, or_right}
-use lib.IntN.{neg_ℤ-neg_ℤ}
+use Rattle.std.proofs.lemmas.Bool.{false≢true, false_from_ne_true, and_parts, and_from, or_left, or_right}
 use Rattle.lj_clause.specs.Literal.{lit_cmp}
 use Rattle.lj_clause.specs.LiteralSet.{LiteralSet, holds, with_literal, literals, with_negations, negations}
 use Rattle.lj_clause.specs.Propagation.{Propagation, Closed, Open, Stuck, Hint, rest, is_contradictory, after_hint, by_rest, by_hint, propagate_over}
 use Rattle.lj_clause.specs.Rat.{NamedGroup, group_of, others, RatAnswer, by_candidate, candidate_propagation, rat_over}
-use Rattle.lj_clause.proofs.Literals.{same_literal}
 use Rattle.lj_clause.proofs.LiteralSets.{holds-with_literal, holds-literals, held_before}
 use Rattle.lj_clause.proofs.Among.{among, itself, any_at, any_found, passed}
 use Rattle.lj_clause.proofs.TruthLaws.{holds-negations}

@@ -1,5 +1,4 @@
 use Rattle.lj_book.proofs.NamedInsideLaws.{replies_are_beneath, entries_are_beneath}
-use Rattle.lj_book.proofs.InsideOver.{given_back}
 use Rattle.lj_book.proofs.inside_laws.additions_are_beneath.Goals as goal
 
 pub returns-clause-replies : goal.returns-clause-replies

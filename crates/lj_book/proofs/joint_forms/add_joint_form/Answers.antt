@@ -1,15 +1,11 @@
-use Rattle.std.proofs.Common.{◌≡◌, ap, sym, ◌∙◌, subst, true, false}
-use Rattle.std.specs.Prelude.{IfOk, OnOk}
-use Rattle.lj_clause.specs.LiteralSet.{LiteralSet}
-use Rattle.lj_clause.specs.Lemma.{IsLemma}
+use Rattle.std.proofs.Common.{◌≡◌, ap, sym, ◌∙◌, subst, true}
+use Rattle.std.specs.Prelude.{OnOk}
 use Rattle.lj_text.specs.declared.line.Addition.{Addition}
-use Rattle.lj_book.specs.declared.entry.Added.{Added}
-use Rattle.lj_book.specs.declared.entry.Entry.{Entry}
 use Rattle.lj_book.specs.Variables.{renaming_of}
 use Rattle.lj_book.specs.History.{after_entry}
-use Rattle.lj_book.specs.Calls.{IsReply, IsReplyBy}
+use Rattle.lj_book.specs.Calls.{IsReply}
 use Rattle.lj_book.specs.Inside.{inside_reply, inside_entry}
-use Rattle.lj_book.specs.inner.JointForms.{joint_form, is_unmoved, with_call}
+use Rattle.lj_book.specs.inner.JointForms.{joint_form, is_unmoved}
 use Rattle.lj_book.proofs.JointFormLaws.{unmoved_form}
 use Rattle.lj_book.proofs.joint_forms.add_joint_form.Goals as goal
 

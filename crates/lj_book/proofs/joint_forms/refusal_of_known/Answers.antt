@@ -1,5 +1,5 @@
-use Rattle.std.proofs.Common.{◌≡◌, ap, sym, ◌∙◌, subst, true, false}
-use Rattle.std.specs.Prelude.{nat_lt, not, Ok}
+use Rattle.std.proofs.Common.{◌≡◌, ap, sym, ◌∙◌, subst}
+use Rattle.std.specs.Prelude.{nat_lt, not}
 use Rattle.lj_clause.specs.Renaming.{Renaming}
 use Rattle.lj_text.specs.declared.line.Addition.{Addition}
 use Rattle.lj_book.specs.Variables.{renaming_of}
@@ -44,8 +44,8 @@ returns-then-is_full-clause-reply c =
     (c.is_full.ensures ∙ ap (λ (s : State). not (nat_lt (addition_count s.history) s.max_steps)) c.inside_line.ensures.same)
     (subst (λ (b : Addition). IsRefusal c.in-Err.refusal (inside_line c.args.joint.now c.args.seat b)) c.requires c.in-Err.ensures.reply)
 
-pub returns-in-Err-clause-reply : goal.returns-in-Err-clause-reply
-returns-in-Err-clause-reply c =
+pub returns-clause-reply : goal.returns-clause-reply
+returns-clause-reply c =
     let a : Addition = c.args.addition.now in
     let t : TopVariables = c.args.variables.now in
     let m : Renaming = renaming_of t.variables c.args.seat in

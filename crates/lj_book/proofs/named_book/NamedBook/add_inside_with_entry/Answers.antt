@@ -1,14 +1,15 @@
 use Rattle.std.proofs.Common.{◌≡◌, ◌∙◌, subst}
 use Rattle.std.specs.Prelude.{Err, IfOk, IfSome}
+use Rattle.std.proofs.lemmas.Result.{on_ok_weaker, on_err_weaker}
 use Rattle.lj_book.specs.declared.entry.Added.{Added}
 use Rattle.lj_book.specs.declared.entry.Entry.{Entry}
 use Rattle.lj_book.specs.State.{State}
-use Rattle.lj_book.specs.Calls.{IsReply, IsReplyBy, free_refusal}
+use Rattle.lj_book.specs.Calls.{IsReplyBy, free_refusal}
 use Rattle.lj_book.specs.Named.{NamedState, named_over, after_named}
 use Rattle.lj_book.specs.NamedReplies.{named_inside}
 use Rattle.lj_book.specs.NamedInside.{named_inside_entry}
 use Rattle.lj_book.proofs.OverLaws.{under}
-use Rattle.lj_book.proofs.InsideOver.{over_either, left_either, same_either, on_ok, on_err}
+use Rattle.lj_book.proofs.InsideOver.{over_either, left_either, same_either}
 use Rattle.lj_book.proofs.named_book.NamedBook.add_inside_with_entry.Goals as goal
 
 pub invariant_of-self : goal.invariant_of-self
@@ -27,10 +28,10 @@ returns-clause-told c = subst (λ (s : NamedState). IfOk c.add_named_with_entry.
 
 pub returns-clause-ok : goal.returns-clause-ok
 returns-clause-ok c =
-    on_ok c.add_named_with_entry.result (λ e. e ∙ (λ i. after_named (c.self.view_is i) (named_inside_entry (c.self.view_is i) c.args.seat c.args.addition.now)))
+    on_ok_weaker c.add_named_with_entry.result (λ e. e ∙ (λ i. after_named (c.self.view_is i) (named_inside_entry (c.self.view_is i) c.args.seat c.args.addition.now)))
     (left_either c.add_named_with_entry.result c.self.inside.joint c.add_named_with_entry.new.joint c.self.inside.variables c.add_named_with_entry.new.variables (named_inside_entry (named_over c.self.inside.joint c.self.inside.variables.variables) c.args.seat c.args.addition.now) c.self.invariant c.add_named_with_entry.ensures.ok c.add_named_with_entry.ensures.err)
 
 pub returns-clause-err : goal.returns-clause-err
 returns-clause-err c =
-    on_err c.add_named_with_entry.result (λ e. e ∙ c.self.view_is)
+    on_err_weaker c.add_named_with_entry.result (λ e. e ∙ c.self.view_is)
     (same_either c.add_named_with_entry.result c.self.inside.joint c.add_named_with_entry.new.joint c.self.inside.variables c.add_named_with_entry.new.variables (named_inside_entry (named_over c.self.inside.joint c.self.inside.variables.variables) c.args.seat c.args.addition.now) c.self.invariant c.add_named_with_entry.ensures.ok c.add_named_with_entry.ensures.err)
