@@ -5,6 +5,7 @@ ghost use Rattle.lj_clause.specs.Truth.{IsSatisfiable, IsUnsatisfiable};
 ghost use Rattle.lj_text.specs.Steps.{replay};
 ghost use Rattle.lj_book.specs.State.{live, steps_of, verdict};
 ghost use Rattle.lj_book.specs.Named.{beneath, IsNamedReached};
+ghost use Rattle.lj_book.specs.NamedSolo.{NamedTidySeatsAreAlone};
 
 use super::NamedBook;
 use crate::book::laws::{live_is_satisfiable, live_is_the_replay, refuted_is_unsatisfiable};
@@ -39,3 +40,9 @@ pub fn named_refuted_is_unsatisfiable(book: &NamedBook)
 {
     refuted_is_unsatisfiable(&book.joint);
 }
+
+/// A seat whose commits each come after a take of its own with only its tests between is undisturbed: it is answered
+/// as if it were alone, in its own variables, by what its own numbers are bound to. Takes constant time.
+pub fn named_tidy_seats_are_alone()
+    ensures { NamedTidySeatsAreAlone }
+{}
