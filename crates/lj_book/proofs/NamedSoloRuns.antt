@@ -1,6 +1,6 @@
 -- Runs of events of seats that name their variables.
 use Rattle.std.proofs.Common.{◌≡◌, ap, refl, sym, ◌∙◌, subst, ℕ, Bool, true, false, arith}
-use Rattle.std.specs.Prelude.{List, [], ◌∷◌, map, take, Some, None, ◌==◌, ◌&&◌, if◌then◌else◌, Result, Ok, Err}
+use Rattle.std.specs.Prelude.{List, [], ◌∷◌, ◌++◌, map, take, Some, None, ◌==◌, ◌&&◌, if◌then◌else◌, Result, Ok, Err}
 use Rattle.std.proofs.lemmas.Bool.{false≢true, and_parts, eqb-true}
 use Rattle.std.proofs.lemmas.Bool.Decides.{nat_tests}
 use Rattle.lj_hint.specs.declared.pair.Pair.{Pair}
@@ -153,3 +153,8 @@ named_alone s end es rs pending seat is reached proper run tidy =
       subst (λ (p : Pending). IsSoloRun (own_clauses end seat) seat (record { view = named_view s seat; pending = p }) (events_of seat es (map counted_as rs)) (named_solo_of last seat)) (named_nothing_at s seat)
           (runs_alone seat false (named_nothing_pending s) last es rs settled proper (λ t. nothing_ready s seat) tidy end (keeps_itself end (runs_settled (named_nothing_pending s) last es rs settled proper run).reached) run),
     )
+
+-- one event more
+pub proper-push : (es : List Event) (e : Event) → AreProper es → IsProperEvent e → AreProper (es ++ e ∷ [])
+proper-push [] e all proper = (proper, tt)
+proper-push (d ∷ es) e all proper = (all.0, proper-push es e all.1 proper)
