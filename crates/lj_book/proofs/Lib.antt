@@ -43,6 +43,12 @@ mod SeenClauses
 mod PrivateCandidates
 mod PrivateRefusals
 pub mod NamedInsideLaws
+mod NamedSoloViews
+mod NamedSoloEntries
+mod NamedSoloLeaves
+mod NamedSoloSteps
+mod NamedSoloAdditions
+pub mod NamedSoloRuns
 mod NewLiterals
 mod LimitLaws
 pub mod LimitReplies

@@ -9,15 +9,14 @@ use Rattle.lj_clause.specs.LiteralSet.{LiteralSet}
 use Rattle.lj_clause.specs.declared.lit.TheConstants.{MAX_VARIABLE}
 use Rattle.lj_clause.specs.Lemma.{LemmaValue, IsLemma}
 use Rattle.lj_clause.specs.ClauseMap.{ClauseMap}
-use Rattle.lj_clause.specs.Renaming.{Renaming, image, lemma_image, is_named, IsOneToOne, IsPartOf}
+use Rattle.lj_clause.specs.Renaming.{Renaming, lemma_image, is_named, IsOneToOne, IsPartOf}
 use Rattle.lj_clause.proofs.Renaming.{renaming_laws}
 use Rattle.lj_text.specs.declared.step.Step.{Step}
 use Rattle.lj_text.specs.declared.step.Step.TheVariants as steps
 use Rattle.lj_text.specs.Needed.{additions}
 use Rattle.lj_hint.specs.declared.pair.Pair.{Pair}
-use Rattle.lj_hint.specs.Hints.{numbers}
 use Rattle.lj_hint.specs.Receipt.{ReceiptValue, IsReceipt}
-use Rattle.lj_hint.specs.Images.{pair_image, receipt_image, IsNamedReceipt}
+use Rattle.lj_hint.specs.Images.{pair_image, receipt_image}
 use Rattle.lj_hint.proofs.Images.{tests_commute}
 use Rattle.lj_book.specs.declared.refusal.Refusal.{Refusal}
 use Rattle.lj_book.specs.declared.refusal.Refusal.TheVariants as refusals
@@ -38,7 +37,7 @@ use Rattle.lj_book.specs.inner.Over.{IsOver}
 use Rattle.lj_book.specs.inner.VariableTables.{TopVariables, variables_at, variables_before, are_left, lemma_as_joint}
 use Rattle.lj_book.proofs.HistoryLaws.{IsSound-reached}
 use Rattle.lj_book.proofs.CommitLaws.{CanCommit, commit_legal}
-use Rattle.lj_book.proofs.NamedLaws.{Grows, Rules, given_grows, rules_reached, beneath_is_reached}
+use Rattle.lj_book.proofs.NamedLaws.{Grows, given_grows, rules_reached, beneath_is_reached}
 use Rattle.lj_book.proofs.TableLaws.{here_in_range}
 use Rattle.lj_book.proofs.OverLaws.{steps-over, entered}
 use Rattle.lj_book.proofs.GivenBack.{given_taken_back}

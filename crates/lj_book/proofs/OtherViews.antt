@@ -1,17 +1,16 @@
 -- What another seat does leaves what a seat sees.
 use Rattle.std.proofs.Common.{◌≡◌, ap, refl, sym, ◌∙◌, subst, ℕ, ◌<◌, false}
-use Rattle.std.specs.Prelude.{◌≢◌, length, Option}
+use Rattle.std.specs.Prelude.{◌≢◌, Option}
 use Rattle.std.proofs.lemmas.Bool.{ne_eqb}
 use Rattle.lj_clause.specs.Renaming.{inverse}
 use Rattle.lj_text.specs.declared.step.Step.{Step}
 use Rattle.lj_book.specs.declared.entry.Call.{Call}
 use Rattle.lj_book.specs.declared.entry.Call.TheVariants as calls
-use Rattle.lj_book.specs.declared.entry.Entry.{Entry}
 use Rattle.lj_book.specs.State.{State}
 use Rattle.lj_book.specs.History.{IsLegalCall}
 use Rattle.lj_book.specs.Solo.{view_of}
 use Rattle.lj_book.specs.Variables.{renaming_of}
-use Rattle.lj_book.specs.Named.{NamedState, top_of, call_image, beneath, variables_behind, entry_beneath, after_named, IsNamedLegal, IsNamedReached}
+use Rattle.lj_book.specs.Named.{NamedState, top_of, call_image, beneath, variables_behind, entry_beneath}
 use Rattle.lj_book.specs.NamedViews.{view_image}
 use Rattle.lj_book.specs.PrivateAdditions.{OthersLeaveViews}
 use Rattle.lj_book.proofs.TableLaws.{here_in_range}

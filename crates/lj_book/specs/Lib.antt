@@ -16,6 +16,7 @@ pub mod NamedInside
 pub mod NamedReplies
 pub mod NamedEntries
 pub mod NamedWorlds
+pub mod NamedSolo
 pub mod PrivateAdditions
 pub mod RefusalText
 pub mod WithEntry

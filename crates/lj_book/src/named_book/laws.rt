@@ -5,9 +5,12 @@ ghost use Rattle.lj_clause.specs.Truth.{IsSatisfiable, IsUnsatisfiable};
 ghost use Rattle.lj_text.specs.Steps.{replay};
 ghost use Rattle.lj_book.specs.State.{live, steps_of, verdict};
 ghost use Rattle.lj_book.specs.Named.{beneath, IsNamedReached};
+ghost use Rattle.lj_book.specs.NamedSolo.{IsProper, IsProperEvent, AreProper, NamedTidySeatsAreAlone};
 
 use super::NamedBook;
 use crate::book::laws::{live_is_satisfiable, live_is_the_replay, refuted_is_unsatisfiable};
+use crate::event::Event;
+use lj_clause::Lemma;
 
 /// The history is legal: its entries, each of them legal where it stands, lead from a new book to this one. Takes constant
 /// time.
@@ -38,4 +41,39 @@ pub fn named_refuted_is_unsatisfiable(book: &NamedBook)
     ensures { IsSome (verdict book.now.history) → IsUnsatisfiable book.now.formula }
 {
     refuted_is_unsatisfiable(&book.joint);
+}
+
+/// A seat whose commits each come after a take of its own with only its tests between is undisturbed: it is answered
+/// as if it were alone, in its own variables, by what its own numbers are bound to. Takes constant time.
+pub fn named_tidy_seats_are_alone()
+    ensures { NamedTidySeatsAreAlone }
+{}
+
+/// The lemmas of the events can be written, as the law of tidy seats asks. Takes time linear in the events.
+pub fn events_are_proper(events: &[Event])
+    ensures { AreProper events.now }
+{
+    for event in events {
+        event_is_proper(event);
+    }
+}
+
+/// The event's lemma can be written, if it has one.
+fn event_is_proper(event: &Event)
+    ensures { IsProperEvent event.now }
+{
+    match event {
+        Event::Take(_, addition) => lemma_is_proper(&addition.lemma),
+        Event::Inside(_, addition) => lemma_is_proper(&addition.lemma),
+        _ => {}
+    }
+}
+
+/// The lemma can be written.
+fn lemma_is_proper(lemma: &Lemma)
+    ensures { IsProper lemma.now }
+{
+    if let Some(pivot) = lemma.pivot() {
+        let _ = pivot.variable();
+    }
 }

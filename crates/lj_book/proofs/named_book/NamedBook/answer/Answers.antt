@@ -14,3 +14,6 @@ returns-in-Import-clause-run c = rw c.in-Import.is (c.answer_import.ensures c.ar
 
 pub returns-in-Leave-clause-run : goal.returns-in-Leave-clause-run
 returns-in-Leave-clause-run c = rw c.in-Leave.is (c.answer_leave.ensures c.args.pending.now)
+
+pub returns-in-Inside-clause-private : goal.returns-in-Inside-clause-private
+returns-in-Inside-clause-private c = rw c.in-Inside.is c.answer_inside.ensures.private
