@@ -49,6 +49,9 @@ legal-at s (x ∷ es) (suc k) e legal at = legal-at (after_entry s x) es k e leg
 abbrev entry_with : ℕ → Call → Option Step → Entry
 entry_with seat call step = record { seat = seat; call = call; step = step }
 
+import-clause : (seat own : ℕ) (c d : LiteralSet) → import_entry seat own c ≡ import_entry seat own d → c ≡ d
+import-clause seat own c d e = let same : calls.Import own c ≡ calls.Import own d = ap (λ (x : Entry). x.call) e in cc
+
 -- any other call is the same in joint variables
 abbrev pub Speaks : Call → Type 0
 Speaks (calls.Add own lemma) = ⊥
@@ -133,25 +136,29 @@ module _ (s : NamedState) (reached : IsNamedReached s) (k : ℕ) where
         let none = (legal-there (joint_entry s.variables e) (joint-at e at)).1.stepless in
         cc
 
+    pub import_step : (c : LiteralSet) (o : Option Step) → is_some o ≡ true → slice_get s.history k ≡ Some (entry_with seat (calls.Import own c) o) → ⊥
+    import_step c None some at = false≢true some
+    import_step c (Some x) some at = no-import c x at
+
   same_own : (seat : ℕ) (call : Call) (step : Option Step) → Speaks call → own_entry s.variables (entry_with seat call step) ≡ entry_with seat call step
-  same_own seat (calls.Add own lemma) step no = absurd no
-  same_own seat (calls.Drop numbers) step no = refl
-  same_own seat (calls.Adopt own joint) step no = refl
-  same_own seat (calls.Import own clause) step no = absurd no
-  same_own seat calls.Leave step no = refl
+  same_own seat (calls.Add own lemma) step speaks = absurd speaks
+  same_own seat (calls.Drop numbers) step speaks = refl
+  same_own seat (calls.Adopt own joint) step speaks = refl
+  same_own seat (calls.Import own clause) step speaks = absurd speaks
+  same_own seat calls.Leave step speaks = refl
 
   same_joint : (seat : ℕ) (call : Call) (step : Option Step) → Speaks call → joint_entry s.variables (entry_with seat call step) ≡ entry_with seat call step
-  same_joint seat (calls.Add own lemma) step no = absurd no
-  same_joint seat (calls.Drop numbers) step no = refl
-  same_joint seat (calls.Adopt own joint) step no = refl
-  same_joint seat (calls.Import own clause) step no = absurd no
-  same_joint seat calls.Leave step no = refl
+  same_joint seat (calls.Add own lemma) step speaks = absurd speaks
+  same_joint seat (calls.Drop numbers) step speaks = refl
+  same_joint seat (calls.Adopt own joint) step speaks = refl
+  same_joint seat (calls.Import own clause) step speaks = absurd speaks
+  same_joint seat calls.Leave step speaks = refl
 
   pub other-at : (e : Entry) → Speaks e.call → slice_get (beneath s).history k ≡ Some e → slice_get s.history k ≡ Some e
-  other-at e no at = own-at e at ∙ ap Some (same_own e.seat e.call e.step no)
+  other-at e speaks at = own-at e at ∙ ap Some (same_own e.seat e.call e.step speaks)
 
   pub at-other : (e : Entry) → Speaks e.call → slice_get s.history k ≡ Some e → slice_get (beneath s).history k ≡ Some e
-  at-other e no at = joint-at e at ∙ ap Some (same_joint e.seat e.call e.step no)
+  at-other e speaks at = joint-at e at ∙ ap Some (same_joint e.seat e.call e.step speaks)
 
 -- ---- what the code finds in the book beneath
 
@@ -209,16 +216,12 @@ module _ (joint : State) (t : TopVariables) (s : NamedState) (over : IsOver join
         back : (e : LiteralSet) × ((slice_get joint.history k ≡ Some (import_entry seat own e)) × (is_joint_form t.top t.variables seat c e ≡ true)) → b ≡ true
         back w =
             let one : import_entry seat own d ≡ import_entry seat own w.0 = some-is _ _ (sym at ∙ w.1.0) in
-            let same : d ≡ w.0 = cc in
+            let same : d ≡ w.0 = import-clause seat own d w.0 one in
             form ∙ ap (is_joint_form t.top t.variables seat c) same ∙ w.1.1
 
     -- none
     pub import_none : (c : LiteralSet) (b : Bool) → b ≡ false → ((d : LiteralSet) → slice_get joint.history k ≡ Some (import_entry seat own d) → ⊥) → (b ≡ true) ↔ (slice_get s.history k ≡ Some (import_entry seat own c))
     import_none c b off none = (λ h. absurd (false≢true (sym off ∙ h)), λ h. absurd (let w = there_import c h in none w.0 w.1.0))
-
-    pub import_step : (c : LiteralSet) (o : Option Step) → is_some o ≡ true → slice_get s.history k ≡ Some (entry_with seat (calls.Import own c) o) → ⊥
-    import_step c None some at = false≢true some
-    import_step c (Some x) some at = no-import s reached_so k seat own c x at
 
   -- any other call
   pub other_is : (e : Entry) (b : Bool) → Speaks e.call → (b ≡ true) ↔ (slice_get joint.history k ≡ Some e) → (b ≡ true) ↔ (slice_get s.history k ≡ Some e)
@@ -232,8 +235,8 @@ stepless None none = refl
 stepless (Some x) none = absurd (false≢true (sym none))
 
 pub speaks_else : (call : Call) → ((own : ℕ) (lemma : LemmaValue) → call ≡ calls.Add own lemma → ⊥) → ((own : ℕ) (c : LiteralSet) → call ≡ calls.Import own c → ⊥) → Speaks call
-speaks_else (calls.Add own lemma) no none = no own lemma refl
-speaks_else (calls.Drop numbers) no none = tt
-speaks_else (calls.Adopt own joint) no none = tt
-speaks_else (calls.Import own c) no none = none own c refl
-speaks_else calls.Leave no none = tt
+speaks_else (calls.Add own lemma) not_add not_import = not_add own lemma refl
+speaks_else (calls.Drop numbers) not_add not_import = tt
+speaks_else (calls.Adopt own joint) not_add not_import = tt
+speaks_else (calls.Import own c) not_add not_import = not_import own c refl
+speaks_else calls.Leave not_add not_import = tt

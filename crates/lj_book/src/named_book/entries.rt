@@ -86,6 +86,7 @@ impl NamedBook {
         ensures { IsTrue result ↔ (slice_get self.now.history place ≡ Some
             (record { seat = seat; call = calls.Import own clause.now; step = step.now })) }
     {
+        named_history_is_legal(self);
         if step.is_some() {
             return false;
         }

@@ -8,7 +8,7 @@ use Rattle.lj_book.proofs.named_book.NamedBook.entry.Goals as goal
 
 pub returns-in_ok-own_entry-in-Some : goal.returns-in_ok-own_entry-in-Some
 returns-in_ok-own_entry-in-Some c =
-    ap Some c.in_ok-own_entry.ensures
+    ap Some c.in_ok-own_entry-in-Some.ensures
     ∙ ap (option_map (own_entry c.args.self.now.variables)) (sym c.in-Some.is ∙ c.in_ok-entry.ensures)
     ∙ entry-over c.self.inside.joint c.self.inside.variables c.args.self.now c.self.view_is c.args.place
 

@@ -15,7 +15,7 @@ returns-then-is_own_lemma c =
     let k : ℕ = c.args.place in
     let seat = c.args.seat in
     let own = c.args.own in
-    let a : Addition = c.in-Add.addition.now in
+    let a : Addition = c.in-Add.addition in
     subst (λ (x : Step). (c.is_line.result ≡ true) ↔ (slice_get c.args.self.now.history k ≡ Some (record { seat = seat; call = calls.Add own c.args.lemma.now; step = Some x }))) (sym c.in-Add.is)
     (line_is c.self.inside.joint c.self.inside.variables c.args.self.now c.self.invariant c.self.view_is k seat own c.args.lemma.now a c.is_line.result
     (c.is_own_lemma.ensures.0 c.if-is_own_lemma.true)
@@ -26,9 +26,9 @@ returns-else-is_own_lemma c =
     let k : ℕ = c.args.place in
     let seat = c.args.seat in
     let own = c.args.own in
-    let a : Addition = c.in-Add.addition.now in
-    subst (λ (x : Step). (false ≡ true) ↔ (slice_get c.args.self.now.history k ≡ Some (record { seat = seat; call = calls.Add own c.args.lemma.now; step = Some x }))) (sym c.in-Add.is)
-    (line_none c.self.inside.joint c.self.inside.variables c.args.self.now c.self.invariant c.self.view_is k seat own c.args.lemma.now a false refl
+    let a : Addition = c.in-Add.addition in
+    subst (λ (x : Step). (c.is_own_lemma.result ≡ true) ↔ (slice_get c.args.self.now.history k ≡ Some (record { seat = seat; call = calls.Add own c.args.lemma.now; step = Some x }))) (sym c.in-Add.is)
+    (line_none c.self.inside.joint c.self.inside.variables c.args.self.now c.self.invariant c.self.view_is k seat own c.args.lemma.now a c.is_own_lemma.result c.if-is_own_lemma.false
     (λ mine. false≢true (sym c.if-is_own_lemma.false ∙ c.is_own_lemma.ensures.1 mine)))
 
 pub returns-in-Delete : goal.returns-in-Delete
