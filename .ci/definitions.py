@@ -126,7 +126,7 @@ class Sources:
         text = self.files.get(pathlib.Path("lib.rt"), "")
         names, modules = set(), [f"{m}.rt" for m in re.findall(r"^pub mod (\w+);", text, flags=re.M)]
         for path, group, one in re.findall(r"^pub use ([\w:]+?)::(?:\{([^}]*)\}|(\w+));", text, flags=re.M):
-            shown = [n.strip() for n in (group or one).split(",")]
+            shown = [n.strip().split(" as ")[0] for n in (group or one).split(",")]
             names.update(shown)
             modules += ["/".join((*path.split("::"), n)) + ".rt" for n in shown]
         for module in modules:
