@@ -12,9 +12,8 @@ use Rattle.lj_book.specs.declared.entry.Call.{Call}
 use Rattle.lj_book.specs.declared.entry.Call.TheVariants as calls
 use Rattle.lj_book.specs.declared.entry.Entry.{Entry}
 use Rattle.lj_book.specs.State.{State}
-use Rattle.lj_book.specs.History.{after_entry, IsReached}
 use Rattle.lj_book.specs.Variables.{Variables, renaming_of, IsVariables}
-use Rattle.lj_book.specs.Named.{NamedState, top_of, call_image, joint_entry, own_entry, beneath, named_over, variables_behind, entry_beneath, after_named, after_all_named, NamesRightly, IsNamedLegal, AreNamedLegal, named_opening, IsNamedReached, OverBeneath, EntersBook, LegalEntriesEnter, TakenBeneathAreLegal}
+use Rattle.lj_book.specs.Named.{NamedState, top_of, call_image, joint_entry, own_entry, beneath, named_over, variables_behind, entry_beneath, after_named, after_all_named, IsNamedLegal, AreNamedLegal, named_opening, IsNamedReached, OverBeneath, LegalEntriesEnter, TakenBeneathAreLegal}
 use Rattle.lj_book.proofs.NamedLaws.{CallNamed, beneath_after, beneath_is_reached, rules_reached}
 use Rattle.lj_book.proofs.ViewLaws.{legal_entry}
 

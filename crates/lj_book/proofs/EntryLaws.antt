@@ -5,7 +5,7 @@ use Rattle.std.specs.List.{AllByRecursion}
 use Rattle.std.proofs.lemmas.Bool.{false≢true}
 use Rattle.lj_clause.specs.LiteralSet.{LiteralSet}
 use Rattle.lj_clause.specs.Lemma.{LemmaValue}
-use Rattle.lj_clause.specs.Renaming.{image, lemma_image, is_named, inverse}
+use Rattle.lj_clause.specs.Renaming.{image, lemma_image, inverse}
 use Rattle.lj_clause.proofs.Renaming.{renaming_laws}
 use Rattle.lj_text.specs.declared.line.Addition.{Addition}
 use Rattle.lj_text.specs.declared.step.Step.{Step}
@@ -14,7 +14,7 @@ use Rattle.lj_book.specs.declared.entry.Call.{Call}
 use Rattle.lj_book.specs.declared.entry.Call.TheVariants as calls
 use Rattle.lj_book.specs.declared.entry.Entry.{Entry}
 use Rattle.lj_book.specs.State.{State, opening}
-use Rattle.lj_book.specs.History.{after_entry, IsLegal, AreLegal, IsReached}
+use Rattle.lj_book.specs.History.{after_entry, IsLegal, AreLegal}
 use Rattle.lj_book.specs.Calls.{import_entry}
 use Rattle.lj_book.specs.Variables.{Variables, IsVariables, renaming_of, is_own}
 use Rattle.lj_book.specs.Named.{NamedState, top_of, own_entry, joint_entry, beneath, named_over, IsNamedReached}

@@ -13,7 +13,7 @@ use Rattle.lj_clause.proofs.Renaming.{renaming_laws}
 use Rattle.lj_text.specs.declared.line.Addition.{Addition}
 use Rattle.lj_hint.specs.declared.pair.Pair.{Pair}
 use Rattle.lj_hint.specs.Case.{CaseValue}
-use Rattle.lj_hint.specs.Images.{pair_image, hinted_image, hints_image}
+use Rattle.lj_hint.specs.Images.{pair_image, hinted_image}
 use Rattle.lj_book.specs.declared.entry.Entry.{Entry}
 use Rattle.lj_book.specs.declared.entry.Imported.{Imported}
 use Rattle.lj_book.specs.declared.refusal.Refusal.{Refusal}

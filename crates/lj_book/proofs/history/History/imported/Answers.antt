@@ -1,6 +1,5 @@
 use Rattle.std.proofs.Common.{◌≡◌, ap, sym, ◌∙◌, ℕ}
-use Rattle.std.specs.Prelude.{ℤ, List, Option, Some, None, option_copied, option_map, slice_get, drop}
-use Rattle.lj_book.specs.declared.entry.Entry.{Entry}
+use Rattle.std.specs.Prelude.{ℤ, List, Some, None, option_copied, option_map, slice_get, drop}
 use Rattle.lj_book.specs.inner.Records.{Entries, entry_in}
 use Rattle.lj_book.proofs.PlacedEntries.{entry-at, none_weaker, some-is}
 use Rattle.lj_book.proofs.history.History.imported.Goals as goal

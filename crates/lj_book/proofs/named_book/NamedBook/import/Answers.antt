@@ -1,10 +1,8 @@
-use Rattle.std.proofs.Common.{◌≡◌, ap, sym, ◌∙◌, true}
-use Rattle.std.specs.Prelude.{IfErr, None}
+use Rattle.std.proofs.Common.{ap, sym, ◌∙◌}
 use Rattle.lj_clause.specs.ClauseMap.{names_up_to}
 use Rattle.lj_clause.specs.Renaming.{image}
 use Rattle.lj_book.specs.Variables.{renaming_of}
-use Rattle.lj_book.specs.inner.VariableTables.{TopVariables}
-use Rattle.lj_book.specs.Named.{NamedState, top_of, names_of, IsNamedReached}
+use Rattle.lj_book.specs.Named.{NamedState, names_of}
 use Rattle.lj_book.proofs.OverLaws.{within_named, unrefused_named, over_top, reached_over}
 use Rattle.lj_book.proofs.named_book.NamedBook.import.Goals as goal
 

@@ -1,7 +1,7 @@
 use Rattle.std.proofs.Common.{◌≡◌, sym, subst, true}
 use Rattle.std.specs.Prelude.{Some, slice_get, ◌↔◌}
 use Rattle.lj_book.specs.declared.entry.Call.{Call}
-use Rattle.lj_book.proofs.EntryLaws.{Speaks, other_is, speaks_else}
+use Rattle.lj_book.proofs.EntryLaws.{other_is, speaks_else}
 use Rattle.lj_book.proofs.named_book.NamedBook.is_entry.Goals as goal
 
 pub returns-in-Add : goal.returns-in-Add

@@ -1,4 +1,4 @@
-use Rattle.std.proofs.Common.{◌≡◌, ap, sym, ◌∙◌, subst}
+use Rattle.std.proofs.Common.{ap, sym, ◌∙◌, subst}
 use Rattle.std.specs.Prelude.{Result, Ok}
 use Rattle.lj_clause.specs.Renaming.{Renaming, inverse}
 use Rattle.lj_hint.specs.Case.{CaseValue}
