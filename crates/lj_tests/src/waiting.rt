@@ -21,7 +21,7 @@ const TURNS: u32 = 1_000_000;
 /// Holds the lock for a line until the other thread has done, or the turns are used up.
 #[derive(Drop)]
 struct Locked {
-    held: AtomicBool,
+    locked: AtomicBool,
     done: AtomicBool,
     let_go: AtomicBool,
 }
@@ -40,8 +40,8 @@ fn is_set_in_time(flag: &AtomicBool) -> bool {
 impl Gate for Locked {
     fn pass(&self, _: u32, _: u64) {}
 
-    fn held(&self, _: u32, _: u64) {
-        self.held.store(true, Ordering::SeqCst);
+    fn locked(&self, _: u32, _: u64) {
+        self.locked.store(true, Ordering::SeqCst);
         if !is_set_in_time(&self.done) {
             self.let_go.store(true, Ordering::SeqCst);
         }
@@ -124,7 +124,7 @@ fn assert_answers<L: BookId + Send + Sync, R: Threads + Wait + Abort + Sync>(
     let told = shared.submit(rt, second, &line(alloc, 5, &[-2], &[3, 4])?)?;
     let holding = line(alloc, 5, &[2], &[1, 2])?;
     let gate = Locked {
-        held: AtomicBool::new(false),
+        locked: AtomicBool::new(false),
         done: AtomicBool::new(false),
         let_go: AtomicBool::new(false),
     };
