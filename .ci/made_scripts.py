@@ -84,7 +84,7 @@ def line_of(random, book, seat):
         return [random.own() if random.below(30) == 0 else random.of(held) for _ in range(random.below(most + 1))]
 
     lemma = random.literals(3)
-    named = [own for own in held if lemma and -lemma[0] in book.given[table[own]] and random.below(8)]
+    named = [own for own in held if lemma and -lemma[0] in book.in_own(seat, table[own]) and random.below(8)]
     groups = [(own, numbers(2)) for own in (named if random.below(2) else reversed(named))]
     if random.below(8) == 0:
         groups.append((random.of(held), numbers(2)))
@@ -191,7 +191,7 @@ def add_list(script, number):
     clauses = [random.clause(variables) for _ in range(5)]
     limit = random.below(4) if number % 7 == 0 else 1000
     seats = 1 if number % 4 == 1 else 2
-    book = Book(clauses, seats, limit)
+    book = Book(variables, clauses, seats, limit)
     way = {0: "events", 5: "shared"}.get(number % 10, "open")
     script.formula(variables, clauses)
     script.ask(f"{way} {seats} {limit}")
@@ -213,6 +213,9 @@ def add_list(script, number):
     for own in OWN:
         joint = book.joint(number % seats, own)
         script.ask(f"joint {number % seats} {own}", f"joint {joint}" if joint else "no joint")
+    for seat in range(seats):
+        for own in range(1, 6):
+            script.ask(f"variable {seat} {own}", f"variable {book.names[seat][own]}" if own in book.names[seat] else "none")
     script.ask("steps", *(f"step {step}" for step in book.steps))
 
 
@@ -234,7 +237,7 @@ def add_propagation(script, clauses, lemma, hints):
 
 
 def add_rat(script, clauses, line):
-    book = Book(clauses, 1, 1)
+    book = Book(4, clauses, 1, 1)
     told = answer(book.inside, 0, len(clauses) + 1, *line)
     script.ask(f"rat {line_words(*line)}", f"step {book.steps[0]}" if book.steps else told)
 
@@ -284,7 +287,7 @@ def long_lines():
     """Lines of many hints, literals, groups and numbers over the four binary clauses, and numbers of many digits."""
     script, clauses = Script(), [[1, 2], [-1, 2], [1, -2], [-1, -2]]
     script.formula(2, clauses)
-    book = Book(clauses, 1, 1000)
+    book = Book(2, clauses, 1, 1000)
     script.ask("open 1 1000")
 
     def inside(own, lemma, hints, groups=(), written=None):

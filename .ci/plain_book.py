@@ -1,6 +1,8 @@
 """A book of several seats by plain scans over plain lists, from the definitions alone: what the commands of a script have to
 answer, and what `show` has to print. A clause is a set of numbers; a lemma is the list of its literals as they are written,
-its pivot first."""
+its pivot first. Clauses that have a number, and steps, are in joint variables; lines, receipts and calls in those of their seats."""
+
+MAX_VARIABLE = 134_217_727
 
 
 def in_order(literals):
@@ -70,14 +72,20 @@ def rat(held, pivot, live, groups):
     return covered, None
 
 
+def renamed(literals, names):
+    """The literals with each variable that has another name by that one."""
+    return [names.get(abs(literal), abs(literal)) * (1 if literal > 0 else -1) for literal in literals]
+
+
 class Refused(Exception):
     """A call that is refused, and why."""
 
 
 class Book:
-    """The clauses that were given a number, the own numbers of each seat, and the entries."""
+    """The clauses that were given a number, the own numbers of each seat and its names of joint variables, and the entries."""
 
-    def __init__(self, clauses, seats, limit):
+    def __init__(self, variables, clauses, seats, limit):
+        self.top, self.names, self.next = variables, [{} for _ in range(seats)], variables + 1
         self.given = {number: frozenset(clause) for number, clause in enumerate(clauses, 1)}
         self.formula, self.limit = len(self.given), limit
         self.tables = [{number: number for number in self.given} for _ in range(seats)]
@@ -95,6 +103,22 @@ class Book:
         table = self.tables[seat] if seat < len(self.tables) else None
         return None if table is None else table.get(own)
 
+    def variable(self, seat, own):
+        return self.names[seat].get(own) if seat < len(self.names) else None
+
+    def names_with(self, seat, lemma):
+        """The seat's names once the lemma has entered."""
+        new = sorted({abs(literal) for literal in lemma if abs(literal) > self.top} - set(self.names[seat]))
+        return {**self.names[seat], **{variable: self.next + at for at, variable in enumerate(new)}}
+
+    def in_own(self, seat, number):
+        """The clause of a number in the seat's variables."""
+        return frozenset(renamed(self.given[number], {joint: own for own, joint in self.names[seat].items()}))
+
+    def is_named(self, literals, names):
+        """Whether each variable is the formula's or one of these."""
+        return all(abs(literal) <= self.top or abs(literal) in names for literal in literals)
+
     def table(self, seat, own=None):
         """The seat's table, where the own number is free, if one is named."""
         if seat >= len(self.tables) or self.tables[seat] is None:
@@ -111,12 +135,16 @@ class Book:
         return len(self.entries) - 1
 
     def add(self, seat, own, lemma, hints, groups):
-        """Enters a lemma that was tested."""
+        """Enters a lemma that was tested, and gives out its new variables."""
         if len(self.given) - self.formula == self.limit:
             raise Refused("Full")
-        number = len(self.given) + 1
-        place = self.enter(seat, f"add {words(own, lemma_words(lemma), 0)}", addition_tokens(number, lemma, hints, groups))
-        self.given[number] = frozenset(lemma)
+        names, number = self.names_with(seat, lemma), len(self.given) + 1
+        if max(names.values(), default=0) > MAX_VARIABLE:
+            raise Refused("NoVariableLeft")
+        self.next += len(names) - len(self.names[seat])
+        self.names[seat], joint = names, renamed(lemma, names)
+        place = self.enter(seat, f"add {words(own, lemma_words(lemma), 0)}", addition_tokens(number, joint, hints, groups))
+        self.given[number] = frozenset(joint)
         self.tables[seat][own] = number
         if not lemma and self.verdict is None:
             self.verdict = place
@@ -139,7 +167,7 @@ class Book:
         if seat < len(self.pending):
             self.pending[seat] = None
         joint, _ = self.case(seat, own, hints, groups)
-        self.pending[seat] = "case", own, lemma, [(number, self.given[number]) for number in joint]
+        self.pending[seat] = "case", own, lemma, [(number, self.in_own(seat, number)) for number in joint]
         return "Taken"
 
     def test(self, seat):
@@ -158,21 +186,21 @@ class Book:
         self.table(seat, own)
         live = self.live()
         for number, clause in pairs:
-            if live.get(number) != clause:
+            if live.get(number) != frozenset(renamed(clause, self.names[seat])):
                 raise Refused(f"Stale({number})")
         return self.add(seat, own, lemma, [number for number, _ in pairs], [])
 
     def inside(self, seat, own, lemma, hints, groups=()):
         hints, groups = self.case(seat, own, hints, groups)
-        live = self.live()
-        how, place = propagate({-literal for literal in lemma}, hints, live.get)
+        live, joint = self.live(), renamed(lemma, self.names_with(seat, lemma))
+        how, place = propagate({-literal for literal in joint}, hints, live.get)
         if how == "Stuck":
             raise Refused(f"HintNotUnit({place})")
         if how == "Closed":
             return self.add(seat, own, lemma, hints[:place], [])
         if not lemma:
             raise Refused("EmptyOpen")
-        covered, refusal = rat(place, lemma[0], live, groups)
+        covered, refusal = rat(place, joint[0], live, groups)
         if refusal:
             raise Refused(refusal)
         return self.add(seat, own, lemma, hints, covered)
@@ -191,13 +219,18 @@ class Book:
         table = self.table(seat, own)
         if joint not in self.live():
             raise Refused("NoSuchClause")
+        if not self.is_named(self.given[joint], self.names[seat].values()):
+            raise Refused("PrivateVariable")
         table[own] = joint
         return f"Adopted({self.enter(seat, f'adopt {own} {joint}')})"
 
     def bind(self, seat, own, literals):
         """An import."""
         table = self.table(seat, own)
-        found = [number for number, clause in sorted(self.live().items()) if clause == set(literals)]
+        if not self.is_named(literals, self.names[seat]):
+            raise Refused("PrivateVariable")
+        wanted = set(renamed(literals, self.names[seat]))
+        found = [number for number, clause in sorted(self.live().items()) if clause == wanted]
         if not found:
             raise Refused("NoSuchClause")
         table[own] = found[0]

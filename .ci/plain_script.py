@@ -51,7 +51,7 @@ class Player:
         return self.out
 
     def open(self, way, seats, limit):
-        self.way, self.book, self.waiting = way, Book(self.clauses, seats, limit), []
+        self.way, self.book, self.waiting = way, Book(self.variables, self.clauses, seats, limit), []
         self.told, self.made = ([[] for _ in range(seats)] for _ in range(2))
         self.is_new_verdict = False
 
@@ -104,6 +104,10 @@ class Player:
     def ask_joint(self, seat, own):
         joint = self.book.joint(seat, own)
         return [f"joint {joint}" if joint else "no joint"]
+
+    def ask_variable(self, seat, own):
+        variable = self.book.variable(seat, own)
+        return [f"variable {variable}" if variable else "none"]
 
     def ask_verified(self):
         return ["not verified" if self.book.verdict is None else f"verified {self.ask_formula()[0]}"]

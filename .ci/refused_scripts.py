@@ -26,10 +26,10 @@ from plain_script import NO_MEMORY, NOT_PLAYED, refused_outputs, unplayed_output
 from refusing import ALL, SECONDS, refuse_each, run_refused
 
 SCRIPTS = pathlib.Path(__file__).resolve().parent.parent / "crates" / "lj_script" / "scripts"
-OF_BOOKS = ("stale_receipts", "given_up", "imports", "groups", "found", "verdicts", "trimming")
-OF_SHARED_BOOKS = ("shared", "shared_receipts", "shared_untold")
+OF_BOOKS = ("stale_receipts", "given_up", "imports", "groups", "found", "verdicts", "trimming", "own_variables", "private_variables")
+OF_SHARED_BOOKS = ("shared", "shared_receipts", "shared_untold", "private_shared")
 UNPLAYED = ("propagations", "rat_lines")
-BY_EVENTS = ("stale_receipts", "neighbours", "leaving", "given_up", "imports", "groups")
+BY_EVENTS = ("stale_receipts", "neighbours", "leaving", "given_up", "imports", "groups", "own_variables", "private_variables")
 # How many requests later the second is refused: a shared book's lines are read once more before the call is made once more.
 AGAIN = {**dict.fromkeys(OF_BOOKS, (1, 2)), **dict.fromkeys(OF_SHARED_BOOKS, (1, 4, 6, 8, 10))}
 # The least count of runs of a program that have to tell NoMemory.

@@ -86,7 +86,8 @@ def wanted(given):
     read = read_formula(given.formula.decode("latin-1"))
     if isinstance(read, tuple):
         return 2, "", f"lratjoin: cnf: line {read[1]}: {read[0]}\n", ""
-    book = Book(read, len(given.streams), 2**32 - 1 if given.limit is None else given.limit)
+    _, header, _ = next(iter(lines_of(given.formula.decode("latin-1"))))
+    book = Book(int(header[2]), read, len(given.streams), 2**32 - 1 if given.limit is None else given.limit)
     rows = []
     for seat, text in enumerate(given.streams):
         (added, deleted, imported), end = report(book, seat, text.decode("latin-1"))

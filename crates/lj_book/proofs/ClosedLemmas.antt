@@ -18,7 +18,8 @@ use Rattle.lj_book.specs.State.{State, addition_count, given_out, next, live}
 use Rattle.lj_book.specs.Calls.{IsRefusal, IsReplyBy, unless_refused, repeated_after, pair_in, pairs_of, group_pairs_of, case_with, free_refusal, take_reply}
 use Rattle.lj_book.specs.Inside.{propagation_refusal}
 use Rattle.lj_book.specs.Solo.{holdings_of, solo_take, view_of}
-use Rattle.lj_book.specs.Views.{IsClosedAlone, IsFullOrNoMemory}
+use Rattle.lj_book.specs.Views.{IsClosedAlone}
+use Rattle.lj_book.specs.inner.Views.{IsFullOrNoMemory}
 use Rattle.lj_book.specs.inner.JointLines.{LineParts, if_bound, with_joint, joints_in, joint_groups_in, parts_with, joint_parts, addition_of_parts, tested_line, tested_parts, inside_line}
 use Rattle.lj_book.proofs.HistoryLaws.{IsSound}
 use Rattle.lj_book.proofs.BindingLaws.{can_bind}

@@ -1,39 +1,30 @@
 -- What a commit enters.
-use Rattle.std.proofs.Common.{◌≡◌, ap, refl, sym, ◌∙◌, subst, ℕ, ◌+◌, ◌<◌, Bool, true, false, arith}
-use Rattle.std.specs.Prelude.{ℤ, List, [], ◌∷◌, ◌++◌, length, Option, Some, None, not, ◌==◌, ◌||◌, ◌↔◌, IsTrue, if◌then◌else◌, is_some, nat_lt}
+use Rattle.std.proofs.Common.{◌≡◌, ap, refl, sym, ◌∙◌, subst, ◌<◌, Bool, true, false, arith}
+use Rattle.std.specs.Prelude.{ℤ, List, [], ◌∷◌, Option, Some, None, not, ◌||◌, ◌↔◌, IsTrue, if◌then◌else◌, is_some}
 use Rattle.std.specs.List.{list_all}
 use Rattle.std.proofs.lemmas.Bool.{false≢true, and_parts, and_from, or_right}
-use Rattle.std.proofs.lemmas.Bool.Decides.{nat_tests}
 use Rattle.std.specs.Ordering.{eq_by_cmp}
 use Rattle.std.specs.FinMap as fin
 use Rattle.std.specs.Cmp.{both_ways}
 use Rattle.lj_clause.specs.Literal.{lit_cmp}
 use Rattle.lj_clause.specs.LiteralSet.{LiteralSet, holds, literals, negations}
 use Rattle.lj_clause.specs.ClauseMap.{ClauseMap}
-use Rattle.lj_clause.specs.Lemma.{LemmaValue}
 use Rattle.lj_clause.specs.Propagation.{Propagation, Closed, hints_in, propagate_over, is_closed}
 use Rattle.lj_clause.proofs.LiteralSets.{same_set, holds-literals}
 use Rattle.lj_clause.proofs.Among.{among, itself}
 use Rattle.lj_clause.proofs.Literals.{same_literal}
 use Rattle.lj_text.specs.declared.line.Addition.{Addition}
-use Rattle.lj_text.specs.declared.step.Step.TheVariants as steps
 use Rattle.lj_text.specs.Steps.{names_all, names, is_in_place, first_propagation, is_rat_after, IsRecordedAfter}
-use Rattle.lj_text.specs.Needed.{additions}
 use Rattle.lj_hint.specs.declared.pair.Pair.{Pair}
 use Rattle.lj_hint.specs.Hints.{named_hints, numbers}
 use Rattle.lj_hint.specs.Receipt.{ReceiptValue, IsReceipt}
-use Rattle.lj_book.specs.declared.entry.Call.{Call}
-use Rattle.lj_book.specs.declared.entry.Call.TheVariants as calls
-use Rattle.lj_book.specs.declared.entry.Entry.{Entry}
-use Rattle.lj_book.specs.Tables.{Table, Tables, is_here, is_bound, has_holder, with_table}
-use Rattle.lj_book.specs.State.{State, steps_of, addition_count, next, live, verdict}
-use Rattle.lj_book.specs.History.{after_entry, IsLegal}
+use Rattle.lj_book.specs.Tables.{is_here, is_bound, has_holder}
+use Rattle.lj_book.specs.State.{State, addition_count, next, live}
+use Rattle.lj_book.specs.History.{IsLegal}
 use Rattle.lj_book.specs.Lookup.{is_same, is_clause}
-use Rattle.lj_book.specs.Calls.{is_live_as, first_stale, entry_with, commit_entry, stale_or, commit_refusal}
-use Rattle.lj_book.specs.declared.refusal.Refusal.TheVariants.{SeatGone, NumberTaken, Full}
-use Rattle.lj_book.specs.inner.Kept.{IsKept, refuted_after}
-use Rattle.lj_book.proofs.HistoryLaws.{IsSound, IsSound-reached, IsReached-after, live-addition, live-held, steps_of-push, additions-append}
-use Rattle.lj_book.proofs.BookLaws.{same_state, verdict-same, verdict-first, verdict-stays}
+use Rattle.lj_book.specs.Calls.{is_live_as}
+use Rattle.lj_book.specs.inner.Commits.{first_stale, commit_entry}
+use Rattle.lj_book.proofs.HistoryLaws.{IsSound, live-held}
 
 -- ---- clauses that are the same set
 
@@ -98,19 +89,6 @@ pub record CanCommit (s : State) (r : ReceiptValue) : Type 0 where
   pub fresh : first_stale (live s) r.listed ≡ None
   pub capacity : addition_count s.history < s.max_steps
 
-pub can_commit : (s : State) (r : ReceiptValue) → commit_refusal s r ≡ None → CanCommit s r
-can_commit s r h = go (is_here s.tables r.seat) (is_bound s.tables r.seat r.own) (first_stale (live s) r.listed) (nat_lt (addition_count s.history) s.max_steps) refl refl refl refl h
-  where
-    capacity : (a m : ℕ) → nat_lt a m ≡ true → a < m
-    capacity a m e = grind (arith, nat_tests)
-
-    go : (a b : Bool) (o : Option ℕ) (c : Bool) → is_here s.tables r.seat ≡ a → is_bound s.tables r.seat r.own ≡ b → first_stale (live s) r.listed ≡ o → nat_lt (addition_count s.history) s.max_steps ≡ c → (if a then (if b then Some NumberTaken else stale_or o (if c then None else Some Full)) else Some SeatGone) ≡ None → CanCommit s r
-    go false b o c p q u v h = absurd (false≢true (sym (ap is_some h)))
-    go true true o c p q u v h = absurd (false≢true (sym (ap is_some h)))
-    go true false (Some j) c p q u v h = absurd (false≢true (sym (ap is_some h)))
-    go true false None false p q u v h = absurd (false≢true (sym (ap is_some h)))
-    go true false None true p q u v h = record { here = p; unbound = q; fresh = u; capacity = capacity (addition_count s.history) s.max_steps v }
-
 -- ---- the entry of a commit is legal
 
 pub not_there : (s : State) → IsSound s → fin.contains_key (live s) (next s) ≡ false
@@ -122,13 +100,6 @@ not_there s sound = go (fin.contains_key (live s) (next s)) refl
 
 pub no_holder_at_next : (s : State) → IsSound s → has_holder s.tables (next s) ≡ false
 no_holder_at_next s sound = sym (live-held s sound (next s)) ∙ not_there s sound
-
-pub no_clause_at_next : (s : State) → IsSound s → fin.get (live s) (next s) ≡ None
-no_clause_at_next s sound = go (fin.get (live s) (next s)) (not_there s sound)
-  where
-    go : (o : Option LiteralSet) → is_some o ≡ false → o ≡ None
-    go None h = refl
-    go (Some x) h = absurd (false≢true (sym h))
 
 pub commit_legal : (s : State) (r : ReceiptValue) → IsSound s → IsReceipt r → CanCommit s r → IsLegal s (commit_entry s r)
 commit_legal s r sound receipt can =
@@ -144,38 +115,3 @@ commit_legal s r sound receipt can =
       capacity = can.capacity;
       addition = (refl, (refl, (and_from (is_in_place (live s) a) _ stored rup, subst (IsRecordedAfter (live s) a) (sym closed) (refl, refl))));
     }
-
-refuted_next : (s : State) (r : ReceiptValue) (refuted : Option ℕ) → refuted ≡ verdict s.history → refuted_after refuted (length s.history) r.lemma.clause ≡ verdict (s.history ++ commit_entry s r ∷ [])
-refuted_next s r (Some first) is = sym (verdict-stays s.history (commit_entry s r) first (sym is))
-refuted_next s r None is =
-    elim (fin.len r.lemma.clause == 0) as (λ b. (fin.len r.lemma.clause == 0) ≡ b → (if b then Some (length s.history) else None) ≡ verdict (s.history ++ commit_entry s r ∷ [])) [
-      | true ↦ λ e. sym (verdict-first s.history (commit_entry s r) e (sym is))
-      | false ↦ λ e. is ∙ sym (verdict-same s.history (commit_entry s r) e)
-    ] refl
-
-pub IsKept-commit : (s : State) (r : ReceiptValue) (m n : ClauseMap) (count : ℕ) (refuted : Option ℕ) → IsKept s m count refuted → IsReceipt r → CanCommit s r → n ≡ fin.insert m (next s) r.lemma.clause → IsKept (after_entry s (commit_entry s r)) n (count + 1) (refuted_after refuted (length s.history) r.lemma.clause)
-IsKept-commit s r m n count refuted kept receipt can is =
-    let sound = IsSound-reached s kept.reached in
-    let a : Addition = record { number = next s; lemma = r.lemma; hints = numbers r.listed; groups = [] } in
-    let before = kept.additions in
-    let more = ap (λ ss. length (additions ss)) (steps_of-push s.history (commit_entry s r)) ∙ additions-append (steps_of s.history) (steps.Add a ∷ []) in
-    record {
-      reached = IsReached-after s (commit_entry s r) kept.reached (commit_legal s r sound receipt can);
-      lives = is ∙ ap (λ (p : ClauseMap). fin.insert p (next s) r.lemma.clause) kept.lives ∙ sym (live-addition s r.seat r.own a sound can.here can.unbound refl);
-      additions = omega arith;
-      first_empty = refuted_next s r refuted kept.first_empty;
-    }
-
-pub committed_state : (s : State) (r : ReceiptValue) (joint : ℕ) (entry : Entry) (tables : Tables) (history : List Entry) → joint ≡ next s → entry ≡ entry_with joint r → tables ≡ with_table (λ t. fin.insert t r.own joint) s.tables r.seat → history ≡ s.history ++ entry ∷ [] → ◌≡◌ {A = State} (record { formula = s.formula; max_steps = s.max_steps; tables = tables; history = history }) (after_entry s (commit_entry s r))
-committed_state s r joint entry tables history is made bound pushed =
-    same_state s.formula s.max_steps tables _ history _
-    (bound ∙ ap (λ (j : ℕ). with_table (λ (t : Table). fin.insert t r.own j) s.tables r.seat) is)
-    (pushed ∙ ap (λ (e : Entry). s.history ++ e ∷ []) (made ∙ ap (λ (j : ℕ). entry_with j r) is))
-
--- the lemma of a call that adds one
-abbrev pub lemma_called : Call → LemmaValue → LemmaValue
-lemma_called (calls.Add own lemma) other = lemma
-lemma_called (calls.Drop numbers) other = other
-lemma_called (calls.Adopt own joint) other = other
-lemma_called (calls.Import own clause) other = other
-lemma_called calls.Leave other = other

@@ -1,10 +1,10 @@
 -- Variables that were given out are taken back.
-use Rattle.std.proofs.Common.{◌≡◌, refl, sym, ◌∙◌, ap, ℕ, ◌+◌, ◌≤◌, cond, true, false, arith}
+use Rattle.std.proofs.Common.{◌≡◌, refl, ◌∙◌, ℕ, ◌+◌, ◌≤◌, cond, true, false, arith}
 use Rattle.std.specs.Prelude.{List, [], ◌∷◌, map}
 use Rattle.lj_clause.specs.Literal.{variable_of}
 use Rattle.lj_clause.specs.LiteralSet.{LiteralSet, literals}
 use Rattle.lj_clause.specs.Renaming.{has_name}
-use Rattle.lj_book.specs.Variables.{Variables, IsVariables, renaming_of, with_variable, with_name, with_names, given}
+use Rattle.lj_book.specs.Variables.{Variables, IsVariables, renaming_of, with_variable, with_names, given}
 use Rattle.lj_book.specs.inner.VariableTables.{variables_before}
 use Rattle.lj_book.proofs.VariableLaws.{nameless}
 use Rattle.lj_book.proofs.TakenBack.{variables_before-next, variables_before-with_variable}

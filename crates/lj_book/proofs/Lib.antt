@@ -18,7 +18,6 @@ pub mod SoloMoves
 pub mod SoloTakes
 pub mod SoloWorlds
 pub mod SoloSteps
-pub mod SoloRuns
 pub mod ViewLaws
 pub mod NamedTakes
 pub mod NamedCommits
@@ -44,6 +43,7 @@ mod PrivateCandidates
 mod PrivateRefusals
 pub mod NamedInsideLaws
 mod NamedSoloViews
+mod NamedAlone
 mod NamedSoloEntries
 mod NamedSoloLeaves
 mod NamedSoloSteps

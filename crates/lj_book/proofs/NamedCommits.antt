@@ -26,7 +26,8 @@ use Rattle.lj_book.specs.declared.entry.Entry.{Entry}
 use Rattle.lj_book.specs.Tables.{is_here, is_bound}
 use Rattle.lj_book.specs.State.{State, steps_of, addition_count, next, live, is_refutation, verdict_from}
 use Rattle.lj_book.specs.History.{after_entry, IsLegal, IsReached}
-use Rattle.lj_book.specs.Calls.{IsRefusal, free_refusal, if_free, is_live_as, first_stale, stale_or, commit_told, commit_entry}
+use Rattle.lj_book.specs.Calls.{IsRefusal, free_refusal, if_free, is_live_as, stale_or, commit_told}
+use Rattle.lj_book.specs.inner.Commits.{first_stale, commit_entry}
 use Rattle.lj_book.specs.Variables.{Variables, IsVariables, renaming_of, given}
 use Rattle.lj_book.specs.Named.{NamedState, top_of, names_of, joint_entry, own_entry, beneath, named_over, given_in, has_variables_for, entry_beneath, after_named, IsNamedLegal, IsNamedReached}
 use Rattle.lj_book.specs.NamedViews.{names_with}

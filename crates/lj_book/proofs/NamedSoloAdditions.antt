@@ -46,6 +46,7 @@ use Rattle.lj_book.specs.NamedEntries.{named_commit_entry}
 use Rattle.lj_book.specs.NamedInside.{named_inside_entry}
 use Rattle.lj_book.specs.NamedWorlds.{NamedWorld, named_pending_at, with_named_pending, if_named_entered, IsNamedCommitOf, IsNamedAnswered}
 use Rattle.lj_book.specs.NamedSolo.{IsProper, own_clauses, counted_as}
+use Rattle.lj_book.specs.NamedAlone.{named_after_call}
 use Rattle.lj_book.proofs.HistoryLaws.{IsSound-reached}
 use Rattle.lj_book.proofs.TableLaws.{here_in_range}
 use Rattle.lj_book.proofs.BindingLaws.{can_bind}
@@ -61,7 +62,7 @@ use Rattle.lj_book.proofs.NamedLaws.{rules_reached, grown, beneath_after, beneat
 use Rattle.lj_book.proofs.NamedTakes.{get-holdings_image, named_takes_alone}
 use Rattle.lj_book.proofs.OwnHoldings.{seats_hold_own, pair_back}
 use Rattle.lj_book.proofs.DecidedBeneath.{with_lemma, own_names, beneath_case, joint_lemma, own_take, joint_take, propagations}
-use Rattle.lj_book.proofs.NamedSoloViews.{Keeps, stands_later, named_after_call, sees_behind}
+use Rattle.lj_book.proofs.NamedSoloViews.{Keeps, stands_later, sees_behind}
 use Rattle.lj_book.proofs.NamedSoloEntries.{commit_legal, inside_legal_named}
 use Rattle.lj_book.proofs.NamedSoloLeaves.{named_solo_of, IsSound, IsNamedSettled, leaves_pending}
 use Rattle.lj_book.proofs.NamedSoloSteps.{IsSeen, seen_is, free_here, free_named, entered_solo, with_own_pending, if_free_named}

@@ -1,25 +1,29 @@
 -- Runs of events of seats that name their variables.
 use Rattle.std.proofs.Common.{◌≡◌, ap, refl, sym, ◌∙◌, subst, ℕ, Bool, true, false, arith}
-use Rattle.std.specs.Prelude.{List, [], ◌∷◌, ◌++◌, map, take, Some, None, ◌==◌, ◌&&◌, if◌then◌else◌, Result, Ok, Err}
+use Rattle.std.specs.Prelude.{List, [], ◌∷◌, ◌++◌, map, length, take, Some, None, ◌==◌, ◌&&◌, if◌then◌else◌, slice_get, Result, Ok, Err}
 use Rattle.std.proofs.lemmas.Bool.{false≢true, and_parts, eqb-true}
 use Rattle.std.proofs.lemmas.Bool.Decides.{nat_tests}
+use Rattle.lj_clause.specs.ClauseMap.{ClauseMap}
 use Rattle.lj_hint.specs.declared.pair.Pair.{Pair}
 use Rattle.lj_hint.specs.Case.{CaseValue}
+use Rattle.lj_hint.specs.Receipt.{ReceiptValue}
 use Rattle.lj_text.specs.declared.line.Addition.{Addition}
 use Rattle.lj_book.specs.declared.refusal.Refusal.{Refusal}
+use Rattle.lj_book.specs.declared.refusal.Refusal.TheVariants.{Stale}
 use Rattle.lj_book.specs.declared.event.Event.{Event}
 use Rattle.lj_book.specs.declared.event.Event.TheVariants as events
 use Rattle.lj_book.specs.declared.event.Reply.{Reply}
+use Rattle.lj_book.specs.declared.event.Reply.TheVariants as replies
 use Rattle.lj_book.specs.declared.event.Pending.{Pending}
 use Rattle.lj_book.specs.declared.event.Pending.TheVariants as pendings
 use Rattle.lj_book.specs.Calls.{IsReply}
-use Rattle.lj_book.specs.Events.{seat_of, is_of, events_of, taken_after, is_in_turn, is_tidy_after}
+use Rattle.lj_book.specs.Events.{seat_of, is_of, events_of, taken_after, taken_after_all, is_in_turn, is_tidy_after}
 use Rattle.lj_book.specs.Worlds.{case_taken, IsTestOf}
-use Rattle.lj_book.specs.Solo.{View, Solo, solo_take, IsSoloAnswer, IsSoloRun}
+use Rattle.lj_book.specs.Solo.{View, Solo, solo_take, IsSoloCommitOf, IsSoloCommit, IsSoloAnswer, IsSoloRun}
 use Rattle.lj_book.specs.Named.{NamedState}
 use Rattle.lj_book.specs.NamedViews.{named_view}
 use Rattle.lj_book.specs.NamedWorlds.{NamedWorld, named_nothing_pending, named_pending_at, with_named_pending, IsNamedAnswered, IsNamedRun}
-use Rattle.lj_book.specs.NamedSolo.{own_clauses, counted_as, IsProperEvent, AreProper, NamedTidySeatsAreAlone}
+use Rattle.lj_book.specs.NamedSolo.{own_clauses, counted_as, IsProperEvent, AreProper, NamedTidySeatsAreAlone, NamedFreshReceiptsAreNotStale}
 use Rattle.lj_book.proofs.SoloTakes.{take_fits, AllHeld-take, IsFit}
 use Rattle.lj_book.proofs.SoloWorlds.{tested_by}
 use Rattle.lj_book.proofs.SoloSteps.{IsReadyOf, IsReady}
@@ -153,6 +157,38 @@ named_alone s end es rs pending seat is reached proper run tidy =
       subst (λ (p : Pending). IsSoloRun (own_clauses end seat) seat (record { view = named_view s seat; pending = p }) (events_of seat es (map counted_as rs)) (named_solo_of last seat)) (named_nothing_at s seat)
           (runs_alone seat false (named_nothing_pending s) last es rs settled proper (λ t. nothing_ready s seat) tidy end (keeps_itself end (runs_settled (named_nothing_pending s) last es rs settled proper run).reached) run),
     )
+
+-- ---- no receipt is stale right after its test
+
+not_stale_of : (clauses : ClauseMap) (v : View) (o : Solo) (r : ReceiptValue) (joint : ℕ) (after : Solo) → IsSoloCommitOf clauses v o r (replies.Refused (Stale joint)) after → ⊥
+not_stale_of clauses None o r joint after h = h
+not_stale_of clauses (Some held) o r joint after h = h.1
+
+not_stale : (clauses : ClauseMap) (p : Pending) (o : Solo) (joint : ℕ) (after : Solo) → IsSoloCommit clauses p o (replies.Refused (Stale joint)) after → ⊥
+not_stale clauses pendings.Nothing o joint after h = let e = h.0 in cc
+not_stale clauses (pendings.Case c) o joint after h = let e = h.0 in cc
+not_stale clauses (pendings.Receipt r) o joint after h = not_stale_of clauses o.view (record o { pending = pendings.Nothing }) r joint after h
+
+first_not_stale : (w after : NamedWorld) (r : Reply) (seat joint : ℕ) → IsNamedSettled w → IsReady (named_solo_of w seat) → IsNamedAnswered w (events.Commit seat) r after → r ≡ replies.Refused (Stale joint) → ⊥
+first_not_stale w after r seat joint settled ready answered is =
+    let clauses : ClauseMap = own_clauses after.state seat in
+    let left = named_leaves w after (events.Commit seat) r settled tt answered in
+    not_stale clauses (named_pending_at w seat) (named_solo_of w seat) joint (named_solo_of after seat)
+    (subst (λ (q : Reply). IsSoloCommit clauses (named_pending_at w seat) (named_solo_of w seat) (counted_as q) (named_solo_of after seat)) is
+    (commit_alone after.state w after seat (named_pending_at w seat) r settled (settled.sound seat) ready (keeps_itself after.state left.settled.reached) answered))
+
+runs_fresh : (seat joint : ℕ) (taken : Bool) (w end : NamedWorld) (before after : List Event) (rs : List Reply) → IsNamedSettled w → AreProper (before ++ events.Commit seat ∷ after) → (taken ≡ true → IsReady (named_solo_of w seat))
+    → IsNamedRun w (before ++ events.Commit seat ∷ after) rs end → taken_after_all taken seat before ≡ true → slice_get rs (length before) ≡ Some (replies.Refused (Stale joint)) → ⊥
+runs_fresh seat joint taken w end [] after [] settled proper ready run now is = absurd run
+runs_fresh seat joint taken w end [] after (r ∷ rs) settled proper ready run now is = first_not_stale w run.0 r seat joint settled (ready now) run.1.0 cc
+runs_fresh seat joint taken w end (e ∷ before) after [] settled proper ready run now is = absurd run
+runs_fresh seat joint taken w end (e ∷ before) after (r ∷ rs) settled proper ready run now is =
+    runs_fresh seat joint (if is_of seat e then taken_after taken e else taken) run.0 end before after rs (named_leaves w run.0 e r settled proper.0 run.1.0).settled
+    proper.1 (ready_next w run.0 e r taken seat settled proper.0 ready run.1.0) run.1.1 now is
+
+pub named_fresh : NamedFreshReceiptsAreNotStale
+named_fresh s end before after rs seat joint is reached proper run taken stale =
+    runs_fresh seat joint false (named_nothing_pending s) end before after rs (settled_at_first s is reached) proper (λ t. nothing_ready s seat) run taken stale
 
 -- one event more
 pub proper-push : (es : List Event) (e : Event) → AreProper es → IsProperEvent e → AreProper (es ++ e ∷ [])

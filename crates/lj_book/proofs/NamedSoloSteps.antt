@@ -31,12 +31,13 @@ use Rattle.lj_book.specs.NamedViews.{named_view, holdings_image}
 use Rattle.lj_book.specs.NamedReplies.{named_drop, adopted, named_adopt, or_private, import_refusal, named_import, named_leave}
 use Rattle.lj_book.specs.NamedWorlds.{NamedWorld, named_pending_at, with_named_pending, if_named_entered, IsNamedAnswered}
 use Rattle.lj_book.specs.NamedSolo.{own_clauses, counted_as}
+use Rattle.lj_book.specs.NamedAlone.{named_after_call}
 use Rattle.lj_book.proofs.SoloTables.{holdings-without, len-holdings}
 use Rattle.lj_book.proofs.SoloStates.{live-given, with_clause-is}
 use Rattle.lj_book.proofs.SoloTakes.{refusal_alone}
 use Rattle.lj_book.proofs.SoloWorlds.{called_by, tried_by, pending-set}
 use Rattle.lj_book.proofs.NamedLaws.{rules_reached}
-use Rattle.lj_book.proofs.NamedSoloViews.{image-without, image-len, image-refusal, Keeps, stands_later, keeps_entry, named_after_call, sees_behind}
+use Rattle.lj_book.proofs.NamedSoloViews.{image-without, image-len, image-refusal, Keeps, stands_later, keeps_entry, sees_behind}
 use Rattle.lj_book.proofs.NamedSoloEntries.{drop_legal, leave_legal, adoptable, adopt_legal, importable, import_legal}
 use Rattle.lj_book.proofs.NamedSoloLeaves.{named_solo_of, IsNamedSettled}
 

@@ -23,11 +23,13 @@ use Rattle.lj_book.specs.Lookup.{least_number}
 use Rattle.lj_book.specs.State.{State, next, given_out, live}
 use Rattle.lj_book.specs.History.{some_lives, after_entry, IsLegalCall}
 use Rattle.lj_book.specs.Solo.{Holdings, View, solo_refusal, with_clause, without_holdings, view_of}
-use Rattle.lj_book.specs.Views.{with_found_holding, view_after_call}
+use Rattle.lj_book.specs.Views.{with_found_holding}
+use Rattle.lj_book.specs.inner.Views.{view_after_call}
 use Rattle.lj_book.specs.Variables.{Variables, IsVariables, renaming_of, is_own}
 use Rattle.lj_book.specs.Named.{NamedState, top_of, names_of, call_image, beneath, variables_behind, entry_beneath, after_named, IsNamedLegal, IsNamedReached}
 use Rattle.lj_book.specs.NamedViews.{holdings_image, view_image, named_view, pair_at}
 use Rattle.lj_book.specs.NamedSolo.{own_clauses}
+use Rattle.lj_book.specs.NamedAlone.{named_after_call}
 use Rattle.lj_book.proofs.HistoryLaws.{IsSound-reached, among-keys}
 use Rattle.lj_book.proofs.DropLaws.{Rises-keys, same_rising}
 use Rattle.lj_book.proofs.SoloTables.{same_holdings}
@@ -153,14 +155,6 @@ moves_so s seat calls.Leave step given legal =
     subst (λ (o : Option Step). Moves seat s (after_entry s (record { seat = seat; call = calls.Leave; step = o }))) (sym legal.deletes) (moves-leave s seat given)
 
 -- ---- what its seat sees behind an entry
-
--- what these holdings of the caller become by its call, in its own variables
-abbrev pub named_after_call : NamedState → ℕ → Call → Holdings → View
-named_after_call s seat (calls.Add own lemma) h = Some (fin.insert h own (record { joint = next (beneath s); clause = lemma.clause }))
-named_after_call s seat (calls.Drop numbers) h = Some (without_holdings numbers h)
-named_after_call s seat (calls.Adopt own joint) h = Some (fin.insert h own (pair_image (inverse (names_of s seat)) (with_clause (live (beneath s)) joint)))
-named_after_call s seat (calls.Import own c) h = Some (with_found_holding h own (least_number (live (beneath s)) (image (names_of s seat) c)) c)
-named_after_call s seat calls.Leave h = None
 
 module _ (s : NamedState) (is : IsFormula s.formula) (reached : IsNamedReached s) where
   given : IsGiven (beneath s)

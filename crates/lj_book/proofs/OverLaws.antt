@@ -22,7 +22,8 @@ use Rattle.lj_book.specs.declared.refusal.Refusal.TheVariants.{PrivateVariable, 
 use Rattle.lj_book.specs.State.{State, opening, live, steps_of, is_refutation, verdict_from}
 use Rattle.lj_book.specs.History.{after_entry, IsReached}
 use Rattle.lj_book.specs.Lookup.{least_number}
-use Rattle.lj_book.specs.Calls.{IsRefusal, IsReply, take_reply, free_refusal, if_free, adopt_reply, adopt_entry, imported_at, import_reply, import_entry}
+use Rattle.lj_book.specs.Calls.{IsRefusal, IsReply, take_reply, free_refusal, if_free, adopt_entry, imported_at, import_entry}
+use Rattle.lj_book.specs.inner.Bindings.{adopt_reply, import_reply}
 use Rattle.lj_book.specs.Variables.{Variables, renaming_of, no_variables, is_own}
 use Rattle.lj_book.specs.Named.{NamedState, top_of, names_of, own_entry, beneath, named_over, variables_behind, entry_beneath, after_named, IsOwnLive, NamesRightly, named_opening, IsNamedReached}
 use Rattle.lj_book.specs.NamedViews.{take_image, named_take}

@@ -22,7 +22,8 @@ use Rattle.lj_book.specs.Lookup.{least_number}
 use Rattle.lj_book.specs.State.{State, live}
 use Rattle.lj_book.specs.History.{IsReached}
 use Rattle.lj_book.specs.Solo.{Holdings, View, without_holdings, holdings_of, view_of}
-use Rattle.lj_book.specs.Views.{view_after_call, with_found_holding}
+use Rattle.lj_book.specs.Views.{with_found_holding}
+use Rattle.lj_book.specs.inner.Views.{view_after_call}
 use Rattle.lj_book.specs.Variables.{Variables, renaming_of, no_variables, is_own}
 use Rattle.lj_book.specs.Named.{NamedState, top_of, names_of, call_image, beneath, variables_behind, entry_beneath, after_named, after_all_named, IsOwnLive, NamesRightly, IsNamedLegal, AreNamedLegal, named_opening}
 use Rattle.lj_book.specs.NamedViews.{holdings_image, view_image, pair_at, SeatsHoldTheirOwn, ViewsComeBack}

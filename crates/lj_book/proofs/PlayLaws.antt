@@ -1,14 +1,12 @@
 -- Lists of events, as far as they were played.
-use Rattle.std.proofs.Common.{◌≡◌, ap, refl, ◌∙◌, subst, ℕ, zero, suc, ◌≤◌, take, arith}
+use Rattle.std.proofs.Common.{◌≡◌, ap, refl, ◌∙◌, ℕ, zero, suc, ◌≤◌, take, arith}
 use Rattle.std.specs.Prelude.{List, [], ◌∷◌, ◌++◌, length, slice_index_or, slice_set}
 use Rattle.lj_hint.specs.Case.{CaseValue}
-use Rattle.lj_hint.specs.Receipt.{ReceiptValue}
-use Rattle.lj_book.specs.declared.event.Event.{Event}
 use Rattle.lj_book.specs.declared.event.Reply.{Reply}
 use Rattle.lj_book.specs.declared.event.Reply.TheVariants as replies
 use Rattle.lj_book.specs.declared.event.Pending.{Pending}
 use Rattle.lj_book.specs.declared.event.Pending.TheVariants as pendings
-use Rattle.lj_book.specs.Worlds.{World, IsTested, IsTestOf, IsCommitOf, IsAnswered, IsRun}
+use Rattle.lj_book.specs.Worlds.{IsTested, IsTestOf}
 
 pub set_twice : {A : Type 0} (xs : List A) (i : ℕ) (x y : A) → slice_set (slice_set xs i x) i y ≡ slice_set xs i y
 set_twice [] i x y = refl
@@ -40,18 +38,6 @@ pub no_case : {B : Type 0} (p : Pending) (before after : B) (left : Pending → 
 no_case pendings.Nothing before after left none same = (refl, same)
 no_case (pendings.Case c) before after left none same = absurd (none c refl)
 no_case (pendings.Receipt r) before after left none same = (refl, same)
-
-pub no_receipt : (p : Pending) (w after : World) (seat : ℕ) → ((r : ReceiptValue) → p ≡ pendings.Receipt r → ⊥) → after ≡ w → IsCommitOf p w seat replies.Nothing after
-no_receipt pendings.Nothing w after seat none same = (refl, same)
-no_receipt (pendings.Case c) w after seat none same = (refl, same)
-no_receipt (pendings.Receipt r) w after seat none same = absurd (none r refl)
-
--- one event more
-pub IsRun-push : (w : World) (es : List Event) (rs : List Reply) (v u : World) (e : Event) (r : Reply) → IsRun w es rs v → IsAnswered v e r u → IsRun w (es ++ e ∷ []) (rs ++ r ∷ []) u
-IsRun-push w [] [] v u e r run answered = (u, (subst (λ (x : World). IsAnswered x e r u) run answered, refl))
-IsRun-push w [] (q ∷ rs) v u e r run answered = absurd run
-IsRun-push w (d ∷ es) [] v u e r run answered = absurd run
-IsRun-push w (d ∷ es) (q ∷ rs) v u e r run answered = (run.0, (run.1.0, IsRun-push run.0 es rs v u e r run.1.1 answered))
 
 -- what was written through a borrow of the whole list
 pub written_back : {A : Type 0} (xs ys : List A) (n : ℕ) → n ≡ length xs → take n (xs ++ ys) ≡ xs

@@ -1,6 +1,6 @@
 -- What an event leaves: everything that was given out, and the tables and pending things of other seats.
 use Rattle.std.proofs.Common.{◌≡◌, ap, refl, sym, ◌∙◌, inl, inr, subst, ℕ, ◌+◌, Bool, cond, true, false, arith}
-use Rattle.std.specs.Prelude.{T, ◌⊎◌, ℤ, List, [], ◌∷◌, map, filter, length, Option, Some, None, is_some, ◌==◌, slice_get, Result, Ok, Err}
+use Rattle.std.specs.Prelude.{T, ◌⊎◌, List, [], ◌∷◌, map, filter, length, Some, is_some, ◌==◌, slice_get}
 use Rattle.std.proofs.lemmas.Bool.{false≢true}
 use Rattle.std.proofs.lemmas.Bool.Decides.{nat_tests}
 use Rattle.std.specs.Ordering.{nat_cmp, eq_by_cmp, is_eq}
@@ -10,25 +10,17 @@ use Rattle.std.specs.FinMap.Entries.{find, is_sorted}
 use Rattle.lj_clause.specs.LiteralSet.{LiteralSet}
 use Rattle.lj_clause.specs.ClauseMap.{ClauseMap}
 use Rattle.lj_clause.specs.Lemma.{LemmaValue}
-use Rattle.lj_clause.specs.Propagation.{Propagation, Closed, Open, Stuck}
-use Rattle.lj_clause.specs.Rat.{RatAnswer, Covered, MissingGroup, GroupStuck, GroupOpen, rat}
 use Rattle.lj_clause.proofs.Tests.{left_of, right_of}
 use Rattle.lj_clause.proofs.SortedEntries.{none_below}
 use Rattle.lj_text.specs.declared.line.Addition.{Addition}
 use Rattle.lj_text.specs.declared.step.Step.TheVariants as steps
-use Rattle.lj_text.specs.Steps.{first_propagation, with_covered, recorded_on, recorded_after, recorded_form}
-use Rattle.lj_hint.specs.Case.{CaseValue}
-use Rattle.lj_hint.specs.Receipt.{ReceiptValue}
-use Rattle.lj_book.specs.declared.refusal.Refusal.{Refusal}
-use Rattle.lj_book.specs.declared.entry.Added.{Added}
 use Rattle.lj_book.specs.declared.entry.Call.TheVariants as calls
 use Rattle.lj_book.specs.declared.entry.Entry.{Entry}
 use Rattle.lj_book.specs.Tables.{Tables, table_of, joint_of, with_table, with_binding, without_keys, without_seat}
 use Rattle.lj_book.specs.Lookup.{is_same, least_number}
 use Rattle.lj_book.specs.State.{State, next, given_out, live}
 use Rattle.lj_book.specs.History.{dead_numbers, with_found, after_entry}
-use Rattle.lj_book.specs.Inside.{joint_addition, inside_after, inside_step, inside_entry}
-use Rattle.lj_book.specs.Calls.{take_reply, commit_entry, drop_entry, adopt_entry, import_entry, leave_entry}
+use Rattle.lj_book.specs.Calls.{drop_entry, adopt_entry, import_entry, leave_entry}
 use Rattle.lj_book.proofs.CommitLaws.{same_clauses}
 use Rattle.lj_book.proofs.SoloTables.{table_of-other, table_of-left_other, length-with_table, length-without_seat, joint_of-binding, joint_of-dropped, joint_of-left}
 use Rattle.lj_book.proofs.SoloStates.{IsGiven, Extends, Extends-same, Extends-insert, AddsNothing, contains-extends, given_out-entry, given_out-same, next-entry, not_given, nothing_added, live-given}
@@ -142,54 +134,6 @@ moves-addition s seat own lemma a given num =
         ];
       };
     }
-
-pub moves-commit : (s : State) (r : ReceiptValue) → IsGiven s → Moves r.seat s (after_entry s (commit_entry s r))
-moves-commit s r given = moves-addition s r.seat r.own r.lemma _ given refl
-
-pub given-commit : (s : State) (r : ReceiptValue) → fin.get (given_out (after_entry s (commit_entry s r))) (next s) ≡ Some r.lemma.clause
-given-commit s r = ap (λ (p : ClauseMap). fin.get p (next s)) (given_out-addition s r.seat r.own r.lemma _ refl) ∙ get-inserted (given_out s) (next s) r.lemma.clause
-
--- ---- an addition in one call
-
-covered_keeps : (a : Addition) (answer : RatAnswer) → ((with_covered a answer).number ≡ a.number) × ((with_covered a answer).lemma ≡ a.lemma)
-covered_keeps a (Covered groups) = (refl, refl)
-covered_keeps a (MissingGroup n) = (refl, refl)
-covered_keeps a (GroupStuck n place) = (refl, refl)
-covered_keeps a (GroupOpen n) = (refl, refl)
-
-recorded_keeps : (p : ClauseMap) (a : Addition) (w : Propagation) → ((recorded_after p a w).number ≡ a.number) × ((recorded_after p a w).lemma ≡ a.lemma)
-recorded_keeps p a (Closed used) = (refl, refl)
-recorded_keeps p a (Stuck place) = (refl, refl)
-recorded_keeps p a (Open s) = go a.lemma.pivot
-  where
-    go : (pivot : Option ℤ) → ((recorded_on p a s pivot).number ≡ a.number) × ((recorded_on p a s pivot).lemma ≡ a.lemma)
-    go None = (refl, refl)
-    go (Some q) = covered_keeps a (rat p s q a.groups)
-
--- the addition that enters for a case
-abbrev entering : State → CaseValue → Addition
-entering s c = recorded_form (live s) (joint_addition (next s) c)
-
-inside_is : (s : State) (seat : ℕ) (a : Addition) (c : CaseValue) → take_reply s seat a ≡ Ok c → inside_entry s seat a ≡ addition_entry seat a.number a.lemma (entering s c)
-inside_is s seat a c is = ap (λ (r : Result CaseValue Refusal). record { seat = seat; call = calls.Add a.number a.lemma; step = inside_step s r }) is
-
-entering_keeps : (s : State) (c : CaseValue) → ((entering s c).number ≡ next s) × ((entering s c).lemma ≡ c.lemma)
-entering_keeps s c = recorded_keeps (live s) (joint_addition (next s) c) (first_propagation (live s) (joint_addition (next s) c))
-
-pub moves-inside : (s : State) (seat : ℕ) (a : Addition) (c : CaseValue) → IsGiven s → take_reply s seat a ≡ Ok c → Moves seat s (after_entry s (inside_entry s seat a))
-moves-inside s seat a c given is =
-    subst (λ (e : Entry). Moves seat s (after_entry s e)) (sym (inside_is s seat a c is)) (moves-addition s seat a.number a.lemma (entering s c) given (entering_keeps s c).0)
-
-pub given-inside : (s : State) (seat : ℕ) (a : Addition) (c : CaseValue) → take_reply s seat a ≡ Ok c → fin.get (given_out (after_entry s (inside_entry s seat a))) (next s) ≡ Some c.lemma.clause
-given-inside s seat a c is =
-    ap (λ (e : Entry). fin.get (given_out (after_entry s e)) (next s)) (inside_is s seat a c is)
-    ∙ ap (λ (p : ClauseMap). fin.get p (next s)) (given_out-addition s seat a.number a.lemma (entering s c) (entering_keeps s c).0)
-    ∙ get-inserted (given_out s) (next s) (entering s c).lemma.clause
-    ∙ ap (λ (l : LemmaValue). Some l.clause) (entering_keeps s c).1
-
-pub inside_taken : (s : State) (r : Result CaseValue Refusal) (x : Added) → inside_after s r ≡ Ok x → (c : CaseValue) × (r ≡ Ok c)
-inside_taken s (Ok c) x e = (c, refl)
-inside_taken s (Err y) x e = absurd (cc)
 
 -- ---- the least number that has a clause
 

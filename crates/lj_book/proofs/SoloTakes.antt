@@ -46,14 +46,6 @@ joint_is s seat t at own =
     back None = refl
     back (Some joint) = refl
 
--- the book's case of an addition is that of the seat's holdings
-abbrev pub book_case : State → ℕ → Addition → Result CaseValue Refusal
-book_case s seat a =
-    case_with seat a (repeated_after (joint_of s.tables seat) [] a.groups) (pairs_of (pair_in s.tables (live s) seat) a.hints) (group_pairs_of (pair_in s.tables (live s) seat) a.groups)
-
-pub case_alone : (s : State) (seat : ℕ) (t : Table) (a : Addition) → IsGiven s → table_of s.tables seat ≡ Some t → book_case s seat a ≡ solo_case (holdings_of (given_out s) t) seat a
-case_alone s seat t a given at = λ i. case_with seat a (repeated_after (λ own. joint_is s seat t at own i) [] a.groups) (pairs_of (λ own. pair_is s seat t given at own i) a.hints) (group_pairs_of (λ own. pair_is s seat t given at own i) a.groups)
-
 -- what a take answers, by whether the seat is there, the own number bound, and by what is found under own numbers
 abbrev taken_by : ℕ → Addition → Bool → Bool → (ℕ → Option ℕ) → (ℕ → Option Pair) → Result CaseValue Refusal
 taken_by seat a here bound joint pair =

@@ -27,15 +27,16 @@ use Rattle.lj_book.specs.Tables.{Table, Tables, table_of, up_to, with_binding, w
 use Rattle.lj_book.specs.Lookup.{least_number}
 use Rattle.lj_book.specs.State.{State, next, given_out, live, opening}
 use Rattle.lj_book.specs.History.{tables_after, with_found, some_lives, after_entry, after_entries, IsLegalCall, IsLegal, AreLegal, IsReached}
-use Rattle.lj_book.specs.Calls.{unless_refused, commit_told}
+use Rattle.lj_book.specs.Calls.{take_reply, unless_refused, commit_told}
 use Rattle.lj_book.specs.Inside.{joint_addition, propagation_refusal, or_full, inside_after, inside_reply}
 use Rattle.lj_book.specs.Solo.{View, with_clause, holdings_of, view_of, solo_take}
-use Rattle.lj_book.specs.Views.{with_found_holding, view_after_call, ViewsFollowEntries, HoldsTheFormula, stuck_refusal, decided_by, TakesAreAlone, DecidedAlone, FreeAlone}
+use Rattle.lj_book.specs.Views.{with_found_holding, HoldsTheFormula, stuck_refusal, decided_by, decided_refusal}
+use Rattle.lj_book.specs.inner.Views.{view_after_call}
 use Rattle.lj_book.proofs.HistoryLaws.{IsSound-reached, has_table, formula_has, past_the_end}
 use Rattle.lj_book.proofs.SoloTables.{table_of-left, length-with_table, length-without_seat, get-holdings}
 use Rattle.lj_book.proofs.SoloStates.{IsGiven, IsGiven-sound, some_clause, with_clause-is, live-given, view-same}
 use Rattle.lj_book.proofs.SoloMoves.{Moves, moves-drop, moves-leave, moves-adopt, moves-import, moves-addition, given_out-addition, get-inserted, least_lives}
-use Rattle.lj_book.proofs.SoloTakes.{take_alone, refusal_alone, take_fits, IsFit}
+use Rattle.lj_book.proofs.SoloTakes.{take_alone, take_fits, IsFit}
 use Rattle.lj_book.proofs.SoloSteps.{view_is, view_bound, view_dropped, held_named}
 
 -- ---- an entry that leads from one reached state to another is legal
@@ -44,7 +45,7 @@ seats_found : (ts : Tables) (seat own : ℕ) (o : Option ℕ) → length (with_f
 seats_found ts seat own None = refl
 seats_found ts seat own (Some joint) = length-with_table (λ t. fin.insert t own joint) ts seat
 
-seats_after : (s : State) (seat : ℕ) (call : Call) → length (tables_after s seat call) ≡ length s.tables
+pub seats_after : (s : State) (seat : ℕ) (call : Call) → length (tables_after s seat call) ≡ length s.tables
 seats_after s seat (calls.Add own lemma) = length-with_table (λ t. fin.insert t own (next s)) s.tables seat
 seats_after s seat (calls.Drop numbers) = length-with_table (without_keys numbers) s.tables seat
 seats_after s seat (calls.Adopt own joint) = length-with_table (λ t. fin.insert t own joint) s.tables seat
@@ -150,9 +151,6 @@ view_follows s e seat given legal false is =
     let moves = moves_legal s e.seat e.call e.step given legal in
     view-same s (after_entry s e) seat given moves.more (moves.tables seat (apart e.seat seat is))
 
-pub views_follow : ViewsFollowEntries
-views_follow s e seat reached later = view_follows s e seat (IsGiven-sound s (IsSound-reached s reached)) (legal_entry s e reached later) (e.seat == seat) refl
-
 -- ---- the opening
 
 get-up_to : (n q : ℕ) → fin.get (up_to n) q ≡ cond (nat_lt 0 q && nat_le q n) (Some q) None
@@ -192,11 +190,8 @@ holds_the_formula f own =
 
 -- ---- what a seat decides alone
 
-pub takes_alone : TakesAreAlone
+pub takes_alone : (s : State) (seat : ℕ) (a : Addition) → IsReached s → take_reply s seat a ≡ solo_take (view_of s seat) seat a
 takes_alone s seat a reached = take_alone s seat a (IsGiven-sound s (IsSound-reached s reached))
-
-pub free : FreeAlone
-free s seat own = refusal_alone s seat own
 
 -- the hints of a case that fits, as the book and as the case itself name them
 named_alone : (s : State) (seat own : ℕ) (pairs : List Pair) → IsGiven s → IsFit (view_of s seat) own pairs → hints_in (live s) (numbers pairs) ≡ named_hints pairs
@@ -215,7 +210,7 @@ stuck_alone s c e (Closed used) is = absurd (cc)
 stuck_alone s c e (Open a) is = absurd (cc)
 stuck_alone s c e (Stuck place) is = let same : HintNotUnit place ≡ e = cc in ap Err same
 
-pub decided : DecidedAlone
+pub decided : (s : State) (seat : ℕ) (a : Addition) (e : Refusal) → IsReached s → decided_refusal (view_of s seat) seat a ≡ Some e → inside_reply s seat a ≡ Err e
 decided s seat a e reached is = go (solo_take (view_of s seat) seat a) refl is
   where
     given : IsGiven s

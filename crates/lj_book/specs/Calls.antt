@@ -1,13 +1,12 @@
 -- The sequential object: for each call on a state its reply, the first refusal that holds if one does, and the entry that
 -- an accepted call makes. The state after an accepted call is the one that its entry leaves; after a refused one it is the
 -- state before.
-use Rattle.std.specs.Prelude.{◌≡◌, ℕ, nat_lt, Bool, false, List, [], ◌∷◌, length, Option, Some, None, option_map, option_and_then, if◌then◌else◌, Result, Ok, Err, MatchResult}
+use Rattle.std.specs.Prelude.{◌≡◌, ℕ, Bool, false, List, [], ◌∷◌, length, Option, Some, None, option_map, option_and_then, if◌then◌else◌, Result, Ok, Err, MatchResult}
 use Rattle.std.specs.FinMap as fin
 use Rattle.lj_clause.specs.LiteralSet.{LiteralSet}
 use Rattle.lj_clause.specs.ClauseMap.{ClauseMap}
 use Rattle.lj_clause.specs.Rat.{HintGroup}
 use Rattle.lj_text.specs.declared.line.Addition.{Addition}
-use Rattle.lj_text.specs.declared.step.Step.TheVariants as steps
 use Rattle.lj_text.specs.Needed.{if_some}
 use Rattle.lj_hint.specs.declared.pair.Pair.{Pair}
 use Rattle.lj_hint.specs.Hints.{numbers}
@@ -20,9 +19,9 @@ use Rattle.lj_book.specs.declared.entry.Added.{Added}
 use Rattle.lj_book.specs.declared.entry.Dropped.{Dropped}
 use Rattle.lj_book.specs.declared.entry.Imported.{Imported}
 use Rattle.lj_book.specs.declared.refusal.Refusal.{Refusal}
-use Rattle.lj_book.specs.declared.refusal.Refusal.TheVariants.{SeatGone, NumberTaken, UnknownNumber, GroupRepeated, Stale, NoSuchClause, Full, NoMemory}
+use Rattle.lj_book.specs.declared.refusal.Refusal.TheVariants.{SeatGone, NumberTaken, UnknownNumber, GroupRepeated, Stale, NoSuchClause, NoMemory}
 use Rattle.lj_book.specs.Tables.{Tables, table_of, is_here, is_bound, is_among, joint_of, with_table, without_keys, without_seat, keys_lost}
-use Rattle.lj_book.specs.Lookup.{is_clause, least_number}
+use Rattle.lj_book.specs.Lookup.{is_clause}
 use Rattle.lj_book.specs.State.{State, addition_count, next, live}
 use Rattle.lj_book.specs.History.{dead_numbers}
 
@@ -175,12 +174,6 @@ binding_entry seat call = record { seat = seat; call = call; step = None }
 abbrev pub adopt_entry : ℕ → ℕ → ℕ → Entry
 adopt_entry seat own joint = binding_entry seat (calls.Adopt own joint)
 
--- the place of the entry, where the joint number lives
-abbrev pub adopt_reply : State → ℕ → ℕ → ℕ → Result ℕ Refusal
-adopt_reply s seat own joint =
-    if_free (free_refusal s seat own)
-    (if fin.contains_key (live s) joint then Ok (length s.history) else Err NoSuchClause)
-
 -- the entry of an import, which has no step
 abbrev pub import_entry : ℕ → ℕ → LiteralSet → Entry
 import_entry seat own clause = binding_entry seat (calls.Import own clause)
@@ -190,56 +183,20 @@ abbrev pub imported_at : ℕ → Option ℕ → Result Imported Refusal
 imported_at place None = Err NoSuchClause
 imported_at place (Some joint) = Ok (record { place = place; joint = joint })
 
--- the place of the entry and the least live number with exactly this clause, where there is one
-abbrev pub import_reply : State → ℕ → ℕ → LiteralSet → Result Imported Refusal
-import_reply s seat own clause = if_free (free_refusal s seat own)
-    (imported_at (length s.history) (least_number (live s) clause))
-
 -- ---- committing a receipt
 
 -- whether the pair's number lives with that very clause
 abbrev pub is_live_as : ClauseMap → Pair → Bool
 is_live_as p pair = is_clause pair.clause (fin.get p pair.joint)
 
--- the number of the first pair that doesn't
-abbrev pub first_stale : ClauseMap → List Pair → Option ℕ
-first_stale p [] = None
-first_stale p (pair ∷ pairs) = if is_live_as p pair then first_stale p pairs else Some pair.joint
-
--- the entry of a lemma that enters under this number, with the listed numbers as hints and no groups
-abbrev pub entry_with : ℕ → ReceiptValue → Entry
-entry_with number r = record {
-  seat = r.seat;
-  call = calls.Add r.own r.lemma;
-  step = Some (steps.Add (record
-      { number = number; lemma = r.lemma; hints = numbers r.listed; groups = [] }));
-}
-
--- a lemma that enters takes the next number
-abbrev pub commit_entry : State → ReceiptValue → Entry
-commit_entry s r = entry_with (next s) r
-
 -- the refusal of a stale number, if there is one, or a later refusal
 abbrev pub stale_or : Option ℕ → Option Refusal → Option Refusal
 stale_or None later = later
 stale_or (Some joint) later = Some (Stale joint)
 
--- the first refusal of a commit that holds
-abbrev pub commit_refusal : State → ReceiptValue → Option Refusal
-commit_refusal s r =
-    if is_here s.tables r.seat then
-    (if is_bound s.tables r.seat r.own then Some NumberTaken
-    else stale_or (first_stale (live s) r.listed)
-    (if nat_lt (addition_count s.history) s.max_steps then None else Some Full))
-    else Some SeatGone
-
 -- the place of the entry, and the joint number of the lemma
 abbrev pub commit_told : State → Added
 commit_told s = record { place = length s.history; joint = next s }
-
--- the first refusal of a commit, or the place of its entry and the joint number of its lemma
-abbrev pub commit_reply : State → ReceiptValue → Result Added Refusal
-commit_reply s r = unless_refused (commit_refusal s r) (commit_told s)
 
 -- the answer of a commit without the receipt that a refusal gives back
 abbrev pub answer_alone : Result Added (Refusal × ReceiptValue) → Result Added Refusal

@@ -17,6 +17,7 @@ pub mod NamedReplies
 pub mod NamedEntries
 pub mod NamedWorlds
 pub mod NamedSolo
+pub mod NamedAlone
 pub mod PrivateAdditions
 pub mod RefusalText
 pub mod WithEntry

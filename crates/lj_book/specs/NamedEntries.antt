@@ -16,11 +16,15 @@ abbrev pub receipt_step : Renaming → ℕ → ReceiptValue → Addition
 receipt_step m number r = record
     { number = number; lemma = lemma_image m r.lemma; hints = numbers r.listed; groups = [] }
 
--- the entry of a commit: the step has the lemma in joint variables, with those that are given to it, under the next number
-abbrev pub named_commit_entry : NamedState → ReceiptValue → Entry
-named_commit_entry s r = record {
+-- the entry of a receipt with this step
+abbrev pub receipt_entry : Renaming → ℕ → ReceiptValue → Entry
+receipt_entry m number r = record {
   seat = r.seat;
   call = calls.Add r.own r.lemma;
-  step = Some (steps.Add
-      (receipt_step (names_with s r.seat r.lemma.clause) (next (beneath s)) r));
+  step = Some (steps.Add (receipt_step m number r));
 }
+
+-- the entry of a commit: the step has the lemma in joint variables, with those that are given to it, under the next number
+abbrev pub named_commit_entry : NamedState → ReceiptValue → Entry
+named_commit_entry s r =
+    receipt_entry (names_with s r.seat r.lemma.clause) (next (beneath s)) r

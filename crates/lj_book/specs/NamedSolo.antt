@@ -1,10 +1,10 @@
 -- What a seat that names variables as it likes may count on, whatever other seats do: the solo object, in the seat's own variables.
-use Rattle.std.specs.Prelude.{◌≡◌, ◌==◌, ℕ, true, false, List, [], ◌∷◌, map, IfSome}
+use Rattle.std.specs.Prelude.{◌≡◌, ◌==◌, ◌++◌, ℕ, true, false, List, [], ◌∷◌, length, map, Some, slice_get, IfSome}
 use Rattle.lj_clause.specs.Literal.{variable_of}
 use Rattle.lj_clause.specs.Lemma.{LemmaValue, IsLemma}
 use Rattle.lj_clause.specs.ClauseMap.{ClauseMap, IsFormula}
 use Rattle.lj_clause.specs.Renaming.{inverse, clauses_image}
-use Rattle.lj_book.specs.declared.refusal.Refusal.TheVariants.{PrivateVariable, NoSuchClause, Full, NoVariableLeft}
+use Rattle.lj_book.specs.declared.refusal.Refusal.TheVariants.{PrivateVariable, NoSuchClause, Stale, Full, NoVariableLeft}
 use Rattle.lj_book.specs.declared.event.Event.{Event}
 use Rattle.lj_book.specs.declared.event.Event.TheVariants as events
 use Rattle.lj_book.specs.declared.event.Reply.{Reply}
@@ -12,11 +12,11 @@ use Rattle.lj_book.specs.declared.event.Reply.TheVariants as replies
 use Rattle.lj_book.specs.declared.event.Pending.{Pending}
 use Rattle.lj_book.specs.declared.event.Pending.TheVariants as pendings
 use Rattle.lj_book.specs.State.{given_out}
-use Rattle.lj_book.specs.Events.{events_of, is_tidy}
+use Rattle.lj_book.specs.Events.{events_of, is_tidy, ends_in_take}
 use Rattle.lj_book.specs.Solo.{IsSoloRun}
 use Rattle.lj_book.specs.Named.{NamedState, names_of, beneath, IsNamedReached}
 use Rattle.lj_book.specs.NamedViews.{named_view}
-use Rattle.lj_book.specs.NamedWorlds.{named_nothing_pending, IsNamedRun}
+use Rattle.lj_book.specs.NamedWorlds.{NamedWorld, named_nothing_pending, IsNamedRun}
 
 -- the one clause that each joint number ever stands for, in the seat's variables
 abbrev pub own_clauses : NamedState → ℕ → ClauseMap
@@ -67,3 +67,14 @@ NamedTidySeatsAreAlone =
     → IsNamedRun (named_nothing_pending s) es rs (record { state = end; pending = pending })
     → is_tidy seat es ≡ true
     → IsNamedAlone s es rs end seat
+
+-- A receipt that a seat commits right after its own test is never stale, whatever other seats do: no reply to a commit
+-- before which, going back among the seat's events, a take is met with only tests between, is Stale.
+abbrev pub NamedFreshReceiptsAreNotStale : Type 0
+NamedFreshReceiptsAreNotStale =
+    (s : NamedState) (end : NamedWorld) (before after : List Event) (rs : List Reply)
+    (seat joint : ℕ) → IsFormula s.formula → IsNamedReached s
+    → AreProper (before ++ events.Commit seat ∷ after)
+    → IsNamedRun (named_nothing_pending s) (before ++ events.Commit seat ∷ after) rs end
+    → ends_in_take seat before ≡ true
+    → slice_get rs (length before) ≡ Some (replies.Refused (Stale joint)) → ⊥

@@ -1,6 +1,6 @@
 -- The solo object of a seat: what the seat may count on, whatever other seats do. It speaks of the seat's own numbers and
 -- of the clauses that they were bound to, and never of another seat or of which clauses live.
-use Rattle.std.specs.Prelude.{◌≡◌, ◌⊎◌, ℕ, ℤ, ◌-◌, Bool, true, false, not, List, [], ◌∷◌, map, Option, Some, None, option_map, unwrap_or, if◌then◌else◌, Result, Ok, Err, length, ◌++◌, slice_get}
+use Rattle.std.specs.Prelude.{◌≡◌, ◌⊎◌, ℕ, ℤ, ◌-◌, Bool, true, false, not, List, [], ◌∷◌, map, Option, Some, None, option_map, unwrap_or, if◌then◌else◌, Result, Ok, Err}
 use Rattle.std.specs.Ordering.{nat_cmp}
 use Rattle.std.specs.FinMap as fin
 use Rattle.lj_clause.specs.LiteralSet.{LiteralSet, no_literals}
@@ -13,7 +13,7 @@ use Rattle.lj_hint.specs.declared.pair.Pair.{Pair}
 use Rattle.lj_hint.specs.Case.{CaseValue, propagation_of}
 use Rattle.lj_hint.specs.Receipt.{ReceiptValue}
 use Rattle.lj_book.specs.declared.refusal.Refusal.{Refusal}
-use Rattle.lj_book.specs.declared.refusal.Refusal.TheVariants.{SeatGone, NumberTaken, HintNotUnit, EmptyOpen, MissingGroup, GroupStuck, GroupOpen, NoSuchClause, Stale, Full, NoMemory}
+use Rattle.lj_book.specs.declared.refusal.Refusal.TheVariants.{SeatGone, NumberTaken, HintNotUnit, EmptyOpen, MissingGroup, GroupStuck, GroupOpen, NoSuchClause, Full, NoMemory}
 use Rattle.lj_book.specs.declared.event.Event.{Event}
 use Rattle.lj_book.specs.declared.event.Event.TheVariants as events
 use Rattle.lj_book.specs.declared.event.Reply.{Reply}
@@ -22,10 +22,8 @@ use Rattle.lj_book.specs.declared.event.Pending.{Pending}
 use Rattle.lj_book.specs.declared.event.Pending.TheVariants as pendings
 use Rattle.lj_book.specs.Tables.{Table, table_of, is_among}
 use Rattle.lj_book.specs.State.{State, given_out}
-use Rattle.lj_book.specs.History.{IsReached}
 use Rattle.lj_book.specs.Calls.{case_with, repeated_after, pairs_of, group_pairs_of}
-use Rattle.lj_book.specs.Events.{events_of, is_tidy, ends_in_take}
-use Rattle.lj_book.specs.Worlds.{World, IsTried, case_taken, IsNothing, IsTestOf, IsRun, nothing_pending}
+use Rattle.lj_book.specs.Worlds.{IsTried, case_taken, IsNothing, IsTestOf}
 
 -- from own numbers to the joint numbers that they are bound to, with their clauses
 abbrev pub Holdings : Type 0
@@ -229,31 +227,3 @@ holdings_of clauses t = fin.from_entries (map (λ e. (e.0, with_clause clauses e
 -- the seat's own numbers, each with its joint number and the clause that was given out under that
 abbrev pub view_of : State → ℕ → View
 view_of s seat = option_map (holdings_of (given_out s)) (table_of s.tables seat)
-
--- ---- the theorem
-
--- The events of the seat, with their replies, are a run of its solo object from its view of the first state, with
--- nothing pending, to its view of the other.
-abbrev pub IsAlone : State → List Event → List Reply → State → ℕ → Type 0
-IsAlone s es rs end seat =
-    (pending : Pending) × IsSoloRun (given_out end) seat
-    (record { view = view_of s seat; pending = pendings.Nothing }) (events_of seat es rs)
-    (record { view = view_of end seat; pending = pending })
-
--- A seat for which the list of events is tidy is undisturbed, whatever other seats do: its events are a run of its solo
--- object.
-abbrev pub TidySeatsAreAlone : Type 0
-TidySeatsAreAlone =
-    (s end : State) (es : List Event) (rs : List Reply) (pending : List Pending) (seat : ℕ)
-    → IsReached s → IsRun (nothing_pending s) es rs (record { state = end; pending = pending })
-    → is_tidy seat es ≡ true
-    → IsAlone s es rs end seat
-
--- A receipt that a seat commits right after its own test is never stale, whatever other seats do: no reply to a commit
--- before which, going back among the seat's events, a take is met with only tests between, is Stale.
-abbrev pub FreshReceiptsAreNotStale : Type 0
-FreshReceiptsAreNotStale =
-    (s : State) (end : World) (before after : List Event) (rs : List Reply) (seat joint : ℕ)
-    → IsReached s → IsRun (nothing_pending s) (before ++ events.Commit seat ∷ after) rs end
-    → ends_in_take seat before ≡ true
-    → slice_get rs (length before) ≡ Some (replies.Refused (Stale joint)) → ⊥

@@ -8,10 +8,10 @@ pub mod Holders
 pub mod JointLines
 pub mod FirstUses
 pub mod Ranges
-pub mod Ready
+pub mod Commits
+pub mod Bindings
 pub mod Kept
 pub mod Fronts
-pub mod Solo
 pub mod Slots
 pub mod Opened
 pub mod Occurrences
@@ -22,3 +22,4 @@ pub mod Limits
 pub mod JointForms
 pub mod Over
 pub mod PrivateSteps
+pub mod Views

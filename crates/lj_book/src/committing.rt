@@ -1,12 +1,10 @@
-//! What the commit of a receipt looks at and changes.
+//! What an addition that enters changes.
 ghost use Rattle.std.specs.Prelude.{◌≡◌, ◌++◌, ◌∷◌, [], OnOk, OnErr, IfOk, Some, true, false};
 ghost use Rattle.std.specs.FinMap as fin;
 ghost use Rattle.lj_hint.specs.Hints.{numbers};
 ghost use Rattle.lj_text.specs.declared.step.Step.TheVariants.{Add};
 ghost use Rattle.lj_book.specs.declared.entry.Call.TheVariants as calls;
 ghost use Rattle.lj_book.specs.Tables.{is_here, is_bound, has_holder, with_table};
-ghost use Rattle.lj_book.specs.Calls.{is_live_as, first_stale};
-ghost use Rattle.lj_book.specs.inner.Ready.{IsStepOf};
 ghost use Rattle.lj_book.specs.inner.Records.{entry_of};
 ghost use Rattle.lj_book.specs.inner.Kept.{refuted_after};
 
@@ -14,47 +12,9 @@ use crate::clause_log::ClauseLog;
 use crate::lent_addition::LentAddition;
 use crate::seat_tables::SeatTables;
 use lj_clause::{ClauseView, NoMemory};
-use lj_hint::{Pair, Receipt};
-use lj_text::{Addition, Groups, Numbers};
+use lj_hint::Pair;
+use lj_text::Numbers;
 use std::alloc::Global;
-
-/// The number of the first pair that doesn't live with that very clause. Takes O(log n) time for each pair, and time linear
-/// in their literals.
-pub(crate) fn first_stale(clause_log: &ClauseLog, listed: &[Pair]) -> Option<u64>
-    ensures { result ≡ first_stale clause_log.now.live listed.now }
-{
-    for pair in listed {
-        if !is_live_as(clause_log, pair) {
-            return Some(pair.joint);
-        }
-    }
-    None
-}
-
-/// Whether the pair's number lives with that very clause.
-fn is_live_as(clause_log: &ClauseLog, pair: &Pair) -> bool
-    ensures { result ≡ is_live_as clause_log.now.live pair.now }
-{
-    match clause_log.clause(pair.joint) {
-        Some(clause) => clause.same(&pair.clause),
-        None => false,
-    }
-}
-
-/// The step of a receipt's lemma, but for its number.
-///
-/// # Errors
-/// [`NoMemory`] where a growth was refused.
-pub(crate) fn step_of(alloc: Global, receipt: &Receipt) -> Result<Addition, NoMemory>
-    ensures { IfOk result (IsStepOf receipt.now) }
-{
-    Ok(Addition {
-        number: 0,
-        lemma: receipt.lemma().try_clone()?,
-        hints: numbers_of(alloc, receipt.listed())?,
-        groups: Groups::new(alloc),
-    })
-}
 
 /// The numbers of these pairs.
 pub(crate) fn numbers_of(alloc: Global, pairs: &[Pair]) -> Result<Numbers, NoMemory>

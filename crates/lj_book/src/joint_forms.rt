@@ -6,13 +6,14 @@ ghost use Rattle.lj_book.specs.History.{after_entry};
 ghost use Rattle.lj_book.specs.Calls.{IsRefusal, IsReply, IsReplyBy};
 ghost use Rattle.lj_book.specs.Inside.{inside_reply, inside_entry};
 ghost use Rattle.lj_book.specs.Solo.{view_of};
-ghost use Rattle.lj_book.specs.Views.{IsClosedAlone, IsFullOrNoMemory};
+ghost use Rattle.lj_book.specs.Views.{IsClosedAlone};
+ghost use Rattle.lj_book.specs.inner.Views.{IsFullOrNoMemory};
 ghost use Rattle.lj_book.specs.declared.entry.Call.TheVariants as calls;
 ghost use Rattle.lj_book.specs.inner.JointForms.{joint_form, with_call};
 ghost use Rattle.lj_book.specs.inner.Limits.{is_known, known_images, led_by, known_addition, closes_at_once, is_new, is_lifted, limit_reply};
 
-use crate::book::Book;
 use crate::entry::{Added, Call, Entry};
+use crate::joint_book::JointBook;
 use crate::lent_addition::LentAddition;
 use crate::refusal::Refusal;
 use crate::variable_table::VariableTable;
@@ -21,13 +22,13 @@ use lj_hint::Propagator;
 use lj_text::{Addition, Groups, Numbers};
 use std::alloc::Global;
 
-/// Adds a seat's addition in joint variables, as [`Book::add_inside`]. Each of its variables has a joint one. It is copied only
+/// Adds a seat's addition in joint variables, as [`JointBook::add_inside`]. Each of its variables has a joint one. It is copied only
 /// where one of them is renamed.
 ///
 /// # Errors
-/// As [`Book::add_inside`].
+/// As [`JointBook::add_inside`].
 pub(crate) fn add_joint_form(
-    joint: &mut Book,
+    joint: &mut JointBook,
     variables: &VariableTable,
     seat: u32,
     addition: &Addition,
@@ -51,9 +52,9 @@ pub(crate) fn add_joint_form(
 /// As [`add_joint_form`], with a copy of the entry, whose call is the seat's own.
 ///
 /// # Errors
-/// As [`Book::add_inside`].
+/// As [`JointBook::add_inside`].
 pub(crate) fn add_joint_form_with_entry(
-    joint: &mut Book,
+    joint: &mut JointBook,
     variables: &VariableTable,
     seat: u32,
     addition: &Addition,
@@ -78,12 +79,12 @@ pub(crate) fn add_joint_form_with_entry(
     }
 }
 
-/// As [`add_joint_form`], of an addition that is known to close after so many of its hints, as [`Book::add_closed`].
+/// As [`add_joint_form`], of an addition that is known to close after so many of its hints, as [`JointBook::add_closed`].
 ///
 /// # Errors
-/// As [`Book::add_closed`].
+/// As [`JointBook::add_closed`].
 pub(crate) fn close_joint_form(
-    joint: &mut Book,
+    joint: &mut JointBook,
     variables: &VariableTable,
     seat: u32,
     addition: &Addition,
@@ -110,9 +111,9 @@ pub(crate) fn close_joint_form(
 /// As [`close_joint_form`], with a copy of the entry, whose call is the seat's own.
 ///
 /// # Errors
-/// As [`Book::add_closed`].
+/// As [`JointBook::add_closed`].
 pub(crate) fn close_joint_form_with_entry(
-    joint: &mut Book,
+    joint: &mut JointBook,
     variables: &VariableTable,
     seat: u32,
     addition: &Addition,
@@ -192,7 +193,7 @@ fn with_lemma(lemma: &Lemma, addition: &Addition) -> Result<Addition, NoMemory>
 /// [`Refusal::NoVariableLeft`]. Tests the literals that have joint variables: no live clause has a variable that isn't given
 /// out, so the others change nothing but where two of them contradict each other.
 pub(crate) fn refusal_at_limit(
-    joint: &mut Book,
+    joint: &mut JointBook,
     variables: &VariableTable,
     seat: u32,
     addition: &Addition,
@@ -210,7 +211,7 @@ pub(crate) fn refusal_at_limit(
 
 /// The same, by the addition of the literals that have joint variables.
 fn refusal_of_known(
-    joint: &mut Book,
+    joint: &mut JointBook,
     variables: &VariableTable,
     seat: u32,
     addition: &Addition,

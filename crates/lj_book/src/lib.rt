@@ -14,13 +14,13 @@ mod event;
 mod first_uses;
 mod history;
 mod inside_laws;
+mod joint_book;
 mod joint_forms;
 mod joint_line;
 mod lent_addition;
 mod lent_clauses;
 mod line_tests;
 mod lit_range;
-mod named_book;
 mod number_map;
 mod occurrence_lists;
 mod opened;
@@ -31,7 +31,6 @@ mod refusal;
 mod same;
 mod seat_table;
 mod seat_tables;
-mod solo_laws;
 mod steps;
 mod stored_clauses;
 mod taking;
@@ -39,25 +38,19 @@ mod tree_map;
 mod variable_laws;
 mod variable_table;
 mod verified;
-mod view_laws;
 
 pub use book::{Book, laws};
 pub use entry::{Added, Call, Dropped, Entry, Imported};
 pub use event::{Event, Reply};
 pub use inside_laws::additions_are_beneath;
-pub use named_book::{NamedBook, laws as named_laws};
 pub use own_map::OwnMap;
 pub use private_laws::private_replies_are_alone;
 pub use refusal::Refusal;
-pub use solo_laws::{fresh_receipts_are_not_stale, tidy_seats_are_alone};
 pub use steps::Steps;
 pub use variable_laws::{
-    beneath_is_reached, clauses_give_variables, decided_beneath, images_are_own,
-    legal_entries_enter, named_clauses_give_none, named_takes_are_alone, no_variables_at_first,
+    beneath_is_reached, clauses_give_variables, decided_alone, decided_beneath, free_alone,
+    images_are_own, legal_entries_enter, named_clauses_give_none, no_variables_at_first,
     private_candidates_are_seen, private_clauses_are_held, private_tests_are_alone,
-    seats_hold_their_own,
+    seats_hold_the_formula, seats_hold_their_own, takes_are_alone, views_follow_entries,
 };
 pub use verified::Verified;
-pub use view_laws::{
-    decided_alone, free_alone, seats_hold_the_formula, takes_are_alone, views_follow_entries,
-};

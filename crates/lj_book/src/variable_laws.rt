@@ -1,6 +1,8 @@
 //! Laws of the variables that seats name as they like. The functions do nothing.
 ghost use Rattle.lj_book.specs.Named.{BeneathIsReached, NamedKeepRules, OverBeneath, LegalEntriesEnter, TakenBeneathAreLegal};
 ghost use Rattle.lj_book.specs.NamedViews.{TakesCommuteWithRenamings, NamedTakesAreAlone, SeatsHoldTheirOwn, ViewsComeBack, DecidedBeneath, ClosedBeneath, OpenBeneath, PrivateAreHeld, PrivateCandidates, GivenCandidates, NewPivotsHaveNone, PrivateRat, TakenHintsAreSeen, PrivateRefusals};
+ghost use Rattle.lj_book.specs.NamedAlone.{NamedViewsFollowEntries, NamedSeatsHoldTheFormula, NamedDecidedAlone, NamedFreeAlone};
+ghost use Rattle.lj_book.specs.Views.{HoldsTheFormula};
 ghost use Rattle.lj_book.specs.VariableLaws.{NoneAreVariables, EachGives, NamedGivesNothing, ImagesAreOwn, OthersOwnNone};
 
 /// At the opening no seat has a variable of its own, and no joint variable is given out. Takes constant time.
@@ -43,7 +45,7 @@ pub fn legal_entries_enter()
 
 /// A seat's takes are answered by what it sees in its own variables: a take by a view whose clauses are renamed is the take
 /// renamed. Takes constant time.
-pub fn named_takes_are_alone()
+pub fn takes_are_alone()
     ensures commute { TakesCommuteWithRenamings }
     ensures alone { NamedTakesAreAlone }
 {}
@@ -82,4 +84,27 @@ pub fn private_tests_are_alone()
     ensures alike { PrivateRat }
     ensures seen { TakenHintsAreSeen }
     ensures refused { PrivateRefusals }
+{}
+
+/// Each entry of a legal history changes what its own seat sees by its call, and what no other seat sees, in the seat's own
+/// variables. Takes constant time.
+pub fn views_follow_entries()
+    ensures { NamedViewsFollowEntries }
+{}
+
+/// At the opening each seat sees the clauses of the formula under their own numbers. Takes constant time.
+pub fn seats_hold_the_formula()
+    ensures formula { NamedSeatsHoldTheFormula }
+    ensures clauses { HoldsTheFormula }
+{}
+
+/// Where what the seat sees refuses an addition, at its take or at a hint that isn't unit, the book refuses it so. Takes
+/// constant time.
+pub fn decided_alone()
+    ensures { NamedDecidedAlone }
+{}
+
+/// Whether the seat is there, and its own number is free, is decided by what the seat sees. Takes constant time.
+pub fn free_alone()
+    ensures { NamedFreeAlone }
 {}

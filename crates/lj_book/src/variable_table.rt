@@ -81,14 +81,29 @@ impl VariableTable {
         !self.owners.is_empty()
     }
 
-    /// The joint variable of the seat's own one.
+    /// The joint variable of the seat's own one. One that is its own joint variable is found in constant time.
     pub(crate) fn joint(&self, seat: u32, own: u32) -> Option<u32>
         ensures joint { result ≡ fin.get (renaming_of self.now.variables seat) own }
         ensures in_range { IfSome result (λ joint. (0 < joint) × (joint ≤ MAX_VARIABLE)) }
     {
+        if self.keeps(seat, own) {
+            return Some(own);
+        }
         match self.seats.get(seat as usize) {
             Some(joints) => joints.get(u64::from(own)).copied(),
             None => None,
+        }
+    }
+
+    /// Whether the seat's variable is given, and is its own joint one. Takes constant time.
+    fn keeps(&self, seat: u32, own: u32) -> bool
+        ensures joint { result ≡ true
+            → fin.get (renaming_of self.now.variables seat) own ≡ Some own }
+        ensures in_range { result ≡ true → (0 < own) × (own ≤ MAX_VARIABLE) }
+    {
+        match self.own(seat, own) {
+            Some(variable) => variable == own,
+            None => false,
         }
     }
 
@@ -259,8 +274,9 @@ impl VariableTable {
         seat: u32,
         clause: &ClauseView<'_>,
     ) -> Result<Option<Clause>, NoMemory>
-        ensures { IfOk result
+        ensures ok { IfOk result
             (λ own. own ≡ as_own self.now.top self.now.variables seat clause.now) }
+        ensures err { OnErr result (is_own self.now.top self.now.variables seat clause.now ≡ true) }
     {
         if !self.is_own(seat, clause) {
             return Ok(None);
@@ -331,6 +347,9 @@ impl VariableTable {
     fn stays(&self, seat: u32, variable: u32) -> bool
         ensures { result ≡ (renamed (renaming_of self.now.variables seat) variable == variable) }
     {
+        if variable <= self.top {
+            return true;
+        }
         match self.joint(seat, variable) {
             Some(joint) => joint == variable,
             None => true,

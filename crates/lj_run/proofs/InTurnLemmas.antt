@@ -9,8 +9,11 @@ use Rattle.lj_text.specs.declared.lines.fault.LineFaultKind.{LineFaultKind}
 use Rattle.lj_text.specs.Lines.{Said, all_said}
 use Rattle.lj_book.specs.declared.entry.Entry.{Entry}
 use Rattle.lj_book.specs.declared.refusal.Refusal.{Refusal}
-use Rattle.lj_book.specs.Calls.{drop_reply, drop_entry, import_reply, import_entry}
-use Rattle.lj_book.specs.Inside.{inside_reply, inside_entry}
+use Rattle.lj_book.specs.State.{live, steps_of}
+use Rattle.lj_book.specs.Named.{NamedState, named_opening, IsNamedReached, after_named, beneath}
+use Rattle.lj_book.specs.NamedReplies.{named_drop, named_import, named_inside}
+use Rattle.lj_book.specs.NamedInside.{named_inside_entry}
+use Rattle.lj_book.specs.Calls.{drop_entry, import_entry}
 use Rattle.lj_share.specs.Refusals.{IsRefusedLine}
 use Rattle.lj_share.specs.declared.numbered.Numbered.{Numbered}
 use Rattle.lj_run.specs.Run.{if_accepted, state_after_line, state_after_said, state_after_lines, has_verdict, StreamEnds, IsStreamRun}
@@ -23,8 +26,6 @@ use Rattle.lj_text.specs.declared.step.Step.{Step}
 use Rattle.lj_text.specs.Steps.{replay, refutes, adds_empty}
 use Rattle.lj_clause.specs.ClauseMap.{ClauseMap}
 use Rattle.lj_text.specs.Streams.{SourceState}
-use Rattle.lj_book.specs.State.{State, opening, live, steps_of}
-use Rattle.lj_book.specs.History.{IsReached, after_entry}
 use Rattle.lj_run.specs.declared.outcome.Outcome.{Outcome}
 use Rattle.lj_run.specs.declared.outcome.Report.{Report}
 use Rattle.lj_run.specs.InTurn.{IsOutcome, IsReport, RunInTurn}
@@ -32,33 +33,33 @@ use Rattle.lj_run.proofs.WayLemmas.{verified_is}
 
 -- ---- an entered line makes one entry
 
-OneMore : State → State → Type 0
-OneMore s t = (e : Entry) × (after_entry s e ≡ t)
+OneMore : NamedState → NamedState → Type 0
+OneMore s t = (e : Entry) × (after_named s e ≡ t)
 
-one_accepted : {A : Type 0} (r : Result A Refusal) (s t : State) (e : Entry) → if_accepted r (after_entry s e) ≡ Some t → OneMore s t
+one_accepted : {A : Type 0} (r : Result A Refusal) (s t : NamedState) (e : Entry) → if_accepted r (after_named s e) ≡ Some t → OneMore s t
 unfolding OneMore
 one_accepted (Ok x) s t e is = (e, cc)
 one_accepted (Err refusal) s t e is = cc
 
-one_entered : (seat : ℕ) (s t : State) (line : Line) → state_after_line seat s line ≡ Some t → OneMore s t
-one_entered seat s t (Add a) is = one_accepted (inside_reply s seat a) s t (inside_entry s seat a) is
-one_entered seat s t (Delete numbers) is = one_accepted (drop_reply s seat numbers) s t (drop_entry s seat numbers) is
-one_entered seat s t (Import number clause) is = one_accepted (import_reply s seat number clause) s t (import_entry seat number clause) is
+one_entered : (seat : ℕ) (s t : NamedState) (line : Line) → state_after_line seat s line ≡ Some t → OneMore s t
+one_entered seat s t (Add a) is = one_accepted (named_inside s seat a) s t (named_inside_entry s seat a) is
+one_entered seat s t (Delete numbers) is = one_accepted (named_drop s seat numbers) s t (drop_entry (beneath s) seat numbers) is
+one_entered seat s t (Import number clause) is = one_accepted (named_import s seat number clause) s t (import_entry seat number clause) is
 
-pub entered_longer : (seat : ℕ) (s t : State) (line : Line) → state_after_line seat s line ≡ Some t → length t.history ≡ length s.history + 1
+pub entered_longer : (seat : ℕ) (s t : NamedState) (line : Line) → state_after_line seat s line ≡ Some t → length t.history ≡ length s.history + 1
 unfolding OneMore
 entered_longer seat s t line is =
     let more = one_entered seat s t line is in
-    ap (λ (u : State). length u.history) (sym more.1) ∙ length-append s.history (more.0 ∷ [])
+    ap (λ (u : NamedState). length u.history) (sym more.1) ∙ length-append s.history (more.0 ∷ [])
 
-said_formula : (seat : ℕ) (s t : State) (says : Result Line LineFaultKind) → state_after_said seat s says ≡ Some t → t.formula ≡ s.formula
+said_formula : (seat : ℕ) (s t : NamedState) (says : Result Line LineFaultKind) → state_after_said seat s says ≡ Some t → t.formula ≡ s.formula
 unfolding OneMore
-said_formula seat s t (Ok line) is = ap (λ (u : State). u.formula) (sym (one_entered seat s t line is).1)
+said_formula seat s t (Ok line) is = ap (λ (u : NamedState). u.formula) (sym (one_entered seat s t line is).1)
 said_formula seat s t (Err kind) is = cc
 
 -- lines leave the formula
-formula_kept : (seat : ℕ) (s t : State) (lines : List Said) → state_after_lines seat s lines ≡ Some t → t.formula ≡ s.formula
-formula_kept seat s t [] is = let same : s ≡ t = cc in ap (λ (u : State). u.formula) (sym same)
+formula_kept : (seat : ℕ) (s t : NamedState) (lines : List Said) → state_after_lines seat s lines ≡ Some t → t.formula ≡ s.formula
+formula_kept seat s t [] is = let same : s ≡ t = cc in ap (λ (u : NamedState). u.formula) (sym same)
 formula_kept seat s t (x ∷ xs) is =
     elim (has_verdict s) as (λ b. cond b None (option_and_then (λ r. state_after_lines seat r xs) (state_after_said seat s x.says)) ≡ Some t → t.formula ≡ s.formula) [
       | true ↦ λ none. cc
@@ -69,7 +70,7 @@ formula_kept seat s t (x ∷ xs) is =
     ] is
 
 -- one line more
-pub one_more_line : (seat seat' : ℕ) (s t u : State) (lines : List Numbered) (n : ℕ) (line : Numbered) → LeadsOn seat s (map said_in_block (take n lines)) seat' t → slice_get lines n ≡ Some line → has_verdict t ≡ false → state_after_line seat' t line.line ≡ Some u
+pub one_more_line : (seat seat' : ℕ) (s t u : NamedState) (lines : List Numbered) (n : ℕ) (line : Numbered) → LeadsOn seat s (map said_in_block (take n lines)) seat' t → slice_get lines n ≡ Some line → has_verdict t ≡ false → state_after_line seat' t line.line ≡ Some u
     → LeadsOn seat s (map said_in_block (take (n + 1) lines)) seat' u
 one_more_line seat seat' s t u lines n line leads is goes_on entered =
     let one : take (n + 1) lines ≡ take n lines ++ line ∷ [] = rw add-one (take_next lines n line is) in
@@ -79,7 +80,7 @@ one_more_line seat seat' s t u lines n line leads is goes_on entered =
 
 -- ---- the run of a stream
 
-module _ {S : Type 0} (seen : S → SourceState) (seat seat' : ℕ) (s next : State) (stream : S) (report : Report S)
+module _ {S : Type 0} (seen : S → SourceState) (seat seat' : ℕ) (s next : NamedState) (stream : S) (report : Report S)
     (run : IsStreamRun (λ lines. LeadsOn seat s lines seat' next) (λ line e. IsRefusedLine seat' line e next) (has_verdict next ≡ true) (has_verdict next ≡ false) seen stream report) where
   pub report_is : IsReport seen seat s next stream report
   report_is = record {
@@ -103,7 +104,7 @@ module _ {S : Type 0} (seen : S → SourceState) (seat seat' : ℕ) (s next : St
 -- ---- the run of all
 
 -- one stream more
-pub one_more_run : {S : Type 0} (seen : S → SourceState) (seat : ℕ) (streams : List S) (stream : S) (s mid final : State) (reports : List (Report S)) (report : Report S)
+pub one_more_run : {S : Type 0} (seen : S → SourceState) (seat : ℕ) (streams : List S) (stream : S) (s mid final : NamedState) (reports : List (Report S)) (report : Report S)
     → RunInTurn seen seat streams s reports mid → IsReport seen (seat + length streams) mid final stream report → RunInTurn seen seat (streams ++ stream ∷ []) s (reports ++ report ∷ []) final
 one_more_run seen seat [] stream s mid final [] report run is =
     (final, subst (λ t. IsReport seen seat t final stream report) (sym run) (subst (λ n. IsReport seen n mid final stream report) (add-zero seat) is), refl)
@@ -115,12 +116,12 @@ one_more_run seen seat (x ∷ streams) stream s mid final (r ∷ reports) report
     further : (n k : ℕ) → n + (suc k) ≡ (n + 1) + k
     further n k = omega arith
 
-pub outcome_is : {S : Type 0} (seen : S → SourceState) (f : FormulaValue) (max : ℕ) (streams : List S) (start final : State) (outcome : Outcome S)
-    → start ≡ opening f (length streams) max → final.formula ≡ start.formula → RunInTurn seen 0 streams start outcome.reports.items final
-    → IsReached final → outcome.steps ≡ steps_of final.history → replay (formula_map final.formula) (steps_of final.history) ≡ Some (live final)
+pub outcome_is : {S : Type 0} (seen : S → SourceState) (f : FormulaValue) (max : ℕ) (streams : List S) (start final : NamedState) (outcome : Outcome S)
+    → start ≡ named_opening f (length streams) max → final.formula ≡ start.formula → RunInTurn seen 0 streams start outcome.reports.items final
+    → IsNamedReached final → outcome.steps ≡ steps_of final.history → replay (formula_map final.formula) (steps_of final.history) ≡ Some (live (beneath final))
     → is_some outcome.verified ≡ refutes final.formula (steps_of final.history) → IfSome outcome.verified (λ g. g ≡ final.formula) → IsOutcome seen f max streams outcome
 outcome_is seen f max streams start final outcome opened kept run reached steps replayed refuted verified =
-    let same : final.formula ≡ f = kept ∙ ap (λ (s : State). s.formula) opened in
+    let same : final.formula ≡ f = kept ∙ ap (λ (s : NamedState). s.formula) opened in
     record {
       final = final;
       runs = subst (λ s. RunInTurn seen 0 streams s outcome.reports.items final) opened run;

@@ -16,8 +16,8 @@ use Rattle.lj_text.specs.Steps.{replay, refutes}
 use Rattle.lj_text.specs.Streams.{SourceState}
 use Rattle.lj_book.specs.declared.entry.Call.{Call}
 use Rattle.lj_book.specs.declared.entry.Entry.{Entry}
-use Rattle.lj_book.specs.State.{State, live, steps_of}
-use Rattle.lj_book.specs.History.{IsReached}
+use Rattle.lj_book.specs.State.{live, steps_of}
+use Rattle.lj_book.specs.Named.{NamedState, IsNamedReached, beneath}
 use Rattle.lj_book.specs.declared.refusal.Refusal.{Refusal}
 use Rattle.lj_share.specs.Refusals.{IsLineRefused}
 use Rattle.lj_share.specs.Seats.{SeatValue, IsOpenedAs, AreSeatsIn, new_seat, new_seats, seat_of_book, entries_made}
@@ -82,7 +82,7 @@ module _ {S R : Type 0} (seen : S → SourceState) (f : FormulaValue) (many max 
       ∙ sym (length-map (zip seats streams) (λ job. job.1)) ∙ ap length (seconds-zip seats streams (sym same))
 
   -- the run of streams under these seats, on a book that has their calls
-  beside_from : (final : State) (k : ℕ) (seats : List SeatValue) (streams : List S) (rs : List R) → length seats ≡ length streams → AreNumbered k seats
+  beside_from : (final : NamedState) (k : ℕ) (seats : List SeatValue) (streams : List S) (rs : List R) → length seats ≡ length streams → AreNumbered k seats
       → AllZip (λ job r. HasRun seen f many max job (seat r) (report r)) (zip seats streams) rs → AreSeatsIn final (map seat rs) → RunBeside seen (IsLineRefused f many max) (IsUnsatisfiable f) final k streams (map report rs)
   beside_from final k [] [] [] same are ran calls = tt
   beside_from final k [] [] (r ∷ rs) same are ran calls = absurd ran
@@ -97,7 +97,7 @@ module _ {S R : Type 0} (seen : S → SourceState) (f : FormulaValue) (many max 
       (subst (λ s. IsStreamBeside seen (IsLineRefused f many max) (IsUnsatisfiable f) s x (report r)) here ran.0.0, beside_from final (k + 1) ss xs rs (omega (arith, same)) are.1 ran.1 later)
 
   -- the run of streams under new seats, by what they left
-  pub beside_of : (final : State) (n : ℕ) (seats : List SeatValue) (streams : List S) (rs : List R) (left : List SeatValue) (reports : List (Report S)) → seats ≡ new_seats f n → n ≡ length streams
+  pub beside_of : (final : NamedState) (n : ℕ) (seats : List SeatValue) (streams : List S) (rs : List R) (left : List SeatValue) (reports : List (Report S)) → seats ≡ new_seats f n → n ≡ length streams
       → AllZip (λ job r. HasRun seen f many max job (seat r) (report r)) (zip seats streams) rs → left ≡ map seat rs → reports ≡ map report rs → AreSeatsIn final left → RunBeside seen (IsLineRefused f many max) (IsUnsatisfiable f) final 0 streams reports
   beside_of final n seats streams rs left reports new long ran seats_are reports_are calls =
       subst (RunBeside seen (IsLineRefused f many max) (IsUnsatisfiable f) final 0 streams) (sym reports_are)
@@ -139,7 +139,7 @@ module _ {S : Type 0} (seen : S → SourceState) (refuses : SeatValue → Line �
     whole = r.whole;
   }
 
-  run_confirmed : (verdict : Bool) (final : State) (k : ℕ) (streams : List S) (reports : List (Report S)) → RunBeside seen refuses refuted final k streams reports → list_all (λ (r : Report S). is_confirmed verdict r.end) reports ≡ true
+  run_confirmed : (verdict : Bool) (final : NamedState) (k : ℕ) (streams : List S) (reports : List (Report S)) → RunBeside seen refuses refuted final k streams reports → list_all (λ (r : Report S). is_confirmed verdict r.end) reports ≡ true
       → RunBeside seen refuses (verdict ≡ true) final k streams reports
   run_confirmed verdict final k [] [] ran all = tt
   run_confirmed verdict final k [] (r ∷ rs) ran all = absurd ran
@@ -149,7 +149,7 @@ module _ {S : Type 0} (seen : S → SourceState) (refuses : SeatValue → Line �
       (stream_confirmed verdict (seat_of_book final k) x r ran.0 both.0, run_confirmed verdict final (k + 1) xs rs ran.1 both.1)
 
   -- a stream that isn't confirmed, of those from this seat on
-  denied_stream : (verdict : Bool) (final : State) (k : ℕ) (streams : List S) (reports : List (Report S)) → RunBeside seen refuses refuted final k streams reports → list_all (λ (r : Report S). is_confirmed verdict r.end) reports ≡ false
+  denied_stream : (verdict : Bool) (final : NamedState) (k : ℕ) (streams : List S) (reports : List (Report S)) → RunBeside seen refuses refuted final k streams reports → list_all (λ (r : Report S). is_confirmed verdict r.end) reports ≡ false
       → (i : ℕ) × (stream : S) × (report : Report S) × (slice_get streams i ≡ Some stream) × IsStreamBeside seen refuses refuted (seat_of_book final (k + i)) stream report × (report.end ≡ Stopped) × (verdict ≡ false)
   denied_stream verdict final k [] [] ran all = absurd cc
   denied_stream verdict final k [] (r ∷ rs) ran all = absurd ran
@@ -166,14 +166,14 @@ module _ {S : Type 0} (seen : S → SourceState) (refuses : SeatValue → Line �
       ] refl all
 
 -- an opening, by other names of its parts
-pub run_by : {S : Type 0} (seen : S → SourceState) (f f' : FormulaValue) (n n' m m' : ℕ) (final : State) (streams : List S) (reports : List (Report S)) → f' ≡ f → n ≡ n' → m' ≡ m
+pub run_by : {S : Type 0} (seen : S → SourceState) (f f' : FormulaValue) (n n' m m' : ℕ) (final : NamedState) (streams : List S) (reports : List (Report S)) → f' ≡ f → n ≡ n' → m' ≡ m
     → RunBeside seen (IsLineRefused f n m) (IsUnsatisfiable f) final 0 streams reports → RunBeside seen (IsLineRefused f' n' m') (IsUnsatisfiable f') final 0 streams reports
 run_by seen f f' n n' m m' final streams reports formula seats limit ran =
     subst (λ k. RunBeside seen (IsLineRefused f' n' k) (IsUnsatisfiable f') final 0 streams reports) (sym limit)
     (subst (λ k. RunBeside seen (IsLineRefused f' k m) (IsUnsatisfiable f') final 0 streams reports) seats
     (subst (λ g. RunBeside seen (IsLineRefused g n m) (IsUnsatisfiable g) final 0 streams reports) (sym formula) ran))
 
-pub book_of_run : {S : Type 0} (seen : S → SourceState) (f : FormulaValue) (max : ℕ) (streams : List S) (reports : List (Report S)) (s : State) → IsOpenedAs f (length streams) max s → IsReached s → length s.history ≡ sum_by accepted_count reports
+pub book_of_run : {S : Type 0} (seen : S → SourceState) (f : FormulaValue) (max : ℕ) (streams : List S) (reports : List (Report S)) (s : NamedState) → IsOpenedAs f (length streams) max s → IsNamedReached s → length s.history ≡ sum_by accepted_count reports
     → RunBeside seen (IsLineRefused f (length streams) max) (IsUnsatisfiable f) s 0 streams reports → list_all (λ (r : Report S). is_confirmed (has_verdict s) r.end) reports ≡ true → IsBookOfRun seen f max streams (has_verdict s) reports s
 book_of_run seen f max streams reports s opened legal counted ran all = record {
   opened = opened;
@@ -182,7 +182,7 @@ book_of_run seen f max streams reports s opened legal counted ran all = record {
   runs = run_confirmed seen (IsLineRefused f (length streams) max) (IsUnsatisfiable f) (has_verdict s) s 0 streams reports ran all;
 }
 
-pub unconfirmed : {S : Type 0} (seen : S → SourceState) (f : FormulaValue) (max : ℕ) (streams : List S) (reports : List (Report S)) (s : State) → IsOpenedAs f (length streams) max s → IsReached s
+pub unconfirmed : {S : Type 0} (seen : S → SourceState) (f : FormulaValue) (max : ℕ) (streams : List S) (reports : List (Report S)) (s : NamedState) → IsOpenedAs f (length streams) max s → IsNamedReached s
     → RunBeside seen (IsLineRefused f (length streams) max) (IsUnsatisfiable f) s 0 streams reports → list_all (λ (r : Report S). is_confirmed (has_verdict s) r.end) reports ≡ false → IsUnconfirmed seen f max streams
 unconfirmed seen f max streams reports s opened legal ran all =
     let d = denied_stream seen (IsLineRefused f (length streams) max) (IsUnsatisfiable f) (has_verdict s) s 0 streams reports ran all in
@@ -202,8 +202,8 @@ unconfirmed seen f max streams reports s opened legal ran all =
 
 -- ---- the outcome
 
-pub joint_outcome_is : {S : Type 0} (seen : S → SourceState) (f : FormulaValue) (max : ℕ) (streams : List S) (final : State) (outcome : Outcome S)
-    → IsBookOfRun seen f max streams (has_verdict final) outcome.reports.items final → outcome.steps ≡ steps_of final.history → replay (formula_map final.formula) (steps_of final.history) ≡ Some (live final)
+pub joint_outcome_is : {S : Type 0} (seen : S → SourceState) (f : FormulaValue) (max : ℕ) (streams : List S) (final : NamedState) (outcome : Outcome S)
+    → IsBookOfRun seen f max streams (has_verdict final) outcome.reports.items final → outcome.steps ≡ steps_of final.history → replay (formula_map final.formula) (steps_of final.history) ≡ Some (live (beneath final))
     → is_some outcome.verified ≡ has_verdict final → is_some outcome.verified ≡ refutes final.formula (steps_of final.history) → IfSome outcome.verified (λ g. g ≡ final.formula) → IsJointOutcome seen f max streams outcome
 joint_outcome_is seen f max streams final outcome book steps replayed some refuted verified =
     let same = book.opened.formula_is in
@@ -263,7 +263,7 @@ pub no_other_test : (m n : ℕ) → m ≡ n → false ≡ (m == n) → ⊥
 no_other_test m n same other = grind (arith, nat_tests)
 
 -- an opening, by other names of its parts
-pub opened_by : (f f' : FormulaValue) (n n' m m' : ℕ) (s : State) → f' ≡ f → n ≡ n' → m' ≡ m → IsOpenedAs f n m s → IsOpenedAs f' n' m' s
+pub opened_by : (f f' : FormulaValue) (n n' m m' : ℕ) (s : NamedState) → f' ≡ f → n ≡ n' → m' ≡ m → IsOpenedAs f n m s → IsOpenedAs f' n' m' s
 opened_by f f' n n' m m' s formula seats limit is =
     record { formula_is = is.formula_is ∙ sym formula; seats_are = is.seats_are ∙ seats; limit_is = is.limit_is ∙ sym limit }
 

@@ -16,7 +16,8 @@ use Rattle.lj_book.specs.declared.entry.Call.{Call}
 use Rattle.lj_book.specs.declared.entry.Call.TheVariants as calls
 use Rattle.lj_book.specs.declared.entry.Entry.{Entry}
 use Rattle.lj_book.specs.State.{State, steps_of}
-use Rattle.lj_book.specs.History.{after_entry, IsLegalCall, AreLegal, IsReached}
+use Rattle.lj_book.specs.Named.{NamedState, beneath, entry_beneath, after_named, AreNamedLegal, IsNamedReached}
+use Rattle.lj_book.specs.History.{IsLegalCall}
 use Rattle.lj_run.specs.declared.outcome.ProofEnd.{ProofEnd}
 use Rattle.lj_run.specs.declared.outcome.ProofEnd.TheVariants.{NotAsked, Written, Failed}
 use Rattle.lj_run.specs.declared.outcome.ProofFault.TheVariants.{Device, NoMemory}
@@ -66,12 +67,12 @@ call_above s seat (calls.Adopt own joint) step ss legal h = more_above (length s
 call_above s seat (calls.Import own clause) step ss legal h = more_above (length s.formula.clauses) step ss legal.stepless h
 call_above s seat calls.Leave step ss legal h = deletion_above (length s.formula.clauses) step _ ss legal.deletes h
 
-history_above : (s : State) (es : List Entry) → AreLegal s es → AreAbove (length s.formula.clauses) (steps_of es)
+history_above : (s : NamedState) (es : List Entry) → AreNamedLegal s es → AreAbove (length s.formula.clauses) (steps_of es)
 history_above s [] legal = tt
-history_above s (e ∷ es) legal = call_above s e.seat e.call e.step (steps_of es) legal.0 (history_above (after_entry s e) es legal.1)
+history_above s (e ∷ es) legal = call_above (beneath s) e.seat (entry_beneath s e).call e.step (steps_of es) legal.0.legal (history_above (after_named s e) es legal.1)
 
 -- where the steps of a book refute its formula, those that are written refute it too
-pub written_refutes : (s : State) (f : FormulaValue) (trims : Bool) (ss : List Step) → IsReached s → s.formula ≡ f → ss ≡ steps_of s.history → refutes f ss ≡ true → refutes f (written_steps f trims ss) ≡ true
+pub written_refutes : (s : NamedState) (f : FormulaValue) (trims : Bool) (ss : List Step) → IsNamedReached s → s.formula ≡ f → ss ≡ steps_of s.history → refutes f ss ≡ true → refutes f (written_steps f trims ss) ≡ true
 written_refutes s f trims ss reached same are e =
     let above : AreAbove (length f.clauses) ss = subst (λ (g : FormulaValue). AreAbove (length g.clauses) ss) same (subst (AreAbove (length s.formula.clauses)) (sym are) (history_above _ s.history reached.legal)) in
     by_tests (list_any adds_empty ss) trims (trimmed_refutes f ss e above) (front_refutes f ss e) e

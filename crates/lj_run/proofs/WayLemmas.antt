@@ -7,8 +7,8 @@ use Rattle.lj_text.proofs.StepLaws.{unsatisfiable-refutes}
 use Rattle.lj_text.specs.Steps.{refutes}
 use Rattle.lj_text.specs.Streams.{SourceState}
 use Rattle.lj_text.specs.declared.cnf.fault.CnfFault.{CnfFault}
-use Rattle.lj_book.specs.State.{State, steps_of}
-use Rattle.lj_book.specs.History.{IsReached}
+use Rattle.lj_book.specs.State.{steps_of}
+use Rattle.lj_book.specs.Named.{NamedState, IsNamedReached}
 use Rattle.lj_run.specs.declared.outcome.Outcome.{Outcome}
 use Rattle.lj_run.specs.declared.outcome.RunFault.TheVariants.{Formula}
 use Rattle.lj_run.specs.declared.outcome.Way.{Way}
@@ -35,7 +35,7 @@ verified_by InTurn seen f max streams outcome is = is.verified
 
 -- what a run answers whose outcome has the steps of this final state
 pub answer_by : {S W : Type 0} (way : Way) (before after : SourceState) (seen : S → SourceState) (sink : W → SinkState) (f : FormulaValue) (max : ℕ) (trims : Bool) (streams : List S) (old new : Option W) (outcome : Outcome S)
-    (final : State) → GaveFormula before after f → IsOutcomeBy way seen f max streams outcome → IsReached final → final.formula ≡ f → outcome.steps ≡ steps_of final.history
+    (final : NamedState) → GaveFormula before after f → IsOutcomeBy way seen f max streams outcome → IsNamedReached final → final.formula ≡ f → outcome.steps ≡ steps_of final.history
     → IsProof sink f trims outcome.steps old new outcome.proof → IsAnswerBy way before after seen sink max trims streams old new outcome
 answer_by way before after seen sink f max trims streams old new outcome final gave is reached same steps proof = record {
   formula = f;

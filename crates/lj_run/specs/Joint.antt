@@ -11,8 +11,8 @@ use Rattle.lj_text.specs.Streams.{SourceState}
 use Rattle.lj_book.specs.declared.entry.Call.{Call}
 use Rattle.lj_book.specs.declared.entry.Entry.{Entry}
 use Rattle.lj_book.specs.declared.refusal.Refusal.{Refusal}
-use Rattle.lj_book.specs.State.{State, live, steps_of}
-use Rattle.lj_book.specs.History.{IsReached}
+use Rattle.lj_book.specs.State.{live, steps_of}
+use Rattle.lj_book.specs.Named.{NamedState, IsNamedReached, beneath}
 use Rattle.lj_share.specs.Entries.{call_of}
 use Rattle.lj_share.specs.Refusals.{IsLineRefused}
 use Rattle.lj_share.specs.Seats.{SeatValue, IsOpenedAs, seat_of_book}
@@ -44,7 +44,7 @@ IsStreamBeside seen refuses refuted seat stream report = IsStreamRun
 
 -- Each report is right of its stream, by what its seat is of the final book: this seat for the first, the next for the next.
 abbrev pub RunBeside : {S : Type 0} → (S → SourceState) → (SeatValue → Line → Refusal → Type 0)
-    → Type 0 → State → ℕ → List S → List (Report S) → Type 0
+    → Type 0 → NamedState → ℕ → List S → List (Report S) → Type 0
 RunBeside seen refuses refuted final seat [] [] = Unit {0}
 RunBeside seen refuses refuted final seat [] (report ∷ reports) = ⊥
 RunBeside seen refuses refuted final seat (stream ∷ streams) [] = ⊥
@@ -63,9 +63,9 @@ accepted_count report = report.added + report.deleted + report.imported
 -- that it tells as refused is so, and that it stopped only where the steps refute the formula.
 pub record IsBookOfRun {S : Type 0} (seen : S → SourceState) (formula : FormulaValue)
     (max_steps : ℕ) (streams : List S) (refuted : Bool) (reports : List (Report S))
-    (final : State) : Type 0 where
+    (final : NamedState) : Type 0 where
   pub opened : IsOpenedAs formula (length streams) max_steps final
-  pub legal : IsReached final
+  pub legal : IsNamedReached final
   pub counted : length final.history ≡ sum_by accepted_count reports
   pub runs : RunBeside seen (IsLineRefused formula (length streams) max_steps) (refuted ≡ true)
       final 0 streams reports
@@ -74,11 +74,11 @@ pub record IsBookOfRun {S : Type 0} (seen : S → SourceState) (formula : Formul
 -- live clauses are their replay. It is verified, with this formula, exactly where the steps refute it.
 pub record IsJointOutcome {S : Type 0} (seen : S → SourceState) (formula : FormulaValue)
     (max_steps : ℕ) (streams : List S) (outcome : Outcome S) : Type 0 where
-  pub final : State
+  pub final : NamedState
   pub leaves : IsBookOfRun seen formula max_steps streams (refutes formula outcome.steps)
       outcome.reports.items final
   pub steps : outcome.steps ≡ steps_of final.history
-  pub replayed : replay (formula_map formula) outcome.steps ≡ Some (live final)
+  pub replayed : replay (formula_map formula) outcome.steps ≡ Some (live (beneath final))
   pub verified : outcome.verified
       ≡ (if refutes formula outcome.steps then Some formula else None)
 
@@ -89,9 +89,9 @@ pub record IsJointOutcome {S : Type 0} (seen : S → SourceState) (formula : For
 -- formula all the same.
 pub record IsUnconfirmed {S : Type 0} (seen : S → SourceState) (formula : FormulaValue)
     (max_steps : ℕ) (streams : List S) : Type 0 where
-  pub final : State
+  pub final : NamedState
   pub opened : IsOpenedAs formula (length streams) max_steps final
-  pub legal : IsReached final
+  pub legal : IsNamedReached final
   pub seat : ℕ
   pub stream : S
   pub stream_is : slice_get streams seat ≡ Some stream

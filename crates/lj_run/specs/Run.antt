@@ -7,10 +7,11 @@ use Rattle.lj_text.specs.declared.lines.fault.LineFaultKind.TheVariants as kinds
 use Rattle.lj_text.specs.Lines.{Said, all_said}
 use Rattle.lj_text.specs.Streams.{SourceState, HasGiven, HasEnded}
 use Rattle.lj_book.specs.declared.refusal.Refusal.{Refusal}
-use Rattle.lj_book.specs.State.{State, verdict}
-use Rattle.lj_book.specs.History.{after_entry}
-use Rattle.lj_book.specs.Calls.{drop_reply, drop_entry, import_reply, import_entry}
-use Rattle.lj_book.specs.Inside.{inside_reply, inside_entry}
+use Rattle.lj_book.specs.State.{verdict}
+use Rattle.lj_book.specs.Named.{NamedState, after_named, beneath}
+use Rattle.lj_book.specs.NamedReplies.{named_drop, named_import, named_inside}
+use Rattle.lj_book.specs.NamedInside.{named_inside_entry}
+use Rattle.lj_book.specs.Calls.{drop_entry, import_entry}
 use Rattle.lj_run.specs.Reading.{FailsAt, IsMemoryRefused, AreWhole}
 use Rattle.lj_run.specs.declared.outcome.End.{End}
 use Rattle.lj_run.specs.declared.outcome.End.TheVariants.{Ended, Stopped, Line as AtLine}
@@ -22,32 +23,32 @@ use Rattle.lj_clause.specs.declared.lit.TheConstants.{MAX_VARIABLE}
 -- ---- one line
 
 -- the state, where the call that makes it is accepted
-abbrev pub if_accepted : {A : Type 0} → Result A Refusal → State → Option State
+abbrev pub if_accepted : {A : Type 0} → Result A Refusal → NamedState → Option NamedState
 if_accepted (Ok reply) s = Some s
 if_accepted (Err refusal) s = None
 
 -- the state after a seat's line, where the book accepts it
-abbrev pub state_after_line : ℕ → State → Line → Option State
-state_after_line seat s (Add a) = if_accepted (inside_reply s seat a)
-    (after_entry s (inside_entry s seat a))
-state_after_line seat s (Delete numbers) = if_accepted (drop_reply s seat numbers)
-    (after_entry s (drop_entry s seat numbers))
-state_after_line seat s (Import number clause) = if_accepted (import_reply s seat number clause)
-    (after_entry s (import_entry seat number clause))
+abbrev pub state_after_line : ℕ → NamedState → Line → Option NamedState
+state_after_line seat s (Add a) = if_accepted (named_inside s seat a)
+    (after_named s (named_inside_entry s seat a))
+state_after_line seat s (Delete numbers) = if_accepted (named_drop s seat numbers)
+    (after_named s (drop_entry (beneath s) seat numbers))
+state_after_line seat s (Import number clause) = if_accepted (named_import s seat number clause)
+    (after_named s (import_entry seat number clause))
 
 -- ---- the lines of a stream
 
 -- whether the state has a verdict
-abbrev pub has_verdict : State → Bool
+abbrev pub has_verdict : NamedState → Bool
 has_verdict s = is_some (verdict s.history)
 
 -- the state after what a line says, where it is right and accepted
-abbrev pub state_after_said : ℕ → State → Result Line LineFaultKind → Option State
+abbrev pub state_after_said : ℕ → NamedState → Result Line LineFaultKind → Option NamedState
 state_after_said seat s (Ok line) = state_after_line seat s line
 state_after_said seat s (Err kind) = None
 
 -- what lines leave, where none is at fault or refused and the verdict stands before none of them
-abbrev pub state_after_lines : ℕ → State → List Said → Option State
+abbrev pub state_after_lines : ℕ → NamedState → List Said → Option NamedState
 state_after_lines seat s [] = Some s
 state_after_lines seat s (said ∷ more) = if has_verdict s then None else option_and_then
     (λ t. state_after_lines seat t more) (state_after_said seat s said.says)

@@ -35,9 +35,9 @@ mod watch;
 
 pub use body::program;
 pub use checking::{CheckFault, Checked, Verdict, check};
-pub use files::{FileFault, Files, MachineFiles, MemoryFile, MemoryFiles};
+pub use files::{FileFault, Files, MachineFiles};
 pub use in_turn::run_in_turn;
 pub use joint::run_joint;
 pub use outcome::{End, LineEnd, Options, Outcome, ProofEnd, ProofFault, Report, RunFault, Way};
 pub use starting::start;
-pub use watch::{NoWatch, Watch};
+pub use watch::Watch;

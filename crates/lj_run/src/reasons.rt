@@ -2,11 +2,11 @@
 use crate::assigned::Assigned;
 use crate::line_text::clause_text;
 use lj_book::{Book, Refusal};
-use lj_clause::{ClauseView, NoMemory};
+use lj_clause::{Clause, NoMemory};
 use lj_text::{Addition, Line, LineFaultKind, NumbersIter};
 use std::alloc::{AllocError, Global};
 
-/// A seat of a closed book. It did nothing since its line was refused, so its numbers name what they named then.
+/// A seat of a closed book. It did nothing since its line was refused, so its numbers and its variables name what they named then.
 #[derive(Drop)]
 pub(crate) struct ClosedSeat<'a> {
     pub alloc: Global,
@@ -36,6 +36,9 @@ impl ClosedSeat<'_> {
                 let clause = clause_text(self.alloc, clause.lits())?;
                 Ok(format!(in self.alloc; "no live clause has exactly the literals {clause}")?)
             }
+            (Line::Import { clause, .. }, Refusal::PrivateVariable) => {
+                self.private_variable(clause)
+            }
             (_, refusal) => self.plain_reason(refusal),
         }
     }
@@ -61,11 +64,12 @@ impl ClosedSeat<'_> {
             Refusal::Stale(joint) => format!(in alloc; "the clause of joint number {joint} died")?,
             Refusal::PrivateVariable => String::from_str(
                 alloc,
-                "the clause names a variable above the formula's that the stream was never given",
+                "the clause has a variable above the formula's that no lemma of the stream has",
             )?,
-            Refusal::NoVariableLeft => {
-                String::from_str(alloc, "no joint variable is left for a new variable")?
-            }
+            Refusal::NoVariableLeft => String::from_str(
+                alloc,
+                "the clause has a new variable above the formula's, and no joint variable is left for it",
+            )?,
             Refusal::Full => {
                 let most = self.max_steps;
                 format!(in alloc; "the run has reached its limit of additions, {most}")?
@@ -81,36 +85,80 @@ impl ClosedSeat<'_> {
         Ok(format!(in self.alloc; "the number is taken by {named}")?)
     }
 
-    /// The clause of an own number.
-    fn clause(&self, own: u64) -> Option<ClauseView<'_>> {
-        self.book.clause(self.joint(own)?)
+    /// The clause of an import has a variable above the formula's that no lemma of the stream has.
+    fn private_variable(&self, clause: &Clause) -> Result<String, NoMemory> {
+        let top = self.book.formula().variables();
+        for lit in clause.lits() {
+            let variable = lit.variable();
+            if variable > top && self.book.variable(self.seat(), variable).is_none() {
+                return Ok(format!(in self.alloc;
+                    "variable {variable} is above the formula's, and no lemma of the stream has it"
+                )?);
+            }
+        }
+        self.plain_reason(Refusal::PrivateVariable)
+    }
+
+    /// The number of the seat.
+    fn seat(&self) -> u32 {
+        u32::try_from(self.stream).unwrap_or(u32::MAX)
     }
 
     /// The joint number of an own number.
     fn joint(&self, own: u64) -> Option<u64> {
-        let seat = u32::try_from(self.stream).ok()?;
-        self.book.joint(seat, own)
+        self.book.joint(self.seat(), own)
+    }
+
+    /// The clause of an own number, in the stream's variables.
+    fn clause(&self, own: u64) -> Result<Option<Clause>, NoMemory> {
+        match self.joint(own) {
+            Some(joint) => self.clause_at(joint),
+            None => Ok(None),
+        }
+    }
+
+    /// The live clause of a joint number in the stream's variables, where the stream names all of its variables.
+    fn clause_at(&self, joint: u64) -> Result<Option<Clause>, NoMemory> {
+        match self.book.clause_for(self.seat(), joint) {
+            Ok(clause) => Ok(Some(clause)),
+            Err(Refusal::NoMemory(refused)) => Err(refused),
+            Err(_) => Ok(None),
+        }
     }
 
     /// An own number and its clause.
-    fn named(&self, own: u64) -> Result<String, AllocError> {
+    fn named(&self, own: u64) -> Result<String, NoMemory> {
         let alloc = self.alloc;
-        match self.clause(own) {
+        match self.clause(own)? {
             Some(clause) => {
                 let clause = clause_text(alloc, clause.lits())?;
-                format!(in alloc; "clause {own} {clause}")
+                Ok(format!(in alloc; "clause {own} {clause}")?)
             }
-            None => format!(in alloc; "clause {own}"),
+            None => Ok(format!(in alloc; "clause {own}")?),
         }
     }
 
     /// A candidate. Another stream may have given it up since.
-    fn candidate(&self, joint: u64) -> Result<String, AllocError> {
+    fn candidate(&self, joint: u64) -> Result<String, NoMemory> {
+        let alloc = self.alloc;
+        match self.clause_at(joint)? {
+            Some(clause) => {
+                let clause = clause_text(alloc, clause.lits())?;
+                Ok(format!(in alloc; "the candidate {clause}, joint number {joint},")?)
+            }
+            None => Ok(self.foreign_candidate(joint)?),
+        }
+    }
+
+    /// A candidate with variables that the stream doesn't name, or which died.
+    fn foreign_candidate(&self, joint: u64) -> Result<String, AllocError> {
         let alloc = self.alloc;
         match self.book.clause(joint) {
             Some(clause) => {
                 let clause = clause_text(alloc, clause.lits())?;
-                format!(in alloc; "the candidate {clause}, joint number {joint},")
+                format!(in alloc;
+                    "the candidate of joint number {joint}, in joint variables {clause},"
+                )
             }
             None => format!(in alloc; "the candidate of joint number {joint}, which died since,"),
         }
@@ -142,7 +190,7 @@ impl ClosedSeat<'_> {
         position: u64,
     ) -> Result<String, NoMemory> {
         let candidate = self.candidate(joint)?;
-        let Some(clause) = self.book.clause(joint) else {
+        let Some(clause) = self.clause_at(joint)? else {
             return Ok(format!(in self.alloc;
                 "in the group of {candidate} hint {position} isn't unit"
             )?);
@@ -173,7 +221,7 @@ impl ClosedSeat<'_> {
     /// Makes true what hints make true, one after the other.
     fn follow(&self, assigned: &mut Assigned, hints: NumbersIter<'_>) -> Result<(), NoMemory> {
         for own in hints {
-            if let Some(clause) = self.clause(own) {
+            if let Some(clause) = self.clause(own)? {
                 assigned.follow(clause.lits())?;
             }
         }
@@ -192,7 +240,7 @@ impl ClosedSeat<'_> {
         let alloc = self.alloc;
         let own = hints.get(before).unwrap_or(0);
         let named = self.named(own)?;
-        let left = match self.clause(own) {
+        let left = match self.clause(own)? {
             Some(clause) => assigned.left_of(clause.lits())?,
             None => String::new(alloc),
         };

@@ -9,16 +9,6 @@ pub trait Watch {
     fn entered(&self, stream: u32, lines: usize);
 }
 
-/// The watch that does nothing.
-#[derive(Clone, Copy, Debug)]
-pub struct NoWatch;
-
-impl Watch for NoWatch {
-    fn read(&self, _stream: u32, _bytes: usize) {}
-
-    fn entered(&self, _stream: u32, _lines: usize) {}
-}
-
 /// The watch of one stream.
 #[derive(Drop)]
 pub(crate) struct StreamWatch<'a, V> {

@@ -1,6 +1,7 @@
 //! Gates round the lines of streams that run beside one another, so that a run shows what goes on beside what.
+use crate::no_watch::NoWatch;
 use crate::steps::BINARY_TEXT;
-use lj_run::{NoWatch, Options, Outcome, run_joint};
+use lj_run::{Options, Outcome, run_joint};
 use lj_share::Gate;
 use lj_text::{MemorySink, MemorySource};
 use std::alloc::{AllocError, Global};

@@ -8,6 +8,10 @@ mod fakes;
 #[cfg(test)]
 mod gates;
 #[cfg(test)]
+mod memory_files;
+#[cfg(test)]
+mod no_watch;
+#[cfg(test)]
 mod reading;
 #[cfg(test)]
 mod steps;

@@ -2,8 +2,9 @@
 ghost use Rattle.std.specs.Prelude.{None};
 
 use crate::fakes::FailingSource;
+use crate::memory_files::MemoryFiles;
 use crate::steps::BINARY_TEXT;
-use lj_run::{FileFault, Files, MemoryFile, MemoryFiles, program};
+use lj_run::{FileFault, Files, program};
 use lj_text::{MemorySink, MemorySource};
 use std::alloc::Global;
 use std::process::Abort;
@@ -12,42 +13,42 @@ use std::test::Fail;
 use std::thread::Threads;
 use std::time::Clock;
 
-/// Files in memory, of which `fails` fails once its bytes were pulled.
+/// Files of which `fails` fails once its bytes were pulled.
 #[derive(Drop)]
-struct FailingFiles(MemoryFiles);
+struct FailingFiles<F> {
+    files: F,
+}
 
-impl Files for FailingFiles {
-    type Input = FailingSource<MemorySource>;
+impl<F: Files> Files for FailingFiles<F> {
+    type Input = FailingSource<F::Input>;
 
-    type Output = MemoryFile;
-
-    ghost use Rattle.lj_run.specs.Files.{tried_of};
+    type Output = F::Output;
 
     ghost content = { λ _ _. None };
 
-    ghost tried = { λ files. tried_of files.0 };
+    ghost tried = { λ failing. F.tried failing.files };
 
-    fn open(&mut self, path: &str) -> Result<FailingSource<MemorySource>, FileFault> {
+    fn open(&mut self, path: &str) -> Result<FailingSource<F::Input>, FileFault> {
         let pulls = if path == "fails" { 1 } else { 2 };
-        match self.0.open(path) {
+        match self.files.open(path) {
             Ok(input) => Ok(FailingSource::new(input, pulls)),
             Err(fault) => Err(fault),
         }
     }
 
-    fn create(&mut self, path: &str) -> Result<MemoryFile, FileFault> {
-        self.0.create(path)
+    fn create(&mut self, path: &str) -> Result<F::Output, FileFault> {
+        self.files.create(path)
     }
 }
 
 /// The portfolio of the four binary clauses, whose first stream has this text and fails behind it.
-fn portfolio_of(alloc: Global, first: &str) -> Result<FailingFiles, Fail> {
+fn portfolio_of(alloc: Global, first: &str) -> Result<FailingFiles<MemoryFiles>, Fail> {
     let mut files = MemoryFiles::new(alloc);
     files.add("cnf", BINARY_TEXT.as_bytes())?;
     files.add("fails", first.as_bytes())?;
     files.add("second", b"5 -2 0 3 4 0\n")?;
     files.add("closing", b"7 i 2 0\n8 i -2 0\n9 0 7 8 0\n")?;
-    Ok(FailingFiles(files))
+    Ok(FailingFiles { files })
 }
 
 /// Asserts what the words tell on standard output and on standard error, and the status.

@@ -2,8 +2,9 @@
 ghost use Rattle.std.specs.Prelude.{◌≡◌, [], false};
 
 use crate::fakes::FailingSink;
+use crate::no_watch::NoWatch;
 use crate::steps::{BINARY_TEXT, steps_of};
-use lj_run::{NoWatch, Options, ProofEnd, ProofFault, run_in_turn};
+use lj_run::{Options, ProofEnd, ProofFault, run_in_turn};
 use lj_text::{MemorySink, MemorySource, ProofWriter, Sink, SinkFault, Step, WriteFault};
 use std::alloc::Global;
 use std::process::Abort;

@@ -1,7 +1,7 @@
 //! What a book is asked.
+use crate::args::{only_number, only_seat, split_seat};
 use crate::out::Out;
 use crate::stop::Stop;
-use crate::words::{only_number, split_seat};
 use lj_book::Book;
 use lj_clause::{Lit, NoMemory};
 use lj_text::{AsStep, Step};
@@ -70,6 +70,19 @@ pub fn joint(book: &Book, rest: &str, out: &mut Out) -> Result<(), Stop> {
             Ok(out.put("\n")?)
         }
         None => Ok(out.put("no joint\n")?),
+    }
+}
+
+/// The joint variable of a seat's own one.
+pub fn variable(book: &Book, rest: &str, out: &mut Out) -> Result<(), Stop> {
+    let (seat, own) = split_seat(rest)?;
+    match book.variable(seat, only_seat(own)?) {
+        Some(variable) => {
+            out.put("variable")?;
+            out.number(u64::from(variable))?;
+            Ok(out.put("\n")?)
+        }
+        None => Ok(out.put("none\n")?),
     }
 }
 

@@ -1,8 +1,8 @@
 //! Events as commands.
-use crate::stop::Stop;
-use crate::words::{
+use crate::args::{
     addition_of, line_of, numbers_of, only_number, only_seat, split_number, split_seat,
 };
+use crate::stop::Stop;
 use lj_book::Event;
 use lj_text::Line;
 use std::alloc::Global;

@@ -1,6 +1,7 @@
 //! Plays a script of calls of the libraries, and prints a line for each.
 #![tactic(auto)]
 
+mod args;
 mod asking;
 mod event;
 mod out;
@@ -12,7 +13,6 @@ mod stage;
 mod stop;
 mod table;
 mod texts;
-mod words;
 
 use out::Out;
 use script::Script;

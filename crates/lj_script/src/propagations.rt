@@ -1,7 +1,7 @@
 //! Tests of lemmas over the clauses of a formula.
+use crate::args::addition_of;
 use crate::out::Out;
 use crate::stop::Stop;
-use crate::words::addition_of;
 use lj_book::{Book, Refusal, Reply};
 use lj_clause::{Formula, NoMemory};
 use lj_hint::{Case, Pair, Propagator, Tested};

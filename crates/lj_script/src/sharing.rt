@@ -1,12 +1,12 @@
 //! Calls of a shared book.
 ghost use Rattle.std.specs.Prelude.{◌≡◌, ◌<◌};
 
+use crate::args::{addition_of, line_of, only_number, only_seat, split_number, split_word};
 use crate::asking::greatest_after;
 use crate::out::Out;
 use crate::pending::Pending;
 use crate::script::Script;
 use crate::stop::Stop;
-use crate::words::{addition_of, line_of, only_number, only_seat, split_number, split_word};
 use lj_book::{Book, Refusal, Reply};
 use lj_clause::{Formula, NoMemory};
 use lj_hint::{Propagator, Receipt};

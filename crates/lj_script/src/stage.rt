@@ -1,6 +1,7 @@
 //! What stands open while a script is played.
 ghost use Rattle.std.specs.Prelude.{◌<◌};
 
+use crate::args::{only_seat, split_seat, split_word};
 use crate::event::event_of;
 use crate::out::Out;
 use crate::script::Script;
@@ -8,7 +9,6 @@ use crate::sharing::play_shared;
 use crate::stop::Stop;
 use crate::table::Table;
 use crate::texts::{self, Grammar};
-use crate::words::{only_seat, split_seat, split_word};
 use crate::{asking, propagations};
 use lj_book::Event;
 use lj_clause::{Formula, MAX_VARIABLE, NoMemory};
@@ -228,6 +228,7 @@ impl Stage {
             "show" => Ok(asking::show(book, out)?),
             "candidates" => asking::candidates(book, rest, out),
             "joint" => asking::joint(book, rest, out),
+            "variable" => asking::variable(book, rest, out),
             "verified" => Ok(asking::verified(book, out)?),
             "trim" => Ok(asking::show_trimmed(self.alloc, book, out)?),
             _ => Err(Stop::NotACommand),

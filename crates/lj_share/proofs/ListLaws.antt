@@ -5,7 +5,7 @@ use Rattle.std.proofs.lemmas.List.Elements.{All-cons}
 use Rattle.std.proofs.lemmas.Option.{slice_get-map, slice_get_read, slice_get_within}
 use Rattle.std.proofs.Math.Seq.{map-set_same}
 use Rattle.std.specs.Prelude.{slice_index_or, option_map}
-use Rattle.lj_book.specs.State.{State}
+use Rattle.lj_book.specs.Named.{NamedState}
 use Rattle.lj_share.specs.Seats.{AreSeatsIn, SeatValue, seat_of_book}
 use Rattle.lj_share.specs.inner.Seats.{AreShown}
 use Rattle.lj_share.specs.declared.copies.BookCopy.{BookCopy}
@@ -52,7 +52,7 @@ set_same (y ∷ xs) zero x at = ap (λ z. z ∷ xs) (sym (some_same y x at))
 set_same (y ∷ xs) (suc i) x at = ap (λ ys. y ∷ ys) (set_same xs i x at)
 
 -- the copies stay where one is set to what it shows
-pub shown_again : (s : State) (seat : ℕ) (value : SeatValue) (shown after : List SeatValue) → AreShown s shown → slice_get shown seat ≡ Some value → after ≡ slice_set shown seat (seat_of_book s seat) → after ≡ shown
+pub shown_again : (s : NamedState) (seat : ℕ) (value : SeatValue) (shown after : List SeatValue) → AreShown s shown → slice_get shown seat ≡ Some value → after ≡ slice_set shown seat (seat_of_book s seat) → after ≡ shown
 shown_again s seat value shown after are at set = set ∙ ap (slice_set shown seat) (sym (are seat value at)) ∙ set_same shown seat value at
 
 -- ---- at the opening and at the close
@@ -69,8 +69,8 @@ pub front_passed : {A : Type 0} (xs : List A) (k : ℕ) (x : A) (left : List A) 
 front_passed xs k x left is = ap (drop 1) is ∙ drop-drop 1 k xs
 
 -- the seats of a book, one after another
-pub seats_on : (s : State) (shown : List SeatValue) (v : SeatValue) (left : List SeatValue) → AreShown s shown → slice_get shown v.number ≡ Some v → AreSeatsIn s left → AreSeatsIn s (v ∷ left)
+pub seats_on : (s : NamedState) (shown : List SeatValue) (v : SeatValue) (left : List SeatValue) → AreShown s shown → slice_get shown v.number ≡ Some v → AreSeatsIn s left → AreSeatsIn s (v ∷ left)
 seats_on s shown v left are at rest = All-cons (λ (x : SeatValue). seat_of_book s x.number ≡ x) v left (sym (are v.number v at)) rest
 
-pub no_seats : (s : State) → AreSeatsIn s []
+pub no_seats : (s : NamedState) → AreSeatsIn s []
 no_seats s k d below = absurd (omega arith)

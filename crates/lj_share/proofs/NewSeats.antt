@@ -1,35 +1,27 @@
 -- The seats of a new book.
-use Rattle.std.proofs.Common.{◌≡◌, ◌<◌, ◌≤◌, ◌+◌, ℕ, zero, suc, inl, inr, List, [], ◌∷◌, length, Option, Some, refl, sym, ap, ◌∙◌, slice_get, slice_set, arith}
-use Rattle.std.specs.Prelude.{option_map, replicate}
+use Rattle.std.proofs.Common.{◌≡◌, ◌<◌, ◌≤◌, ◌+◌, ℕ, zero, suc, inl, inr, List, [], ◌∷◌, length, Some, refl, sym, ap, ◌∙◌, slice_get, slice_set, arith}
 use Rattle.std.proofs.lemmas.Option.{slice_get_within}
 use Rattle.lj_clause.specs.ClauseMap.{FormulaValue}
-use Rattle.lj_book.specs.Solo.{holdings_of, view_of}
-use Rattle.lj_book.specs.State.{State, given_out, opening}
-use Rattle.lj_book.specs.Tables.{Table, table_of, up_to}
 use Rattle.lj_book.specs.Views.{formula_holdings}
+use Rattle.lj_book.specs.Named.{NamedState, named_opening}
+use Rattle.lj_book.specs.NamedViews.{named_view}
+use Rattle.lj_book.specs.NamedAlone.{NamedSeatsHoldTheFormula}
 use Rattle.lj_share.specs.Entries.{calls_of}
 use Rattle.lj_share.specs.Seats.{SeatValue, new_seat, seat_of_book}
 use Rattle.lj_share.specs.inner.Seats.{AreShown}
 use Rattle.lj_share.proofs.Opened.{after_set}
 
-table_at : (n : ℕ) (t : Option Table) (k : ℕ) → k < n → table_of (replicate n t) k ≡ t
-table_at zero t k within = absurd (omega (arith, within))
-table_at (suc n) t zero within = refl
-table_at (suc n) t (suc k) within = table_at n t k (omega (arith, within))
-
 -- what a seat sees of a new book
-pub opened_view : (f : FormulaValue) (n m k : ℕ) (s : State) → s ≡ opening f n m → k < n → view_of s k ≡ Some (formula_holdings f)
-opened_view f n m k s is within =
-    ap (λ (u : State). view_of u k) is
-    ∙ ap (option_map (holdings_of (given_out (opening f n m)))) (table_at n (Some (up_to (length f.clauses))) k within)
+pub opened_view : NamedSeatsHoldTheFormula → (f : FormulaValue) (n m k : ℕ) (s : NamedState) → s ≡ named_opening f n m → k < n → named_view s k ≡ Some (formula_holdings f)
+opened_view holds f n m k s is within = ap (λ (u : NamedState). named_view u k) is ∙ holds f n m k within
 
-pub opened_calls : (f : FormulaValue) (n m k : ℕ) (s : State) → s ≡ opening f n m → calls_of k s.history ≡ []
-opened_calls f n m k s is = ap (λ (u : State). calls_of k u.history) is
+pub opened_calls : (f : FormulaValue) (n m k : ℕ) (s : NamedState) → s ≡ named_opening f n m → calls_of k s.history ≡ []
+opened_calls f n m k s is = ap (λ (u : NamedState). calls_of k u.history) is
 
-pub opened_seat : (f : FormulaValue) (n m k : ℕ) (s : State) → s ≡ opening f n m → k < n → seat_of_book s k ≡ new_seat f k
-opened_seat f n m k s is within =
+pub opened_seat : NamedSeatsHoldTheFormula → (f : FormulaValue) (n m k : ℕ) (s : NamedState) → s ≡ named_opening f n m → k < n → seat_of_book s k ≡ new_seat f k
+opened_seat holds f n m k s is within =
     let calls = opened_calls f n m k s is in
-    let view = opened_view f n m k s is within in
+    let view = opened_view holds f n m k s is within in
     λ i. record { number = k; calls = calls i; view = view i }
 
 pub set_as_long : {A : Type 0} (xs : List A) (i : ℕ) (x : A) → length (slice_set xs i x) ≡ length xs
@@ -44,7 +36,7 @@ below_other (suc n) zero below other = omega arith
 below_other (suc n) (suc k) below other = let less : k < n = below_other n k (omega (arith, below)) (λ e. other (ap suc e)) in omega (arith, less)
 
 -- one copy more shows its seat
-pub more_shown : (s : State) (shown after : List SeatValue) (n : ℕ) → after ≡ slice_set shown n (seat_of_book s n)
+pub more_shown : (s : NamedState) (shown after : List SeatValue) (n : ℕ) → after ≡ slice_set shown n (seat_of_book s n)
     → ((k : ℕ) (value : SeatValue) → k < n → slice_get shown k ≡ Some value → value ≡ seat_of_book s k)
     → (k : ℕ) (value : SeatValue) → k < n + 1 → slice_get after k ≡ Some value → value ≡ seat_of_book s k
 more_shown s shown after n set before k value below at =
@@ -53,5 +45,5 @@ more_shown s shown after n set before k value below at =
       | inr p ↦ before k value (below_other n k below p.0) p.1
     ]
 
-pub all_shown : (s : State) (shown : List SeatValue) (n : ℕ) → length shown ≤ n → ((k : ℕ) (value : SeatValue) → k < n → slice_get shown k ≡ Some value → value ≡ seat_of_book s k) → AreShown s shown
+pub all_shown : (s : NamedState) (shown : List SeatValue) (n : ℕ) → length shown ≤ n → ((k : ℕ) (value : SeatValue) → k < n → slice_get shown k ≡ Some value → value ≡ seat_of_book s k) → AreShown s shown
 all_shown s shown n long are k value at = let within = slice_get_within shown k value at in are k value (omega (arith, within, long)) at

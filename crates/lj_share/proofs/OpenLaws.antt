@@ -4,7 +4,8 @@ use Rattle.std.specs.Prelude.{Option, Some, None, Result, Ok, Err, IfErr, IfSome
 use Rattle.std.proofs.lemmas.Bool.{false≢true}
 use Rattle.std.specs.FinMap as fin
 use Rattle.lj_clause.specs.LiteralSet.{LiteralSet, negations}
-use Rattle.lj_clause.specs.ClauseMap.{ClauseMap, FormulaValue}
+use Rattle.lj_clause.specs.ClauseMap.{ClauseMap, FormulaValue, IsFormula}
+use Rattle.lj_clause.specs.Renaming.{image, is_named}
 use Rattle.lj_clause.specs.Rat as rats
 use Rattle.lj_clause.specs.Propagation.{Propagation, Closed, Open, Stuck, Hint, hints_in, propagate_over}
 use Rattle.lj_text.specs.declared.line.Addition.{Addition}
@@ -21,14 +22,22 @@ use Rattle.lj_book.specs.Lookup.{least_number}
 use Rattle.lj_book.specs.State.{State, addition_count, live, next}
 use Rattle.lj_book.specs.History.{IsReached}
 use Rattle.lj_book.specs.Tables.{Table, is_here, is_bound, table_of}
-use Rattle.lj_book.specs.Calls.{IsRefusal, commit_told, drop_reply, free_refusal, if_free, import_reply, imported_at, unless_refused}
+use Rattle.lj_book.specs.Calls.{IsRefusal, commit_told, free_refusal, if_free, imported_at, unless_refused}
 use Rattle.lj_book.specs.Inside.{inside_after, inside_reply, joint_addition, open_refusal, or_full, rat_refusal, propagation_refusal}
 use Rattle.lj_book.specs.Solo.{View, solo_refusal, solo_take, view_of}
-use Rattle.lj_book.specs.Views.{FreeAlone, decided_by, decided_refusal, stuck_refusal}
+use Rattle.lj_book.specs.Views.{decided_by, decided_refusal, stuck_refusal}
+use Rattle.lj_book.specs.Named.{NamedState, IsNamedReached, beneath, has_variables_for, names_of, top_of}
+use Rattle.lj_book.specs.NamedViews.{addition_beneath, named_view}
+use Rattle.lj_book.specs.NamedReplies.{named_drop, named_import, named_inside, or_private}
+use Rattle.lj_book.specs.NamedInside.{if_left}
+use Rattle.lj_book.specs.NamedAlone.{NamedFreeAlone}
 use Rattle.lj_book.proofs.HistoryLaws.{IsSound-reached}
 use Rattle.lj_book.proofs.SoloStates.{IsGiven, IsGiven-sound}
 use Rattle.lj_book.proofs.SoloSteps.{held_named, view_is}
 use Rattle.lj_book.proofs.SoloTakes.{IsFit, take_alone, take_fits}
+use Rattle.lj_book.proofs.NamedLaws.{beneath_is_reached}
+use Rattle.lj_book.proofs.NamedInsideLaws.{replies_are_beneath}
+use Rattle.lj_book.proofs.DecidedBeneath.{decided_so}
 use Rattle.lj_share.specs.Refusals.{IsDecided, IsLineRefused, IsNotFound, IsOpenRefusal, IsRatOrFull, IsRefusedLine, IsWantOfMemory, gone_refusal, line_refusal}
 use Rattle.lj_share.specs.Seats.{SeatValue, seat_of_book}
 
@@ -147,8 +156,8 @@ named_alike s seat own pairs given fit = go (table_of s.tables seat) refl
 abbrev ended : State → CaseValue → Propagation → Result Added Refusal
 ended s c w = unless_refused (or_full s (propagation_refusal (live s) (joint_addition (next s) c) w)) (commit_told s)
 
-added_open : (s : State) (seat : ℕ) (a : Addition) → IsReached s → decided_refusal (view_of s seat) seat a ≡ None → IfErr (inside_reply s seat a) IsRatOrFull
-added_open s seat a reached clear = go (solo_take (view_of s seat) seat a) refl clear
+joint_open : (s : State) (seat : ℕ) (a : Addition) → IsReached s → decided_refusal (view_of s seat) seat a ≡ None → IfErr (inside_reply s seat a) IsRatOrFull
+joint_open s seat a reached clear = go (solo_take (view_of s seat) seat a) refl clear
   where
     given : IsGiven s
     given = IsGiven-sound s (IsSound-reached s reached)
@@ -163,10 +172,22 @@ added_open s seat a reached clear = go (solo_take (view_of s seat) seat a) refl 
         (unless_told (or_full s (propagation_refusal (live s) (joint_addition (next s) c) (propagation_of c))) (commit_told s)
         (full_told s (propagation_refusal (live s) (joint_addition (next s) c) (propagation_of c)) (propagation_told (live s) (joint_addition (next s) c) (propagation_of c) is)))
 
+-- the same of an addition in the seat's variables
+left_told : (left : Bool) (r : Result Added Refusal) → IfErr r IsRatOrFull → IfErr (if_left left r) IsRatOrFull
+left_told true (Ok added) is = tt
+left_told false (Ok added) is = tt
+left_told left (Err e) is = is
+
+added_open : (s : NamedState) (seat : ℕ) (a : Addition) → IsFormula s.formula → IsNamedReached s → decided_refusal (named_view s seat) seat a ≡ None → IfErr (named_inside s seat a) IsRatOrFull
+added_open s seat a formula reached clear =
+    subst (λ (r : Result Added Refusal). IfErr r IsRatOrFull) (sym (replies_are_beneath s seat a))
+    (left_told (has_variables_for s seat a.lemma.clause) (inside_reply (beneath s) seat (addition_beneath s seat a))
+    (joint_open (beneath s) seat (addition_beneath s seat a) (beneath_is_reached s reached) (sym (decided_so s seat a formula reached) ∙ clear)))
+
 -- ---- deletions and imports
 
-dropped_open : FreeAlone → (s : State) (seat : ℕ) (numbers : List ℕ) → gone_refusal (view_of s seat) ≡ None → IfErr (drop_reply s seat numbers) IsWantOfMemory
-dropped_open laws s seat dropped clear = by (is_here s.tables seat) (view_of s seat) (laws s seat 0) clear _
+dropped_open : NamedFreeAlone → (s : NamedState) (seat : ℕ) (numbers : List ℕ) → gone_refusal (named_view s seat) ≡ None → IfErr (named_drop s seat numbers) IsWantOfMemory
+dropped_open laws s seat dropped clear = by (is_here s.tables seat) (named_view s seat) (laws s seat 0) clear _
   where
     there : (h : View) (b : Bool) → Some SeatGone ≡ (if b then Some NumberTaken else None) → ⊥
     there h true is = cc
@@ -177,26 +198,27 @@ dropped_open laws s seat dropped clear = by (is_here s.tables seat) (view_of s s
     by false None same is x = absurd (false≢true (sym (ap is_some is)))
     by false (Some h) same is x = absurd (there (Some h) (fin.contains_key h 0) same)
 
-imported_open : FreeAlone → (s : State) (seat own : ℕ) (c : LiteralSet) → solo_refusal (view_of s seat) own ≡ None → IfErr (import_reply s seat own c) IsNotFound
-imported_open laws s seat own c clear = by (free_refusal s seat own) (least_number (live s) c) (laws s seat own ∙ clear)
+imported_open : NamedFreeAlone → (s : NamedState) (seat own : ℕ) (c : LiteralSet) → solo_refusal (named_view s seat) own ≡ None → IfErr (named_import s seat own c) IsNotFound
+imported_open laws s seat own c clear = by (free_refusal (beneath s) seat own) (is_named (top_of s) (names_of s seat) c) (least_number (live (beneath s)) (image (names_of s seat) c)) (laws s seat own ∙ clear)
   where
-    by : (free : Option Refusal) (found : Option ℕ) → free ≡ None → IfErr (if_free free (imported_at (length s.history) found)) IsNotFound
-    by (Some e) found is = absurd (false≢true (sym (ap is_some is)))
-    by None None is = tt
-    by None (Some joint) is = tt
+    by : (free : Option Refusal) (named : Bool) (found : Option ℕ) → free ≡ None → IfErr (if_free (or_private free named) (imported_at (length s.history) found)) IsNotFound
+    by (Some e) named found is = absurd (false≢true (sym (ap is_some is)))
+    by None false found is = tt
+    by None true None is = tt
+    by None true (Some joint) is = tt
 
 -- ---- lines
 
-line_open : FreeAlone → (s : State) (seat : SeatValue) (line : Line) (told : Refusal) → IsReached s → seat_of_book s seat.number ≡ seat → line_refusal seat line ≡ None → IsRefusedLine seat.number line told s → IsOpenRefusal line told
-line_open free s seat line told reached is clear refused =
+line_open : NamedFreeAlone → (s : NamedState) (seat : SeatValue) (line : Line) (told : Refusal) → IsFormula s.formula → IsNamedReached s → seat_of_book s seat.number ≡ seat → line_refusal seat line ≡ None → IsRefusedLine seat.number line told s → IsOpenRefusal line told
+line_open free s seat line told formula reached is clear refused =
     by line (ap (λ (v : SeatValue). line_refusal v line) is ∙ clear) refused
   where
     by : (l : Line) → line_refusal (seat_of_book s seat.number) l ≡ None → IsRefusedLine seat.number l told s → IsOpenRefusal l told
-    by (lines.Add a) there r = told_by IsRatOrFull short_full (inside_reply s seat.number a) (added_open s seat.number a reached there) told r
-    by (lines.Delete dropped) there r = told_by IsWantOfMemory (λ e short. short) (drop_reply s seat.number dropped) (dropped_open free s seat.number dropped there) told r
-    by (lines.Import own c) there r = told_by IsNotFound short_found (import_reply s seat.number own c) (imported_open free s seat.number own c there) told r
+    by (lines.Add a) there r = told_by IsRatOrFull short_full (named_inside s seat.number a) (added_open s seat.number a formula reached there) told r
+    by (lines.Delete dropped) there r = told_by IsWantOfMemory (λ e short. short) (named_drop s seat.number dropped) (dropped_open free s seat.number dropped there) told r
+    by (lines.Import own c) there r = told_by IsNotFound short_found (named_import s seat.number own c) (imported_open free s seat.number own c there) told r
 
-pub told_if_open : FreeAlone → (f : FormulaValue) (seats max : ℕ) (seat : SeatValue) (line : Line) {A : Type 0} (r : Result A Refusal) → IfErr r (IsLineRefused f seats max seat line) → line_refusal seat line ≡ None → IfErr r (IsOpenRefusal line)
-told_if_open free f seats max seat line (Ok x) refused clear = tt
-told_if_open free f seats max seat line (Err told) (inl h) clear = line_open free h.state seat line told h.legal h.seat_is clear h.holds_there
-told_if_open free f seats max seat line (Err told) (inr h) clear = undecided (IsOpenRefusal line) (short_line line) told (subst (λ (o : Option Refusal). IsDecided o told) clear h)
+pub told_if_open : NamedFreeAlone → (f : FormulaValue) → IsFormula f → (seats max : ℕ) (seat : SeatValue) (line : Line) {A : Type 0} (r : Result A Refusal) → IfErr r (IsLineRefused f seats max seat line) → line_refusal seat line ≡ None → IfErr r (IsOpenRefusal line)
+told_if_open free f formula seats max seat line (Ok x) refused clear = tt
+told_if_open free f formula seats max seat line (Err told) (inl h) clear = line_open free h.state seat line told (subst IsFormula (sym h.opened.formula_is) formula) h.legal h.seat_is clear h.holds_there
+told_if_open free f formula seats max seat line (Err told) (inr h) clear = undecided (IsOpenRefusal line) (short_line line) told (subst (λ (o : Option Refusal). IsDecided o told) clear h)

@@ -4,37 +4,36 @@ use Rattle.lj_clause.specs.ClauseMap.{FormulaValue}
 use Rattle.lj_text.specs.declared.line.Line.{Line}
 use Rattle.lj_text.specs.declared.line.Line.TheVariants as lines
 use Rattle.lj_book.specs.declared.refusal.Refusal.{Refusal}
-use Rattle.lj_book.specs.declared.refusal.Refusal.TheVariants.{SeatGone, EmptyOpen, MissingGroup, GroupStuck, GroupOpen, NoSuchClause, Full, NoMemory}
-use Rattle.lj_book.specs.State.{State}
-use Rattle.lj_book.specs.History.{IsReached}
-use Rattle.lj_book.specs.Calls.{IsRefusal, drop_reply, import_reply}
-use Rattle.lj_book.specs.Inside.{inside_reply}
+use Rattle.lj_book.specs.declared.refusal.Refusal.TheVariants.{SeatGone, EmptyOpen, MissingGroup, GroupStuck, GroupOpen, PrivateVariable, NoSuchClause, Full, NoVariableLeft, NoMemory}
+use Rattle.lj_book.specs.Calls.{IsRefusal}
 use Rattle.lj_book.specs.Solo.{View, solo_refusal}
 use Rattle.lj_book.specs.Views.{decided_refusal}
+use Rattle.lj_book.specs.Named.{NamedState, IsNamedReached}
+use Rattle.lj_book.specs.NamedReplies.{named_drop, named_import, named_inside}
 use Rattle.lj_share.specs.Seats.{SeatValue, seat_of_book, IsOpenedAs}
 
 -- There is a state in which this holds. It is that of a book of this formula, with so many seats and this limit of additions. Its history
 -- is legal, and the seat is that of its number there: it has just the calls whose entries were made through it, and sees what the book
 -- has of it.
 pub record HoldsInAState (formula : FormulaValue) (seats max_steps : ℕ) (seat : SeatValue)
-    (holds : State → Type 0) : Type 0 where
-  pub state : State
+    (holds : NamedState → Type 0) : Type 0 where
+  pub state : NamedState
   pub opened : IsOpenedAs formula seats max_steps state
-  pub legal : IsReached state
+  pub legal : IsNamedReached state
   pub seat_is : seat_of_book state seat.number ≡ seat
   pub holds_there : holds state
 
 -- in such a state the call's reply is this refusal; of the want of memory only that there is one
 abbrev pub IsRefusedAt : {A : Type 0} → FormulaValue → ℕ → ℕ → SeatValue
-    → (State → Result A Refusal) → Refusal → Type 0
+    → (NamedState → Result A Refusal) → Refusal → Type 0
 IsRefusedAt formula seats max_steps seat reply e = HoldsInAState formula seats max_steps seat
     (λ s. IsRefusal e (reply s))
 
 -- the seat's line is refused so in this state
-abbrev pub IsRefusedLine : ℕ → Line → Refusal → State → Type 0
-IsRefusedLine seat (lines.Add a) e s = IsRefusal e (inside_reply s seat a)
-IsRefusedLine seat (lines.Delete numbers) e s = IsRefusal e (drop_reply s seat numbers)
-IsRefusedLine seat (lines.Import own clause) e s = IsRefusal e (import_reply s seat own clause)
+abbrev pub IsRefusedLine : ℕ → Line → Refusal → NamedState → Type 0
+IsRefusedLine seat (lines.Add a) e s = IsRefusal e (named_inside s seat a)
+IsRefusedLine seat (lines.Delete numbers) e s = IsRefusal e (named_drop s seat numbers)
+IsRefusedLine seat (lines.Import own clause) e s = IsRefusal e (named_import s seat own clause)
 
 -- whether a seat with this view is there
 abbrev pub gone_refusal : View → Option Refusal
@@ -62,17 +61,19 @@ abbrev pub IsWantOfMemory : Refusal → Type 0
 IsWantOfMemory (NoMemory e) = Unit {0}
 IsWantOfMemory e = ⊥
 
--- the addition isn't RAT by its groups, the history is full, or memory is short
+-- the addition isn't RAT by its groups, the history is full, no joint variable is left, or memory is short
 abbrev pub IsRatOrFull : Refusal → Type 0
 IsRatOrFull EmptyOpen = Unit {0}
 IsRatOrFull (MissingGroup joint) = Unit {0}
 IsRatOrFull (GroupStuck joint position) = Unit {0}
 IsRatOrFull (GroupOpen joint) = Unit {0}
 IsRatOrFull Full = Unit {0}
+IsRatOrFull NoVariableLeft = Unit {0}
 IsRatOrFull e = IsWantOfMemory e
 
--- no such clause lives, or memory is short
+-- the clause has a variable that the seat was not given, no such clause lives, or memory is short
 abbrev pub IsNotFound : Refusal → Type 0
+IsNotFound PrivateVariable = Unit {0}
 IsNotFound NoSuchClause = Unit {0}
 IsNotFound e = IsWantOfMemory e
 
@@ -89,6 +90,6 @@ IsLineRefused formula seats max_steps seat line e = HoldsInAState formula seats 
 
 -- in such a state the reply to a call that binds this own number is this refusal, or what the seat sees decides it so
 abbrev pub IsBindingRefused : {A : Type 0} → FormulaValue → ℕ → ℕ → SeatValue → ℕ
-    → (State → Result A Refusal) → Refusal → Type 0
+    → (NamedState → Result A Refusal) → Refusal → Type 0
 IsBindingRefused formula seats max_steps seat own reply e =
     IsRefusedAt formula seats max_steps seat reply e ⊎ IsDecided (solo_refusal seat.view own) e

@@ -7,22 +7,23 @@ use Rattle.lj_clause.specs.ClauseMap.{FormulaValue}
 use Rattle.lj_book.specs.declared.entry.Call.{Call}
 use Rattle.lj_book.specs.declared.entry.Call.TheVariants as calls
 use Rattle.lj_book.specs.Tables.{is_here}
-use Rattle.lj_book.specs.State.{State}
-use Rattle.lj_book.specs.History.{IsReached}
-use Rattle.lj_book.specs.Solo.{View, without_holdings, view_of}
+use Rattle.lj_book.specs.Solo.{View, without_holdings}
 use Rattle.lj_book.specs.Views.{formula_holdings}
+use Rattle.lj_book.specs.Named.{NamedState, IsNamedReached}
+use Rattle.lj_book.specs.NamedViews.{named_view}
 use Rattle.lj_share.specs.Entries.{calls_of}
 
 -- The number of the seat, the calls whose entries were made through it, in order, and what it sees: its own numbers with the joint
--- numbers and the clauses that they are bound to, and nothing once it has left.
+-- numbers and the clauses that they are bound to, and nothing once it has left. Clauses, in calls too, speak the seat's variables.
 pub record SeatValue : Type 0 where
   pub number : ℕ
   pub calls : List Call
   pub view : View
 
 -- the seat of this number of a book in this state
-abbrev pub seat_of_book : State → ℕ → SeatValue
-seat_of_book s seat = record { number = seat; calls = calls_of seat s.history; view = view_of s seat }
+abbrev pub seat_of_book : NamedState → ℕ → SeatValue
+seat_of_book s seat = record
+    { number = seat; calls = calls_of seat s.history; view = named_view s seat }
 
 -- the seat of this number of a new book of a formula, through which no entry was made
 abbrev pub new_seat : FormulaValue → ℕ → SeatValue
@@ -64,7 +65,7 @@ entries_made [] = 0
 entries_made (s ∷ ss) = length s.calls + entries_made ss
 
 -- Each of these seats is that of its number of a book in this state.
-abbrev pub AreSeatsIn : State → List SeatValue → Type 0
+abbrev pub AreSeatsIn : NamedState → List SeatValue → Type 0
 AreSeatsIn state seats = All (λ s. seat_of_book state s.number ≡ s) seats
 
 -- ---- leaving
@@ -80,13 +81,14 @@ has_left made = list_any is_leave made
 
 -- In a state with a legal history, a seat whose calls have no leave among them is there.
 abbrev pub HereUntilLeft : Type 0
-HereUntilLeft = (s : State) (seat : ℕ) → IsReached s → seat < length s.tables
+HereUntilLeft = (s : NamedState) (seat : ℕ) → IsNamedReached s → seat < length s.tables
     → has_left (calls_of seat s.history) ≡ false → is_here s.tables seat ≡ true
 
 -- ---- openings and notes
 
 -- The book is of this formula, has so many seats, and takes so many additions.
-pub record IsOpenedAs (formula : FormulaValue) (seats max_steps : ℕ) (book : State) : Type 0 where
+pub record IsOpenedAs (formula : FormulaValue) (seats max_steps : ℕ)
+    (book : NamedState) : Type 0 where
   pub formula_is : book.formula ≡ formula
   pub seats_are : length book.tables ≡ seats
   pub limit_is : book.max_steps ≡ max_steps

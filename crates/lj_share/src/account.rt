@@ -1,7 +1,8 @@
 //! What a seat has of its book's ledger and of its copies.
 ghost use Rattle.std.specs.Prelude.{◌≡◌, ◌+◌, ◌<◌, [], length, Some, slice_get, slice_set};
-ghost use Rattle.lj_book.specs.History.{IsReached};
-ghost use Rattle.lj_book.specs.Views.{ViewsFollowEntries, DecidedAlone, FreeAlone};
+ghost use Rattle.lj_clause.specs.ClauseMap.{IsFormula};
+ghost use Rattle.lj_book.specs.Named.{IsNamedReached};
+ghost use Rattle.lj_book.specs.NamedAlone.{NamedViewsFollowEntries, NamedDecidedAlone, NamedFreeAlone};
 ghost use Rattle.lj_share.specs.Entries.{calls_of};
 ghost use Rattle.lj_share.specs.Seats.{seat_of_book, IsOpenedAs};
 ghost use Rattle.lj_share.specs.inner.Seats.{AreShown, IsSeatOf};
@@ -92,7 +93,7 @@ impl<L: BookId> Account<L> {
         ensures entries { entries.new.total ≡ length book.now.history }
         ensures lists { lists.new ≡ slice_set lists.old self.old.number
             (seat_of_book book.now self.old.number) }
-        ensures legal { IsReached book.now }
+        ensures legal { IsNamedReached book.now }
     {
         history_is_legal(book);
         entries.add(&mut self.share, 1);
@@ -109,15 +110,17 @@ impl<L: BookId> Account<L> {
         ensures kept { self.new ≡ self.old }
         ensures lists { lists.new ≡ lists.old }
         ensures seat { seat_of_book book.now self.old.number ≡ self.old }
-        ensures legal { IsReached book.now }
-        ensures views { ViewsFollowEntries }
-        ensures decided { DecidedAlone }
-        ensures free { FreeAlone }
+        ensures formula { IsFormula book.now.formula }
+        ensures legal { IsNamedReached book.now }
+        ensures views { NamedViewsFollowEntries }
+        ensures decided { NamedDecidedAlone }
+        ensures free { NamedFreeAlone }
     {
         history_is_legal(book);
         views_follow_entries();
         decided_alone();
         free_alone();
+        let _ = book.formula().variables();
         let number = self.number;
         lists.follow(&mut self.copy, book, number);
     }

@@ -16,13 +16,13 @@ pub struct Closed<L: BookId> {
 }
 
 impl<L: BookId> Model for Closed<L> {
-    ghost use Rattle.lj_book.specs.State.{State};
-    ghost use Rattle.lj_book.specs.inner.Codes.{state_code};
+    ghost use Rattle.lj_book.specs.Named.{NamedState};
+    ghost use Rattle.lj_book.specs.inner.Codes.{named_state_code};
     ghost use Rattle.lj_share.specs.Seats.{IsOpenedAs};
 
-    ghost Value = { State };
+    ghost Value = { NamedState };
 
-    ghost coded = { state_code };
+    ghost coded = { named_state_code };
 
     ghost view = { λ c. c.book };
 

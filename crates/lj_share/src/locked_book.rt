@@ -1,11 +1,11 @@
 //! What lies under the lock.
 ghost use Rattle.std.specs.Prelude.{◌≡◌, ◌≤◌, None, Some, IfOk, IfErr, IfSome, IsSome, OnOk, OnErr, length, slice_get, take};
-ghost use Rattle.lj_book.specs.Calls.{commit_reply, adopt_reply, leave_reply};
 ghost use Rattle.lj_book.specs.declared.entry.Call.TheVariants as calls;
 ghost use Rattle.lj_text.specs.declared.line.Line.TheVariants as lines;
 ghost use Rattle.lj_share.specs.Entries.{IsEntryOf, call_of};
 ghost use Rattle.lj_book.specs.Solo.{solo_refusal};
 ghost use Rattle.lj_book.specs.Views.{IsClosedAlone, decided_refusal};
+ghost use Rattle.lj_book.specs.NamedReplies.{named_commit, named_adopt, named_leave};
 ghost use Rattle.lj_share.specs.Refusals.{HoldsInAState, IsBindingRefused, IsRefusedAt, IsRefusedLine, gone_refusal, line_refusal};
 ghost use Rattle.lj_share.specs.Seats.{IsMaking, with_bound};
 ghost use Rattle.lj_share.specs.declared.numbered.Numbered.{Numbered};
@@ -119,7 +119,7 @@ impl<L: BookId> LockedBook<L> {
         ensures kept { OnErr result (account.new ≡ account.old) }
         ensures back { IfErr result (λ e. e.1 ≡ receipt) }
         ensures refusal { IfErr result (λ e. IsRefusedAt L.formula L.seats L.max_steps account.old
-            (λ s. commit_reply s receipt) e.0) }
+            (λ s. named_commit s receipt) e.0) }
     {
         let LockedBook {
             book,
@@ -334,7 +334,7 @@ impl<L: BookId> LockedBook<L> {
         }
     }
 
-    /// Binds the seat's own number to a live clause with exactly these literals.
+    /// Binds the seat's own number to a live clause with exactly these literals, which are in the seat's variables.
     fn import(
         &mut self,
         account: &mut Account<L>,
@@ -369,10 +369,10 @@ impl<L: BookId> LockedBook<L> {
         }
     }
 
-    /// Binds the seat's own number, which is free, to a joint number that lives. What the seat keeps follows.
+    /// Binds the seat's own number, which is free, to a joint number that lives. What the seat keeps follows, with the clause in the
+    /// seat's variables.
     pub(crate) fn adopt(
         &mut self,
-        alloc: Global,
         formula: &Formula,
         account: &mut Account<L>,
         kept: &mut Option<OwnClauses>,
@@ -388,7 +388,7 @@ impl<L: BookId> LockedBook<L> {
         ensures own { IsOwnOf L.formula kept.new account.new.view }
         ensures refusal { IfErr result (IsBindingRefused L.formula L.seats L.max_steps account.old
             own
-            (λ s. adopt_reply s account.old.number own joint)) }
+            (λ s. named_adopt s account.old.number own joint)) }
     {
         let LockedBook {
             book,
@@ -397,14 +397,15 @@ impl<L: BookId> LockedBook<L> {
             ..
         } = self;
         account.agree(lists, book);
-        let Some(clause) = book.clause(joint) else {
-            return Err(Refusal::NoSuchClause);
+        let seat = account.number();
+        let clause = match book.clause_for(seat, joint) {
+            Ok(clause) => clause,
+            Err(refusal) => return Err(refusal),
         };
-        let clause = clause.to_clause(alloc)?;
         if let Err(refusal) = bind_ahead(kept, formula, own, &clause) {
             return Err(refusal);
         }
-        match book.adopt_with_entry(account.number(), own, joint) {
+        match book.adopt_with_entry(seat, own, joint) {
             Ok((_, entry)) => {
                 account.count_one(entries, lists, book);
                 settle(kept, own, joint);
@@ -424,7 +425,7 @@ impl<L: BookId> LockedBook<L> {
         ensures free { OnOk result (gone_refusal account.old.view ≡ None) }
         ensures kept { OnErr result (account.new ≡ account.old) }
         ensures refusal { IfErr result (IsRefusedAt L.formula L.seats L.max_steps account.old
-            (λ s. leave_reply s account.old.number)) }
+            (λ s. named_leave s account.old.number)) }
     {
         let LockedBook {
             book,

@@ -26,7 +26,7 @@ use std::marker::Model;
 use std::sync::ledger::Share;
 
 /// A place at a shared book, for one prover. It can't be copied. Contracts see the calls whose entries were made through it, and
-/// what it sees of the book.
+/// what it sees of the book, both in its variables.
 #[derive(Drop)]
 pub struct Seat<L: BookId> {
     pub(crate) account: Account<L>,

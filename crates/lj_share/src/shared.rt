@@ -2,12 +2,13 @@
 ghost use Rattle.std.specs.Prelude.{◌≡◌, ◌==◌, ◌+◌, ◌<◌, ◌≤◌, ◌++◌, [], length, map, take, slice_get, is_ok, OnOk, OnErr, OnSome, IfOk, IfErr, IfSome, Err, None, Some};
 ghost use Rattle.lj_clause.specs.Truth.{IsUnsatisfiable};
 ghost use Rattle.lj_book.specs.declared.entry.Call.TheVariants as calls;
-ghost use Rattle.lj_book.specs.History.{IsReached};
-ghost use Rattle.lj_book.specs.State.{opening};
-ghost use Rattle.lj_book.specs.Calls.{IsReply, take_reply, commit_reply, adopt_reply, leave_reply};
+ghost use Rattle.lj_book.specs.Calls.{IsReply};
 ghost use Rattle.lj_share.specs.Entered.{AreEntered};
 ghost use Rattle.lj_share.specs.Entries.{call_of, IsEntryOf};
 ghost use Rattle.lj_book.specs.Solo.{solo_refusal, solo_take};
+ghost use Rattle.lj_book.specs.Named.{IsNamedReached, named_opening};
+ghost use Rattle.lj_book.specs.NamedViews.{named_take};
+ghost use Rattle.lj_book.specs.NamedReplies.{named_commit, named_adopt, named_leave};
 ghost use Rattle.lj_share.specs.Refusals.{HoldsInAState, IsLineRefused, IsBindingRefused, IsOpenRefusal, IsRefusedAt, IsToldIfDecided, gone_refusal, line_refusal};
 ghost use Rattle.lj_share.specs.Seats.{AreSeatsIn, IsMaking, IsOpenedAs, IsSeen, entries_made, new_seats};
 ghost use Rattle.lj_share.specs.inner.Seats.{AreShown, IsTestedAs};
@@ -50,7 +51,7 @@ const TRIES: u32 = 64;
 const LOOKS: u32 = 64;
 
 /// A book that its seats share, on as many threads as they are on. A line is tested outside its lock as far as what its seat
-/// sees decides it.
+/// sees decides it. Lines, receipts and the calls in entries speak their seat's variables, as in [`Book`].
 #[derive(Drop)]
 pub struct Shared<L: BookId> {
     locked_book: Mutex<LockedBook<L>>,
@@ -366,6 +367,7 @@ impl<L: BookId> Shared<L> {
     {
         decided_alone();
         free_alone();
+        let _ = self.formula.variables();
         self.test_and_hand_over(rt, seat, line, at, gate, with_entry)
     }
 
@@ -436,9 +438,9 @@ impl<L: BookId> Shared<L> {
         }
     }
 
-    /// An addition under the seat's numbers as a case in joint numbers, which can be tested without the book. The seat's own
-    /// table decides it, so it waits for nobody. Takes constant time for each number of the addition, or O(log n) for numbers
-    /// beyond the slots and for each group; the literals of the clauses are shared.
+    /// An addition under the seat's numbers as a case in joint numbers, which can be tested without the book. Its lemma and its
+    /// clauses are in the seat's variables. The seat's own table decides it, so it waits for nobody. Takes constant time for each
+    /// number of the addition, or O(log n) for numbers beyond the slots and for each group; the literals of the clauses are shared.
     ///
     /// # Errors
     /// As [`Book::take`].
@@ -448,7 +450,7 @@ impl<L: BookId> Shared<L> {
         ensures refused { IfSome (solo_refusal seat.old.view addition.now.number)
             (λ e. result ≡ Err e) }
         ensures answer { HoldsInAState L.formula L.seats L.max_steps seat.old
-            (λ s. IsReply result (take_reply s seat.old.number addition.now)) }
+            (λ s. IsReply result (named_take s seat.old.number addition.now)) }
         ensures seat { IfOk result (λ case. case.seat ≡ seat.old.number) }
         ensures own { IfOk result (λ case. case.own ≡ addition.now.number) }
         ensures lemma { IfOk result (λ case. case.lemma ≡ addition.now.lemma) }
@@ -458,8 +460,7 @@ impl<L: BookId> Shared<L> {
         seat.take(self.alloc, &self.formula, addition)
     }
 
-    /// Enters the lemma of a receipt of this seat, while the clauses that it lists still live. Takes O(log n) time for each of
-    /// them and for each literal of the lemma, and time linear in their literals.
+    /// Enters the lemma of a receipt of this seat, while the clauses that it lists still live. Takes the time of [`Book::commit`].
     ///
     /// # Errors
     /// With the receipt, as [`Book::commit`].
@@ -478,7 +479,7 @@ impl<L: BookId> Shared<L> {
         ensures kept { OnErr result (seat.new ≡ seat.old) }
         ensures back { IfErr result (λ e. e.1 ≡ receipt) }
         ensures refusal { IfErr result (λ e. IsBindingRefused L.formula L.seats L.max_steps seat.old
-            receipt.own (λ s. commit_reply s receipt) e.0) }
+            receipt.own (λ s. named_commit s receipt) e.0) }
     {
         let own = receipt.own();
         let Seat {
@@ -504,8 +505,8 @@ impl<L: BookId> Shared<L> {
         }
     }
 
-    /// Binds the seat's own number to a joint number that lives. Takes the time of [`Book::adopt`], and time linear in the
-    /// clause's literals, of which the seat takes a copy.
+    /// Binds the seat's own number to a joint number that lives, where its clause names no variable above the formula's but such as
+    /// the seat was given. Takes the time of [`Book::adopt`] and of [`Book::clause_for`], whose clause the seat keeps.
     ///
     /// # Errors
     /// As [`Book::adopt`].
@@ -521,7 +522,7 @@ impl<L: BookId> Shared<L> {
         ensures free { OnOk result (solo_refusal seat.old.view own ≡ None) }
         ensures kept { OnErr result (seat.new ≡ seat.old) }
         ensures refusal { IfErr result (IsBindingRefused L.formula L.seats L.max_steps seat.old own
-            (λ s. adopt_reply s seat.old.number own joint)) }
+            (λ s. named_adopt s seat.old.number own joint)) }
     {
         let Seat {
             account,
@@ -532,7 +533,7 @@ impl<L: BookId> Shared<L> {
             return Err(refusal);
         }
         let mut locked_book = self.locked_book.lock(rt);
-        let told = locked_book.adopt(self.alloc, &self.formula, account, kept, own, joint);
+        let told = locked_book.adopt(&self.formula, account, kept, own, joint);
         self.release(locked_book);
         told
     }
@@ -548,7 +549,7 @@ impl<L: BookId> Shared<L> {
         ensures free { OnOk result (gone_refusal seat.old.view ≡ None) }
         ensures kept { OnErr result (seat.new ≡ seat.old) }
         ensures refusal { IfErr result (IsRefusedAt L.formula L.seats L.max_steps seat.old
-            (λ s. leave_reply s seat.old.number)) }
+            (λ s. named_leave s seat.old.number)) }
     {
         let Seat {
             account,
@@ -645,7 +646,7 @@ impl<L: BookId> Shared<L> {
     pub fn close(self, seats: Vec<Seat<L>>) -> Result<Closed<L>, SeatsOut<L>>
         requires { L.parts ≡ L.seats }
         ensures all { is_ok result ≡ (length seats.items == L.seats) }
-        ensures legal { IfOk result (λ closed. IsReached closed) }
+        ensures legal { IfOk result (λ closed. IsNamedReached closed) }
         ensures entries { IfOk result (λ closed. length closed.history ≡ entries_made seats.items) }
         ensures seats { IfOk result (λ closed. AreSeatsIn closed seats.items) }
         ensures out { IfErr result (λ out. out.seats.items ≡ seats.items) }
@@ -704,7 +705,7 @@ fn seats_of<L: BookId>(
     requires many { length lists.old ≡ length copies.items }
     requires formula { formula.now ≡ L.formula }
     requires opened { book.now
-        ≡ opening formula.now (length copies.items) book.now.max_steps }
+        ≡ named_opening formula.now (length copies.items) book.now.max_steps }
     requires state { IsOpenedAs L.formula L.seats L.max_steps book.now }
     ensures seats { IfOk result (λ out. out.items ≡ new_seats formula.now (length copies.items)) }
     ensures shown { OnOk result (AreShown book.now lists.new) }

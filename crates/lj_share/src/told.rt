@@ -2,7 +2,7 @@
 use lj_book::Entry;
 use std::marker::Model;
 
-/// The token of an entry that a call made. It stands for this one entry for good.
+/// The token of an entry that a call made. It stands for this one entry for good, whose call speaks the seat's variables.
 #[derive(Debug, Drop)]
 pub struct Told {
     pub(crate) entry: Entry,

@@ -1,12 +1,14 @@
 //! Calls on the book that tell a copy of their entry where it is asked for, and the joint number that an own number is bound to.
 ghost use Rattle.std.specs.Prelude.{◌≡◌, IfOk, IfErr, OnOk, OnErr, Some, is_ok, true};
-ghost use Rattle.lj_book.specs.Calls.{IsRefusal, drop_entry, drop_reply, import_entry, import_reply};
-ghost use Rattle.lj_book.specs.History.{after_entry};
-ghost use Rattle.lj_book.specs.Inside.{inside_entry, inside_reply};
-ghost use Rattle.lj_book.specs.Solo.{view_of};
+ghost use Rattle.lj_clause.specs.Renaming.{image};
+ghost use Rattle.lj_book.specs.Calls.{IsRefusal, drop_entry, import_entry};
 ghost use Rattle.lj_book.specs.Views.{IsClosedAlone};
 ghost use Rattle.lj_book.specs.Lookup.{least_number};
 ghost use Rattle.lj_book.specs.State.{live, next};
+ghost use Rattle.lj_book.specs.NamedReplies.{named_drop, named_import, named_inside};
+ghost use Rattle.lj_book.specs.Named.{after_named, beneath, names_of};
+ghost use Rattle.lj_book.specs.NamedInside.{named_inside_entry};
+ghost use Rattle.lj_book.specs.NamedViews.{named_view};
 ghost use Rattle.lj_share.specs.inner.WithEntry.{IsAsked};
 
 use lj_book::{Book, Entry, Refusal};
@@ -26,13 +28,13 @@ pub(crate) fn add_inside(
     with_entry: bool,
 ) -> Result<(Option<Entry>, u64), Refusal>
     ensures ok { OnOk result
-        (book.new ≡ after_entry book.old (inside_entry book.old seat addition.now)) }
-    ensures told { IfOk result (λ told. IsAsked with_entry (inside_entry book.old seat addition.now)
-        told.0) }
-    ensures joint { IfOk result (λ told. told.1 ≡ next book.old) }
+        (book.new ≡ after_named book.old (named_inside_entry book.old seat addition.now)) }
+    ensures told { IfOk result (λ told. IsAsked with_entry
+        (named_inside_entry book.old seat addition.now) told.0) }
+    ensures joint { IfOk result (λ told. told.1 ≡ next (beneath book.old)) }
     ensures err { OnErr result (book.new ≡ book.old) }
-    ensures accepted { OnOk result (is_ok (inside_reply book.old seat addition.now) ≡ true) }
-    ensures refusal { IfErr result (λ e. IsRefusal e (inside_reply book.old seat addition.now)) }
+    ensures accepted { OnOk result (is_ok (named_inside book.old seat addition.now) ≡ true) }
+    ensures refusal { IfErr result (λ e. IsRefusal e (named_inside book.old seat addition.now)) }
 {
     if with_entry {
         let (added, entry) = book.add_inside_with_entry(seat, addition, propagator)?;
@@ -53,15 +55,15 @@ pub(crate) fn add_closed(
     read: usize,
     with_entry: bool,
 ) -> Result<(Option<Entry>, u64), Refusal>
-    requires { IsClosedAlone (view_of book.old seat) seat addition.now read }
+    requires { IsClosedAlone (named_view book.old seat) seat addition.now read }
     ensures ok { OnOk result
-        (book.new ≡ after_entry book.old (inside_entry book.old seat addition.now)) }
-    ensures told { IfOk result (λ told. IsAsked with_entry (inside_entry book.old seat addition.now)
-        told.0) }
-    ensures joint { IfOk result (λ told. told.1 ≡ next book.old) }
+        (book.new ≡ after_named book.old (named_inside_entry book.old seat addition.now)) }
+    ensures told { IfOk result (λ told. IsAsked with_entry
+        (named_inside_entry book.old seat addition.now) told.0) }
+    ensures joint { IfOk result (λ told. told.1 ≡ next (beneath book.old)) }
     ensures err { OnErr result (book.new ≡ book.old) }
-    ensures accepted { OnOk result (is_ok (inside_reply book.old seat addition.now) ≡ true) }
-    ensures refusal { IfErr result (λ e. IsRefusal e (inside_reply book.old seat addition.now)) }
+    ensures accepted { OnOk result (is_ok (named_inside book.old seat addition.now) ≡ true) }
+    ensures refusal { IfErr result (λ e. IsRefusal e (named_inside book.old seat addition.now)) }
 {
     if with_entry {
         let (added, entry) = book.add_closed_with_entry(seat, addition, read)?;
@@ -82,11 +84,12 @@ pub(crate) fn drop_numbers(
     with_entry: bool,
 ) -> Result<Option<Entry>, Refusal>
     ensures ok { OnOk result
-        (book.new ≡ after_entry book.old (drop_entry book.old seat numbers.now)) }
-    ensures told { IfOk result (IsAsked with_entry (drop_entry book.old seat numbers.now)) }
+        (book.new ≡ after_named book.old (drop_entry (beneath book.old) seat numbers.now)) }
+    ensures told { IfOk result
+        (IsAsked with_entry (drop_entry (beneath book.old) seat numbers.now)) }
     ensures err { OnErr result (book.new ≡ book.old) }
-    ensures accepted { OnOk result (is_ok (drop_reply book.old seat numbers.now) ≡ true) }
-    ensures refusal { IfErr result (λ e. IsRefusal e (drop_reply book.old seat numbers.now)) }
+    ensures accepted { OnOk result (is_ok (named_drop book.old seat numbers.now) ≡ true) }
+    ensures refusal { IfErr result (λ e. IsRefusal e (named_drop book.old seat numbers.now)) }
 {
     if with_entry {
         let (_, entry) = book.drop_with_entry(seat, numbers)?;
@@ -96,7 +99,7 @@ pub(crate) fn drop_numbers(
     Ok(None)
 }
 
-/// Binds a seat's own number to a live clause with exactly these literals.
+/// Binds a seat's own number to a live clause with exactly these literals, which are in the seat's variables.
 ///
 /// # Errors
 /// As [`Book::import`].
@@ -108,14 +111,14 @@ pub(crate) fn import(
     with_entry: bool,
 ) -> Result<(Option<Entry>, u64), Refusal>
     ensures ok { OnOk result
-        (book.new ≡ after_entry book.old (import_entry seat own clause.now)) }
+        (book.new ≡ after_named book.old (import_entry seat own clause.now)) }
     ensures told { IfOk result (λ told. IsAsked with_entry (import_entry seat own clause.now)
         told.0) }
-    ensures found { IfOk result
-        (λ told. least_number (live book.old) clause.now ≡ Some told.1) }
+    ensures found { IfOk result (λ told. least_number (live (beneath book.old))
+        (image (names_of book.old seat) clause.now) ≡ Some told.1) }
     ensures err { OnErr result (book.new ≡ book.old) }
-    ensures accepted { OnOk result (is_ok (import_reply book.old seat own clause.now) ≡ true) }
-    ensures refusal { IfErr result (λ e. IsRefusal e (import_reply book.old seat own clause.now)) }
+    ensures accepted { OnOk result (is_ok (named_import book.old seat own clause.now) ≡ true) }
+    ensures refusal { IfErr result (λ e. IsRefusal e (named_import book.old seat own clause.now)) }
 {
     if with_entry {
         let (imported, entry) = book.import_with_entry(seat, own, clause)?;

@@ -179,7 +179,7 @@ impl Numbers {
         ensures { IfOk result (λ list. list ≡ numbers.now) }
     {
         let form = match shortened(alloc, numbers)? {
-            Some(short) => Form::U32(short),
+            Some(u32s) => Form::U32(u32s),
             None => Form::Long(Vec::from_slice(alloc, numbers)?),
         };
         Ok(Numbers { form })
@@ -258,7 +258,7 @@ impl Numbers {
     /// Takes constant time.
     #[inline]
     pub fn as_u32s(&self) -> Option<&[u32]>
-        ensures { IfSome result (λ short. short.now ≡ self.now) }
+        ensures { IfSome result (λ u32s. u32s.now ≡ self.now) }
     {
         match &self.form {
             Form::U32(numbers) => Some(numbers),
@@ -367,16 +367,16 @@ fn u32_at(numbers: &[u32], index: usize) -> Option<u64>
 
 /// The same numbers in four bytes each: none where one of them doesn't fit.
 fn shortened(alloc: Global, numbers: &[u64]) -> Result<Option<Vec<u32>>, AllocError>
-    ensures { IfOk result (λ short. IfSome short (λ short. short.items ≡ numbers.now)) }
+    ensures { IfOk result (λ u32s. IfSome u32s (λ u32s. u32s.items ≡ numbers.now)) }
 {
-    let mut short = Vec::with_capacity(alloc, numbers.len())?;
+    let mut u32s = Vec::with_capacity(alloc, numbers.len())?;
     for number in numbers {
         if *number > MAX_U32 {
             return Ok(None);
         }
-        short.push(*number as u32)?;
+        u32s.push(*number as u32)?;
     }
-    Ok(Some(short))
+    Ok(Some(u32s))
 }
 
 /// The same numbers in eight bytes each, with room for so many.

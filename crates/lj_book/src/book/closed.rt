@@ -1,50 +1,52 @@
-//! Additions that are known to close, which are entered without a test.
-ghost use Rattle.std.specs.Prelude.{◌≡◌, [], OnOk, OnErr, IfOk, IfErr};
-ghost use Rattle.lj_book.specs.State.{next};
-ghost use Rattle.lj_book.specs.History.{after_entry, IsReached};
+//! Additions that are known to close by what their seats see, in their variables.
+ghost use Rattle.std.specs.Prelude.{◌≡◌, OnOk, OnErr, IfOk, IfErr, nat_lt, if◌then◌else◌};
+ghost use Rattle.lj_book.specs.declared.refusal.Refusal.TheVariants.{Full, NoVariableLeft};
+ghost use Rattle.lj_book.specs.State.{addition_count};
 ghost use Rattle.lj_book.specs.Calls.{IsReply, IsReplyBy};
-ghost use Rattle.lj_book.specs.Inside.{inside_reply, inside_entry};
-ghost use Rattle.lj_book.specs.Solo.{view_of};
-ghost use Rattle.lj_book.specs.Views.{IsClosedAlone, IsFullOrNoMemory};
-ghost use Rattle.lj_book.specs.inner.JointLines.{addition_of_parts, inside_line};
+ghost use Rattle.lj_book.specs.Views.{IsClosedAlone};
+ghost use Rattle.lj_book.specs.Named.{named_over, after_named};
+ghost use Rattle.lj_book.specs.NamedViews.{named_view};
+ghost use Rattle.lj_book.specs.NamedReplies.{named_inside};
+ghost use Rattle.lj_book.specs.NamedInside.{named_inside_entry, IsClosedRefusal};
+ghost use Rattle.lj_book.specs.inner.Over.{IsOver, IsOverAfter};
 
 use crate::book::Book;
-use crate::book::with_entry::entry_of_line;
 use crate::entry::{Added, Entry};
-use crate::joint_line::{clear, put_first};
-use crate::lent_addition::LentAddition;
+use crate::joint_book::JointBook;
+use crate::joint_book::laws::history_is_legal;
+use crate::joint_forms::{close_joint_form, close_joint_form_with_entry};
 use crate::refusal::Refusal;
-use lj_text::{Addition, Groups, Numbers};
+use crate::variable_table::VariableTable;
+use lj_text::Addition;
 
 impl Book {
     /// Enters a seat's addition that is known to close after so many of its hints, by what the seat sees. It isn't tested
     /// again. Takes constant time for each hint that is read, amortized, or O(log n) for numbers beyond the slots; and
-    /// O(log n) for the lemma and each of its literals, amortized.
+    /// O(log n) for the lemma and each of its literals, amortized. Where the lemma has a variable above the formula's, it
+    /// also takes the time of [`Book::variable`] for each of its literals, and where one of them isn't its own joint one, time
+    /// linear in the addition and O(n log n) time for n literals.
     ///
     /// # Errors
-    /// [`Refusal::Full`], and [`Refusal::NoMemory`] where a growth was refused.
+    /// [`Refusal::Full`], [`Refusal::NoVariableLeft`], and [`Refusal::NoMemory`] where a growth was refused. No variable is
+    /// given then.
     pub fn add_closed(
         &mut self,
         seat: u32,
         addition: &Addition,
         read: usize,
     ) -> Result<Added, Refusal>
-        requires { IsClosedAlone (view_of self.old seat) seat addition.now read }
-        ensures reply { IsReply result (inside_reply self.old seat addition.now) }
-        ensures refusal { IfErr result IsFullOrNoMemory }
+        requires { IsClosedAlone (named_view self.old seat) seat addition.now read }
+        ensures reply { IsReply result (named_inside self.old seat addition.now) }
+        ensures refusal { IfErr result IsClosedRefusal }
         ensures ok { OnOk result
-            (self.new ≡ after_entry self.old (inside_entry self.old seat addition.now)) }
+            (self.new ≡ after_named self.old (named_inside_entry self.old seat addition.now)) }
         ensures err { OnErr result (self.new ≡ self.old) }
     {
-        let (mut hints, mut groups) = self.lend_joints();
-        clear(&mut groups);
-        let added = self.enter_closed(seat, addition, read, &mut hints, &groups);
-        self.joints = hints;
-        self.joint_groups = groups;
-        added
+        close_named(&mut self.joint, &mut self.variables, seat, addition, read)
     }
 
-    /// As [`Book::add_closed`], with a copy of the entry. Takes time linear in the entry beside that.
+    /// As [`Book::add_closed`], with a copy of the entry, whose call is in the seat's variables. Takes time linear in the
+    /// entry beside that.
     ///
     /// # Errors
     /// As [`Book::add_closed`].
@@ -54,114 +56,121 @@ impl Book {
         addition: &Addition,
         read: usize,
     ) -> Result<(Added, Entry), Refusal>
-        requires { IsClosedAlone (view_of self.old seat) seat addition.now read }
+        requires { IsClosedAlone (named_view self.old seat) seat addition.now read }
         ensures reply { IsReplyBy (λ told. told.0) result
-            (inside_reply self.old seat addition.now) }
-        ensures refusal { IfErr result IsFullOrNoMemory }
-        ensures told { IfOk result (λ told. told.1 ≡ inside_entry self.old seat addition.now) }
+            (named_inside self.old seat addition.now) }
+        ensures refusal { IfErr result IsClosedRefusal }
+        ensures told { IfOk result
+            (λ told. told.1 ≡ named_inside_entry self.old seat addition.now) }
         ensures ok { OnOk result
-            (self.new ≡ after_entry self.old (inside_entry self.old seat addition.now)) }
+            (self.new ≡ after_named self.old (named_inside_entry self.old seat addition.now)) }
         ensures err { OnErr result (self.new ≡ self.old) }
     {
-        let (mut hints, mut groups) = self.lend_joints();
-        clear(&mut groups);
-        let told = self.enter_closed_with_entry(seat, addition, read, &mut hints, &groups);
-        self.joints = hints;
-        self.joint_groups = groups;
-        told
+        close_named_with_entry(&mut self.joint, &mut self.variables, seat, addition, read)
     }
+}
 
-    /// As [`Book::add_closed`], with lists for the hints and the groups in joint numbers.
-    ///
-    /// # Errors
-    /// As [`Book::add_closed`].
-    fn enter_closed(
-        &mut self,
-        seat: u32,
-        addition: &Addition,
-        read: usize,
-        hints: &mut Numbers,
-        groups: &Groups,
-    ) -> Result<Added, Refusal>
-        requires closed { IsClosedAlone (view_of self.old seat) seat addition.now read }
-        requires groups { groups.now ≡ [] }
-        ensures reply { IsReply result (inside_reply self.old seat addition.now) }
-        ensures refusal { IfErr result IsFullOrNoMemory }
-        ensures ok { OnOk result
-            (self.new ≡ after_entry self.old (inside_entry self.old seat addition.now)) }
-        ensures err { OnErr result (self.new ≡ self.old) }
-    {
-        if let Err(refusal) = self.closed_hints(seat, addition, read, hints) {
-            return Err(refusal);
+/// As [`Book::add_closed`], with the parts of a book.
+///
+/// # Errors
+/// As [`Book::add_closed`].
+fn close_named(
+    joint: &mut JointBook,
+    variables: &mut VariableTable,
+    seat: u32,
+    addition: &Addition,
+    read: usize,
+) -> Result<Added, Refusal>
+    requires over { IsOver joint.old variables.old }
+    requires closed { IsClosedAlone (named_view (named_over joint.old variables.old.variables) seat)
+        seat addition.now read }
+    ensures reply { IsReply result
+        (named_inside (named_over joint.old variables.old.variables) seat addition.now) }
+    ensures refusal { IfErr result IsClosedRefusal }
+    ensures ok { OnOk result (IsOverAfter (named_over joint.old variables.old.variables)
+        (named_inside_entry (named_over joint.old variables.old.variables) seat addition.now)
+        joint.new variables.new) }
+    ensures err { OnErr result ((joint.new ≡ joint.old) × (variables.new ≡ variables.old)) }
+{
+    let before = variables.next();
+    let clause = addition.lemma.clause();
+    let _ = joint.formula().variables();
+    if variables.is_within(clause) {
+        let added = joint.add_closed(seat, addition, read);
+        history_is_legal(joint);
+        return added;
+    }
+    let left = variables.give(seat, clause)?;
+    if !left {
+        return Err(refusal_of_closed(joint));
+    }
+    match close_joint_form(joint, variables, seat, addition, read) {
+        Ok(added) => {
+            history_is_legal(joint);
+            Ok(added)
         }
-        let step = LentAddition::new(self.next(), &addition.lemma, hints, groups);
-        match self.enter_line(seat, addition, &step) {
-            Ok(added) => Ok(added),
-            Err(refused) => Err(Refusal::NoMemory(refused)),
+        Err(refusal) => {
+            variables.take_back(before);
+            Err(refusal)
         }
     }
+}
 
-    /// As [`Book::add_closed_with_entry`], with lists for the hints and the groups in joint numbers.
-    ///
-    /// # Errors
-    /// As [`Book::add_closed`].
-    fn enter_closed_with_entry(
-        &mut self,
-        seat: u32,
-        addition: &Addition,
-        read: usize,
-        hints: &mut Numbers,
-        groups: &Groups,
-    ) -> Result<(Added, Entry), Refusal>
-        requires closed { IsClosedAlone (view_of self.old seat) seat addition.now read }
-        requires groups { groups.now ≡ [] }
-        ensures reply { IsReplyBy (λ told. told.0) result
-            (inside_reply self.old seat addition.now) }
-        ensures refusal { IfErr result IsFullOrNoMemory }
-        ensures told { IfOk result (λ told. told.1 ≡ inside_entry self.old seat addition.now) }
-        ensures ok { OnOk result
-            (self.new ≡ after_entry self.old (inside_entry self.old seat addition.now)) }
-        ensures err { OnErr result (self.new ≡ self.old) }
-    {
-        if let Err(refusal) = self.closed_hints(seat, addition, read, hints) {
-            return Err(refusal);
+/// As [`Book::add_closed_with_entry`], with the parts of a book.
+///
+/// # Errors
+/// As [`Book::add_closed`].
+fn close_named_with_entry(
+    joint: &mut JointBook,
+    variables: &mut VariableTable,
+    seat: u32,
+    addition: &Addition,
+    read: usize,
+) -> Result<(Added, Entry), Refusal>
+    requires over { IsOver joint.old variables.old }
+    requires closed { IsClosedAlone (named_view (named_over joint.old variables.old.variables) seat)
+        seat addition.now read }
+    ensures reply { IsReplyBy (λ told. told.0) result
+        (named_inside (named_over joint.old variables.old.variables) seat addition.now) }
+    ensures refusal { IfErr result IsClosedRefusal }
+    ensures told { IfOk result (λ told. told.1 ≡ named_inside_entry
+        (named_over joint.old variables.old.variables) seat addition.now) }
+    ensures ok { OnOk result (IsOverAfter (named_over joint.old variables.old.variables)
+        (named_inside_entry (named_over joint.old variables.old.variables) seat addition.now)
+        joint.new variables.new) }
+    ensures err { OnErr result ((joint.new ≡ joint.old) × (variables.new ≡ variables.old)) }
+{
+    let before = variables.next();
+    let clause = addition.lemma.clause();
+    let _ = joint.formula().variables();
+    if variables.is_within(clause) {
+        let told = joint.add_closed_with_entry(seat, addition, read);
+        history_is_legal(joint);
+        return told;
+    }
+    let left = variables.give(seat, clause)?;
+    if !left {
+        return Err(refusal_of_closed(joint));
+    }
+    match close_joint_form_with_entry(joint, variables, seat, addition, read) {
+        Ok(told) => {
+            history_is_legal(joint);
+            Ok(told)
         }
-        let joint = self.next();
-        let step = LentAddition::new(joint, &addition.lemma, hints, groups);
-        let entry = match entry_of_line(seat, addition.number, &step) {
-            Ok(entry) => entry,
-            Err(refused) => return Err(Refusal::NoMemory(refused)),
-        };
-        match self.enter_line(seat, addition, &step) {
-            Ok(added) => Ok((added, entry)),
-            Err(refused) => Err(Refusal::NoMemory(refused)),
+        Err(refusal) => {
+            variables.take_back(before);
+            Err(refusal)
         }
     }
+}
 
-    /// Puts the hints that close a seat's addition, in joint numbers, into a list that was used before.
-    ///
-    /// # Errors
-    /// As [`Book::add_closed`].
-    fn closed_hints(
-        &self,
-        seat: u32,
-        addition: &Addition,
-        read: usize,
-        hints: &mut Numbers,
-    ) -> Result<(), Refusal>
-        requires { IsClosedAlone (view_of self.now seat) seat addition.now read }
-        ensures reply { IsReplyBy
-            (λ _. addition_of_parts (next self.now) addition.now.lemma (hints.new, []))
-            result (inside_line self.now seat addition.now) }
-        ensures refusal { IfErr result IsFullOrNoMemory }
-        ensures reached { IsReached self.now }
-    {
-        if self.added >= self.max_steps {
-            return Err(Refusal::Full);
-        }
-        match self.tables.table(seat) {
-            Some(table) => put_first(table, &addition.hints, read, hints),
-            None => Err(Refusal::SeatGone),
-        }
+/// The refusal of an addition that closes, where too few joint variables are left.
+fn refusal_of_closed(joint: &JointBook) -> Refusal
+    ensures { result ≡ (if nat_lt (addition_count joint.now.history) joint.now.max_steps
+        then NoVariableLeft else Full) }
+{
+    if joint.is_full() {
+        return Refusal::Full;
     }
+    Refusal::NoVariableLeft
 }

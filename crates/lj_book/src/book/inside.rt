@@ -1,227 +1,187 @@
-//! Additions that are tested and entered in one call.
-ghost use Rattle.std.specs.Prelude.{◌≡◌, ◌==◌, ℕ, not, nat_lt, OnOk, OnErr, IfOk, IfSome, Ok, Err, true, false};
-ghost use Rattle.lj_clause.specs.Literal.{variable_of};
-ghost use Rattle.lj_clause.specs.LiteralSet.{holds};
-ghost use Rattle.lj_book.specs.History.{after_entry, IsReached};
-ghost use Rattle.lj_book.specs.State.{addition_count, next};
-ghost use Rattle.lj_book.specs.Tables.{joint_of};
-ghost use Rattle.lj_book.specs.Calls.{IsReply, IsReplyBy, free_refusal, commit_told};
-ghost use Rattle.lj_book.specs.Inside.{inside_reply, inside_entry};
-ghost use Rattle.lj_book.specs.inner.JointLines.{addition_of_parts, joint_parts, tested_parts, inside_line, line_entry};
+//! Additions that are tested and entered in one call, in their seats' variables.
+ghost use Rattle.std.specs.Prelude.{◌≡◌, None, OnOk, OnErr, IfOk, IfSome, Err};
+ghost use Rattle.lj_book.specs.Calls.{IsReply, IsReplyBy, free_refusal};
+ghost use Rattle.lj_book.specs.Named.{beneath, named_over, after_named};
+ghost use Rattle.lj_book.specs.NamedReplies.{named_inside};
+ghost use Rattle.lj_book.specs.NamedInside.{named_inside_entry};
+ghost use Rattle.lj_book.specs.inner.Over.{IsOver, IsOverAfter};
 
 use crate::book::Book;
-use crate::clause_log::ClauseLog;
-use crate::committing::{enter_addition, refuted_at};
-use crate::entry::Added;
-use crate::joint_line::{clear, joint_line};
-use crate::lent_addition::LentAddition;
-use crate::line_tests::tested_line;
+use crate::entry::{Added, Entry};
+use crate::joint_book::JointBook;
+use crate::joint_book::laws::history_is_legal;
+use crate::joint_forms::{add_joint_form, add_joint_form_with_entry, refusal_at_limit};
 use crate::refusal::Refusal;
-use crate::seat_tables::SeatTables;
-use lj_clause::{Lemma, NoMemory};
+use crate::variable_table::VariableTable;
 use lj_hint::Propagator;
-use lj_text::{Addition, Groups, Numbers};
-use std::mem::replace;
+use lj_text::Addition;
 
 impl Book {
     /// Tests a seat's addition over the live clauses, those of all seats, and enters it in recorded form: by hinted
     /// unit propagation over its first list, or else by resolution asymmetric tautology on its pivot (Cruz-Filipe et
-    /// al., CADE 2017). The propagator may have served any propagation before.
+    /// al., CADE 2017). The propagator may have served any propagation before. Where it enters, each of its variables above
+    /// the formula's has a joint one: those that had none get the next ones, by rising number.
     ///
     /// Takes O(log n) time, amortized, for each number of the line, each hint that is read and each literal of the lemma
     /// and of these hints. Where the first list stays open, takes that time for each literal of the candidates too and for
     /// each clause that held the pivot's negation and died since one asked for it, and O(log c) for each group, with c
     /// candidates. The first addition whose first list stays open, and the next one that is tested, take O(log n) time for
-    /// each joint number that was given and each literal of the live clauses.
+    /// each joint number that was given and each literal of the live clauses. Where the lemma has a variable above the
+    /// formula's, it also takes the time of [`Book::variable`] for each of its literals, and where one of them isn't its own
+    /// joint one, time linear in the addition and O(n log n) time for n literals.
     ///
     /// # Errors
     /// The first that holds of [`Refusal::SeatGone`], [`Refusal::NumberTaken`], [`Refusal::UnknownNumber`],
     /// [`Refusal::GroupRepeated`], [`Refusal::HintNotUnit`], [`Refusal::EmptyOpen`], [`Refusal::MissingGroup`],
-    /// [`Refusal::GroupStuck`], [`Refusal::GroupOpen`] and [`Refusal::Full`]; and [`Refusal::NoMemory`] where a growth
-    /// was refused.
+    /// [`Refusal::GroupStuck`], [`Refusal::GroupOpen`], [`Refusal::Full`] and [`Refusal::NoVariableLeft`]; and
+    /// [`Refusal::NoMemory`] where a growth was refused. No variable is given then.
     pub fn add_inside(
         &mut self,
         seat: u32,
         addition: &Addition,
         propagator: &mut Propagator,
     ) -> Result<Added, Refusal>
-        ensures reply { IsReply result (inside_reply self.old seat addition.now) }
-        ensures refused { IfSome (free_refusal self.old seat addition.now.number)
+        ensures reply { IsReply result (named_inside self.old seat addition.now) }
+        ensures refused { IfSome (free_refusal (beneath self.old) seat addition.now.number)
             (λ e. result ≡ Err e) }
         ensures ok { OnOk result
-            (self.new ≡ after_entry self.old (inside_entry self.old seat addition.now)) }
+            (self.new ≡ after_named self.old (named_inside_entry self.old seat addition.now)) }
         ensures err { OnErr result (self.new ≡ self.old) }
     {
-        let joint = self.next();
-        let own = addition.number;
-        if let Some(refusal) = self.free_refusal(seat, own) {
-            return Err(refusal);
-        }
-        let clause_log = &mut self.clause_log;
-        let (hints, joints) = (&mut self.joints, &mut self.joint_groups);
-        if let Err(refusal) = recorded_line(
-            clause_log,
-            &self.tables,
+        add_named(
+            &mut self.joint,
+            &mut self.variables,
             seat,
             addition,
-            hints,
-            joints,
             propagator,
-        ) {
-            return Err(refusal);
-        }
-        if self.added >= self.max_steps {
-            return Err(Refusal::Full);
-        }
-        let _ = has_pivot(&addition.lemma);
-        let step = LentAddition::new(joint, &addition.lemma, &self.joints, &self.joint_groups);
-        let place = self.clause_log.history().len();
-        enter_addition(&mut self.clause_log, &mut self.tables, seat, own, &step)?;
-        self.refuted = refuted_at(self.refuted, place, &step.clause);
-        clear(&mut self.joint_groups);
-        self.added += 1;
-        Ok(Added { place, joint })
+        )
     }
 
-    /// The room for joint hints and groups, which has to come back.
-    pub(crate) fn lend_joints(&mut self) -> (Numbers, Groups)
-        ensures { self.new ≡ self.old }
-    {
-        let alloc = self.clause_log.allocator();
-        let hints = replace(&mut self.joints, Numbers::from_u32s(Vec::new(alloc)));
-        let groups = replace(&mut self.joint_groups, Groups::new(alloc));
-        (hints, groups)
-    }
-
-    /// Whether the history holds as many additions as it may.
-    pub(crate) fn is_full(&self) -> bool
-        ensures { result ≡ not (nat_lt (addition_count self.now.history) self.now.max_steps) }
-    {
-        self.added >= self.max_steps
-    }
-
-    /// The next joint number.
-    #[inline]
-    pub(crate) fn next(&self) -> u64
-        ensures { result ≡ next self.now }
-    {
-        let added = self.added;
-        self.formula.len() as u64 + 1 + u64::from(added)
-    }
-
-    /// Puts the hints and the groups of a seat's addition, in recorded form, into lists that were used before. The book stays as
-    /// it is.
+    /// As [`Book::add_inside`], with a copy of the entry, whose call is in the seat's variables. Takes time linear in the
+    /// entry beside that.
     ///
     /// # Errors
     /// As [`Book::add_inside`].
-    pub(crate) fn inside_line(
+    pub fn add_inside_with_entry(
         &mut self,
         seat: u32,
         addition: &Addition,
-        hints: &mut Numbers,
-        groups: &mut Groups,
         propagator: &mut Propagator,
-    ) -> Result<(), Refusal>
-        ensures reply { IsReplyBy
-            (λ _. addition_of_parts (next self.old) addition.now.lemma (hints.new, groups.new))
-            result (inside_line self.old seat addition.now) }
-        ensures reached { IsReached self.old }
-        ensures refused { IfSome (free_refusal self.old seat addition.now.number)
+    ) -> Result<(Added, Entry), Refusal>
+        ensures reply { IsReplyBy (λ told. told.0) result
+            (named_inside self.old seat addition.now) }
+        ensures refused { IfSome (free_refusal (beneath self.old) seat addition.now.number)
             (λ e. result ≡ Err e) }
-        ensures same { self.new ≡ self.old }
-    {
-        let added = self.added;
-        let max_steps = self.max_steps;
-        if let Some(refusal) = self.free_refusal(seat, addition.number) {
-            return Err(refusal);
-        }
-        let clause_log = &mut self.clause_log;
-        if let Err(refusal) = recorded_line(
-            clause_log,
-            &self.tables,
-            seat,
-            addition,
-            hints,
-            groups,
-            propagator,
-        ) {
-            return Err(refusal);
-        }
-        if added >= max_steps {
-            return Err(Refusal::Full);
-        }
-        Ok(())
-    }
-
-    /// Enters an addition with the step that was found for it.
-    ///
-    /// # Errors
-    /// [`NoMemory`] where a growth was refused.
-    pub(crate) fn enter_line(
-        &mut self,
-        seat: u32,
-        addition: &Addition,
-        step: &LentAddition<'_>,
-    ) -> Result<Added, NoMemory>
-        requires { inside_line self.old seat addition.now ≡ Ok step.now }
-        ensures told { IfOk result (λ added. added ≡ commit_told self.old) }
+        ensures told { IfOk result
+            (λ told. told.1 ≡ named_inside_entry self.old seat addition.now) }
         ensures ok { OnOk result
-            (self.new ≡ after_entry self.old (line_entry seat addition.now.number step.now)) }
+            (self.new ≡ after_named self.old (named_inside_entry self.old seat addition.now)) }
         ensures err { OnErr result (self.new ≡ self.old) }
     {
-        let _ = has_pivot(&addition.lemma);
-        let own = addition.number;
-        let joint = step.number;
-        let place = self.clause_log.history().len();
-        enter_addition(&mut self.clause_log, &mut self.tables, seat, own, step)?;
-        self.refuted = refuted_at(self.refuted, place, &step.clause);
-        self.added += 1;
-        Ok(Added { place, joint })
+        add_named_with_entry(
+            &mut self.joint,
+            &mut self.variables,
+            seat,
+            addition,
+            propagator,
+        )
     }
 }
 
-/// Puts the hints and the groups of a seat's addition, in recorded form, into lists that were used before. The clauses stay as they
-/// are.
+/// As [`Book::add_inside`], with the parts of a book.
 ///
 /// # Errors
-/// As [`Book::add_inside`], but for what is refused before the line is read, and [`Refusal::Full`].
-#[inline(always)]
-fn recorded_line(
-    clause_log: &mut ClauseLog,
-    tables: &SeatTables,
+/// As [`Book::add_inside`].
+fn add_named(
+    joint: &mut JointBook,
+    variables: &mut VariableTable,
     seat: u32,
     addition: &Addition,
-    hints: &mut Numbers,
-    joints: &mut Groups,
     propagator: &mut Propagator,
-) -> Result<(), Refusal>
-    ensures reply { (number : ℕ) → IsReplyBy
-        (λ _. addition_of_parts number addition.now.lemma (hints.new, joints.new)) result
-        (tested_parts clause_log.old.live number addition.now.lemma
-        (joint_parts (joint_of tables.now seat) addition.now)) }
-    ensures same { clause_log.new ≡ clause_log.old }
+) -> Result<Added, Refusal>
+    requires { IsOver joint.old variables.old }
+    ensures reply { IsReply result
+        (named_inside (named_over joint.old variables.old.variables) seat addition.now) }
+    ensures refused { IfSome (free_refusal joint.old seat addition.now.number)
+        (λ e. result ≡ Err e) }
+    ensures ok { OnOk result (IsOverAfter (named_over joint.old variables.old.variables)
+        (named_inside_entry (named_over joint.old variables.old.variables) seat addition.now)
+        joint.new variables.new) }
+    ensures err { OnErr result ((joint.new ≡ joint.old) × (variables.new ≡ variables.old)) }
 {
-    let alloc = clause_log.allocator();
-    if let Err(refusal) = joint_line(alloc, tables, seat, addition, hints, joints) {
+    let before = variables.next();
+    let clause = addition.lemma.clause();
+    if variables.is_within(clause) {
+        let added = joint.add_inside(seat, addition, propagator);
+        history_is_legal(joint);
+        return added;
+    }
+    if let Some(refusal) = joint.free_refusal(seat, addition.number) {
         return Err(refusal);
     }
-    tested_line(
-        alloc,
-        clause_log,
-        &addition.lemma,
-        hints,
-        joints,
-        propagator,
-    )
+    let left = variables.give(seat, clause)?;
+    if !left {
+        let _ = joint.formula().variables();
+        return Err(refusal_at_limit(joint, variables, seat, addition, propagator));
+    }
+    match add_joint_form(joint, variables, seat, addition, propagator) {
+        Ok(added) => {
+            history_is_legal(joint);
+            Ok(added)
+        }
+        Err(refusal) => {
+            variables.take_back(before);
+            Err(refusal)
+        }
+    }
 }
 
-/// Whether the lemma has a pivot, which then is a literal of its clause.
-fn has_pivot(lemma: &Lemma) -> bool
-    ensures literal { IfSome lemma.now.pivot (λ q. (variable_of q == 0) ≡ false) }
-    ensures there { IfSome lemma.now.pivot (λ q. holds lemma.now.clause q ≡ true) }
+/// As [`Book::add_inside_with_entry`], with the parts of a book.
+///
+/// # Errors
+/// As [`Book::add_inside`].
+fn add_named_with_entry(
+    joint: &mut JointBook,
+    variables: &mut VariableTable,
+    seat: u32,
+    addition: &Addition,
+    propagator: &mut Propagator,
+) -> Result<(Added, Entry), Refusal>
+    requires { IsOver joint.old variables.old }
+    ensures reply { IsReplyBy (λ told. told.0) result
+        (named_inside (named_over joint.old variables.old.variables) seat addition.now) }
+    ensures refused { IfSome (free_refusal joint.old seat addition.now.number)
+        (λ e. result ≡ Err e) }
+    ensures told { IfOk result (λ told. told.1 ≡ named_inside_entry
+        (named_over joint.old variables.old.variables) seat addition.now) }
+    ensures ok { OnOk result (IsOverAfter (named_over joint.old variables.old.variables)
+        (named_inside_entry (named_over joint.old variables.old.variables) seat addition.now)
+        joint.new variables.new) }
+    ensures err { OnErr result ((joint.new ≡ joint.old) × (variables.new ≡ variables.old)) }
 {
-    match lemma.pivot() {
-        Some(pivot) => pivot.variable() > 0,
-        None => false,
+    let before = variables.next();
+    let clause = addition.lemma.clause();
+    if variables.is_within(clause) {
+        let told = joint.add_inside_with_entry(seat, addition, propagator);
+        history_is_legal(joint);
+        return told;
+    }
+    if let Some(refusal) = joint.free_refusal(seat, addition.number) {
+        return Err(refusal);
+    }
+    let left = variables.give(seat, clause)?;
+    if !left {
+        let _ = joint.formula().variables();
+        return Err(refusal_at_limit(joint, variables, seat, addition, propagator));
+    }
+    match add_joint_form_with_entry(joint, variables, seat, addition, propagator) {
+        Ok(told) => {
+            history_is_legal(joint);
+            Ok(told)
+        }
+        Err(refusal) => {
+            variables.take_back(before);
+            Err(refusal)
+        }
     }
 }

@@ -1,12 +1,17 @@
-//! Lists of events, one after another.
+//! Lists of events of seats that name their variables as they like.
 ghost use Rattle.std.specs.Prelude.{◌≡◌, ℕ, List, true, IfOk, OnErr};
 ghost use Rattle.lj_book.specs.declared.event.Event.TheVariants as events;
 ghost use Rattle.lj_book.specs.declared.event.Pending.{Pending};
 ghost use Rattle.lj_book.specs.Events.{is_tidy};
-ghost use Rattle.lj_book.specs.Worlds.{IsAnswered, IsPlayed};
-ghost use Rattle.lj_book.specs.Solo.{IsAlone};
+ghost use Rattle.lj_book.specs.Named.{top_of};
+ghost use Rattle.lj_book.specs.NamedViews.{named_view};
+ghost use Rattle.lj_book.specs.NamedWorlds.{IsNamedAnswered, IsNamedPlayed};
+ghost use Rattle.lj_book.specs.NamedSolo.{IsNamedAlone};
+ghost use Rattle.lj_book.specs.PrivateAdditions.{IsPrivateReply, ArePrivateReplies};
+ghost use Rattle.lj_book.specs.inner.PrivateSteps.{IsPrivateStep};
 
-use crate::book::Book;
+use super::Book;
+use super::laws::events_are_proper;
 use crate::event::{Event, Pending, Reply};
 use crate::pending::{answer_test, nothing_pending, set_pending, take_pending};
 use lj_clause::{Clause, NoMemory};
@@ -21,22 +26,28 @@ impl Book {
     /// memory is short. A commit of a pending receipt leaves nothing pending. A test where no case is pending, and a
     /// commit where no receipt is, answer [`Reply::Nothing`]. The other events are calls, and leave what is pending.
     ///
-    /// A seat each of whose commits comes after a take of its own, with only its tests between, is answered as if it were
-    /// alone, whatever the other seats do. Takes the time of the calls that the events make, and time linear in the events and
-    /// the seats.
+    /// An addition inside whose first propagation stays open, and whose pivot has a variable above the formula's, is answered
+    /// as its seat decides alone, by RAT among the clauses that it sees, whatever the other seats do. A seat each of whose
+    /// commits comes after a take of its own, with only its tests between, is answered as if it were alone, in its own
+    /// variables. Takes the time of the calls that the events make, and time linear in the events and the seats.
     ///
     /// # Errors
     /// [`NoMemory`] where room for the replies or for what is pending was refused: then no event was played. A growth
     /// that is refused later is that event's reply.
     pub fn play(&mut self, events: &[Event]) -> Result<Vec<Reply>, NoMemory>
-        ensures run { IfOk result (λ replies. IsPlayed self.old events.now replies.items self.new) }
+        ensures run { IfOk result
+            (λ replies. IsNamedPlayed self.old events.now replies.items self.new) }
+        ensures private { IfOk result
+            (λ replies. ArePrivateReplies self.old events.now replies.items) }
         ensures alone { IfOk result (λ replies. (seat : ℕ) → is_tidy seat events.now ≡ true
-            → IsAlone self.old events.now replies.items self.new seat) }
+            → IsNamedAlone self.old events.now replies.items self.new seat) }
         ensures err { OnErr result (self.new ≡ self.old) }
     {
-        let alloc = self.clause_log.allocator();
+        let _ = self.joint.formula().variables();
+        events_are_proper(events);
+        let alloc = self.joint.allocator();
         let mut replies = Vec::with_capacity(alloc, events.len())?;
-        let mut pending = nothing_pending(alloc, self.tables.len())?;
+        let mut pending = nothing_pending(alloc, self.joint.seats())?;
         let mut propagator = Propagator::new(alloc);
         for event in events {
             let reply = self.answer(event, &mut pending, &mut propagator);
@@ -52,8 +63,9 @@ impl Book {
         pending: &mut [Pending],
         propagator: &mut Propagator,
     ) -> Reply
-        ensures { IsAnswered (record { state = self.old; pending = pending.old }) event.now result
-            (record { state = self.new; pending = pending.new }) }
+        ensures run { IsNamedAnswered (record { state = self.old; pending = pending.old })
+            event.now result (record { state = self.new; pending = pending.new }) }
+        ensures private { IsPrivateStep self.old event.now result }
     {
         match event {
             Event::Take(seat, addition) => self.answer_take(*seat, addition, pending),
@@ -68,7 +80,7 @@ impl Book {
     }
 
     fn answer_take(&self, seat: u32, addition: &Addition, pending: &mut [Pending]) -> Reply
-        ensures { IsAnswered (record { state = self.now; pending = pending.old })
+        ensures { IsNamedAnswered (record { state = self.now; pending = pending.old })
             (events.Take seat addition.now) result
             (record { state = self.now; pending = pending.new }) }
     {
@@ -85,7 +97,7 @@ impl Book {
     }
 
     fn answer_commit(&mut self, seat: u32, pending: &mut [Pending]) -> Reply
-        ensures { IsAnswered (record { state = self.old; pending = pending.old })
+        ensures { IsNamedAnswered (record { state = self.old; pending = pending.old })
             (events.Commit seat) result (record { state = self.new; pending = pending.new }) }
     {
         match take_pending(pending, seat) {
@@ -106,11 +118,15 @@ impl Book {
         addition: &Addition,
         propagator: &mut Propagator,
     ) -> Reply
-        ensures { (pending : List Pending)
-            → IsAnswered (record { state = self.old; pending = pending })
+        ensures run { (pending : List Pending)
+            → IsNamedAnswered (record { state = self.old; pending = pending })
             (events.Inside seat addition.now) result
             (record { state = self.new; pending = pending }) }
+        ensures private { IsPrivateReply (top_of self.old) (named_view self.old seat) seat
+            addition.now result }
     {
+        let _ = addition.lemma.clause();
+        let _ = self.joint.formula().variables();
         match self.add_inside(seat, addition, propagator) {
             Ok(added) => Reply::Added(added),
             Err(refusal) => Reply::Refused(refusal),
@@ -119,7 +135,7 @@ impl Book {
 
     fn answer_drop(&mut self, seat: u32, numbers: &Numbers) -> Reply
         ensures { (pending : List Pending)
-            → IsAnswered (record { state = self.old; pending = pending })
+            → IsNamedAnswered (record { state = self.old; pending = pending })
             (events.Drop seat numbers.now) result (record { state = self.new; pending = pending }) }
     {
         match self.drop_numbers(seat, numbers) {
@@ -130,7 +146,7 @@ impl Book {
 
     fn answer_adopt(&mut self, seat: u32, own: u64, joint: u64) -> Reply
         ensures { (pending : List Pending)
-            → IsAnswered (record { state = self.old; pending = pending })
+            → IsNamedAnswered (record { state = self.old; pending = pending })
             (events.Adopt seat own joint) result (record { state = self.new; pending = pending }) }
     {
         match self.adopt(seat, own, joint) {
@@ -141,7 +157,7 @@ impl Book {
 
     fn answer_import(&mut self, seat: u32, own: u64, clause: &Clause) -> Reply
         ensures { (pending : List Pending)
-            → IsAnswered (record { state = self.old; pending = pending })
+            → IsNamedAnswered (record { state = self.old; pending = pending })
             (events.Import seat own clause.now) result
             (record { state = self.new; pending = pending }) }
     {
@@ -153,8 +169,8 @@ impl Book {
 
     fn answer_leave(&mut self, seat: u32) -> Reply
         ensures { (pending : List Pending)
-            → IsAnswered (record { state = self.old; pending = pending }) (events.Leave seat) result
-            (record { state = self.new; pending = pending }) }
+            → IsNamedAnswered (record { state = self.old; pending = pending })
+            (events.Leave seat) result (record { state = self.new; pending = pending }) }
     {
         match self.leave(seat) {
             Ok(place) => Reply::Left(place),

@@ -1,22 +1,19 @@
 //! Calls that also tell the entry that they make: a copy, made before the book changes.
-ghost use Rattle.std.specs.Prelude.{◌≡◌, OnOk, OnErr, IfOk, IfErr, IfSome, Ok, Err, None};
-ghost use Rattle.lj_book.specs.History.{after_entry};
-ghost use Rattle.lj_book.specs.Calls.{IsReplyBy, drop_reply, drop_entry, commit_reply, commit_entry, entry_with, adopt_reply, adopt_entry, import_reply, import_entry, leave_reply, leave_entry, free_refusal};
-ghost use Rattle.lj_book.specs.Inside.{inside_reply, inside_entry};
-ghost use Rattle.lj_book.specs.inner.JointLines.{line_entry};
+ghost use Rattle.std.specs.Prelude.{◌≡◌, OnOk, OnErr, IfOk, IfErr, IfSome, Err, true};
+ghost use Rattle.lj_clause.specs.ClauseMap.{names_up_to};
+ghost use Rattle.lj_book.specs.Calls.{IsReplyBy, drop_entry, adopt_entry, import_entry, leave_entry};
 ghost use Rattle.lj_book.specs.WithEntry.{without_receipt};
+ghost use Rattle.lj_book.specs.Named.{top_of, beneath, after_named};
+ghost use Rattle.lj_book.specs.NamedReplies.{named_commit_refusal, named_commit, named_drop, named_adopt, import_refusal, named_import, named_leave};
+ghost use Rattle.lj_book.specs.NamedEntries.{named_commit_entry};
 
-use crate::book::{Book, deletion_of};
-use crate::committing::step_of;
-use crate::dying::{rising, without_holder};
+use super::Book;
 use crate::entry::{Added, Call, Dropped, Entry, Imported};
-use crate::joint_line::clear;
-use crate::lent_addition::LentAddition;
+use crate::joint_book::laws::history_is_legal;
 use crate::refusal::Refusal;
-use lj_clause::{Clause, NoMemory};
-use lj_hint::{Propagator, Receipt};
-use lj_text::{Addition, Groups, Numbers, Step};
-use std::alloc::Global;
+use lj_clause::Clause;
+use lj_hint::Receipt;
+use lj_text::Numbers;
 
 impl Book {
     /// As [`Book::commit`], with a copy of the entry. Takes time linear in the entry beside that.
@@ -28,85 +25,19 @@ impl Book {
         receipt: Receipt,
     ) -> Result<(Added, Entry), (Refusal, Receipt)>
         ensures reply { IsReplyBy (λ told. told.0) (without_receipt result)
-            (commit_reply self.old receipt) }
-        ensures refused { IfErr (commit_reply self.old receipt) (λ e. result ≡ Err (e, receipt)) }
-        ensures told { IfOk result (λ told. told.1 ≡ commit_entry self.old receipt) }
-        ensures ok { OnOk result (self.new ≡ after_entry self.old (commit_entry self.old receipt)) }
+            (named_commit self.old receipt) }
+        ensures refused { IfSome (named_commit_refusal self.old receipt)
+            (λ e. result ≡ Err (e, receipt)) }
+        ensures told { IfOk result (λ told. told.1 ≡ named_commit_entry self.old receipt) }
+        ensures ok { OnOk result
+            (self.new ≡ after_named self.old (named_commit_entry self.old receipt)) }
         ensures err { OnErr result (self.new ≡ self.old) }
         ensures back { IfErr result (λ e. e.1 ≡ receipt) }
     {
-        if let Some(refusal) = self.commit_refusal(&receipt) {
-            return Err((refusal, receipt));
-        }
-        let entry = match entry_of_receipt(self.clause_log.allocator(), &receipt, self.next()) {
-            Ok(entry) => entry,
-            Err(refused) => return Err((Refusal::NoMemory(refused), receipt)),
-        };
-        match self.commit(receipt) {
-            Ok(added) => Ok((added, entry)),
-            Err(refused) => Err(refused),
-        }
-    }
-
-    /// As [`Book::add_inside`], with a copy of the entry. Takes time linear in the entry beside that.
-    ///
-    /// # Errors
-    /// As [`Book::add_inside`].
-    pub fn add_inside_with_entry(
-        &mut self,
-        seat: u32,
-        addition: &Addition,
-        propagator: &mut Propagator,
-    ) -> Result<(Added, Entry), Refusal>
-        ensures reply { IsReplyBy (λ told. told.0) result
-            (inside_reply self.old seat addition.now) }
-        ensures refused { IfSome (free_refusal self.old seat addition.now.number)
-            (λ e. result ≡ Err e) }
-        ensures told { IfOk result (λ told. told.1 ≡ inside_entry self.old seat addition.now) }
-        ensures ok { OnOk result
-            (self.new ≡ after_entry self.old (inside_entry self.old seat addition.now)) }
-        ensures err { OnErr result (self.new ≡ self.old) }
-    {
-        let (mut hints, mut groups) = self.lend_joints();
-        let told = self.add_line_with_entry(seat, addition, &mut hints, &mut groups, propagator);
-        clear(&mut groups);
-        self.joints = hints;
-        self.joint_groups = groups;
-        told
-    }
-
-    /// The same, with lists for the hints and the groups in joint numbers.
-    ///
-    /// # Errors
-    /// As [`Book::add_inside`].
-    fn add_line_with_entry(
-        &mut self,
-        seat: u32,
-        addition: &Addition,
-        hints: &mut Numbers,
-        groups: &mut Groups,
-        propagator: &mut Propagator,
-    ) -> Result<(Added, Entry), Refusal>
-        ensures reply { IsReplyBy (λ told. told.0) result
-            (inside_reply self.old seat addition.now) }
-        ensures refused { IfSome (free_refusal self.old seat addition.now.number)
-            (λ e. result ≡ Err e) }
-        ensures told { IfOk result (λ told. told.1 ≡ inside_entry self.old seat addition.now) }
-        ensures ok { OnOk result
-            (self.new ≡ after_entry self.old (inside_entry self.old seat addition.now)) }
-        ensures err { OnErr result (self.new ≡ self.old) }
-    {
-        if let Err(refusal) = self.inside_line(seat, addition, hints, groups, propagator) {
-            return Err(refusal);
-        }
-        let step = LentAddition::new(self.next(), &addition.lemma, hints, groups);
-        let entry = match entry_of_line(seat, addition.number, &step) {
-            Ok(entry) => entry,
-            Err(refused) => return Err(Refusal::NoMemory(refused)),
-        };
-        match self.enter_line(seat, addition, &step) {
-            Ok(added) => Ok((added, entry)),
-            Err(refused) => Err(Refusal::NoMemory(refused)),
+        match self.enter_receipt(&receipt, true) {
+            Ok((added, Some(entry))) => Ok((added, entry)),
+            Ok((_added, None)) => unreachable!(),
+            Err(refusal) => Err((refusal, receipt)),
         }
     }
 
@@ -119,27 +50,17 @@ impl Book {
         seat: u32,
         numbers: &Numbers,
     ) -> Result<(Dropped, Entry), Refusal>
-        ensures reply { IsReplyBy (λ told. told.0) result (drop_reply self.old seat numbers.now) }
-        ensures refused { IfErr (drop_reply self.old seat numbers.now) (λ e. result ≡ Err e) }
-        ensures told { IfOk result (λ told. told.1 ≡ drop_entry self.old seat numbers.now) }
-        ensures ok { OnOk result
-            (self.new ≡ after_entry self.old (drop_entry self.old seat numbers.now)) }
+        ensures reply { IsReplyBy (λ told. told.0) result (named_drop self.old seat numbers.now) }
+        ensures refused { IfErr (named_drop self.old seat numbers.now) (λ e. result ≡ Err e) }
+        ensures told { IfOk result
+            (λ told. told.1 ≡ drop_entry (beneath self.old) seat numbers.now) }
+        ensures ok { OnOk result (self.new
+            ≡ after_named self.old (drop_entry (beneath self.old) seat numbers.now)) }
         ensures err { OnErr result (self.new ≡ self.old) }
     {
-        if !self.tables.is_here(seat) {
-            return Err(Refusal::SeatGone);
-        }
-        let alloc = self.clause_log.allocator();
-        let call = Call::Drop {
-            numbers: numbers.try_clone()?,
-        };
-        let joints = rising(self.tables.joints(alloc, seat, numbers)?);
-        let dropped = match self.drop_numbers(seat, numbers) {
-            Ok(dropped) => dropped,
-            Err(refusal) => return Err(refusal),
-        };
-        let step = deletion_of(without_holder(&self.tables, joints));
-        Ok((dropped, Entry { seat, call, step }))
+        let told = self.joint.drop_with_entry(seat, numbers);
+        history_is_legal(&self.joint);
+        told
     }
 
     /// As [`Book::adopt`], with a copy of the entry. Takes time linear in the entry beside that.
@@ -152,10 +73,10 @@ impl Book {
         own: u64,
         joint: u64,
     ) -> Result<(u64, Entry), Refusal>
-        ensures reply { IsReplyBy (λ told. told.0) result (adopt_reply self.old seat own joint) }
-        ensures refused { IfErr (adopt_reply self.old seat own joint) (λ e. result ≡ Err e) }
+        ensures reply { IsReplyBy (λ told. told.0) result (named_adopt self.old seat own joint) }
+        ensures refused { IfErr (named_adopt self.old seat own joint) (λ e. result ≡ Err e) }
         ensures told { IfOk result (λ told. told.1 ≡ adopt_entry seat own joint) }
-        ensures ok { OnOk result (self.new ≡ after_entry self.old (adopt_entry seat own joint)) }
+        ensures ok { OnOk result (self.new ≡ after_named self.old (adopt_entry seat own joint)) }
         ensures err { OnErr result (self.new ≡ self.old) }
     {
         let call = Call::Adopt { own, joint };
@@ -177,18 +98,18 @@ impl Book {
         clause: &Clause,
     ) -> Result<(Imported, Entry), Refusal>
         ensures reply { IsReplyBy (λ told. told.0) result
-            (import_reply self.old seat own clause.now) }
-        ensures refused { IfErr (import_reply self.old seat own clause.now) (λ e. result ≡ Err e) }
+            (named_import self.old seat own clause.now) }
+        ensures refused { IfSome (import_refusal self.old seat own clause.now)
+            (λ e. result ≡ Err e) }
+        ensures within { names_up_to (top_of self.old) clause.now ≡ true
+            → IfErr (named_import self.old seat own clause.now) (λ e. result ≡ Err e) }
         ensures told { IfOk result (λ told. told.1 ≡ import_entry seat own clause.now) }
         ensures ok { OnOk result
-            (self.new ≡ after_entry self.old (import_entry seat own clause.now)) }
+            (self.new ≡ after_named self.old (import_entry seat own clause.now)) }
         ensures err { OnErr result (self.new ≡ self.old) }
     {
-        if let Some(refusal) = self.free_refusal(seat, own) {
+        if let Some(refusal) = self.known_refusal(seat, own, clause) {
             return Err(refusal);
-        }
-        if self.least_number(clause).is_none() {
-            return Err(Refusal::NoSuchClause);
         }
         let call = Call::Import {
             own,
@@ -206,64 +127,15 @@ impl Book {
     /// # Errors
     /// As [`Book::leave`].
     pub fn leave_with_entry(&mut self, seat: u32) -> Result<(u64, Entry), Refusal>
-        ensures reply { IsReplyBy (λ told. told.0) result (leave_reply self.old seat) }
-        ensures refused { IfErr (leave_reply self.old seat) (λ e. result ≡ Err e) }
-        ensures told { IfOk result (λ told. told.1 ≡ leave_entry self.old seat) }
-        ensures ok { OnOk result (self.new ≡ after_entry self.old (leave_entry self.old seat)) }
+        ensures reply { IsReplyBy (λ told. told.0) result (named_leave self.old seat) }
+        ensures refused { IfErr (named_leave self.old seat) (λ e. result ≡ Err e) }
+        ensures told { IfOk result (λ told. told.1 ≡ leave_entry (beneath self.old) seat) }
+        ensures ok { OnOk result
+            (self.new ≡ after_named self.old (leave_entry (beneath self.old) seat)) }
         ensures err { OnErr result (self.new ≡ self.old) }
     {
-        if !self.tables.is_here(seat) {
-            return Err(Refusal::SeatGone);
-        }
-        let alloc = self.clause_log.allocator();
-        let numbers = Numbers::new(self.tables.own_numbers(alloc, seat)?);
-        let joints = rising(self.tables.joints(alloc, seat, &numbers)?);
-        let place = match self.leave(seat) {
-            Ok(place) => place,
-            Err(refusal) => return Err(refusal),
-        };
-        let call = Call::Leave;
-        let step = deletion_of(without_holder(&self.tables, joints));
-        Ok((place, Entry { seat, call, step }))
+        let told = self.joint.leave_with_entry(seat);
+        history_is_legal(&self.joint);
+        told
     }
-}
-
-/// The entry of a receipt under this joint number.
-///
-/// # Errors
-/// [`NoMemory`] where a growth was refused.
-fn entry_of_receipt(alloc: Global, receipt: &Receipt, joint: u64) -> Result<Entry, NoMemory>
-    ensures { IfOk result (λ entry. entry ≡ entry_with joint receipt.now) }
-{
-    let step = step_of(alloc, receipt)?;
-    let call = Call::Add {
-        own: receipt.own(),
-        lemma: receipt.lemma().try_clone()?,
-    };
-    let step = Some(Step::Add(Addition {
-        number: joint,
-        lemma: step.lemma,
-        hints: step.hints,
-        groups: step.groups,
-    }));
-    Ok(Entry {
-        seat: receipt.seat(),
-        call,
-        step,
-    })
-}
-
-/// The entry of a seat's addition with this step.
-///
-/// # Errors
-/// [`NoMemory`] where a growth was refused.
-pub(crate) fn entry_of_line(seat: u32, own: u64, step: &LentAddition<'_>) -> Result<Entry, NoMemory>
-    ensures { IfOk result (λ entry. entry ≡ line_entry seat own step.now) }
-{
-    let call = Call::Add {
-        own,
-        lemma: step.lemma.try_clone()?,
-    };
-    let step = Some(Step::Add(step.try_clone()?));
-    Ok(Entry { seat, call, step })
 }

@@ -3,7 +3,6 @@ use Rattle.std.specs.Prelude.{◌≡◌, ◌==◌, ◌-◌, ℕ, nat_lt, Bool, f
 use Rattle.std.specs.FinMap as fin
 use Rattle.lj_clause.specs.LiteralSet.{LiteralSet}
 use Rattle.lj_clause.specs.ClauseMap.{ClauseMap, FormulaValue, formula_map}
-use Rattle.lj_book.specs.State.{State}
 use Rattle.lj_book.specs.Tables.{is_among}
 use Rattle.lj_hint.specs.declared.pair.Pair.{Pair}
 use Rattle.lj_book.specs.declared.refusal.Refusal.{Refusal}
@@ -13,6 +12,7 @@ use Rattle.lj_book.specs.Views.{IsClosedAlone}
 use Rattle.lj_text.specs.declared.line.Addition.{Addition}
 use Rattle.lj_hint.specs.Case.{CaseValue}
 use Rattle.lj_book.specs.Calls.{case_with, repeated_after, pairs_of, group_pairs_of}
+use Rattle.lj_book.specs.Named.{NamedState}
 use Rattle.lj_text.specs.declared.line.Line.{Line}
 use Rattle.lj_text.specs.declared.line.Line.TheVariants as lines
 use Rattle.lj_share.specs.declared.seat.Unlocked.{Unlocked}
@@ -22,13 +22,13 @@ use Rattle.lj_share.specs.Refusals.{HoldsInAState}
 use Rattle.lj_share.specs.inner.Bindings.{BindingsValue, bound_at}
 
 -- What the copies show, one for each seat, are the seats of a book in this state.
-abbrev pub AreShown : State → List SeatValue → Type 0
+abbrev pub AreShown : NamedState → List SeatValue → Type 0
 AreShown state shown = (seat : ℕ) (value : SeatValue) → slice_get shown seat ≡ Some value
     → value ≡ seat_of_book state seat
 
 -- What the lock keeps: the book is that of the opening, the total of its ledger is the number of entries, all of the ledger
 -- is with the seats, and the copies show the book's seats.
-pub record IsLockedBook (formula : FormulaValue) (seats max_steps : ℕ) (book : State)
+pub record IsLockedBook (formula : FormulaValue) (seats max_steps : ℕ) (book : NamedState)
     (shown : List SeatValue) (total parts amount : ℕ) : Type 0 where
   pub opened : IsOpenedAs formula seats max_steps book
   pub counted : length book.history ≡ total

@@ -1,4 +1,4 @@
-use Rattle.std.proofs.Common.{◌≤◌, ◌+◌, ℕ, ap, sym, ◌∙◌, take, length, arith}
+use Rattle.std.proofs.Common.{◌≤◌, ℕ, ap, sym, ◌∙◌, take, length, arith}
 use Rattle.std.specs.Prelude.{ℤ, List, [], ◌∷◌, ◌++◌, Option}
 use Rattle.std.proofs.lemmas.List.{take_more}
 use Rattle.lj_clause.specs.LiteralSet.{literals}

@@ -5,7 +5,8 @@ use Rattle.lj_clause.specs.ClauseMap.{FormulaValue}
 use Rattle.lj_clause.specs.Memory.{no_memory}
 use Rattle.lj_text.specs.Streams.{source_state}
 use Rattle.lj_text.specs.Steps.{adds_empty}
-use Rattle.lj_book.specs.State.{State, live, opening, steps_of}
+use Rattle.lj_book.specs.State.{live, steps_of}
+use Rattle.lj_book.specs.Named.{NamedState, named_opening, beneath}
 use Rattle.lj_run.specs.InTurn.{IsOutcome}
 use Rattle.lj_run.specs.Proof.{sink_state}
 use Rattle.lj_run.specs.declared.outcome.Outcome.{Outcome}
@@ -17,7 +18,7 @@ use Rattle.lj_run.proofs.in_turn.run_in_turn.Goals as goal
 
 pub prove-proof-requires-clause-verified : goal.prove-proof-requires-clause-verified
 prove-proof-requires-clause-verified g c =
-    refutes_any c.in_ok-verified.verified c.run_all.new.seat.book.formula (steps_of c.run_all.new.seat.book.history) (live c.run_all.new.seat.book) c.in_ok-verified.ensures.refuted c.live_is_the_replay.ensures
+    refutes_any c.in_ok-verified.verified c.run_all.new.seat.book.formula (steps_of c.run_all.new.seat.book.history) (live (beneath c.run_all.new.seat.book)) c.in_ok-verified.ensures.refuted c.live_is_the_replay.ensures
     ∙ ap (list_any adds_empty) (sym c.into_steps-steps.ensures)
 
 pub returns-clause-outcome : goal.returns-clause-outcome
@@ -27,8 +28,8 @@ returns-clause-outcome g c =
     let max = c.args.options.now.max_steps in
     let streams = c.in_ok-streams.streams.items in
     let seats : c.len.result ≡ length streams = search rules in
-    let opened = c.new-seat.ensures ∙ c.in_ok-book.ensures ∙ ap (λ n. opening f n max) seats in
-    let same : c.run_all.new.seat.book.formula ≡ f = c.in_ok-reports.ensures.formula ∙ ap (λ (s : State). s.formula) opened in
+    let opened = c.new-seat.ensures ∙ c.in_ok-book.ensures ∙ ap (λ n. named_opening f n max) seats in
+    let same : c.run_all.new.seat.book.formula ≡ f = c.in_ok-reports.ensures.formula ∙ ap (λ (s : NamedState). s.formula) opened in
     let outcome : Outcome g.row.S.Denot = record { reports = c.in_ok-reports.reports; verified = c.in_ok-verified.verified; steps = c.into_steps-steps.result; proof = c.prove-proof.result; explanation = c.explanation_of-explanation.result } in
     let is = outcome_is seen f max streams c.new-seat.result.book c.run_all.new.seat.book outcome opened c.in_ok-reports.ensures.formula c.in_ok-reports.ensures.reports
     c.history_is_legal.ensures c.into_steps-steps.ensures c.live_is_the_replay.ensures c.in_ok-verified.ensures.refuted c.in_ok-verified.ensures.formula in

@@ -26,8 +26,8 @@ new-requires-in-loop-copy g c =
     let long = ap length c.in-Some.ensures.steps.0 in
     let many = c.loop-copy.invariant.many in
     let within : c.loop-copy.number < length c.args.copies.items = omega (arith, long, many) in
-    let view = ap (λ (s : SeatValue). s.view) (c.new-account.ensures ∙ c.follow.ensures.seat) ∙ opened_view _ _ _ _ _ c.requires.opened within in
-    let here = own_opened c.seats_hold_the_formula.ensures c.args.formula.now c.in_ok-new.field-0 c.in_ok-new.ensures in
+    let view = ap (λ (s : SeatValue). s.view) (c.new-account.ensures ∙ c.follow.ensures.seat) ∙ opened_view c.seats_hold_the_formula.ensures.formula _ _ _ _ _ c.requires.opened within in
+    let here = own_opened c.seats_hold_the_formula.ensures.clauses c.args.formula.now c.in_ok-new.field-0 c.in_ok-new.ensures in
     subst (IsOwnOf g.L.BookId.formula (Some c.in_ok-new.field-0)) (sym view) (subst (λ f. IsOwnOf f (Some c.in_ok-new.field-0) (Some (formula_holdings c.args.formula.now))) c.requires.formula here)
 
 pub loop-copy-preserved : goal.loop-copy-preserved
@@ -37,7 +37,7 @@ loop-copy-preserved g c =
     let long = ap length step in
     let many = i.many in
     let within : c.loop-copy.number < length c.args.copies.items = omega (arith, long, many) in
-    let seat = c.new-in-loop-copy.ensures ∙ c.new-account.ensures ∙ c.follow.ensures.seat ∙ opened_seat _ _ _ _ _ c.requires.opened within in
+    let seat = c.new-in-loop-copy.ensures ∙ c.new-account.ensures ∙ c.follow.ensures.seat ∙ opened_seat c.seats_hold_the_formula.ensures.formula _ _ _ _ _ c.requires.opened within in
     record {
       parts = (let a = c.split_off.ensures.parts_left in let b = i.parts in omega (arith, a, b, long));
       amount = (let a = c.split_off.ensures.amount_left in let b = i.amount in omega (arith, a, b));

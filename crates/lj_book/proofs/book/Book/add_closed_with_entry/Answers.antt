@@ -1,21 +1,26 @@
-use Rattle.std.proofs.Common.{◌≡◌, sym, subst}
-use Rattle.std.specs.Prelude.{IfOk, OnOk}
+use Rattle.std.proofs.Common.{◌≡◌, ◌∙◌, subst}
+use Rattle.std.specs.Prelude.{IfOk}
+use Rattle.std.proofs.lemmas.Result.{on_ok_weaker}
 use Rattle.lj_book.specs.declared.entry.Added.{Added}
 use Rattle.lj_book.specs.declared.entry.Entry.{Entry}
-use Rattle.lj_book.specs.State.{State}
-use Rattle.lj_book.specs.History.{after_entry}
 use Rattle.lj_book.specs.Calls.{IsReplyBy}
-use Rattle.lj_book.specs.Inside.{inside_reply, inside_entry}
+use Rattle.lj_book.specs.Named.{NamedState, named_over, after_named}
+use Rattle.lj_book.specs.NamedReplies.{named_inside}
+use Rattle.lj_book.specs.NamedInside.{named_inside_entry}
+use Rattle.lj_book.proofs.InsideOver.{over_either, left_either}
 use Rattle.lj_book.proofs.book.Book.add_closed_with_entry.Goals as goal
 
+pub invariant_of-self : goal.invariant_of-self
+invariant_of-self c =
+    over_either c.close_named_with_entry.result c.self.inside.joint c.close_named_with_entry.new.joint c.self.inside.variables c.close_named_with_entry.new.variables (named_inside_entry (named_over c.self.inside.joint c.self.inside.variables.variables) c.args.seat c.args.addition.now) c.self.invariant c.close_named_with_entry.ensures.ok c.close_named_with_entry.ensures.err
+
 pub returns-clause-reply : goal.returns-clause-reply
-returns-clause-reply c = subst (λ (t : State). IsReplyBy (λ (told : Added × Entry). told.0) c.enter_closed_with_entry-told.result (inside_reply t c.args.seat c.args.addition.now)) c.lend_joints-hints.ensures c.enter_closed_with_entry-told.ensures.reply
+returns-clause-reply c = subst (λ (s : NamedState). IsReplyBy (λ (told : Added × Entry). told.0) c.close_named_with_entry.result (named_inside s c.args.seat c.args.addition.now)) c.self.view_is c.close_named_with_entry.ensures.reply
 
 pub returns-clause-told : goal.returns-clause-told
-returns-clause-told c = subst (λ (t : State). IfOk c.enter_closed_with_entry-told.result (λ told. told.1 ≡ inside_entry t c.args.seat c.args.addition.now)) c.lend_joints-hints.ensures c.enter_closed_with_entry-told.ensures.told
+returns-clause-told c = subst (λ (s : NamedState). IfOk c.close_named_with_entry.result (λ told. told.1 ≡ named_inside_entry s c.args.seat c.args.addition.now)) c.self.view_is c.close_named_with_entry.ensures.told
 
 pub returns-clause-ok : goal.returns-clause-ok
 returns-clause-ok c =
-    let s : State = record { formula = c.self.inside.formula; max_steps = c.self.inside.max_steps; tables = c.self.inside.tables; history = c.self.inside.clause_log.history.entries } in
-    subst (λ (t : State). OnOk c.enter_closed_with_entry-told.result (s ≡ after_entry t (inside_entry t c.args.seat c.args.addition.now))) c.lend_joints-hints.ensures
-    (subst (λ (u : State). OnOk c.enter_closed_with_entry-told.result (u ≡ after_entry c.lend_joints-hints.new.self (inside_entry c.lend_joints-hints.new.self c.args.seat c.args.addition.now))) (sym c.self.view_is) c.enter_closed_with_entry-told.ensures.ok)
+    on_ok_weaker c.close_named_with_entry.result (λ e. e ∙ (λ i. after_named (c.self.view_is i) (named_inside_entry (c.self.view_is i) c.args.seat c.args.addition.now)))
+    (left_either c.close_named_with_entry.result c.self.inside.joint c.close_named_with_entry.new.joint c.self.inside.variables c.close_named_with_entry.new.variables (named_inside_entry (named_over c.self.inside.joint c.self.inside.variables.variables) c.args.seat c.args.addition.now) c.self.invariant c.close_named_with_entry.ensures.ok c.close_named_with_entry.ensures.err)

@@ -1,30 +1,29 @@
-use Rattle.std.proofs.Common.{◌≡◌, ap, sym, ◌∙◌, subst, refl}
-use Rattle.std.specs.Prelude.{None, Some}
-use Rattle.std.specs.FinMap as fin
-use Rattle.lj_book.specs.declared.entry.Call.TheVariants as calls
-use Rattle.lj_book.specs.Lookup.{least_number}
-use Rattle.lj_book.specs.State.{State, live}
-use Rattle.lj_book.specs.History.{some_lives, IsLegalCall}
-use Rattle.lj_book.proofs.BindingLaws.{can_bind}
-use Rattle.lj_book.proofs.Scans.{least_is_there}
+use Rattle.std.proofs.Common.{ap, sym, ◌∙◌}
+use Rattle.lj_clause.specs.ClauseMap.{names_up_to}
+use Rattle.lj_clause.specs.Renaming.{image}
+use Rattle.lj_book.specs.Variables.{renaming_of}
+use Rattle.lj_book.specs.Named.{NamedState, names_of}
+use Rattle.lj_book.proofs.OverLaws.{within_named, unrefused_named, over_top, reached_over}
 use Rattle.lj_book.proofs.book.Book.import.Goals as goal
 
-pub bind_live-requires-clause-lives : goal.bind_live-requires-clause-lives
-bind_live-requires-clause-lives c =
-    ap (λ (s : State). fin.contains_key (live s) c.in-Some-least_number.joint) c.least_number.ensures.same
-    ∙ least_is_there (live c.args.self.now) c.args.clause.now c.in-Some-least_number.joint (sym c.least_number.ensures.number ∙ c.in-Some-least_number.is)
+pub import_joint-requires-clause-named : goal.import_joint-requires-clause-named
+import_joint-requires-clause-named c =
+    let top = over_top c.self.inside.joint c.self.inside.variables c.args.self.now c.self.invariant c.self.view_is in
+    (within_named c.args.self.now c.args.seat c.args.own c.args.clause.now (reached_over c.self.inside.joint c.self.inside.variables c.args.self.now c.self.invariant c.self.view_is)
+    (ap (λ n. names_up_to n c.args.clause.now) (sym top) ∙ sym c.is_within.ensures.within ∙ c.if-is_within.true)).0
 
-pub bind_live-requires-clause-legal : goal.bind_live-requires-clause-legal
-bind_live-requires-clause-legal c =
-    let s = c.args.self.now in
-    let can = can_bind s c.args.seat c.args.own (sym c.free_refusal.ensures ∙ c.in_default.is) in
-    let found : least_number (live s) c.args.clause.now ≡ Some c.in-Some-least_number.joint =
-    sym c.least_number.ensures.number
-    ∙ c.in-Some-least_number.is in
-    subst (λ (t : State). IsLegalCall t c.args.seat (calls.Import c.args.own c.args.clause.now) None) (sym c.least_number.ensures.same)
-    (record {
-      here = can.here;
-      unbound = can.unbound;
-      lives = ap (some_lives s) found ∙ least_is_there (live s) c.args.clause.now c.in-Some-least_number.joint (sym c.least_number.ensures.number ∙ c.in-Some-least_number.is);
-      stepless = refl;
-    })
+pub import_joint-requires-clause-joint : goal.import_joint-requires-clause-joint
+import_joint-requires-clause-joint c =
+    let top = over_top c.self.inside.joint c.self.inside.variables c.args.self.now c.self.invariant c.self.view_is in
+    (within_named c.args.self.now c.args.seat c.args.own c.args.clause.now (reached_over c.self.inside.joint c.self.inside.variables c.args.self.now c.self.invariant c.self.view_is)
+    (ap (λ n. names_up_to n c.args.clause.now) (sym top) ∙ sym c.is_within.ensures.within ∙ c.if-is_within.true)).1
+
+pub import_joint-requires-2-clause-named : goal.import_joint-requires-2-clause-named
+import_joint-requires-2-clause-named c =
+    unrefused_named c.args.self.now c.args.seat c.args.own c.args.clause.now (sym c.import_refusal.ensures ∙ c.in_default.is)
+
+pub import_joint-requires-2-clause-joint : goal.import_joint-requires-2-clause-joint
+import_joint-requires-2-clause-joint c =
+    ap (λ (s : NamedState). image (names_of s c.args.seat) c.args.clause.now) (sym c.self.view_is)
+    ∙ (λ i. image (renaming_of (sym c.to_joint.ensures.0 i).variables (sym c.to_joint.ensures.1 i)) c.args.clause.now)
+    ∙ sym c.in_ok-renamed.ensures

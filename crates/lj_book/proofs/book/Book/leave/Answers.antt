@@ -1,46 +1,29 @@
-use Rattle.std.proofs.Common.{◌≡◌, ap, sym, ◌∙◌, subst, ℕ, refl, arith, ◌≤◌}
-use Rattle.std.specs.Prelude.{List, [], ◌∷◌, ◌++◌, length, not}
-use Rattle.lj_text.specs.Steps.{without}
-use Rattle.lj_text.specs.Needed.{if_some}
-use Rattle.lj_book.specs.declared.entry.Call.TheVariants as calls
-use Rattle.lj_book.specs.declared.entry.Entry.{Entry}
-use Rattle.lj_book.specs.Tables.{has_holder, without_seat}
+use Rattle.std.proofs.Common.{◌≡◌, ap, refl, ◌∙◌, subst}
+use Rattle.std.specs.Prelude.{Err, IfErr}
+use Rattle.std.proofs.lemmas.Result.{on_ok_weaker, on_err_weaker}
 use Rattle.lj_book.specs.State.{State}
-use Rattle.lj_book.specs.History.{after_entry}
-use Rattle.lj_book.specs.inner.Kept.{IsKept}
-use Rattle.lj_book.specs.Calls.{leave_entry}
-use Rattle.lj_book.proofs.HistoryLaws.{IsSound-reached}
-use Rattle.lj_book.proofs.LeaveLaws.{IsKept-leave, left_dead, left_state}
-use Rattle.lj_book.proofs.Lists.{length-filter-le}
+use Rattle.lj_book.specs.Calls.{IsReply, leave_entry, leave_reply}
+use Rattle.lj_book.specs.Named.{named_over, after_named}
+use Rattle.lj_book.proofs.OverLaws.{under, on_ok, over_answered, left_answered}
 use Rattle.lj_book.proofs.book.Book.leave.Goals as goal
 
-pub invariant_of-self-2 : goal.invariant_of-self-2
-invariant_of-self-2 c =
-    let s : State = record { formula = c.self.inside.formula; max_steps = c.self.inside.max_steps; tables = c.self.inside.tables; history = c.self.inside.clause_log.history.entries } in
-    let here = sym c.is_here.ensures ∙ c.if-not-is_here.false in
-    let ns = c.new-numbers.result in
-    let gone : c.leave.new.self ≡ without_seat s.tables c.args.seat = c.leave.ensures in
-    let dead = left_dead s c.args.seat ns c.rising-joints.result.items c.without_holder-died.result.items c.leave.new.self (IsSound-reached s c.self.invariant.reached) here (c.new-numbers.ensures ∙ c.in_ok-own_numbers.ensures) gone c.rising-joints.ensures.rising (λ q. c.rising-joints.ensures.same q ∙ c.in_ok-joints.ensures q) c.without_holder-died.ensures in
-    let entry : Entry = record { seat = c.args.seat; call = calls.Leave; step = (if_some c.without_holder-died.result.items) } in
-    let pushed : c.push_leave.new.self.history.entries ≡ s.history ++ entry ∷ [] = c.push_leave.ensures.entries ∙ ap (λ (ds : List ℕ). c.reserve_deaths.new.self.history.entries ++ record { seat = c.args.seat; call = calls.Leave; step = if_some ds } ∷ []) c.deref.ensures.value ∙ ap (λ (es : List Entry). es ++ entry ∷ []) c.in_ok-reserve_deaths.ensures.same in
-    let is = left_state s c.args.seat c.without_holder-died.result.items c.leave.new.self (if_some c.without_holder-died.result.items) c.push_leave.new.self.history.entries gone dead refl pushed in
-    subst (λ (t : State). IsKept t c.push_leave.new.self.live c.self.inside.added c.self.inside.refuted) (sym is)
-    (IsKept-leave s c.self.inside.clause_log.live c.push_leave.new.self.live c.self.inside.added c.self.inside.refuted c.args.seat c.self.invariant here (c.push_leave.ensures.lives ∙ (λ i. without (c.in_ok-reserve_deaths.ensures.lives i) ((c.deref.ensures.value ∙ dead) i))))
+pub invariant_of-self : goal.invariant_of-self
+invariant_of-self c =
+    over_answered c.leave-left.result c.self.inside.joint c.leave-left.new.self c.self.inside.variables (leave_entry c.self.inside.joint c.args.seat) c.self.invariant c.history_is_legal.ensures
+    (on_ok c.leave-left.result tt) refl c.leave-left.ensures.ok c.leave-left.ensures.err
+
+pub returns-clause-reply : goal.returns-clause-reply
+returns-clause-reply c = subst (λ (j : State). IsReply c.leave-left.result (leave_reply j c.args.seat)) (under _ _ _ c.self.invariant c.self.view_is) c.leave-left.ensures.reply
+
+pub returns-clause-refused : goal.returns-clause-refused
+returns-clause-refused c = subst (λ (j : State). IfErr (leave_reply j c.args.seat) (λ e. c.leave-left.result ≡ Err e)) (under _ _ _ c.self.invariant c.self.view_is) c.leave-left.ensures.refused
 
 pub returns-clause-ok : goal.returns-clause-ok
 returns-clause-ok c =
-    let s : State = record { formula = c.self.inside.formula; max_steps = c.self.inside.max_steps; tables = c.self.inside.tables; history = c.self.inside.clause_log.history.entries } in
-    let here = sym c.is_here.ensures ∙ c.if-not-is_here.false in
-    let ns = c.new-numbers.result in
-    let gone : c.leave.new.self ≡ without_seat s.tables c.args.seat = c.leave.ensures in
-    let dead = left_dead s c.args.seat ns c.rising-joints.result.items c.without_holder-died.result.items c.leave.new.self (IsSound-reached s c.self.invariant.reached) here (c.new-numbers.ensures ∙ c.in_ok-own_numbers.ensures) gone c.rising-joints.ensures.rising (λ q. c.rising-joints.ensures.same q ∙ c.in_ok-joints.ensures q) c.without_holder-died.ensures in
-    let entry : Entry = record { seat = c.args.seat; call = calls.Leave; step = (if_some c.without_holder-died.result.items) } in
-    let pushed : c.push_leave.new.self.history.entries ≡ s.history ++ entry ∷ [] = c.push_leave.ensures.entries ∙ ap (λ (ds : List ℕ). c.reserve_deaths.new.self.history.entries ++ record { seat = c.args.seat; call = calls.Leave; step = if_some ds } ∷ []) c.deref.ensures.value ∙ ap (λ (es : List Entry). es ++ entry ∷ []) c.in_ok-reserve_deaths.ensures.same in
-    left_state s c.args.seat c.without_holder-died.result.items c.leave.new.self (if_some c.without_holder-died.result.items) c.push_leave.new.self.history.entries gone dead refl pushed
-    ∙ ap (λ (t : State). after_entry t (leave_entry t c.args.seat)) c.self.view_is
+    let below = under _ _ _ c.self.invariant c.self.view_is in
+    on_ok_weaker c.leave-left.result (λ e. e ∙ (λ i. after_named (c.self.view_is i) (leave_entry (below i) c.args.seat)))
+    (left_answered c.leave-left.result c.self.inside.joint c.leave-left.new.self c.self.inside.variables (leave_entry c.self.inside.joint c.args.seat) c.self.invariant c.history_is_legal.ensures
+    (on_ok c.leave-left.result tt) refl c.leave-left.ensures.ok c.leave-left.ensures.err)
 
-pub push_leave-requires-clause-encoding : goal.push_leave-requires-clause-encoding
-push_leave-requires-clause-encoding c =
-    let js : List ℕ = c.rising-joints.result.items in
-    let died : length c.deref.result.now ≤ length js = subst (λ (ds : List ℕ). length ds ≤ length js) (sym c.without_holder-died.ensures ∙ sym c.deref.ensures.value) (length-filter-le (λ n. not (has_holder c.leave.new.self n)) js) in
-    omega (arith, c.in_ok-reserve_deaths.ensures.encoding, c.len.ensures, c.rising-joints.result.ok.0)
+pub returns-clause-err : goal.returns-clause-err
+returns-clause-err c = on_err_weaker c.leave-left.result (λ e. ap (λ (j : State). named_over j c.self.inside.variables.variables) e ∙ c.self.view_is) c.leave-left.ensures.err

@@ -1,27 +1,33 @@
-use Rattle.std.proofs.Common.{◌≡◌, ap, sym, ◌∙◌}
-use Rattle.std.specs.Prelude.{Option}
-use Rattle.lj_text.specs.declared.step.Step.{Step}
-use Rattle.lj_text.specs.Needed.{if_some}
-use Rattle.lj_book.specs.declared.entry.Call.TheVariants as calls
+use Rattle.std.proofs.Common.{◌≡◌, ap, refl, ◌∙◌, subst, ℕ}
+use Rattle.std.specs.Prelude.{Err, IfOk, IfErr}
+use Rattle.std.proofs.lemmas.Result.{on_ok_weaker, on_err_weaker}
 use Rattle.lj_book.specs.declared.entry.Entry.{Entry}
-use Rattle.lj_book.specs.Tables.{without_seat}
 use Rattle.lj_book.specs.State.{State}
-use Rattle.lj_book.specs.Calls.{leave_entry}
-use Rattle.lj_book.proofs.HistoryLaws.{IsSound-reached}
-use Rattle.lj_book.proofs.LeaveLaws.{left_dead}
+use Rattle.lj_book.specs.Calls.{IsReplyBy, leave_entry, leave_reply}
+use Rattle.lj_book.specs.Named.{named_over, after_named}
+use Rattle.lj_book.proofs.OverLaws.{under, on_ok, over_answered, left_answered}
 use Rattle.lj_book.proofs.book.Book.leave_with_entry.Goals as goal
 
+pub invariant_of-self : goal.invariant_of-self
+invariant_of-self c =
+    over_answered c.leave_with_entry-told.result c.self.inside.joint c.leave_with_entry-told.new.self c.self.inside.variables (leave_entry c.self.inside.joint c.args.seat) c.self.invariant c.history_is_legal.ensures
+    (on_ok c.leave_with_entry-told.result tt) refl c.leave_with_entry-told.ensures.ok c.leave_with_entry-told.ensures.err
+
+pub returns-clause-reply : goal.returns-clause-reply
+returns-clause-reply c = subst (λ (j : State). IsReplyBy (λ (told : ℕ × Entry). told.0) c.leave_with_entry-told.result (leave_reply j c.args.seat)) (under _ _ _ c.self.invariant c.self.view_is) c.leave_with_entry-told.ensures.reply
+
+pub returns-clause-refused : goal.returns-clause-refused
+returns-clause-refused c = subst (λ (j : State). IfErr (leave_reply j c.args.seat) (λ e. c.leave_with_entry-told.result ≡ Err e)) (under _ _ _ c.self.invariant c.self.view_is) c.leave_with_entry-told.ensures.refused
+
 pub returns-clause-told : goal.returns-clause-told
-returns-clause-told c =
-    let s : State = record { formula = c.self.inside.formula; max_steps = c.self.inside.max_steps; tables = c.self.inside.tables; history = c.self.inside.clause_log.history.entries } in
-    let seat = c.args.seat in
-    let ns = c.new-numbers.result in
-    let here = sym c.is_here.ensures ∙ c.if-not-is_here.false in
-    let left : c.self-2.inside.tables ≡ without_seat s.tables seat =
-    ap (λ (t : State). t.tables) c.self-2.view_is
-    ∙ ap (λ (t : State). t.tables) c.in-Ok.ensures.ok
-    ∙ ap (λ (t : State). without_seat t.tables seat) (sym c.self.view_is) in
-    let dead = left_dead s seat ns c.rising-joints.result.items c.without_holder.result.items c.self-2.inside.tables (IsSound-reached s c.self.invariant.reached) here (c.new-numbers.ensures ∙ c.in_ok-own_numbers.ensures) left c.rising-joints.ensures.rising (λ q. c.rising-joints.ensures.same q ∙ c.in_ok-joints.ensures q) c.without_holder.ensures in
-    let entry : Option Step → Entry = λ o. record { seat = seat; call = calls.Leave; step = o } in
-    ap entry (c.deletion_of-step.ensures ∙ ap if_some dead)
-    ∙ ap (λ (t : State). leave_entry t seat) c.self.view_is
+returns-clause-told c = subst (λ (j : State). IfOk c.leave_with_entry-told.result (λ told. told.1 ≡ leave_entry j c.args.seat)) (under _ _ _ c.self.invariant c.self.view_is) c.leave_with_entry-told.ensures.told
+
+pub returns-clause-ok : goal.returns-clause-ok
+returns-clause-ok c =
+    let below = under _ _ _ c.self.invariant c.self.view_is in
+    on_ok_weaker c.leave_with_entry-told.result (λ e. e ∙ (λ i. after_named (c.self.view_is i) (leave_entry (below i) c.args.seat)))
+    (left_answered c.leave_with_entry-told.result c.self.inside.joint c.leave_with_entry-told.new.self c.self.inside.variables (leave_entry c.self.inside.joint c.args.seat) c.self.invariant c.history_is_legal.ensures
+    (on_ok c.leave_with_entry-told.result tt) refl c.leave_with_entry-told.ensures.ok c.leave_with_entry-told.ensures.err)
+
+pub returns-clause-err : goal.returns-clause-err
+returns-clause-err c = on_err_weaker c.leave_with_entry-told.result (λ e. ap (λ (j : State). named_over j c.self.inside.variables.variables) e ∙ c.self.view_is) c.leave_with_entry-told.ensures.err

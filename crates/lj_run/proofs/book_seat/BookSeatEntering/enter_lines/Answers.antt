@@ -1,6 +1,6 @@
 use Rattle.std.proofs.Common.{◌≡◌, ◌∙◌, false, length, get_or, Some, sym, ap, subst, arith}
 use Rattle.std.proofs.lemmas.Option.{slice_get-get_or}
-use Rattle.lj_book.specs.State.{State}
+use Rattle.lj_book.specs.Named.{NamedState}
 use Rattle.lj_share.specs.Refusals.{IsRefusedLine}
 use Rattle.lj_share.specs.declared.numbered.Numbered.{Numbered}
 use Rattle.lj_run.specs.Run.{has_verdict}
@@ -8,10 +8,10 @@ use Rattle.lj_run.proofs.InTurnLemmas.{entered_longer, one_more_line}
 use Rattle.lj_run.proofs.book_seat.BookSeatEntering.enter_lines.Goals as goal
 
 pub returns-in-Err-clause-entered : goal.returns-in-Err-clause-entered
-returns-in-Err-clause-entered g c = (c.loop-done.invariant.leads.0 ∙ ap (λ (s : State). Some s) (sym c.in-Err.ensures.kept), c.in-Err.ensures.number ∙ c.loop-done.invariant.leads.1)
+returns-in-Err-clause-entered g c = (c.loop-done.invariant.leads.0 ∙ ap (λ (s : NamedState). Some s) (sym c.in-Err.ensures.kept), c.in-Err.ensures.number ∙ c.loop-done.invariant.leads.1)
 
 pub returns-in-Err-clause-known : goal.returns-in-Err-clause-known
-returns-in-Err-clause-known g c = ap (λ (s : State). length s.history) c.in-Err.ensures.kept ∙ c.loop-done.invariant.known
+returns-in-Err-clause-known g c = ap (λ (s : NamedState). length s.history) c.in-Err.ensures.kept ∙ c.loop-done.invariant.known
 
 pub returns-in-Err-clause-refused : goal.returns-in-Err-clause-refused
 returns-in-Err-clause-refused g c =
@@ -20,7 +20,7 @@ returns-in-Err-clause-refused g c =
       line,
       is,
       subst (λ n. IsRefusedLine n line.line c.in-Err.refusal c.enter.new.self.book) (sym c.in-Err.ensures.number)
-          (subst (λ (s : State). IsRefusedLine c.loop-done.self.number line.line c.in-Err.refusal s) (sym c.in-Err.ensures.kept) c.in-Err.ensures.refused),
+          (subst (λ (s : NamedState). IsRefusedLine c.loop-done.self.number line.line c.in-Err.refusal s) (sym c.in-Err.ensures.kept) c.in-Err.ensures.refused),
       ap has_verdict c.in-Err.ensures.kept ∙ c.is_stopped.ensures.goes_on c.if-is_stopped.false,
     )
 

@@ -8,14 +8,14 @@ use Rattle.lj_share.proofs.locked_book.LockedBook.drop_numbers.Goals as goal
 pub returns-clause-made : goal.returns-clause-made
 returns-clause-made g c =
     elim c.match-drop_numbers.branch [
-      | in-Ok w ↦ rw (w.result-is, w.account-is) (made_in c.agree.ensures.views _ _ _ _ _ _ c.agree.ensures.legal w.count_one.ensures.legal c.number.ensures w.in-Ok.ensures.ok c.agree.ensures.seat c.agree.ensures.kept w.count_one.ensures.seat tt)
+      | in-Ok w ↦ rw (w.result-is, w.account-is) (made_in c.agree.ensures.views _ _ _ _ _ _ c.agree.ensures.formula c.agree.ensures.legal w.count_one.ensures.legal c.number.ensures w.in-Ok.ensures.ok c.agree.ensures.seat c.agree.ensures.kept w.count_one.ensures.seat tt)
       | in-Err w ↦ rw w.result-is tt
     ]
 
 pub invariant_of-self : goal.invariant_of-self
 invariant_of-self g c =
     elim c.match-drop_numbers.branch [
-      | in-Ok w ↦ rw w.self-inside-is (locked_book_in c.agree.ensures.views _ _ _ _ _ _ _ _ _ _ _ _ _ _ c.agree.ensures.legal w.count_one.ensures.legal c.number.ensures w.in-Ok.ensures.ok w.count_one.ensures.entries c.agree.ensures.lists w.count_one.ensures.lists c.self.invariant)
+      | in-Ok w ↦ rw w.self-inside-is (locked_book_in c.agree.ensures.views _ _ _ _ _ _ _ _ _ _ _ _ _ _ c.agree.ensures.formula c.agree.ensures.legal w.count_one.ensures.legal c.number.ensures w.in-Ok.ensures.ok w.count_one.ensures.entries c.agree.ensures.lists w.count_one.ensures.lists c.self.invariant)
       | in-Err w ↦ rw w.self-inside-is (locked_book_agreed _ _ _ _ _ _ _ _ _ _ w.in-Err.ensures.err c.agree.ensures.lists c.self.invariant)
     ]
 
@@ -29,7 +29,7 @@ returns-clause-free g c =
 pub returns-clause-view : goal.returns-clause-view
 returns-clause-view g c =
     elim c.match-drop_numbers.branch [
-      | in-Ok w ↦ rw (w.result-is, w.account-is) (dropped_in c.agree.ensures.views _ _ _ c.args.numbers.now _ _ _ c.agree.ensures.legal w.count_one.ensures.legal c.number.ensures w.in-Ok.ensures.ok c.agree.ensures.seat c.agree.ensures.kept w.count_one.ensures.seat refl)
+      | in-Ok w ↦ rw (w.result-is, w.account-is) (dropped_in c.agree.ensures.views _ _ _ c.args.numbers.now _ _ _ c.agree.ensures.formula c.agree.ensures.legal w.count_one.ensures.legal c.number.ensures w.in-Ok.ensures.ok c.agree.ensures.seat c.agree.ensures.kept w.count_one.ensures.seat refl)
       | in-Err w ↦ rw w.result-is tt
     ]
 

@@ -1,0 +1,35 @@
+use Rattle.std.proofs.Common.{◌≡◌, ap, ◌∙◌, subst}
+use Rattle.std.specs.Prelude.{Result, Err, IfErr}
+use Rattle.std.proofs.lemmas.Result.{on_err_weaker}
+use Rattle.lj_book.specs.declared.entry.Imported.{Imported}
+use Rattle.lj_book.specs.declared.refusal.Refusal.{Refusal}
+use Rattle.lj_book.specs.State.{State}
+use Rattle.lj_book.specs.Calls.{IsReply}
+use Rattle.lj_book.specs.Named.{named_over}
+use Rattle.lj_book.proofs.OverLaws.{import_alike, import_over, import_left}
+use Rattle.lj_book.proofs.book.Book.import_joint.Goals as goal
+
+pub invariant_of-self : goal.invariant_of-self
+invariant_of-self c =
+    import_over c.self.inside.joint c.self.inside.variables c.args.self.now c.self.invariant c.self.view_is c.args.seat c.args.own c.args.clause.now c.args.joint.now c.requires.named c.requires.joint
+    c.import-imported.result c.import-imported.new.self c.history_is_legal.ensures c.import-imported.ensures.ok c.import-imported.ensures.err
+
+pub returns-clause-reply : goal.returns-clause-reply
+returns-clause-reply c =
+    subst (λ (r : Result Imported Refusal). IsReply c.import-imported.result r)
+    (import_alike c.self.inside.joint c.self.inside.variables c.args.self.now c.self.invariant c.self.view_is c.args.seat c.args.own c.args.clause.now c.args.joint.now c.requires.named c.requires.joint)
+    c.import-imported.ensures.reply
+
+pub returns-clause-refused : goal.returns-clause-refused
+returns-clause-refused c =
+    subst (λ (r : Result Imported Refusal). IfErr r (λ e. c.import-imported.result ≡ Err e))
+    (import_alike c.self.inside.joint c.self.inside.variables c.args.self.now c.self.invariant c.self.view_is c.args.seat c.args.own c.args.clause.now c.args.joint.now c.requires.named c.requires.joint)
+    c.import-imported.ensures.refused
+
+pub returns-clause-ok : goal.returns-clause-ok
+returns-clause-ok c =
+    import_left c.self.inside.joint c.self.inside.variables c.args.self.now c.self.invariant c.self.view_is c.args.seat c.args.own c.args.clause.now c.args.joint.now c.requires.named c.requires.joint
+    c.import-imported.result c.import-imported.new.self c.history_is_legal.ensures c.import-imported.ensures.ok c.import-imported.ensures.err
+
+pub returns-clause-err : goal.returns-clause-err
+returns-clause-err c = on_err_weaker c.import-imported.result (λ e. ap (λ (j : State). named_over j c.self.inside.variables.variables) e ∙ c.self.view_is) c.import-imported.ensures.err

@@ -1,6 +1,0 @@
-use Rattle.std.proofs.Common.{subst}
-use Rattle.lj_book.specs.Named.{NamedState, IsNamedReached}
-use Rattle.lj_book.proofs.named_book.laws.named_history_is_legal.Goals as goal
-
-pub returns : goal.returns
-returns c = subst (λ (s : NamedState). IsNamedReached s) c.book.view_is c.book.invariant.reached

@@ -1,5 +1,0 @@
-use Rattle.lj_book.proofs.NamedSoloRuns.{named_alone}
-use Rattle.lj_book.proofs.named_book.laws.named_tidy_seats_are_alone.Goals as goal
-
-pub returns : goal.returns
-returns c = named_alone
