@@ -3,11 +3,11 @@ use Rattle.std.proofs.Common.{◌≡◌, ap, refl, sym, ◌∙◌, subst, ℕ, �
 use Rattle.std.specs.Prelude.{nat_lt, [], Ok, Err}
 use Rattle.std.proofs.lemmas.Bool.Decides.{nat_tests}
 use Rattle.lj_clause.specs.Lemma.{IsLemma}
-use Rattle.lj_clause.specs.ClauseMap.{IsFormula, names_up_to}
+use Rattle.lj_clause.specs.ClauseMap.{IsFormula}
 use Rattle.lj_text.specs.declared.line.Addition.{Addition}
 use Rattle.lj_book.specs.declared.refusal.Refusal.{Refusal}
 use Rattle.lj_book.specs.declared.refusal.Refusal.TheVariants.{Full, NoVariableLeft}
-use Rattle.lj_book.specs.Variables.{given}
+use Rattle.lj_book.specs.Variables.{renaming_of, given}
 use Rattle.lj_book.specs.State.{State, addition_count, next, live}
 use Rattle.lj_book.specs.History.{IsReached}
 use Rattle.lj_book.specs.Calls.{IsRefusal, commit_told}
@@ -19,7 +19,7 @@ use Rattle.lj_book.specs.NamedReplies.{named_inside}
 use Rattle.lj_book.specs.NamedViews.{named_view, addition_beneath}
 use Rattle.lj_book.specs.NamedInside.{if_left}
 use Rattle.lj_book.specs.inner.JointLines.{addition_of_parts}
-use Rattle.lj_book.specs.inner.JointForms.{joint_form}
+use Rattle.lj_book.specs.inner.JointForms.{joint_form, is_settled}
 use Rattle.lj_book.specs.inner.VariableTables.{TopVariables, variables_at}
 use Rattle.lj_book.specs.inner.Over.{IsOver}
 use Rattle.lj_book.proofs.HistoryLaws.{IsSound, IsSound-reached}
@@ -29,7 +29,7 @@ use Rattle.lj_book.proofs.NamedLaws.{beneath_is_reached}
 use Rattle.lj_book.proofs.NamedInsideLaws.{replies_are_beneath}
 use Rattle.lj_book.proofs.DecidedBeneath.{closed_so}
 use Rattle.lj_book.proofs.OverLaws.{is_refusal}
-use Rattle.lj_book.proofs.InsideOver.{within_so, form_is, seat_within}
+use Rattle.lj_book.proofs.InsideOver.{settled_so, form_is, seat_within}
 
 -- ---- the reply to an addition that closes
 
@@ -68,8 +68,8 @@ module _ (joint : State) (t : TopVariables) (over : IsOver joint t) (seat : ℕ)
   here_below : IsClosedHere joint seat below read
   here_below = closed_here joint seat below read sound closed_below
 
-  pub closed_within : names_up_to t.top a.lemma.clause ≡ true → IsClosedAlone (view_of joint seat) seat a read
-  closed_within within = subst (λ (b : Addition). IsClosedAlone (view_of joint seat) seat b read) (within_so joint t over seat a lemma within).0 closed_below
+  pub closed_settled : is_settled t.top (renaming_of t.variables seat) a.lemma.clause ≡ true → IsClosedAlone (view_of joint seat) seat a read
+  closed_settled settled = subst (λ (b : Addition). IsClosedAlone (view_of joint seat) seat b read) (settled_so joint t over seat a lemma settled).0 closed_below
 
   pub closed_seat : seat < length t.variables.of_seats
   closed_seat = seat_within joint t over seat a lemma here_below.free

@@ -1,15 +1,13 @@
 -- An addition inside by the book in joint variables, and by the one over it.
 use Rattle.std.proofs.Common.{◌≡◌, ap, refl, sym, ◌∙◌, subst, ℕ, ◌+◌, ◌<◌, ◌≤◌, Bool, cond, true, false, length}
 use Rattle.std.specs.Prelude.{nat_le, Some, None, OnOk, OnErr, Result, Ok, Err}
-use Rattle.std.specs.List.{list_all}
-use Rattle.std.proofs.lemmas.Bool.{le-leb}
+use Rattle.std.proofs.lemmas.Bool.{and_parts, le-leb}
 use Rattle.std.proofs.lemmas.Result.{on_ok_weaker, on_err_weaker}
 use Rattle.lj_clause.specs.declared.lit.TheConstants.{MAX_VARIABLE}
-use Rattle.lj_clause.specs.Literal.{variable_of}
-use Rattle.lj_clause.specs.LiteralSet.{LiteralSet, literals}
-use Rattle.lj_clause.specs.Lemma.{LemmaValue, IsLemma}
-use Rattle.lj_clause.specs.ClauseMap.{names_up_to, IsFormula}
-use Rattle.lj_clause.specs.Renaming.{has_name, lemma_image}
+use Rattle.lj_clause.specs.LiteralSet.{LiteralSet}
+use Rattle.lj_clause.specs.Lemma.{IsLemma}
+use Rattle.lj_clause.specs.ClauseMap.{IsFormula}
+use Rattle.lj_clause.specs.Renaming.{is_named}
 use Rattle.lj_text.specs.declared.line.Addition.{Addition}
 use Rattle.lj_book.specs.declared.entry.Added.{Added}
 use Rattle.lj_book.specs.declared.entry.Entry.{Entry}
@@ -25,30 +23,19 @@ use Rattle.lj_book.specs.NamedReplies.{named_inside_after, named_inside}
 use Rattle.lj_book.specs.NamedViews.{addition_beneath}
 use Rattle.lj_book.specs.NamedInside.{if_left, named_inside_entry}
 use Rattle.lj_book.specs.inner.VariableTables.{TopVariables, variables_at, variables_before, are_left}
-use Rattle.lj_book.specs.inner.JointForms.{joint_form, with_call}
+use Rattle.lj_book.specs.inner.JointForms.{joint_form, with_call, is_unmoved, is_settled}
 use Rattle.lj_book.specs.inner.Limits.{limit_reply}
 use Rattle.lj_book.specs.inner.Over.{IsOver, IsOverAfter}
 use Rattle.lj_book.proofs.TableLaws.{here_in_range}
 use Rattle.lj_book.proofs.BindingLaws.{can_bind}
 use Rattle.lj_book.proofs.InsideLaws.{taken_refused}
 use Rattle.lj_book.proofs.GivenBack.{given_taken_back}
-use Rattle.lj_book.proofs.WithinTop.{within_given, within_lemma}
+use Rattle.lj_book.proofs.GivenLaws.{named_gives_nothing}
+use Rattle.lj_book.proofs.JointFormLaws.{unmoved_form}
 use Rattle.lj_book.proofs.NamedLaws.{rules_reached}
 use Rattle.lj_book.proofs.NamedInsideLaws.{replies_are_beneath}
 use Rattle.lj_book.proofs.LimitReplies.{replied_at_limit}
 use Rattle.lj_book.proofs.OverLaws.{entered}
-
--- ---- clauses that stay
-
-within_stays : (top : ℕ) (v : Variables) (seat : ℕ) (lemma : LemmaValue) → IsVariables top v → IsLemma lemma → names_up_to top lemma.clause ≡ true → lemma_image (renaming_of v seat) lemma ≡ lemma
-within_stays top v seat lemma is isl within = by (has_all) (within_lemma top v seat is lemma isl within)
-  where
-    has_all : Bool
-    has_all = list_all (λ l. has_name top (renaming_of v seat) (variable_of l)) (literals lemma.clause)
-
-    by : (b : Bool) → Some lemma ≡ cond b (Some (lemma_image (renaming_of v seat) lemma)) None → lemma_image (renaming_of v seat) lemma ≡ lemma
-    by true e = let same : lemma ≡ lemma_image (renaming_of v seat) lemma = cc in sym same
-    by false e = absurd (let no : ⊥ = cc in no)
 
 -- ---- by what the book beneath answers
 
@@ -87,28 +74,30 @@ module _ (joint : State) (t : TopVariables) (over : IsOver joint t) (seat : ℕ)
       (is ∙ ap (λ (j : State). after_entry joint (inside_entry j seat below)) (sym over.below)) top given in
       record { over = both.0; leaves = both.1 }
 
-  -- a lemma without a variable above the formula's
-  pub within_so : names_up_to t.top a.lemma.clause ≡ true → (below ≡ a) × (given_in s seat a.lemma.clause ≡ t.variables)
-  within_so within =
-      let none : given_in s seat a.lemma.clause ≡ t.variables = (λ i. given (sym over.top i) t.variables seat a.lemma.clause) ∙ within_given t.top t.variables seat rules a.lemma.clause within in (
-        (λ i. joint_form (none i) seat a) ∙ (λ i. record a { lemma = within_stays t.top t.variables seat a.lemma rules lemma within i }),
-        none,
-      )
+  -- a lemma whose variables stay
+  abbrev Settled : Type 0
+  Settled = is_settled t.top (renaming_of t.variables seat) a.lemma.clause ≡ true
 
-  pub within_enough : names_up_to t.top a.lemma.clause ≡ true → t.variables.next ≤ MAX_VARIABLE + 1 → has_variables_for s seat a.lemma.clause ≡ true
-  within_enough within few = ap (λ (v : Variables). nat_le v.next (MAX_VARIABLE + 1)) (within_so within).1 ∙ le-leb t.variables.next (MAX_VARIABLE + 1) few
+  pub settled_so : Settled → (below ≡ a) × (given_in s seat a.lemma.clause ≡ t.variables)
+  settled_so settled =
+      let parts = and_parts (is_named t.top (renaming_of t.variables seat) a.lemma.clause) (is_unmoved (renaming_of t.variables seat) a.lemma.clause) settled in
+      let none : given_in s seat a.lemma.clause ≡ t.variables = (λ i. given (sym over.top i) t.variables seat a.lemma.clause) ∙ named_gives_nothing t.top t.variables seat a.lemma.clause parts.0 in
+      ((λ i. joint_form (none i) seat a) ∙ unmoved_form t.variables seat a lemma parts.1, none)
 
-  pub within_reply : names_up_to t.top a.lemma.clause ≡ true → t.variables.next ≤ MAX_VARIABLE + 1 → inside_reply joint seat a ≡ named_inside s seat a
-  within_reply within few = ap (inside_reply joint seat) (sym (within_so within).0) ∙ same_reply (within_enough within few)
+  pub settled_enough : Settled → t.variables.next ≤ MAX_VARIABLE + 1 → has_variables_for s seat a.lemma.clause ≡ true
+  settled_enough settled few = ap (λ (v : Variables). nat_le v.next (MAX_VARIABLE + 1)) (settled_so settled).1 ∙ le-leb t.variables.next (MAX_VARIABLE + 1) few
 
-  pub within_entry : names_up_to t.top a.lemma.clause ≡ true → inside_entry joint seat a ≡ named_inside_entry s seat a
-  within_entry within =
-      ap (inside_entry joint seat) (sym (within_so within).0)
-      ∙ (λ i. record { seat = seat; call = calls.Add a.number ((within_so within).0 i).lemma; step = inside_step (sym over.below i) (take_reply (sym over.below i) seat below) })
+  pub settled_reply : Settled → t.variables.next ≤ MAX_VARIABLE + 1 → inside_reply joint seat a ≡ named_inside s seat a
+  settled_reply settled few = ap (inside_reply joint seat) (sym (settled_so settled).0) ∙ same_reply (settled_enough settled few)
 
-  pub within_entered : (after : State) → names_up_to t.top a.lemma.clause ≡ true → t.variables.next ≤ MAX_VARIABLE + 1 → IsReached after → after ≡ after_entry joint (inside_entry joint seat a) → IsOverAfter s (named_inside_entry s seat a) after t
-  within_entered after within few reached is =
-      entered_so after t (within_enough within few) reached (is ∙ ap (λ (b : Addition). after_entry joint (inside_entry joint seat b)) (sym (within_so within).0)) refl (sym (within_so within).1)
+  pub settled_entry : Settled → inside_entry joint seat a ≡ named_inside_entry s seat a
+  settled_entry settled =
+      ap (inside_entry joint seat) (sym (settled_so settled).0)
+      ∙ (λ i. record { seat = seat; call = calls.Add a.number ((settled_so settled).0 i).lemma; step = inside_step (sym over.below i) (take_reply (sym over.below i) seat below) })
+
+  pub settled_entered : (after : State) → Settled → t.variables.next ≤ MAX_VARIABLE + 1 → IsReached after → after ≡ after_entry joint (inside_entry joint seat a) → IsOverAfter s (named_inside_entry s seat a) after t
+  settled_entered after settled few reached is =
+      entered_so after t (settled_enough settled few) reached (is ∙ ap (λ (b : Addition). after_entry joint (inside_entry joint seat b)) (sym (settled_so settled).0)) refl (sym (settled_so settled).1)
 
   -- what the table gives
   as_left : (b : Bool) → b ≡ are_left t.top t.variables seat a.lemma.clause → has_variables_for s seat a.lemma.clause ≡ b

@@ -1,16 +1,18 @@
 -- Clauses without a variable above the formula's.
 use Rattle.std.proofs.Common.{◌≡◌, ap, refl, sym, ◌∙◌, ⊎_elim, ℕ, ◌≤◌, cond, true, arith}
-use Rattle.std.specs.Prelude.{ℤ, pos, negsuc, neg_ℤ, nat_le, is_some, Option, Some, None, option_map, unwrap_or}
-use Rattle.std.proofs.lemmas.Bool.{false≢true, or_cases, leb-true}
+use Rattle.std.specs.Prelude.{ℤ, pos, negsuc, neg_ℤ, ◌==◌, nat_le, is_some, List, [], ◌∷◌, Option, Some, None, option_map, unwrap_or}
+use Rattle.std.specs.List.{list_all}
+use Rattle.std.proofs.lemmas.Bool.{false≢true, and_parts, and_from, or_cases, leb-true, eq-eqb}
 use Rattle.std.specs.Ordering.{nat_cmp}
 use Rattle.std.specs.FinMap as fin
 use Rattle.lj_clause.specs.Literal.{variable_of}
-use Rattle.lj_clause.specs.LiteralSet.{LiteralSet, holds}
+use Rattle.lj_clause.specs.LiteralSet.{LiteralSet, literals, holds}
 use Rattle.lj_clause.specs.Lemma.{LemmaValue, IsLemma}
 use Rattle.lj_clause.specs.ClauseMap.{names_up_to}
-use Rattle.lj_clause.specs.Renaming.{image, lemma_image, literal_image, renamed, IsOneToOne}
+use Rattle.lj_clause.specs.Renaming.{image, lemma_image, literal_image, renamed, is_named, IsOneToOne}
 use Rattle.lj_clause.proofs.Renaming.{renaming_laws, all_known}
 use Rattle.lj_book.specs.Variables.{Variables, IsVariables, renaming_of, given}
+use Rattle.lj_book.specs.inner.JointForms.{is_unmoved, is_settled}
 use Rattle.lj_book.specs.inner.VariableTables.{as_joint, lemma_as_joint}
 use Rattle.lj_book.proofs.VariableLaws.{none_is_some}
 use Rattle.lj_book.proofs.GivenLaws.{named_gives_nothing}
@@ -57,3 +59,23 @@ module _ (top : ℕ) (v : Variables) (seat : ℕ) (is : IsVariables top v) where
       same : (o : Option ℤ) → IsLemma (record { clause = lemma.clause; pivot = o }) → option_map (literal_image (renaming_of v seat)) o ≡ o
       same None g = refl
       same (Some p) g = ap Some (literal_stays lemma.clause p h g)
+
+  variable_stays : (x : ℕ) → x ≤ top → renamed (renaming_of v seat) x ≡ x
+  variable_stays x low = by (fin.get (renaming_of v seat) x) refl
+    where
+      by : (o : Option ℕ) → fin.get (renaming_of v seat) x ≡ o → renamed (renaming_of v seat) x ≡ x
+      by None e = ap (λ o. unwrap_or o x) e
+      by (Some y) e = let b = ((is.one_to_one seat).above x y e).0 in absurd (omega arith)
+
+  pub within_settled : (c : LiteralSet) → names_up_to top c ≡ true → is_settled top (renaming_of v seat) c ≡ true
+  within_settled c h = and_from (is_named top (renaming_of v seat) c) (is_unmoved (renaming_of v seat) c)
+      (renaming_laws.unmoved top (renaming_of v seat) c (is.one_to_one seat) h).0
+      (each (literals c) h)
+    where
+      each : (ls : List ℤ) → list_all (λ l. nat_le (variable_of l) top) ls ≡ true → list_all (λ l. renamed (renaming_of v seat) (variable_of l) == variable_of l) ls ≡ true
+      each [] all = refl
+      each (l ∷ ls) all =
+          let parts = and_parts (nat_le (variable_of l) top) (list_all (λ k. nat_le (variable_of k) top) ls) all in
+          and_from (renamed (renaming_of v seat) (variable_of l) == variable_of l) (list_all (λ k. renamed (renaming_of v seat) (variable_of k) == variable_of k) ls)
+          (eq-eqb (renamed (renaming_of v seat) (variable_of l)) (variable_of l) (variable_stays (variable_of l) (leb-true (variable_of l) top parts.0)))
+          (each ls parts.1)

@@ -5,7 +5,7 @@ ghost use Rattle.lj_clause.specs.declared.lit.TheConstants.{MAX_VARIABLE};
 ghost use Rattle.lj_clause.specs.ClauseMap.{names_up_to};
 ghost use Rattle.lj_clause.specs.Renaming.{is_named, inverse, renamed, literal_image};
 ghost use Rattle.lj_book.specs.Variables.{renaming_of, no_variables, with_variable, given, is_own, IsVariables};
-ghost use Rattle.lj_book.specs.inner.JointForms.{is_unmoved};
+ghost use Rattle.lj_book.specs.inner.JointForms.{is_unmoved, is_settled};
 ghost use Rattle.lj_book.specs.inner.VariableTables.{variables_at, variables_before, are_left, seat_names, as_joint, lemma_as_joint, as_own, lemma_as_own};
 
 mod forms;
@@ -328,6 +328,33 @@ impl VariableTable {
         ensures variables { IsVariables self.now.top self.now.variables }
     {
         clause.max_variable() <= self.top
+    }
+
+    /// Whether each variable of the clause is the formula's, or is given and is its own joint one. Takes constant time where none
+    /// is above the formula's, and for each literal otherwise.
+    pub(crate) fn is_settled(&self, seat: u32, clause: &Clause) -> bool
+        ensures settled { result ≡ true → is_settled self.now.top
+            (renaming_of self.now.variables seat) clause.now ≡ true }
+        ensures variables { IsVariables self.now.top self.now.variables }
+    {
+        if self.is_within(clause) {
+            return true;
+        }
+        for lit in clause.lits() {
+            if !self.settles(seat, lit.variable()) {
+                return false;
+            }
+        }
+        true
+    }
+
+    /// Whether the variable is the formula's, or is given and is its own joint one. Takes constant time.
+    fn settles(&self, seat: u32, variable: u32) -> bool
+        ensures named { result ≡ true → seat_names self.now seat variable ≡ true }
+        ensures same { result ≡ true
+            → (renamed (renaming_of self.now.variables seat) variable == variable) ≡ true }
+    {
+        variable <= self.top || self.keeps(seat, variable)
     }
 
     /// Whether each variable of the clause is its own joint one, or has none. Takes the time of [`VariableTable::joint`] for each

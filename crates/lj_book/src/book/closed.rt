@@ -95,7 +95,7 @@ fn close_named(
     let before = variables.next();
     let clause = addition.lemma.clause();
     let _ = joint.formula().variables();
-    if variables.is_within(clause) {
+    if variables.is_settled(seat, clause) {
         let added = joint.add_closed(seat, addition, read);
         history_is_legal(joint);
         return added;
@@ -143,7 +143,7 @@ fn close_named_with_entry(
     let before = variables.next();
     let clause = addition.lemma.clause();
     let _ = joint.formula().variables();
-    if variables.is_within(clause) {
+    if variables.is_settled(seat, clause) {
         let told = joint.add_closed_with_entry(seat, addition, read);
         history_is_legal(joint);
         return told;

@@ -111,7 +111,7 @@ fn add_named(
 {
     let before = variables.next();
     let clause = addition.lemma.clause();
-    if variables.is_within(clause) {
+    if variables.is_settled(seat, clause) {
         let added = joint.add_inside(seat, addition, propagator);
         history_is_legal(joint);
         return added;
@@ -161,7 +161,7 @@ fn add_named_with_entry(
 {
     let before = variables.next();
     let clause = addition.lemma.clause();
-    if variables.is_within(clause) {
+    if variables.is_settled(seat, clause) {
         let told = joint.add_inside_with_entry(seat, addition, propagator);
         history_is_legal(joint);
         return told;

@@ -3,44 +3,46 @@ use Rattle.std.specs.Prelude.{Result}
 use Rattle.std.proofs.lemmas.Result.{on_ok_weaker, on_err_weaker}
 use Rattle.lj_clause.specs.declared.lit.TheConstants.{MAX_VARIABLE}
 use Rattle.lj_clause.specs.Lemma.{IsLemma}
-use Rattle.lj_clause.specs.ClauseMap.{FormulaValue, IsFormula, names_up_to}
+use Rattle.lj_clause.specs.ClauseMap.{FormulaValue, IsFormula}
 use Rattle.lj_text.specs.declared.line.Addition.{Addition}
 use Rattle.lj_book.specs.declared.entry.Added.{Added}
 use Rattle.lj_book.specs.declared.refusal.Refusal.{Refusal}
+use Rattle.lj_book.specs.Variables.{renaming_of}
 use Rattle.lj_book.specs.State.{State}
 use Rattle.lj_book.specs.Calls.{IsRefusal, IsReply}
 use Rattle.lj_book.specs.Named.{named_over}
 use Rattle.lj_book.specs.NamedReplies.{named_inside}
+use Rattle.lj_book.specs.inner.JointForms.{is_settled}
 use Rattle.lj_book.specs.inner.VariableTables.{TopVariables}
 use Rattle.lj_book.specs.inner.Limits.{limit_reply}
 use Rattle.lj_book.proofs.GivenBack.{given_goes_on}
 use Rattle.lj_book.proofs.OverLaws.{is_refusal}
 use Rattle.lj_book.proofs.NamedCommits.{on_err as anyway}
-use Rattle.lj_book.proofs.InsideOver.{within_reply, within_entered, given_out, none_given, same_limit, given_reply, given_entered, taken_back, refused_at_once, seat_within}
+use Rattle.lj_book.proofs.InsideOver.{settled_reply, settled_entered, given_out, none_given, same_limit, given_reply, given_entered, taken_back, refused_at_once, seat_within}
 use Rattle.lj_book.proofs.book.inside.add_named.Goals as goal
 
-pub returns-then-is_within-clause-reply : goal.returns-then-is_within-clause-reply
-returns-then-is_within-clause-reply c =
+pub returns-then-is_settled-clause-reply : goal.returns-then-is_settled-clause-reply
+returns-then-is_settled-clause-reply c =
     let j : State = c.args.joint.now in
     let t : TopVariables = c.args.variables.now in
     let a : Addition = c.args.addition.now in
     let lemma : IsLemma a.lemma = c.clause-clause.ensures.lemma in
-    let within : names_up_to t.top a.lemma.clause ≡ true = ap (names_up_to t.top) (sym c.clause-clause.ensures.clause) ∙ sym c.is_within.ensures.within ∙ c.if-is_within.true in
+    let settled : is_settled t.top (renaming_of t.variables c.args.seat) a.lemma.clause ≡ true = ap (is_settled t.top (renaming_of t.variables c.args.seat)) (sym c.clause-clause.ensures.clause) ∙ c.is_settled.ensures.settled c.if-is_settled.true in
     let few : t.variables.next ≤ MAX_VARIABLE + 1 = subst (λ (n : ℕ). n ≤ MAX_VARIABLE + 1) c.next-before.ensures.next c.next-before.ensures.in_range.1 in
-    subst (λ (r : Result Added Refusal). IsReply c.add_inside-added.result r) (within_reply j t c.requires c.args.seat a lemma within few) c.add_inside-added.ensures.reply
+    subst (λ (r : Result Added Refusal). IsReply c.add_inside-added.result r) (settled_reply j t c.requires c.args.seat a lemma settled few) c.add_inside-added.ensures.reply
 
-pub returns-then-is_within-clause-ok : goal.returns-then-is_within-clause-ok
-returns-then-is_within-clause-ok c =
+pub returns-then-is_settled-clause-ok : goal.returns-then-is_settled-clause-ok
+returns-then-is_settled-clause-ok c =
     let j : State = c.args.joint.now in
     let t : TopVariables = c.args.variables.now in
     let a : Addition = c.args.addition.now in
     let lemma : IsLemma a.lemma = c.clause-clause.ensures.lemma in
-    let within : names_up_to t.top a.lemma.clause ≡ true = ap (names_up_to t.top) (sym c.clause-clause.ensures.clause) ∙ sym c.is_within.ensures.within ∙ c.if-is_within.true in
+    let settled : is_settled t.top (renaming_of t.variables c.args.seat) a.lemma.clause ≡ true = ap (is_settled t.top (renaming_of t.variables c.args.seat)) (sym c.clause-clause.ensures.clause) ∙ c.is_settled.ensures.settled c.if-is_settled.true in
     let few : t.variables.next ≤ MAX_VARIABLE + 1 = subst (λ (n : ℕ). n ≤ MAX_VARIABLE + 1) c.next-before.ensures.next c.next-before.ensures.in_range.1 in
-    on_ok_weaker c.add_inside-added.result (within_entered j t c.requires c.args.seat a lemma c.add_inside-added.new.self within few c.history_is_legal.ensures) c.add_inside-added.ensures.ok
+    on_ok_weaker c.add_inside-added.result (settled_entered j t c.requires c.args.seat a lemma c.add_inside-added.new.self settled few c.history_is_legal.ensures) c.add_inside-added.ensures.ok
 
-pub returns-then-is_within-clause-err : goal.returns-then-is_within-clause-err
-returns-then-is_within-clause-err c =
+pub returns-then-is_settled-clause-err : goal.returns-then-is_settled-clause-err
+returns-then-is_settled-clause-err c =
     on_err_weaker c.add_inside-added.result (λ e. (e, refl)) c.add_inside-added.ensures.err
 
 pub returns-in-Some-clause-reply : goal.returns-in-Some-clause-reply
