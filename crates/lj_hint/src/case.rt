@@ -37,7 +37,7 @@ impl Model for Case {
 impl Case {
     ghost use Rattle.std.specs.Prelude.{◌≡◌, ◌≤◌, length, OnOk, OnErr};
     ghost use Rattle.lj_hint.specs.Case.{case_of, groups_of, propagation_of};
-    ghost use Rattle.lj_hint.specs.Images.{case_image, hints_image};
+    ghost use Rattle.lj_hint.specs.Images.{hints_image};
     ghost use Rattle.lj_hint.specs.Receipt.{receipt_of, IsReceipt};
     ghost use Rattle.lj_hint.specs.Tested.{tested_of, IfAnswered, IfNoMemory};
 
@@ -116,21 +116,6 @@ impl Case {
             Ok(Ending::StuckAt(position)) => Tested::Stuck(position),
             Err(e) => Tested::NoMemory(self, e),
         }
-    }
-
-    /// Renames the variables of the lemma and of all clauses. Takes the time of [`Clause::renamed`](lj_clause::Clause::renamed)
-    /// for each of them.
-    ///
-    /// # Errors
-    /// [`NoMemory`] where a growth was refused, and then nothing has changed.
-    pub fn rename<R: Renames>(&mut self, renaming: &R) -> Result<(), NoMemory>
-        ensures ok { OnOk result (self.new ≡ case_image (R.renaming renaming.now) self.old) }
-        ensures err { OnErr result (self.new ≡ self.old) }
-    {
-        let lemma = self.lemma.renamed(self.allocator(), renaming)?;
-        self.rename_hints(renaming)?;
-        self.lemma = lemma;
-        Ok(())
     }
 
     /// Renames the variables of the clauses that the hints name. The lemma stays. Takes the time of

@@ -19,7 +19,7 @@ impl Pair {
     ///
     /// # Errors
     /// [`NoMemory`] where a growth was refused.
-    pub fn renamed<R: Renames>(&self, alloc: Global, renaming: &R) -> Result<Pair, NoMemory>
+    pub(crate) fn renamed<R: Renames>(&self, alloc: Global, renaming: &R) -> Result<Pair, NoMemory>
         ensures { IfOk result (λ pair. pair ≡ pair_image (R.renaming renaming.now) self.now) }
     {
         Ok(Pair {

@@ -1,6 +1,6 @@
 //! Receipts of closed propagations.
-use crate::pair::{Pair, renamed_pairs};
-use lj_clause::{Lemma, NoMemory, Renames};
+use crate::pair::Pair;
+use lj_clause::Lemma;
 use std::marker::Model;
 
 /// The receipt of a test: a lemma, and the hints that close the propagation of its negation, all of them read.
@@ -29,10 +29,8 @@ impl Model for Receipt {
 }
 
 impl Receipt {
-    ghost use Rattle.std.specs.Prelude.{◌≡◌, ℕ, OnOk, OnErr};
-    ghost use Rattle.lj_clause.specs.Renaming.{IsOneToOne};
+    ghost use Rattle.std.specs.Prelude.{◌≡◌};
     ghost use Rattle.lj_hint.specs.Receipt.{receipt_with, IsReceipt};
-    ghost use Rattle.lj_hint.specs.Images.{receipt_image, IsNamedReceipt};
 
     /// The receipt of a propagation that closed at the last of these hints.
     pub(crate) fn new(seat: u32, own: u64, lemma: Lemma, listed: Vec<Pair>) -> Receipt
@@ -75,24 +73,5 @@ impl Receipt {
         ensures receipt { IsReceipt self.now }
     {
         &self.listed
-    }
-
-    /// Renames the variables of the lemma and of the listed clauses, by a renaming that is one to one and has each of them that
-    /// is above some variable. Takes the time of [`Clause::renamed`](lj_clause::Clause::renamed) for each clause.
-    ///
-    /// # Errors
-    /// [`NoMemory`] where a growth was refused, and then nothing has changed.
-    pub fn rename<R: Renames>(&mut self, renaming: &R) -> Result<(), NoMemory>
-        requires { (v : ℕ) × IsOneToOne v (R.renaming renaming.now)
-            × IsNamedReceipt v (R.renaming renaming.now) self.old }
-        ensures ok { OnOk result (self.new ≡ receipt_image (R.renaming renaming.now) self.old) }
-        ensures err { OnErr result (self.new ≡ self.old) }
-    {
-        let alloc = *self.listed.allocator();
-        let lemma = self.lemma.renamed(alloc, renaming)?;
-        let listed = renamed_pairs(alloc, renaming, &self.listed)?;
-        self.lemma = lemma;
-        self.listed = listed;
-        Ok(())
     }
 }
