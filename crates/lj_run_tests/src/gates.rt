@@ -1,9 +1,10 @@
 //! Gates round the lines of streams that run beside one another, so that a run shows what goes on beside what.
+use crate::memory_source::MemorySource;
 use crate::no_watch::NoWatch;
 use crate::steps::BINARY_TEXT;
 use lj_run::{Options, Outcome, run_joint};
 use lj_share::Gate;
-use lj_text::{MemorySink, MemorySource};
+use lj_text::MemorySink;
 use std::alloc::{AllocError, Global};
 use std::process::Abort;
 use std::sync::Wait;

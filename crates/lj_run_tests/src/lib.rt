@@ -10,6 +10,8 @@ mod gates;
 #[cfg(test)]
 mod memory_files;
 #[cfg(test)]
+mod memory_source;
+#[cfg(test)]
 mod no_watch;
 #[cfg(test)]
 mod reading;

@@ -1,8 +1,9 @@
 //! Files in memory.
 ghost use Rattle.std.specs.Prelude.{◌≡◌, ℕ, List, [], ◌∷◌, None, map, OnOk, OnErr};
 
+use crate::memory_source::MemorySource;
 use lj_run::{FileFault, Files};
-use lj_text::{MemorySink, MemorySource, Sink, SinkFault};
+use lj_text::{MemorySink, Sink, SinkFault};
 use std::alloc::{AllocError, Global};
 use std::cell::RefCell;
 use std::collections::{BTreeMap, LinkedList};

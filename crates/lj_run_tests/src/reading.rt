@@ -5,7 +5,7 @@ use crate::fakes::FailingSource;
 use crate::memory_files::MemoryFiles;
 use crate::steps::BINARY_TEXT;
 use lj_run::{FileFault, Files, program};
-use lj_text::{MemorySink, MemorySource};
+use lj_text::MemorySink;
 use std::alloc::Global;
 use std::process::Abort;
 use std::sync::Wait;

@@ -3,10 +3,10 @@ ghost use Rattle.std.specs.Prelude.{◌≡◌};
 
 use crate::fakes::{FailingSink, FailingSource};
 use crate::memory_files::MemoryFiles;
+use crate::memory_source::MemorySource;
 use lj_run::Files;
 use lj_text::{
-    MemorySink, MemorySource, ReaderSource, Sink, SinkFault, Source, SourceFault, WriterSink,
-    write_all,
+    MemorySink, ReaderSource, Sink, SinkFault, Source, SourceFault, WriterSink, write_all,
 };
 use std::alloc::{AllocError, Global};
 use std::io;
@@ -45,7 +45,6 @@ fn assert_source(rt: &impl Abort, alloc: Global) -> Result<(), Fail> {
     let mut buffer = [9; 4];
     assert_eq!(rt; source.pull(&mut buffer)?, 4);
     assert_eq!(rt; buffer, *b"1234");
-    assert_eq!(rt; source.rest(), b"5".as_slice());
     let (bytes, failed) = drained(alloc, &mut &mut source)?;
     assert!(rt; bytes.as_slice() == b"5".as_slice() && !failed);
     assert_eq!(rt; source.pull(&mut buffer)?, 0);
@@ -109,11 +108,12 @@ fn assert_drained<S: Source>(
 
 /// Asserts what writers of std take.
 fn assert_written(rt: &impl Abort, alloc: Global) -> Result<(), Fail> {
-    let mut sink = WriterSink::new(Vec::new(alloc));
+    let mut bytes = Vec::new(alloc);
+    let mut sink = WriterSink::new(&mut bytes);
     write_all(&mut sink, b"12")?;
     write_all(&mut sink, b"345")?;
     assert_eq!(rt; sink.put(b"")?, 0);
-    assert_eq!(rt; sink.into_writer().as_slice(), b"12345".as_slice());
+    assert_eq!(rt; bytes.as_slice(), b"12345".as_slice());
     let mut capacity = [0; 2];
     let mut sink = WriterSink::new(&mut capacity[..]);
     assert_eq!(rt; write_all(&mut sink, b"123"), Err(SinkFault));

@@ -2,10 +2,11 @@
 ghost use Rattle.std.specs.Prelude.{◌≡◌, [], false};
 
 use crate::fakes::FailingSink;
+use crate::memory_source::MemorySource;
 use crate::no_watch::NoWatch;
 use crate::steps::{BINARY_TEXT, steps_of};
 use lj_run::{Options, ProofEnd, ProofFault, run_in_turn};
-use lj_text::{MemorySink, MemorySource, ProofWriter, Sink, SinkFault, Step, WriteFault};
+use lj_text::{MemorySink, ProofWriter, Sink, SinkFault, Step, WriteFault};
 use std::alloc::Global;
 use std::process::Abort;
 use std::sync::Wait;
@@ -54,7 +55,8 @@ fn assert_fails(
     capacity: usize,
     most: usize,
 ) -> Result<(), Fail> {
-    let mut writer = ProofWriter::new(small_sink(alloc, capacity, most), 4);
+    let mut sink = small_sink(alloc, capacity, most);
+    let mut writer = ProofWriter::new(&mut sink, 4);
     for step in steps {
         assert!(rt; writer.step(step).is_ok(), "with room for {capacity}");
     }
@@ -68,7 +70,7 @@ fn assert_fails(
         .as_bytes()
         .get(..capacity)
         .ok_or("more room than bytes")?;
-    assert!(rt; writer.into_sink().sink.sink.bytes() == taken);
+    assert!(rt; sink.sink.sink.bytes() == taken);
     Ok(())
 }
 

@@ -27,12 +27,6 @@ pub record HasGiven (before after : SourceState) (text : List ℕ) : Type 0 wher
   pub given : after.given ≡ before.given ++ text
   pub rest : Consumes before.rest after.rest text
 
--- Bytes in memory: those given so far, those still to come, and whether the end was told.
-pub record BytesInMemory : Type 0 where
-  pub given : List ℕ
-  pub rest : List ℕ
-  pub ended : Bool
-
 -- A reader, the bytes that it has given so far, whether it has told its end, and how often it has failed.
 pub record ReaderSoFar (R : Type 0) : Type 0 where
   pub reader : R

@@ -27,6 +27,6 @@ pub use line::{Addition, Line};
 pub use lines::{LineFault, LineFaultKind, LineReader};
 pub use numbers::{Numbers, NumbersIter};
 pub use sink::{MemorySink, Sink, SinkFault, WriterSink, write_all};
-pub use source::{MemorySource, ReaderSource, Source, SourceFault};
+pub use source::{ReaderSource, Source, SourceFault};
 pub use step::Step;
 pub use writer::{LineToken, ProofWriter, TokenWriter, WriteFault, write_proof};

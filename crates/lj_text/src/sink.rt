@@ -139,8 +139,8 @@ impl Sink for MemorySink {
 }
 
 /// A writer of std, seen as the writer, the bytes taken so far and the count of failures. Each error of the writer is a
-/// failure, an interrupted write too, and so is a write that takes nothing of a piece that has bytes. A writer that
-/// keeps bytes back has to be flushed through `into_writer`.
+/// failure, an interrupted write too, and so is a write that takes nothing of a piece that has bytes. It flushes nothing: lend
+/// it `&mut` a writer that keeps bytes back, and flush that one afterwards.
 #[derive(Debug, Drop)]
 pub struct WriterSink<W> {
     writer: W,
@@ -171,13 +171,6 @@ impl<W> WriterSink<W> {
             taken: BytesSoFar::new(),
             failed: false,
         }
-    }
-
-    /// The writer. Takes constant time.
-    pub fn into_writer(self) -> W
-        ensures { result ≡ self.writer }
-    {
-        self.writer
     }
 }
 

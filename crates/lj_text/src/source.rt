@@ -1,5 +1,5 @@
 //! Where bytes come from.
-ghost use Rattle.std.specs.Prelude.{◌≡◌, ℕ, ◌+◌, ◌<◌, ◌++◌, ◌↔◌, Bool, true, false, Option, List, [], length, min, take, Some, OnOk, OnErr, IfOk};
+ghost use Rattle.std.specs.Prelude.{◌≡◌, ℕ, ◌+◌, ◌<◌, ◌++◌, ◌↔◌, Bool, true, false, Option, List, [], length, take, OnOk, OnErr, IfOk};
 ghost use Rattle.std.specs.Io.{ReadsAtMost};
 ghost use Rattle.std.specs.Io.KnownBytes.{Consumes, IsAtEnd, Keeps};
 
@@ -60,77 +60,6 @@ impl<S: Source> Source for &mut S {
 
     fn pull(&mut self, buffer: &mut [u8]) -> Result<usize, SourceFault> {
         Source::pull(&mut **self, buffer)
-    }
-}
-
-// Copies as many bytes as both have, from front to front, and answers how many.
-fn copy_front(from: &[u8], to: &mut [u8]) -> usize
-    ensures count { result ≡ min (length from.now) (length to.old) }
-    ensures front { take result to.new ≡ take result from.now }
-{
-    let count = from.len().min(to.len());
-    to[..count].copy_from_slice(&from[..count]);
-    count
-}
-
-/// Bytes in memory, seen as those given so far, those still to come and whether the end was told. It never fails.
-#[derive(Debug, Drop)]
-pub struct MemorySource {
-    bytes: Vec<u8>,
-    given: usize,
-    ended: bool,
-}
-
-impl Model for MemorySource {
-    ghost use Rattle.std.specs.Prelude.{◌≡◌, ◌≤◌, true, take, drop, vec_len};
-    ghost use Rattle.lj_text.specs.Streams.{BytesInMemory};
-
-    ghost Value = { BytesInMemory };
-
-    ghost view = { λ source. record {
-      given = take source.given source.bytes.items;
-      rest = drop source.given source.bytes.items;
-      ended = source.ended;
-    } };
-
-    ghost invariant = { λ source. (source.given ≤ vec_len source.bytes)
-        × (source.ended ≡ true → source.given ≡ vec_len source.bytes) };
-}
-
-impl MemorySource {
-    /// All of these bytes are still to come. Takes constant time.
-    pub fn new(bytes: Vec<u8>) -> Self
-        ensures { result ≡ record { given = []; rest = bytes.items; ended = false } }
-    {
-        MemorySource {
-            bytes,
-            given: 0,
-            ended: false,
-        }
-    }
-
-    /// The bytes still to come. Takes constant time.
-    pub fn rest(&self) -> &[u8]
-        ensures { result.now ≡ self.now.rest }
-    {
-        &self.bytes[self.given..]
-    }
-}
-
-impl Source for MemorySource {
-    ghost given = { λ source. source.given };
-
-    ghost ended = { λ source. source.ended };
-
-    ghost rest = { λ source. Some source.rest };
-
-    ghost failures = { λ _. 0 };
-
-    fn pull(&mut self, buffer: &mut [u8]) -> Result<usize, SourceFault> {
-        let count = copy_front(&self.bytes[self.given..], buffer);
-        self.given += count;
-        self.ended = count == 0;
-        Ok(count)
     }
 }
 
