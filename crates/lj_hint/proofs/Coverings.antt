@@ -39,12 +39,6 @@ pub stays_given : (gs : List NamedGroup) (k n read position : ℕ) (apart : Opti
 stays_given gs k n read position None none lt at is all = given_next gs k n read position lt at is all
 stays_given gs k n read position (Some covered) none lt at is all = absurd (false≢true (sym none))
 
--- so many groups, or all
-pub first_of : (gs : List NamedGroup) (count k : ℕ) → k ≡ min count (length gs) → take k (plain_groups gs) ≡ take count (plain_groups gs)
-first_of gs count k at =
-    ap (λ (n : ℕ). take n (plain_groups gs)) (at ∙ ap (min count) (sym (length-map gs plain_group)))
-    ∙ take_min count (plain_groups gs)
-
 -- the numbers of hints that are given by their numbers
 given_hints : (p : ClauseMap) (ns : List ℕ) → hint_numbers (hints_in p ns) ≡ ns
 given_hints p [] = refl

@@ -1,6 +1,5 @@
 pub mod Contradictions
 pub mod Inserts
-pub mod Rests
 pub mod Propagations
 pub mod Used
 pub mod Receipts

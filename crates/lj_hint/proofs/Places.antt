@@ -16,12 +16,6 @@ abbrev pub ArePlacedFrom : List NamedGroup → List ℕ → List ℕ → ℕ →
 ArePlacedFrom gs cs ps k = (i : ℕ) → i < length cs
     → group_at gs (before (get_or ps i 0)) ≡ group_of (get_or cs i 0) (drop k gs)
 
--- none is placed where there are no groups
-pub none_placed : (gs : List NamedGroup) (cs : List ℕ) → ArePlacedFrom gs cs (replicate (length cs) 0) (length gs)
-none_placed gs cs i lt =
-    ap (λ (n : ℕ). group_at gs (before n)) (get_or-replicate (length cs) i 0 0 lt)
-    ∙ sym (ap (group_of (get_or cs i 0)) (drop_all (length gs) gs (omega arith)))
-
 different : (a b : ℕ) → (a < b) ⊎ (b < a) → (a == b) ≡ false
 different a b (inl lt) = grind (arith, nat_tests)
 different a b (inr lt) = grind (arith, nat_tests)

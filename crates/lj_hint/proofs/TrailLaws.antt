@@ -87,15 +87,6 @@ fresh_propagator stamps stamp below = record {
     older : (a b : ℕ) → a < b → (a == b) ≡ false
     older a b lt = grind (arith, nat_tests)
 
--- the same stamps serve as well
-pub same_marks : (stamps others : Stamped) (stamp : ℕ) (trail : List ℤ) → ((index : ℕ) → stamp_at others index ≡ stamp_at stamps index) → AreAssigned stamps stamp trail → AreAssigned others stamp trail
-same_marks stamps others stamp trail is m = record {
-  some = m.some;
-  greatest = λ index. let e = is index in let h = m.greatest index in omega arith;
-  marked = λ l. ap (λ n. n == stamp) (is (index_of (neg_ℤ l))) ∙ m.marked l;
-  once = m.once;
-}
-
 pub pushed_marks : (stamps others : Stamped) (stamp : ℕ) (trail : List ℤ) (l : ℤ) → holds (from_literals trail) l ≡ false → ((index : ℕ) → stamp_at others index ≡ (if index == index_of (neg_ℤ l) then stamp else stamp_at stamps index)) → AreAssigned stamps stamp trail → AreAssigned others stamp (trail ++ l ∷ [])
 pushed_marks stamps others stamp trail l new is m = record {
   some = m.some;
@@ -165,10 +156,6 @@ Extends-with_assigned trail l = elim (holds (from_literals trail) l) as (λ b. E
   | true ↦ Extends-refl trail
   | false ↦ (l ∷ [], refl)
 ]
-
--- what an extended trail began with
-pub take-Extends : (old new : List ℤ) → Extends old new → take (length old) new ≡ old
-take-Extends old new h = ap (take (length old)) h.1 ∙ take-append_seam old h.0
 
 -- a literal whose negation isn't there makes no trail contradictory
 pub pushed_unopposed : (trail new : List ℤ) (l : ℤ) → new ≡ trail ++ l ∷ [] → 0 < variable_of l → holds (from_literals trail) (neg_ℤ l) ≡ false → is_contradictory (from_literals new) ≡ is_contradictory (from_literals trail)

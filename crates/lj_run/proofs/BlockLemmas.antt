@@ -36,19 +36,6 @@ next_more said handed (l ∷ lines) line are is =
 longer : (handed : ℕ) (lines : List Numbered) (line : Numbered) → (handed + length lines) + 1 ≡ handed + length (lines ++ line ∷ [])
 longer handed lines line = let more = length-append lines (line ∷ []) in omega (arith, more)
 
--- a line alone is a block
-pub block_of_one : (max : ℕ) (fed : List ℕ) (handed : ℕ) (reader : LinesRead) (before after : SourceState) (line : Line) → LineRead max fed handed reader before after (nexts.Line line)
-    → BlockRead max fed handed reader before after (record { at = reader.at; line = line } ∷ []) None
-block_of_one max fed handed reader before after line read = record {
-  piece = read.piece;
-  gave = read.gave;
-  same = read.same;
-  next = (read.is, tt);
-  stands = read.stands;
-  whole = read.whole;
-  ahead = tt;
-}
-
 -- a line more was read into it, which the reader had whole
 pub block_more : (max : ℕ) (fed : List ℕ) (handed : ℕ) (old new : LinesRead) (before after : SourceState) (lines : List Numbered) (line : Line) → old.max ≡ max
     → (b : BlockRead max fed handed old before after lines None)
@@ -70,19 +57,6 @@ block_more max fed handed old new before after lines line max_is b answer at sta
       whole = subst (λ n. AreWhole max text after n) (longer handed lines numbered) whole;
       ahead = tt;
     }
-
--- the reader passed silent lines
-pub block_passed : (max : ℕ) (fed : List ℕ) (handed : ℕ) (old new : LinesRead) (before after : SourceState) (lines : List Numbered) → (b : BlockRead max fed handed old before after lines None)
-    → LineReaderStandsAt new (fed ++ b.piece) ((handed + length lines) + 0) → BlockRead max fed handed new before after lines None
-block_passed max fed handed old new before after lines b stands = record {
-  piece = b.piece;
-  gave = b.gave;
-  same = b.same;
-  next = b.next;
-  stands = subst (λ n. LineReaderStandsAt new (fed ++ b.piece) n) (add-zero (handed + length lines)) stands;
-  whole = b.whole;
-  ahead = tt;
-}
 
 -- the line behind it is at fault, or memory was refused to it
 pub block_faulty : (max : ℕ) (fed : List ℕ) (handed : ℕ) (old new : LinesRead) (before after : SourceState) (lines : List Numbered) (fault : LineFault) → old.max ≡ max

@@ -36,19 +36,6 @@ checked_of way before after seen sink max trims streams old new checked text out
   prints = prints;
 }
 
--- what is printed where a check answers
-pub printed_of : {S W : Type 0} (way : Way) (before after : SourceState) (seen : S → SourceState) (sink : W → SinkState) (max : ℕ) (trims : Bool) (streams : List S) (old new : Option W) (checked : Checked) (text : List ℕ)
-    → IsChecked way before after seen sink max trims streams old new checked text → IsPrinted way before after seen max streams checked.verdict text
-printed_of way before after seen sink max trims streams old new checked text is = record {
-  formula = is.runs.formula;
-  gave = is.runs.gave;
-  outcome = is.outcome;
-  comes = is.runs.comes;
-  answers = is.answers;
-  unsatisfiable = is.unsatisfiable;
-  prints = is.prints;
-}
-
 -- what is printed of an outcome
 pub text_printed : {S W : Type 0} (way : Way) (before after : SourceState) (seen : S → SourceState) (sink : W → SinkState) (max : ℕ) (trims : Bool) (streams : List S) (old new : Option W) (verdict : Verdict) (text : List ℕ) (outcome : Outcome S)
     → IsAnswerBy way before after seen sink max trims streams old new outcome → verdict ≡ verdict_of outcome.verified → text ≡ outcome_text outcome

@@ -15,10 +15,6 @@ use Rattle.lj_clause.specs.declared.memory.NoMemory.{NoMemory as Want}
 use Rattle.lj_run.proofs.GivenLemmas.{given_failed, given_none, given_on}
 use Rattle.lj_clause.specs.declared.lit.TheConstants.{MAX_VARIABLE}
 
--- nothing is fed yet
-pub formula_begins : (reader : CnfRead) (before : SourceState) → reader.fed ≡ [] → HasGiven before before reader.fed
-formula_begins reader before none = subst (HasGiven before before) (sym none) (given_none before)
-
 -- one more pull of what was read on
 pub read_further : (reader new : CnfRead) (start before after : SourceState) → HasGiven start before reader.fed → FormulaReadOn reader new before after → HasGiven start after new.fed
 read_further reader new start before after gave more = subst (HasGiven start after) (sym more.fed) (given_on start before after reader.fed more.piece gave more.gave)

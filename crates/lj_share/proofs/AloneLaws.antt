@@ -141,10 +141,6 @@ first_none m (n ∷ ns) (suc k) past = first_none m ns k (omega (arith, past))
 
 -- ---- the propagation
 
-pub no_groups : (groups : List HintGroup) (none : Bool) → none ≡ (length groups == 0) → none ≡ true → groups ≡ []
-no_groups [] none is known = refl
-no_groups (g ∷ gs) none is known = let no = eqb-true (length (g ∷ gs)) 0 (sym is ∙ known) in absurd (omega arith)
-
 case_of_pairs : (h : Holdings) (seat : ℕ) (a : Addition) (pairs : List Pair) → is_some (clause_seen (Some h) a.number) ≡ false → a.groups ≡ [] → pairs_of (fin.get h) a.hints ≡ Ok pairs → solo_take (Some h) seat a ≡ Ok (case_of seat a.number a.lemma pairs [])
 case_of_pairs h seat a pairs free none found =
     ap (λ (b : Bool). if b then Err NumberTaken else solo_case h seat a) (contains-seen h a.number ∙ free)

@@ -38,26 +38,6 @@ bound_empty b c n =
     ∙ ap (λ (o : Option LiteralSet). pair_of o (fin.get b.joints n)) (fin.get-empty nat_cmp n)
     ∙ none_of_none (fin.get b.joints n)
 
--- ---- what is read
-
-clause_of : (c : Option LiteralSet) (j : Option ℕ) → is_some c ≡ is_some j → c ≡ option_map (λ (p : Pair). p.clause) (pair_of c j)
-clause_of None j is = ap (option_map (λ (p : Pair). p.clause)) (sym (none_of_none j))
-clause_of (Some c) None is = absurd (false≢true (sym is))
-clause_of (Some c) (Some j) is = refl
-
-pub clause_read : (b : BindingsValue) → AreAlike b.clauses b.joints → (n : ℕ) → fin.get b.clauses n ≡ option_map (λ (p : Pair). p.clause) (bound_at b n)
-clause_read b alike n = clause_of (fin.get b.clauses n) (fin.get b.joints n) (alike n)
-
-no_joint : (c : Option LiteralSet) → pair_of c None ≡ None
-no_joint None = refl
-no_joint (Some c) = refl
-
-pub unread_joint : (b : BindingsValue) (n : ℕ) → fin.get b.joints n ≡ None → None ≡ bound_at b n
-unread_joint b n none = sym (ap (pair_of (fin.get b.clauses n)) none ∙ no_joint (fin.get b.clauses n))
-
-pub unread_clause : (b : BindingsValue) (n : ℕ) → fin.get b.clauses n ≡ None → None ≡ bound_at b n
-unread_clause b n none = sym (ap (λ (o : Option LiteralSet). pair_of o (fin.get b.joints n)) none ∙ none_of_none (fin.get b.joints n))
-
 -- ---- what is put
 
 -- a clause and a joint number were put under the number
@@ -109,25 +89,6 @@ set_again b a k j has cs js n =
     by false e =
         ap (λ t. pair_of (fin.get b.clauses n) (cond t (Some j) (fin.get b.joints n))) e
         ∙ sym (ap (λ t. cond t (under_joint j (bound_at b k)) (bound_at b n)) e)
-
--- the number has no joint number, and none was put
-pub set_nothing : (b : BindingsValue) (k j : ℕ) → is_some (fin.get b.joints k) ≡ false → IsSet b k (under_joint j (bound_at b k)) b
-set_nothing b k j none n = by (n == k) refl
-  where
-    no : bound_at b k ≡ None
-    no = go (fin.get b.joints k) refl
-      where
-        go : (o : Option ℕ) → fin.get b.joints k ≡ o → bound_at b k ≡ None
-        go None at = sym (unread_joint b k at)
-        go (Some x) at = absurd (false≢true (sym none ∙ ap is_some at))
-
-    by : (t : Bool) → (n == k) ≡ t → bound_at b n ≡ cond (n == k) (under_joint j (bound_at b k)) (bound_at b n)
-    by true e =
-        ap (bound_at b) (eqb-true n k e)
-        ∙ no
-        ∙ ap (under_joint j) (sym no)
-        ∙ sym (ap (λ t. cond t (under_joint j (bound_at b k)) (bound_at b n)) e)
-    by false e = sym (ap (λ t. cond t (under_joint j (bound_at b k)) (bound_at b n)) e)
 
 -- ---- what is taken out
 

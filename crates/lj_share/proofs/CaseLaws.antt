@@ -55,11 +55,3 @@ closed_case v seat a c receipt taken is = go (propagation_of c) refl is
         record { case = c; used = used; taken = taken; closed = at; read_is = sym (ap (λ (r : ReceiptValue). length r.listed) one ∙ read_are c used at) }
     go (propagations.Open lits) at same = absurd cc
     go (propagations.Stuck position) at same = absurd cc
-
-pub stuck_case : (v : View) (seat : ℕ) (a : Addition) (c : CaseValue) (position : ℕ) → solo_take v seat a ≡ Ok c → tests.Stuck position ≡ tested_of c (propagation_of c) → decided_refusal v seat a ≡ Some (HintNotUnit position)
-stuck_case v seat a c position taken is = ap decided_by taken ∙ go (propagation_of c) is
-  where
-    go : (w : propagations.Propagation) → tests.Stuck position ≡ tested_of c w → stuck_refusal w ≡ Some (HintNotUnit position)
-    go (propagations.Closed used) same = absurd cc
-    go (propagations.Open lits) same = absurd cc
-    go (propagations.Stuck at) same = let one : at ≡ position = cc in ap (λ (n : ℕ). Some (HintNotUnit n)) one

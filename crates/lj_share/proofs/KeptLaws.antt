@@ -114,9 +114,6 @@ finished_alike (lines.Import own c) joint p q is n = ap (cond (n == own) (Some (
 
 -- ---- what is kept is what the seat sees
 
-pub own_same : (f : FormulaValue) (k l : Option OwnValue) (v : View) → IsOwnOf f k v → IsKeptAs f k (pairs_kept f k) l → IsOwnOf f l v
-own_same f k l v are same = (same.0 ∙ are.0, λ n. same.1 n ∙ are.1 n)
-
 there_of : (f : FormulaValue) (k : Option OwnValue) (v : View) → IsOwnOf f k v → IsSome k → IsSome v
 there_of f k v are here = sym are.0 ∙ here
 
@@ -221,24 +218,10 @@ own_decided f k v own told are is = subst (λ (o : Option Refusal). IsDecided o 
 
 -- ---- takes
 
--- the seat has left
-pub gone_taken : (f : FormulaValue) (v : View) (seat : ℕ) (a : Addition) → IsOwnOf f None v → solo_take v seat a ≡ Err SeatGone
-gone_taken f None seat a are = refl
-gone_taken f (Some h) seat a are = absurd (false≢true are.0)
-
-pub gone_told : (f : FormulaValue) (v : View) (a : Addition) (r : Result CaseValue Refusal) → IsOwnOf f None v → r ≡ Err SeatGone → IfSome (solo_refusal v a.number) (λ e. r ≡ Err e)
-gone_told f None a r are is = is
-gone_told f (Some h) a r are is = absurd (false≢true are.0)
-
 -- the own number is bound
 pub taken_taken : (f : FormulaValue) (o : OwnValue) (v : View) (seat : ℕ) (a : Addition) → IsOwnOf f (Some o) v → is_some (own_pair f o a.number) ≡ true → solo_take v seat a ≡ Err NumberTaken
 taken_taken f o None seat a are has = absurd (false≢true (sym are.0))
 taken_taken f o (Some h) seat a are has = ap (λ b. if b then Err NumberTaken else solo_case h seat a) (ap is_some (sym (are.1 a.number)) ∙ has)
-
-pub taken_told : (f : FormulaValue) (o : OwnValue) (v : View) (a : Addition) (r : Result CaseValue Refusal) → IsOwnOf f (Some o) v → is_some (own_pair f o a.number) ≡ true → r ≡ Err NumberTaken → IfSome (solo_refusal v a.number) (λ e. r ≡ Err e)
-taken_told f o None a r are has is = absurd (false≢true (sym are.0))
-taken_told f o (Some h) a r are has is =
-    subst (λ (b : Bool). IfSome (if b then Some NumberTaken else None) (λ e. r ≡ Err e)) (sym (ap is_some (sym (are.1 a.number)) ∙ has)) is
 
 -- the own number is free
 pub case_taken : (f : FormulaValue) (o : OwnValue) (v : View) (seat : ℕ) (a : Addition) → IsOwnOf f (Some o) v → is_some (own_pair f o a.number) ≡ false → case_by (own_pair f o) seat a ≡ solo_take v seat a

@@ -71,6 +71,3 @@ front_passed xs k x left is = ap (drop 1) is ∙ drop-drop 1 k xs
 -- the seats of a book, one after another
 pub seats_on : (s : NamedState) (shown : List SeatValue) (v : SeatValue) (left : List SeatValue) → AreShown s shown → slice_get shown v.number ≡ Some v → AreSeatsIn s left → AreSeatsIn s (v ∷ left)
 seats_on s shown v left are at rest = All-cons (λ (x : SeatValue). seat_of_book s x.number ≡ x) v left (sym (are v.number v at)) rest
-
-pub no_seats : (s : NamedState) → AreSeatsIn s []
-no_seats s k d below = absurd (omega arith)

@@ -14,9 +14,6 @@ use Rattle.lj_share.specs.inner.Bindings.{BindingsValue, IsSet, bound_at, under_
 use Rattle.lj_share.specs.inner.Seats.{OwnValue, own_pair, own_clause, first_pair, early_pair, unless_given_up, IsUpdated, IsJointSet}
 use Rattle.lj_share.proofs.Confirming.{is_other}
 
-abbrev clause_in : Option Pair → Option LiteralSet
-clause_in o = option_map (λ (p : Pair). p.clause) o
-
 pub err_then : {T E : Type 0} (r : Result T E) {P Q : Type 0} → OnErr r P → (P → Q) → OnErr r Q
 err_then (Ok x) p f = tt
 err_then (Err x) p f = f p
@@ -188,49 +185,12 @@ early_same o p gone late rebound f n =
 
 -- ---- what is read
 
--- a number behind those of the opening
-pub read_late : (f : FormulaValue) (o : OwnValue) (n : ℕ) → length o.given_up ≤ n → clause_in (bound_at o.late (n - length o.given_up)) ≡ own_clause f o n
-read_late f o n behind = ap clause_in (sym (late_is f o n behind))
-
--- a number of the opening that was bound later
-pub read_rebound : (f : FormulaValue) (o : OwnValue) (n : ℕ) (c : LiteralSet) → n < length o.given_up → clause_in (bound_at o.rebound n) ≡ Some c → Some c ≡ own_clause f o n
-read_rebound f o n c within is = go (bound_at o.rebound n) is ∙ ap clause_in (sym (early_is f o n within))
-  where
-    go : (x : Option Pair) → clause_in x ≡ Some c → Some c ≡ clause_in (early_pair x (slice_get o.given_up n) (first_pair f n))
-    go None e = absurd (false≢true (ap is_some e))
-    go (Some p) e = sym e
-
-no_clause : (x : Option Pair) → clause_in x ≡ None → x ≡ None
-no_clause None e = refl
-no_clause (Some p) e = absurd (false≢true (sym (ap is_some e)))
-
--- one that was given up
-pub read_given_up : (f : FormulaValue) (o : OwnValue) (n : ℕ) → n < length o.given_up → bound_at o.rebound n ≡ None → slice_get o.given_up n ≡ Some true → None ≡ own_pair f o n
-read_given_up f o n within none gone =
-    sym (early_is f o n within
-    ∙ ap (λ (x : Option Pair). early_pair x (slice_get o.given_up n) (first_pair f n)) none
-    ∙ ap (λ (x : Option Bool). unless_given_up x (first_pair f n)) gone)
-
 -- one that is bound since the opening
 pub read_first : (f : FormulaValue) (o : OwnValue) (n : ℕ) → n < length o.given_up → bound_at o.rebound n ≡ None → slice_get o.given_up n ≡ Some false → first_pair f n ≡ own_pair f o n
 read_first f o n within none gone =
     sym (early_is f o n within
     ∙ ap (λ (x : Option Pair). early_pair x (slice_get o.given_up n) (first_pair f n)) none
     ∙ ap (λ (x : Option Bool). unless_given_up x (first_pair f n)) gone)
-
-pub none_bound : (o : OwnValue) (n : ℕ) → clause_in (bound_at o.rebound n) ≡ None → bound_at o.rebound n ≡ None
-none_bound o n is = no_clause (bound_at o.rebound n) is
-
--- the clause of the first pair is the formula's
-pub first_clause : (f : FormulaValue) (n : ℕ) → clause_in (first_pair f n) ≡ fin.get (formula_map f) n
-first_clause f n = go (fin.get (formula_map f) n)
-  where
-    named : LiteralSet → Pair
-    named c = record { joint = n; clause = c }
-
-    go : (x : Option LiteralSet) → clause_in (option_map named x) ≡ x
-    go None = refl
-    go (Some c) = refl
 
 -- at the opening
 pub new_clauses : (f : FormulaValue) (o : OwnValue) → o.given_up ≡ replicate (length f.clauses + 1) false → ((n : ℕ) → bound_at o.rebound n ≡ None) → ((n : ℕ) → bound_at o.late n ≡ None) → (n : ℕ) → own_pair f o n ≡ first_pair f n

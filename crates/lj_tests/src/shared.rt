@@ -44,7 +44,8 @@ fn prove_beside<L: BookId + Send + Sync, R: Threads + Wait + Abort + Sync>(
     let Some(first) = seats.get_mut(0) else {
         panic!(rt; "no first seat");
     };
-    let (of_first, of_second) = submit_both(rt, alloc, &shared, first, &mut second)?;
+    let (mut of_first, of_second) = submit_both(rt, alloc, &shared, first, &mut second)?;
+    assert_seen(rt, alloc, &shared, first, &mut of_first)?;
     let (shared, mut seats) = with_one(rt, shared, seats);
     seats.push(second)?;
     assert_closed(rt, shared, seats, &of_first, &of_second);
@@ -71,6 +72,28 @@ fn submit_both<L: BookId + Send + Sync, R: Threads + Wait + Sync>(
     of_first.push(one)?;
     of_second.push(two)?;
     Ok((of_first, of_second))
+}
+
+/// The first prover ends its proof by the clause of the other. A note sees the verdict then, and not before.
+fn assert_seen<L: BookId, R: Wait + Abort>(
+    rt: &R,
+    alloc: Global,
+    shared: &Shared<L>,
+    seat: &mut Seat<L>,
+    tokens: &mut Vec<Told>,
+) -> Result<(), Fail> {
+    let import = Line::Import {
+        number: 6,
+        clause: Boxed::new(alloc, tables::clause(alloc, &[-2])?)?,
+    };
+    let mut note = shared.note();
+    for line in [import, addition(alloc, 7, &[], &[5, 6])?] {
+        assert!(rt; shared.verdict_seen(&mut note).is_none());
+        tokens.push(shared.submit(rt, seat, &line)?)?;
+    }
+    assert!(rt; shared.verdict_seen(&mut note).is_some());
+    assert!(rt; shared.verdict_now() == Some(3));
+    Ok(())
 }
 
 /// A book that isn't closed with one seat of two comes back.
@@ -100,7 +123,7 @@ fn assert_closed<L: BookId>(
     let Ok(closed) = shared.close(seats) else {
         panic!(rt; "not closed");
     };
-    assert!(rt; closed.book().history_len() == 2);
+    assert!(rt; closed.book().history_len() == 4);
     assert!(rt; closed.confirm(0, of_first) && closed.confirm(1, of_second));
     assert!(rt; !closed.confirm(0, of_second));
 }

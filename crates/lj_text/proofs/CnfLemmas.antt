@@ -36,10 +36,6 @@ then-with : {A B C E : Type 0} (f : A → B) (g : B → Result C E) (read : Resu
 then-with f g (Ok x) = refl
 then-with f g (Err e) = refl
 
-with-with : {A B C E : Type 0} (f : A → B) (g : B → C) (read : Result A E) → with_read g (with_read f read) ≡ with_read (λ x. g (f x)) read
-with-with f g (Ok x) = refl
-with-with f g (Err e) = refl
-
 begin_literal : (v last line left : ℕ) (n : ℤ) (rest : List BodyToken) → unsigned_abs n ≤ v → 0 < unsigned_abs n → 0 < left → clauses_of v last left (Number line n ∷ rest) ≡ clauses_after v last left (n ∷ []) rest
 begin_literal v last line zero n rest le some h = absurd (omega arith)
 begin_literal v last line (suc m) n rest le some h =
@@ -110,22 +106,6 @@ beyond v last line left (o ∷ os) n rest above = ap (λ read. then_read read (�
 pub completed-beyond : (b : Begun) (last line : ℕ) (n : ℤ) (rest : List BodyToken) → b.variables < unsigned_abs n → formula_after b last (Number line n ∷ rest) ≡ fault_in line VariableRange
 completed-beyond b last line n rest above = ap (with_read (λ cs. formula_of b.variables (b.clauses ++ cs))) (beyond b.variables last line b.left b.literals n rest above)
 
-too_many : (v last line left : ℕ) (ls : List ℤ) (n : ℤ) (rest : List BodyToken) → left ≡ 0 → ls ≡ [] → unsigned_abs n ≤ v → clauses_after v last left ls (Number line n ∷ rest) ≡ fault_in line ClauseCount
-too_many v last line zero [] n rest h e le = ap (λ b. cond b (fault_in line ClauseCount) (fault_in line VariableRange)) (le-leb (unsigned_abs n) v le)
-too_many v last line (suc m) [] n rest h e le = absurd (omega arith)
-too_many v last line left (o ∷ os) n rest h e le = cc
-
-pub completed-too_many : (b : Begun) (last line : ℕ) (n : ℤ) (rest : List BodyToken) → b.left ≡ 0 → b.literals ≡ [] → unsigned_abs n ≤ b.variables → formula_after b last (Number line n ∷ rest) ≡ fault_in line ClauseCount
-completed-too_many b last line n rest h e le = ap (with_read (λ cs. formula_of b.variables (b.clauses ++ cs))) (too_many b.variables last line b.left b.literals n rest h e le)
-
--- a percent
-percent_open : (v last line left : ℕ) (ls : List ℤ) (rest : List BodyToken) → 0 < length ls → clauses_after v last left ls (Percent line ∷ rest) ≡ fault_in line BadNumber
-percent_open v last line left [] rest h = absurd (omega arith)
-percent_open v last line left (o ∷ os) rest h = refl
-
-pub completed-percent_open : (b : Begun) (last line : ℕ) (rest : List BodyToken) → 0 < length b.literals → formula_after b last (Percent line ∷ rest) ≡ fault_in line BadNumber
-completed-percent_open b last line rest h = ap (with_read (λ cs. formula_of b.variables (b.clauses ++ cs))) (percent_open b.variables last line b.left b.literals rest h)
-
 percent_early : (v last line left : ℕ) (ls : List ℤ) (rest : List BodyToken) → 0 < left → ls ≡ [] → clauses_after v last left ls (Percent line ∷ rest) ≡ fault_in line ClauseCount
 percent_early v last line zero [] rest h e = absurd (omega arith)
 percent_early v last line (suc m) [] rest h e = refl
@@ -133,16 +113,6 @@ percent_early v last line left (o ∷ os) rest h e = cc
 
 pub completed-percent_early : (b : Begun) (last line : ℕ) (rest : List BodyToken) → 0 < b.left → b.literals ≡ [] → formula_after b last (Percent line ∷ rest) ≡ fault_in line ClauseCount
 completed-percent_early b last line rest h e = ap (with_read (λ cs. formula_of b.variables (b.clauses ++ cs))) (percent_early b.variables last line b.left b.literals rest h e)
-
-percent_end : (v last line left : ℕ) (ls : List ℤ) (rest : List BodyToken) → left ≡ 0 → ls ≡ [] → clauses_after v last left ls (Percent line ∷ rest) ≡ Ok []
-percent_end v last line zero [] rest h e = refl
-percent_end v last line (suc m) [] rest h e = absurd (omega arith)
-percent_end v last line left (o ∷ os) rest h e = cc
-
-pub completed-percent_end : (b : Begun) (last line : ℕ) (rest : List BodyToken) → b.left ≡ 0 → b.literals ≡ [] → formula_after b last (Percent line ∷ rest) ≡ Ok (formula_of b.variables b.clauses)
-completed-percent_end b last line rest h e =
-    ap (with_read (λ cs. formula_of b.variables (b.clauses ++ cs))) (percent_end b.variables last line b.left b.literals rest h e)
-    ∙ ap (λ l. Ok (formula_of b.variables l)) (append-nil b.clauses)
 
 pub completed-refused : (b : Begun) (last line : ℕ) (number : Option ℤ) (kind : CnfFaultKind) (rest : List BodyToken) → IsNumberUpTo b.variables number (Err kind) → IsCnfTold kind line (formula_after b last (number_at line number ∷ rest))
 completed-refused b last line number NoHeader rest h = absurd h
@@ -189,23 +159,10 @@ pub variable-abs : (l : ℤ) → variable_of l ≡ unsigned_abs l
 variable-abs (pos n) = refl
 variable-abs (negsuc n) = refl
 
-pub literals-pushed : (v : ℕ) (ls : List ℤ) (n : ℤ) → list_all (is_up_to v) ls ≡ true → unsigned_abs n ≤ v → list_all (is_up_to v) (ls ++ n ∷ []) ≡ true
-literals-pushed v ls n h le =
-    let one : is_up_to v n ≡ true = ap (λ m. nat_le m v) (variable-abs n) ∙ le-leb (unsigned_abs n) v le in
-    list_all-append (is_up_to v) ls (n ∷ []) ∙ ap (λ b. b && (is_up_to v n && true)) h ∙ ap (λ b. b && true) one
-
 pub clauses-pushed : (v : ℕ) (cs : List LiteralSet) (ls : List ℤ) → list_all (names_up_to v) cs ≡ true → list_all (is_up_to v) ls ≡ true → list_all (names_up_to v) (cs ++ from_literals ls ∷ []) ≡ true
 clauses-pushed v cs ls h k =
     let one : names_up_to v (from_literals ls) ≡ true = named (is_up_to v) ls k in
     list_all-append (names_up_to v) cs (from_literals ls ∷ []) ∙ ap (λ b. b && (names_up_to v (from_literals ls) && true)) h ∙ ap (λ b. b && true) one
-
--- the end of the input
-ends_open : (v last left : ℕ) (ls : List ℤ) → 0 < length ls → clauses_after v last left ls [] ≡ fault_in last Truncated
-ends_open v last left [] h = absurd (omega arith)
-ends_open v last left (o ∷ os) h = refl
-
-pub completed-open : (b : Begun) (last : ℕ) → 0 < length b.literals → formula_after b last [] ≡ fault_in last Truncated
-completed-open b last h = ap (with_read (λ cs. formula_of b.variables (b.clauses ++ cs))) (ends_open b.variables last b.left b.literals h)
 
 ends_early : (v last left : ℕ) (ls : List ℤ) → 0 < left → ls ≡ [] → clauses_after v last left ls [] ≡ fault_in last ClauseCount
 ends_early v last zero [] h e = absurd (omega arith)
@@ -214,16 +171,6 @@ ends_early v last left (o ∷ os) h e = cc
 
 pub completed-early : (b : Begun) (last : ℕ) → 0 < b.left → b.literals ≡ [] → formula_after b last [] ≡ fault_in last ClauseCount
 completed-early b last h e = ap (with_read (λ cs. formula_of b.variables (b.clauses ++ cs))) (ends_early b.variables last b.left b.literals h e)
-
-ends_well : (v last left : ℕ) (ls : List ℤ) → left ≡ 0 → ls ≡ [] → clauses_after v last left ls [] ≡ Ok []
-ends_well v last zero [] h e = refl
-ends_well v last (suc m) [] h e = absurd (omega arith)
-ends_well v last left (o ∷ os) h e = cc
-
-pub completed-end : (b : Begun) (last : ℕ) → b.left ≡ 0 → b.literals ≡ [] → formula_after b last [] ≡ Ok (formula_of b.variables b.clauses)
-completed-end b last h e =
-    ap (with_read (λ cs. formula_of b.variables (b.clauses ++ cs))) (ends_well b.variables last b.left b.literals h e)
-    ∙ ap (λ l. Ok (formula_of b.variables l)) (append-nil b.clauses)
 
 -- where a token's number is kept, so is that of the first token of the line
 pub first-kept : (old now : Begun) (all left : List (List ℕ)) (token : List ℕ) (after : List (List ℕ)) → ((now ≡ old) × (left ≡ all)) ⊎ (keeps_first old all ≡ true)

@@ -18,9 +18,6 @@ pub record IsRead (all rest : List ℕ) (value : ℕ) : Type 0 where
   pub total : decimal_value all ≡ read * 10 ^ length rest + decimal_value rest
   pub counts : Counts value read
 
-pub read-none : (all : List ℕ) → IsRead all all 0
-read-none all = record { digits = refl; read = 0; total = omega arith; counts = (λ h. refl, λ h. absurd (omega arith)) }
-
 goes_on : (value read next d : ℕ) → Counts value read → Counts next (10 * value + d) → Counts next (10 * read + d)
 goes_on value read next d buffer c =
     let here : value ≤ greatest → read ≡ value = buffer.0 in
@@ -43,10 +40,6 @@ read-more all rest b value next d c so_far =
       total = omega (arith, total);
       counts = goes_on value so_far.read next (b - 48) so_far.counts c;
     }
-
--- a byte that is no digit
-pub read-stopped : (all rest : List ℕ) (b value : ℕ) → is_ascii_digit b ≡ false → IsRead all (b ∷ rest) value → list_all is_ascii_digit all ≡ false
-read-stopped all rest b value d so_far = so_far.digits ∙ ap (λ t. t && list_all is_ascii_digit rest) d
 
 -- the same, of a slice
 pub read-step : (all rest : List ℕ) (value next : ℕ) → 1 ≤ length rest → is_ascii_digit (get_or rest 0 0) ≡ true → Counts next (10 * value + (get_or rest 0 0 - 48)) → IsRead all rest value → IsRead all (take (length rest - 1) (drop 1 rest)) next

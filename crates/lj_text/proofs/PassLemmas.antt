@@ -16,18 +16,6 @@ use Rattle.std.proofs.Math.Seq.{drop-append_seam}
 use Rattle.lj_text.specs.inner.Looking.{Looked, LookedBehind, Fails, FailsToEnd, said_of}
 use Rattle.lj_text.proofs.StandLemmas.{all_more, joined_more, next_number, said_for, said-spoken, said_from-append, whole-joined, all-joined, all-none, cut-joined, cut-none}
 
-get-early : (xs ys : List Said) (x : Said) → slice_get xs 0 ≡ Some x → slice_get (xs ++ ys) 0 ≡ Some x
-get-early [] ys x h = cc
-get-early (y ∷ xs) ys x h = h
-
-said-early : (xs ys : List Said) (line : ℕ) → IsSaidAt (slice_get xs 0) line → IsSaidAt (slice_get (xs ++ ys) 0) line
-said-early [] ys line h = absurd h
-said-early (x ∷ xs) ys line h = h
-
-right-early : (xs ys : List Said) → IsSaidRight (slice_get xs 0) → IsSaidRight (slice_get (xs ++ ys) 0)
-right-early [] ys h = absurd h
-right-early (x ∷ xs) ys h = h
-
 for_line : (number : ℕ) (line : Option Line) → said_for number (Ok line) ≡ said_of number line
 for_line number None = refl
 for_line number (Some line) = refl
@@ -80,23 +68,6 @@ looked-some max first k ahead rest l after number left line p first_is e h says 
   none_before = λ i d h. absurd (omega arith);
   all_searched = λ e. cc;
   none_is = tt;
-}
-
--- no whole line is left
-pub looked-none : (max first k : ℕ) (ahead rest : List ℕ) (number left : ℕ) → Passed max first ahead rest number → first ≡ line_number k → HasNoLineEnd rest → left ≡ length rest
-    → Looked max k ahead (record { line = None; at = number; number = number; left = left; searched = left })
-looked-none max first k ahead rest number left p first_is h left_is = record {
-  lines = p.lines;
-  after = rest;
-  whole = p.whole;
-  ahead_is = p.ahead_is;
-  left_is = left_is;
-  number_is = p.number_is k first_is;
-  said_is = p.silent k;
-  searched_is = omega arith;
-  none_before = let P : List ℕ → Type 0 = HasNoLineEnd in subst P (sym (take_all left rest (omega arith))) h;
-  all_searched = λ e. refl;
-  none_is = (h, refl);
 }
 
 -- the first that says something, behind silent ones
@@ -207,17 +178,6 @@ fails-behind max k ahead last found fault p none last_is told loud right =
       right = λ memory. subst (λ (o : Option Said). IsSaidRight o) (sym first) (right memory);
     }
 
--- a fault of a whole line is one of the input
-pub fails-whole : (max k : ℕ) (ahead : List ℕ) (fault : LineFault) → Fails max k ahead fault → FailsToEnd max k ahead fault
-fails-whole max k ahead fault fails = record {
-  told = λ memory. get-early _ _ _ (fails.told memory);
-  line_is = said-early (whole_said_from max k ahead) _ fault.line fails.line_is;
-  right = λ memory. right-early (whole_said_from max k ahead) _ (fails.right memory);
-}
-
 pub none-from_test : (o : Option Line) → is_some o ≡ false → o ≡ None
 none-from_test None h = refl
 none-from_test (Some line) h = cc
-
-pub passed-left : (max first : ℕ) (ahead rest : List ℕ) (number : ℕ) → Passed max first ahead rest number → length rest ≤ length ahead
-passed-left max first ahead rest number p = omega (arith, ap length p.ahead_is, length-append (text_of_lines p.lines) rest)

@@ -29,9 +29,6 @@ pub record ShortRead (bytes : List ℕ) (i value : ℕ) : Type 0 where
   pub value_is : value ≡ decimal_value (take i bytes)
   pub small : value < 10 ^ i
 
-pub short-none : (bytes : List ℕ) → ShortRead bytes 0 0
-short-none bytes = record { are_digits = refl; value_is = refl; small = omega arith }
-
 power-more : (i : ℕ) → 10 ^ suc i ≡ 10 * 10 ^ i
 power-more i = pow-succ' 10 i
 
@@ -264,9 +261,6 @@ abs-of : (variable : ℕ) (sign : Bool) → unsigned_abs (literal_on variable si
 abs-of variable false = refl
 abs-of zero true = refl
 abs-of (suc n) true = refl
-
-pub literals-none : (max : ℕ) (old : List ℤ) (bytes : List ℕ) → AreLiteralsAhead max old bytes old bytes
-literals-none max old bytes = record { front = []; bytes_is = refl; none_within = none-ends; read = λ ended tail. refl }
 
 pub literals-more : (max : ℕ) (old : List ℤ) (bytes : List ℕ) (new : List ℤ) (rest : List ℕ) (variable : ℕ) (sign : Bool) (after : List ℕ) → variable ≢ 0 → variable ≤ max
     → (0 < variable → IsTokenAhead rest (literal_on variable sign) after) → AreLiteralsAhead max old bytes new rest → AreLiteralsAhead max old bytes (new ++ literal_on variable sign ∷ []) after

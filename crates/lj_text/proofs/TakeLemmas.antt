@@ -112,25 +112,6 @@ taken-fault max first number old state fault buffer piece left rest front after 
       ∙ told-err fault.kind fault.line _ (subst (λ (f : CnfFault). is_cnf_no_memory f.kind ≡ false) (sym same) memory) (line (n + length g.lines) (g.line_is n first_is) (lines_of (after ++ more))));
 }
 
--- memory ran out
-pub taken-memory : (max first number line : ℕ) (old state new : State) (buffer piece left rest now : List ℕ) → Going max first old buffer piece state number left rest → HasNoLineEnd now
-    → kept_fault new ≡ Some (record { kind = NoMemory no_memory; line = line }) → Taken max first old buffer piece new number now
-taken-memory max first number line old state new buffer piece left rest now g h e = record {
-  none = h;
-  lines = g.lines;
-  whole = g.whole;
-  line_is = g.line_is;
-  text_is = λ sound. absurd (not_kept (kept_fault new) _ e sound);
-  reads = λ sound. absurd (not_kept (kept_fault new) _ e sound);
-  told = λ kept is memory. absurd (not_told kept (sym e ∙ is) memory);
-}
-  where
-    not_kept : (o : Option CnfFault) (f : CnfFault) → o ≡ Some f → o ≡ None → ⊥
-    not_kept o f e n = cc
-
-    not_told : (f : CnfFault) → ◌≡◌ {A = Option CnfFault} (Some (record { kind = NoMemory no_memory; line = line })) (Some f) → is_cnf_no_memory f.kind ≡ false → ⊥
-    not_told f same memory = let kind : NoMemory no_memory ≡ f.kind = cc in let yes : is_cnf_no_memory f.kind ≡ true = ap is_cnf_no_memory (sym kind) in cc
-
 -- a line for which room was asked and refused
 pub scratch-line : (max first number line : ℕ) (old state : State) (buffer piece left rest front after : List ℕ) → Going max first old buffer piece state number left rest → rest ≡ front ++ 10 ∷ after → line ≡ number
     → (0 < length left) ⊎ ((left ≡ []) × (asks_memory state (tokens_of front) ≡ true)) → NeedsMemoryFrom max first old buffer piece line

@@ -30,24 +30,6 @@ below-passes p (suc n) k e lt =
     let parts = and_parts (p n) (all-below p n) e in
     at-or-below p n k lt parts.0 (λ less. below-passes p n k parts.1 less) (cases_lt k n)
 
--- ---- the first eight of a list
-step-at : (xs : List ℕ) (n i j : ℕ) → j ≡ i + 1 → i < length xs → take (suc n) (drop i xs) ≡ get_or xs i 0 ∷ take n (drop j xs)
-step-at xs n i j e lt =
-    let next : suc i ≡ j = omega (arith, e) in
-    ap (take (suc n)) (drop-cons xs i 0 lt) ∙ ap (λ k. get_or xs i 0 ∷ take n (drop k xs)) next
-
-pub eight-at : (xs : List ℕ) (i : ℕ) → i + 8 ≤ length xs
-    → take 8 (drop i xs) ≡ get_or xs i 0 ∷ get_or xs (i + 1) 0 ∷ get_or xs (i + 2) 0 ∷ get_or xs (i + 3) 0 ∷ get_or xs (i + 4) 0 ∷ get_or xs (i + 5) 0 ∷ get_or xs (i + 6) 0 ∷ get_or xs (i + 7) 0 ∷ []
-eight-at xs i le =
-    step-at xs 7 i (i + 1) refl (omega (arith, le)) ∙ ap (λ t. get_or xs i 0 ∷ t)
-    (step-at xs 6 (i + 1) (i + 2) (omega arith) (omega (arith, le)) ∙ ap (λ t. get_or xs (i + 1) 0 ∷ t)
-    (step-at xs 5 (i + 2) (i + 3) (omega arith) (omega (arith, le)) ∙ ap (λ t. get_or xs (i + 2) 0 ∷ t)
-    (step-at xs 4 (i + 3) (i + 4) (omega arith) (omega (arith, le)) ∙ ap (λ t. get_or xs (i + 3) 0 ∷ t)
-    (step-at xs 3 (i + 4) (i + 5) (omega arith) (omega (arith, le)) ∙ ap (λ t. get_or xs (i + 4) 0 ∷ t)
-    (step-at xs 2 (i + 5) (i + 6) (omega arith) (omega (arith, le)) ∙ ap (λ t. get_or xs (i + 5) 0 ∷ t)
-    (step-at xs 1 (i + 6) (i + 7) (omega arith) (omega (arith, le)) ∙ ap (λ t. get_or xs (i + 6) 0 ∷ t)
-    (step-at xs 0 (i + 7) (i + 8) (omega arith) (omega (arith, le)))))))))
-
 -- ---- a word's bytes against another's
 abbrev aboves : ℕ → ℕ
 aboves zero = 0

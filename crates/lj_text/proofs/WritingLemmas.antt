@@ -9,17 +9,8 @@ use Rattle.lj_text.specs.inner.Writing.{Wrote, Broke}
 pub beginning-self : (xs : List ℕ) → IsBeginning xs xs
 beginning-self xs = ([], sym (append-nil xs))
 
-pub beginning-append : (xs ys : List ℕ) → IsBeginning xs (xs ++ ys)
-beginning-append xs ys = (ys, refl)
-
 pub beginning-trans : (xs ys zs : List ℕ) → IsBeginning xs ys → IsBeginning ys zs → IsBeginning xs zs
 beginning-trans xs ys zs (r, e) (s, f) = (r ++ s, f ∙ ap (λ t. t ++ s) e ∙ append_assoc xs r s)
-
-pub beginning-take : (n : ℕ) (xs : List ℕ) → IsBeginning (take n xs) xs
-beginning-take n xs = (drop n xs, sym (take-append-drop n xs))
-
-pub beginning-under : (xs ys zs : List ℕ) → IsBeginning xs ys → IsBeginning (zs ++ xs) (zs ++ ys)
-beginning-under xs ys zs (r, e) = (r, ap (λ t. zs ++ t) e ∙ sym (append_assoc zs xs r))
 
 -- nothing was to be written
 pub wrote_none : (taken buffer : List ℕ) → Wrote taken buffer taken buffer []
@@ -44,13 +35,6 @@ broke_more t0 h0 t1 x y b = record {
   onward = b.onward;
 }
 
--- all that was held was taken
-pub wrote_flushed : (t0 h0 t1 : List ℕ) → t1 ≡ t0 ++ h0 → Wrote t0 h0 t1 [] []
-wrote_flushed t0 h0 t1 e = record {
-  whole = append-nil t1 ∙ e ∙ sym (append-nil (t0 ++ h0));
-  onward = (h0, e);
-}
-
 -- only the first of what was held were taken
 pub broke_flushed : (t0 h0 t1 : List ℕ) (n : ℕ) → n < length h0 → t1 ≡ t0 ++ take n h0 → Broke t0 h0 t1 []
 broke_flushed t0 h0 t1 n lt e = record {
@@ -62,10 +46,6 @@ broke_flushed t0 h0 t1 n lt e = record {
 pub on_err : {A E : Type 0} (r : Result A E) (P : Type 0) → P → OnErr r P
 on_err (Ok x) P p = tt
 on_err (Err e) P p = p
-
-pub err_none : {A E : Type 0} (r : Result A E) (P : Type 0) → OnErr r P → (e : E) → r ≡ Err e → P
-err_none (Ok x) P p e is = cc
-err_none (Err x) P p e is = p
 
 pub on_err_map : {A E : Type 0} (r : Result A E) {P Q : Type 0} → (P → Q) → OnErr r P → OnErr r Q
 on_err_map (Ok x) f p = tt

@@ -33,16 +33,6 @@ marked_then m k j ns ms a b = record {
   only = λ s w h. b.only s (a.only s w (all-front (λ n. has s n ≡ true) ns ms h)) (all-back (λ n. has s n ≡ true) ns ms h);
 }
 
-pub passed_none : (m : Marks) → Passed m m [] []
-passed_none m = record {
-  grows = λ n h. h;
-  only = λ s w h. w;
-  closes = λ k g h. h;
-  stays = λ s h. h;
-  fewer = omega arith;
-  idle = λ e. tt;
-}
-
 -- the hints of an addition with a marked number were marked
 pub passed_taken : (m k j : Marks) (x : Addition) (rest still : List Addition) → Passed m k rest still → is_marked k x.number ≡ true → Marked k j (all_hints x) → Passed m j (x ∷ rest) still
 passed_taken m k j x rest still p here a =
