@@ -177,6 +177,13 @@ impl<W: Sink> ProofWriter<W> {
             }
         }
     }
+
+    /// The sink, as it is: what is held back is lost. Takes constant time.
+    pub fn into_sink(self) -> W
+        ensures { result ≡ self.sink }
+    {
+        self.sink
+    }
 }
 
 /// Writes the lines of the steps of a proof, and gives the sink all of them. The formula has so many clauses. Takes time
