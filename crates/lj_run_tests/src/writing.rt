@@ -55,8 +55,7 @@ fn assert_fails(
     capacity: usize,
     most: usize,
 ) -> Result<(), Fail> {
-    let mut sink = small_sink(alloc, capacity, most);
-    let mut writer = ProofWriter::new(&mut sink, 4);
+    let mut writer = ProofWriter::new(small_sink(alloc, capacity, most), 4);
     for step in steps {
         assert!(rt; writer.step(step).is_ok(), "with room for {capacity}");
     }
@@ -70,7 +69,7 @@ fn assert_fails(
         .as_bytes()
         .get(..capacity)
         .ok_or("more room than bytes")?;
-    assert!(rt; sink.sink.sink.bytes() == taken);
+    assert!(rt; writer.into_sink().sink.sink.bytes() == taken);
     Ok(())
 }
 
