@@ -17,8 +17,10 @@ impl Model for MemorySource {
 
     ghost Value = { List ℕ × List ℕ × Bool };
 
-    ghost view = { λ source. (take source.given source.bytes.items,
-        (drop source.given source.bytes.items, source.ended)) };
+    ghost view = { λ source. (
+      take source.given source.bytes.items,
+      (drop source.given source.bytes.items, source.ended),
+    ) };
 
     ghost invariant = { λ source. (source.given ≤ vec_len source.bytes)
         × (source.ended ≡ true → source.given ≡ vec_len source.bytes) };
