@@ -1,5 +1,6 @@
 """Makes scripts with what they have to print, by a fixed generator and plain scans (`plain_book.py`): lists of events that are
-played as a book, as a list and as a shared book, propagations and RAT tests over small formulas, and propagations and lines that are long.
+played as a book, as a list and as a shared book, propagations and RAT tests over small formulas, imports among many clauses, and
+propagations and lines that are long.
 `scripts()` gives them, each as its name, its text and its output."""
 import plain_book
 from plain_book import Book, Refused, in_order, words
@@ -120,7 +121,7 @@ def event_of(random, book):
             numbers += listed_numbers(book, seat)
         return ("drop", seat, words(numbers, 0)), lambda: book.drop(seat, numbers)
     if kind < 14:
-        literals = random.literals(3)
+        literals = random.literals(random.of([3, 3, 5]))
         return ("import", seat, words(own, literals, 0)), lambda: book.bind(seat, own, literals)
     if kind == 15 and random.below(12) == 0:
         seat = len(book.tables) - 1 if random.below(5) else 0
@@ -150,6 +151,8 @@ class Tokens:
             # A shared book gives a refused receipt back.
             self.book.pending[seat] = pending
         is_line = word in ("inside", "drop", "import")
+        # Of an import without a token it isn't known whether it adds, and so not with which number a later deletion is printed.
+        is_told = is_told or word == "import" and len(self.book.entries) > before and " : " in self.book.entries[-1]
         if word == "drop":
             rest = f"5 d {rest}"
         elif word == "import":
@@ -225,6 +228,33 @@ def lists_of_events():
         for number in range(first, first + LISTS_OF_A_SCRIPT):
             add_list(script, number)
         yield script.named(f"lists {first} to {first + LISTS_OF_A_SCRIPT - 1}")
+
+
+# ---- imports
+
+
+def imports_among_many():
+    """Imports of up to many literals among clauses of a few, before and after most of those died, and after new ones came."""
+    random, script = Random(11), Script()
+    for count in range(16):
+        variables = 8 + 3 * count
+
+        def literals(most):
+            listed = [1 + random.below(variables) for _ in range(random.below(most + 1))]
+            return [variable if random.below(2) else -variable for variable in listed]
+
+        clauses = [literals(4) or [1] for _ in range(250)]
+        book = Book(variables, clauses, 1, 60)
+        script.formula(variables, clauses)
+        script.ask("open 1 60")
+        for own in range(1001, 1121):
+            if random.below(10) == 0:
+                numbers = [random.of([1, 1001]) + random.below(250) for _ in range(90)]
+                script.ask(f"drop 0 {words(numbers, 0)}", answer(book.drop, 0, numbers))
+            wanted = literals(random.of([3, 9, 2 * variables]))
+            script.ask(f"import 0 {own} {words(wanted, 0)}", answer(book.bind, 0, own, wanted))
+        script.ask("show", *book.show())
+    yield script.named("imports among many")
 
 
 # ---- propagations and RAT tests
@@ -305,7 +335,12 @@ def long_lines():
     literals = list(range(10, 1500))
     inside(9, [2, *literals], [1, 2])
     inside(10, [2, *reversed(literals), -7], [1, 2])
-    script.ask(f"import 0 11 {words(list(reversed(literals)), 2, 0)}", answer(book.bind, 0, 11, [2, *literals]))
+    wanted = [*reversed(literals), 2]
+    script.ask(f"import 0 11 {words(wanted, 0)}", answer(book.bind, 0, 11, wanted))
+    for own, more in ((12, [3]), (13, [-7, 3]), (14, [9]), (15, [-12]), (16, [-2])):
+        script.ask(f"import 0 {own} {words(more, wanted, 0)}", answer(book.bind, 0, own, [*more, *wanted]))
+    wanted = [*more, *literals]
+    script.ask(f"import 0 17 {words(wanted, 0)}", answer(book.bind, 0, 17, wanted))
     script.ask("show", *book.show())
     script.ask("candidates 700", words("candidates", book.candidates(700)))
     script.ask(f"inside 0 {'9' * 10_000} 2 0 1 2 0", f"line {len(script.text) + 1}: NumberRange")
@@ -314,6 +349,7 @@ def long_lines():
 
 def scripts():
     yield from lists_of_events()
+    yield from imports_among_many()
     yield from small_propagations()
     yield from long_propagations()
     yield from long_lines()

@@ -225,16 +225,23 @@ class Book:
         return f"Adopted({self.enter(seat, f'adopt {own} {joint}')})"
 
     def bind(self, seat, own, literals):
-        """An import."""
+        """An import. Where no live clause is the wanted one, it adds that clause by the least live one that is a part of it."""
         table = self.table(seat, own)
         if not self.is_named(literals, self.names[seat]):
             raise Refused("PrivateVariable")
-        wanted = set(renamed(literals, self.names[seat]))
-        found = [number for number, clause in sorted(self.live().items()) if clause == wanted]
-        if not found:
+        wanted, live = frozenset(renamed(literals, self.names[seat])), sorted(self.live().items())
+        parts = [number for number, clause in live if clause <= wanted]
+        if not parts:
             raise Refused("NoSuchClause")
-        table[own] = found[0]
-        return f"Imported({self.enter(seat, words('import', own, in_order(literals), 0))}, {found[0]})"
+        number, step = next((number for number in parts if self.given[number] == wanted), None), None
+        if number is None:
+            if len(self.given) - self.formula == self.limit:
+                raise Refused("Full")
+            number, is_closed = len(self.given) + 1, any(-literal in wanted for literal in wanted)
+            step = addition_tokens(number, in_order(wanted), [] if is_closed else parts[:1], [])
+            self.given[number] = wanted
+        table[own] = number
+        return f"Imported({self.enter(seat, words('import', own, in_order(literals), 0), step)}, {number})"
 
     def leave(self, seat):
         self.table(seat)

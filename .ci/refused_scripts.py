@@ -3,8 +3,9 @@ shared book. A call that is refused for want of memory is made once more. Each r
 
 - once: the program prints the script's whole output, or a beginning of its lines and then `line L: NoMemory`, where L is the line
   whose command would have printed what comes next.
-- twice, the second time some requests later: where the call that met the first meets the second too, its reply is
-  `Refused(NoMemory)`, and all that is printed is as of a plain book that leaves this one call out (`plain_script.py`).
+- twice, the second time some requests later, where once the whole output was printed: where the call that met the first meets the
+  second too, its reply is `Refused(NoMemory)`, and all that is printed is as of a plain book that leaves this one call out
+  (`plain_script.py`).
 - on, with all behind it: the program prints a beginning and then that `line L: NoMemory`, or a beginning and then a reply
   `Refused(NoMemory)`; what comes after that is free.
 
@@ -26,27 +27,30 @@ from plain_script import NO_MEMORY, NOT_PLAYED, refused_outputs, unplayed_output
 from refusing import ALL, SECONDS, refuse_each, run_refused
 
 SCRIPTS = pathlib.Path(__file__).resolve().parent.parent / "crates" / "lj_script" / "scripts"
-OF_BOOKS = ("stale_receipts", "given_up", "imports", "groups", "found", "verdicts", "trimming", "own_variables", "private_variables")
-OF_SHARED_BOOKS = ("shared", "shared_receipts", "shared_untold", "private_shared")
+BY_EVENTS = (
+    *("stale_receipts", "neighbours", "leaving", "given_up", "imports", "groups", "own_variables", "private_variables"),
+    *("stronger_clauses", "stronger_neighbours"),
+)
+OF_BOOKS = (*BY_EVENTS, "found", "verdicts", "trimming")
+OF_SHARED_BOOKS = ("shared", "shared_receipts", "shared_untold", "private_shared", "stronger_shared")
 UNPLAYED = ("propagations", "rat_lines")
-BY_EVENTS = ("stale_receipts", "neighbours", "leaving", "given_up", "imports", "groups", "own_variables", "private_variables")
 # How many requests later the second is refused: a shared book's lines are read once more before the call is made once more.
-AGAIN = {**dict.fromkeys(OF_BOOKS, (1, 2)), **dict.fromkeys(OF_SHARED_BOOKS, (1, 4, 6, 8, 10))}
+AGAIN = {**dict.fromkeys(OF_BOOKS, range(1, 3)), **dict.fromkeys(OF_SHARED_BOOKS, range(1, 11))}
 # The least count of runs of a program that have to tell NoMemory.
 LEAST = 10_000
-# The least count of runs that have to show a call that was refused for good.
-LEAST_CALLS = 1_000
+# The least count of calls that runs have to show refused for good.
+LEAST_CALLS = 300
 NO_START = "Error: Kind(OutOfMemory)\n"
 
 
 class Script:
     """A stored script: its text, its output, after each line of the script how many lines of the output there are, and the
-    outputs with a call refused for good, where a plain book plays it, with the way that shows them; and those with a call of `play`
-    refused."""
+    outputs with a call refused for good, where a plain book plays it, with the way that shows them, and those that were shown; and
+    those with a call of `play` refused."""
 
     def __init__(self, name, text, wanted, counts, refused=(), way="twice", unplayed=()):
         self.name, self.text, self.wanted, self.counts = name, text, wanted.splitlines(), counts
-        self.refused, self.way, self.unplayed = refused, way, unplayed
+        self.refused, self.way, self.unplayed, self.shown = refused, way, unplayed, set()
         before = re.finditer(r"^(submit|enter) \d+ \d+ 0 .*\n(?=verdict$)", text, flags=re.M)
         self.verdicts = {counts[text.count("\n", 0, found.end())] for found in before}
 
@@ -172,6 +176,8 @@ class Player:
         if not ran:
             return 0, 1, None, f"{named}: not done after {SECONDS} seconds"
         wrong, told = judge(script, way, ran.returncode, ran.stdout, ran.stderr)
+        if told == "call":
+            script.shown.add(ran.stdout)
         if not wrong and not counts:
             wrong = "nothing told of its requests"
         asked, refused = counts if not wrong else (0, 1)
@@ -180,33 +186,52 @@ class Player:
         return asked, refused, told, wrong and f"{named}: {wrong}"
 
 
+def refuse_in_each_way(player, script, pool, kinds):
+    """Refuses each request of a script in each way. Answers what is wrong."""
+    named, twice = f"{player.program.name}, script {script.name}", []
+    asked, refused, _, wrong = player.play(script, "once", ALL)
+    if wrong or refused:
+        return [wrong or f"{named}: {refused} requests refused where none was to be"]
+
+    def once(first):
+        end = player.play(script, "once", first)
+        if end[1] and end[2] == "nothing":
+            twice.extend((first, later) for later in AGAIN.get(script.name, ()))
+        return end
+
+    for way in (once, lambda first: player.play(script, "on", first)):
+        count, faults = refuse_each(way, pool, kinds)
+        if not faults and count < asked:
+            faults.append(f"{named}: only {count} of {asked} requests were refused")
+        if faults:
+            return faults
+    ends = list(pool.map(lambda pair: player.play(script, "twice", *pair), twice))
+    for _, _, told, wrong in ends:
+        kinds[told] += not wrong
+    return [wrong for *_, wrong in ends if wrong]
+
+
 def refuse_all(program, library, room, pool):
     """Refuses each request of each script to a program. Answers whether all was well."""
-    player, kinds = Player(program, library, room), {"NoMemory": 0, "call": 0, "play": 0, "start": 0, "nothing": 0}
+    player, calls = Player(program, library, room), 0
+    kinds = {"NoMemory": 0, "call": 0, "play": 0, "start": 0, "nothing": 0, None: 0}
     names = [*((name, False) for name in (*AGAIN, *UNPLAYED)), *((name, True) for name in BY_EVENTS)]
     for script in pool.map(lambda name: stored(program, *name), names):
-        asked, refused, _, wrong = player.play(script, "once", ALL)
-        faults = [wrong] if wrong else []
-        if refused and not faults:
-            faults.append(f"{program.name}, script {script.name}: {refused} requests refused where none was to be")
-        for way, later in (("once", 0), *(("twice", later) for later in AGAIN.get(script.name, ())), ("on", 0)):
-            if not faults:
-                count, faults = refuse_each(lambda first: player.play(script, way, first, later), pool, kinds)
-                if not faults and count < asked:
-                    faults.append(f"{program.name}, script {script.name}: only {count} of {asked} requests were refused")
+        faults = refuse_in_each_way(player, script, pool, kinds)
         if faults:
             print("\n".join(faults[:9]), file=sys.stderr)
             return False
+        calls += len(script.shown)
     if kinds["NoMemory"] < LEAST:
         print(f"{program.name}: {kinds['NoMemory']} runs tell NoMemory, and not {LEAST}", file=sys.stderr)
         return False
-    if kinds["call"] < LEAST_CALLS:
-        print(f"{program.name}: {kinds['call']} runs show a call that was refused, and not {LEAST_CALLS}", file=sys.stderr)
+    if calls < LEAST_CALLS:
+        print(f"{program.name}: {calls} calls were shown to be refused, and not {LEAST_CALLS}", file=sys.stderr)
         return False
     if kinds["play"] < len(BY_EVENTS):
         print(f"{program.name}: {kinds['play']} runs show a call of play that was refused, and not {len(BY_EVENTS)}", file=sys.stderr)
         return False
-    told = f"{kinds['NoMemory']} told NoMemory, {kinds['call']} a call that was refused for good, {kinds['play']} one of play"
-    told += f", {kinds['start']} didn't start, {kinds['nothing']} did without"
+    told = f"{kinds['NoMemory']} told NoMemory, {kinds['call']} one of {calls} calls that were refused for good, "
+    told += f"{kinds['play']} one of play, {kinds['start']} didn't start, {kinds['nothing']} did without"
     print(f"{program.name}: memory was refused in {sum(kinds.values())} runs, {told}")
     return True

@@ -95,6 +95,18 @@ def imports_through_a_list(count, dead):
     return Input(formula(clauses), [lines(stream)])
 
 
+def imports_by_parts(count):
+    """Imports of one clause by a part of it, each of which is given up before the next."""
+    return Input(formula([[1], [2, 3]]), [lines(["3 i 1 2 0", "0 d 3 0"] * count)])
+
+
+def long_imports_by_parts(count):
+    """Imports of long clauses, each by the one part that it has, among lists of one other clause each."""
+    literals = range(2, count + 2)
+    clauses = [[1], *([literal, count + 2] for literal in literals), [count + 20]]
+    return Input(formula(clauses), [lines(f"{count + 3 + k} i 1 {text([*literals, count + 3 + k])}" for k in range(9))])
+
+
 def new_variables(tries):
     """Variables that come in with long lemmas, and so many lines that look through those of one for its negation."""
     rest, stream = text(range(1, 500)), []
@@ -217,6 +229,8 @@ def rows():
     yield twice("candidates behind dead clauses", candidates_behind_dead_clauses, 1_500)
     yield twice("imports whose first literal is common", imports_common_first, 1_500)
     yield twice("imports whose last literal is common", imports_common_last, 1_500)
+    yield twice("imports by a part that are given up in turn", imports_by_parts, 1_500)
+    yield twice("long imports by a part", long_imports_by_parts, 1_500)
     halved, living = imports_through_a_list(600, 300), imports_through_a_list(600, 0)
     yield Row("imports through a living list, beside a half dead one", halved, living, 1.4)
     unasked, asked = new_variables(0), new_variables(40)

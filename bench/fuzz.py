@@ -152,9 +152,10 @@ class Fuzz:
             return f"the report {out!r}"
         if verdict != [["s VERIFIED UNSAT"], ["s NOT VERIFIED"]][status]:
             return f"status {status} with {verdict}"
-        added, steps = sum(int(row[2]) for row in found), [step for step in proof.splitlines() if " d " not in step]
-        if len(steps) > added or status == 1 and len(steps) < added:
-            return f"{added} additions, and {len(steps)} in the proof"
+        added, imported = (sum(int(row[part]) for row in found) for part in (2, 4))
+        steps = [step for step in proof.splitlines() if " d " not in step]
+        if len(steps) > added + imported or status == 1 and len(steps) < added:
+            return f"{added} additions, {imported} imports, and {len(steps)} additions in the proof"
         again = Input(given.formula, [proof.encode()])
         end = f"c stream 0: {len(steps)} added, {len(proof.splitlines()) - len(steps)} deleted, 0 imported, "
         rows = end + ["stopped\ns VERIFIED UNSAT\n", "ended\ns NOT VERIFIED\n"][status]

@@ -71,6 +71,7 @@ tell() {
             seconds = least["whole"] / 1e6
             times = least["whole"] / least["half"]
             if (seconds >= 0.2) printf ", %5.2f s, %4.2f times as long as its half", seconds, times
+            if (taken + 0 > 32) printf ", above 32"
             print ""
             if (taken + 0 > limit) printf "%s (%s bytes for each byte, and not %s)\n", name, taken, limit
             if (seconds >= 0.2 && times > 2.6) {
@@ -153,6 +154,9 @@ stream 'an accepted line of one group of many hints' \
     'BEGIN { print "p cnf 2 3"; print "-1 2 0"; print "-2 0"; print "1 0" }' 4000000 \
     'BEGIN { printf "4 1 0 -1"; for (i = 0; i < n; i++) printf " 2"; print " 3 0" }'
 stream 'definitions, each of a variable of its own' many.cnf 1000000 'BEGIN { for (i = 2; i < n; i++) print i " " i " 0 0" }'
+stream 'definitions, each of a private variable' few.cnf 1000000 'BEGIN { for (i = 10; i < n; i++) print i " " i " 0 0" }'
+stream 'definitions, each of a private variable far from the others' few.cnf 1000000 \
+    'BEGIN { for (i = 10; i < n; i++) print i " " 134217727 - 131 * i " 0 0" }'
 stream 'RAT lines with a literal in common' many.cnf 1000000 'BEGIN { for (i = 2; i < n; i++) print i " " i " -1 0 0" }'
 stream 'a lemma with a literal in every 4,096th variable' all.cnf 32640 \
     'BEGIN { printf "2"; for (i = 0; i < n; i++) printf " %d", 524288 + 4096 * i; print " 0 0" }'
@@ -173,6 +177,8 @@ stream 'a long clause read and deleted' all.cnf 4000000 'BEGIN {
 stream 'an import of a long clause' \
     'BEGIN { print "p cnf " n " 1"; for (i = 1; i <= n; i++) printf "%d ", i; print "0" }' 1000000 \
     'BEGIN { printf "2 i"; for (i = 1; i <= n; i++) printf " %d", i; print " 0" }'
+stream 'an import of a long clause by a part' 'BEGIN { print "p cnf " n " 1"; print "1 0" }' 1000000 \
+    'BEGIN { printf "2 i"; for (i = 1; i <= n; i++) printf " %d", i; print " 0" }'
 stream 'lemmas added and given up in turn, behind an import' few.cnf 300000 'BEGIN {
     print "2 i 1 0"
     for (i = 3; i < n; i++) { print "3 1 2 3 4 5 6 7 8 9 0 1 0"; print "3 d 3 0" } }'
@@ -180,6 +186,8 @@ stream 'a number that is bound and given up in turn' few.cnf 1000000 \
     'BEGIN { for (i = 0; i < n; i++) { print "2 1 0 1 0"; print "2 d 2 0" } }'
 stream 'a number that is bound by imports and given up in turn' few.cnf 1000000 \
     'BEGIN { for (i = 0; i < n; i++) { print "2 i 1 0"; print "2 d 2 0" } }'
+stream 'imports by a part that are given up in turn' few.cnf 500000 \
+    'BEGIN { for (i = 0; i < n; i++) { print "2 i 1 2 0"; print "2 d 2 0" } }'
 stream 'a RAT line of many candidates that it does not name, with the formula' \
     'BEGIN { print "p cnf 2 " n; for (i = 1; i <= n; i++) print "-1 2 0" }' 1000000 \
     'BEGIN { print n + 1 " 1 -2 0 0" }' '' few.cnf

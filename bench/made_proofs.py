@@ -66,6 +66,23 @@ class Prover:
         self.clauses[number] = list(literals)
         return number
 
+    def weaken(self, variables):
+        """Writes an import of a clause with more literals than one of its own, where no clause of its own is that one."""
+        more = [random_literal(self.random, variables) for _ in range(self.random.randint(1, 3))]
+        literals = [*self.random.choice([[], *self.clauses.values()]), *more]
+        parts = [set(clause) for clause in self.clauses.values() if set(clause) <= set(literals)]
+        self.random.shuffle(literals)
+        if parts and set(literals) not in parts:
+            self.bind(literals)
+
+    def bind_weaker(self, literals, variables):
+        """Writes an import, or two of clauses with one more literal each, from which it follows; returns its number."""
+        unused = sorted(set(range(1, variables + 1)) - {abs(literal) for literal in literals})
+        if not unused or self.random.random() < 0.6:
+            return self.bind(literals)
+        literal = self.random.choice(unused) * self.random.choice([1, -1])
+        return self.add(literals, [self.bind_weaker([half, *literals], variables) for half in (literal, -literal)])
+
     def define(self, new, first, second):
         """A new variable that stands for a conjunction, by three RAT lines."""
         both = self.add([new, -first, -second], [])
@@ -151,9 +168,16 @@ def add_rats(random, variables, prover):
     return variables
 
 
+def add_imports(random, variables, prover):
+    """Writes some imports of clauses that are weaker than the prover's own."""
+    for _ in range(random.choice([0, 0, 1, 4])):
+        prover.weaken(variables)
+
+
 def single(random, variables, clauses):
-    """A stream that refutes a formula, or that stops where it can be satisfied, with some RAT lines before."""
+    """A stream that refutes a formula, or that stops where it can be satisfied, with some imports and RAT lines before."""
     prover = Prover(random, clauses)
+    add_imports(random, variables, prover)
     closed = prover.refute(add_rats(random, variables, prover))
     if closed is not None and (closed <= prover.of_formula or prover.clauses[closed]):
         prover.add([], [closed])
@@ -169,13 +193,14 @@ def portfolio(random, variables, clauses, has_rats=False):
         prover = Prover(random, clauses)
         if has_rats:
             add_rats(random, variables, prover)
+        add_imports(random, variables, prover)
         ends.append(prover.refute(variables, (literal,)))
         if ends[-1] is not None:
             ends[-1] = prover.clauses[ends[-1]]
         streams.append(prover.text())
     closing = Prover(random, clauses)
     if None not in ends:
-        closing.add([], [closing.bind(end) for end in ends])
+        closing.add([], [closing.bind_weaker(end, variables) for end in ends])
     return [*streams, closing.text()]
 
 

@@ -75,6 +75,9 @@ def take(clauses, line):
 
 
 def main():
+    if len(sys.argv) != 3:
+        print(__doc__, file=sys.stderr)
+        sys.exit(2)
     clauses = read_formula(sys.argv[1])
     for place, line in enumerate(open(sys.argv[2]), 1):
         try:

@@ -1,4 +1,14 @@
 """Reads and writes DIMACS formulas. The other scripts of this folder import it, all but `check.py`."""
+import sys
+
+
+def words_or_usage(usage, *counts):
+    """The words behind the script's name. If there aren't as many as one of `counts`, it prints `usage` and ends with status 2."""
+    words = sys.argv[1:]
+    if len(words) not in counts:
+        print(usage, file=sys.stderr)
+        sys.exit(2)
+    return words
 
 
 def read_formula(path):

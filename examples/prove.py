@@ -5,7 +5,7 @@ Prints `s UNSATISFIABLE` (status 20) or `s SATISFIABLE` (status 10). It decides,
 which decisions can't stand together. It is for formulas of some hundred clauses."""
 import sys
 
-from dimacs import read_formula
+from dimacs import read_formula, words_or_usage
 
 
 class Prover:
@@ -76,10 +76,11 @@ class Prover:
 
 
 def main():
-    prover = Prover(read_formula(sys.argv[1])[1])
+    formula, proof = words_or_usage(__doc__, 2)
+    prover = Prover(read_formula(formula)[1])
     refuted = prover.refute() is not None
     if refuted:
-        with open(sys.argv[2], "w") as file:
+        with open(proof, "w") as file:
             file.writelines(line + "\n" for line in prover.lines)
     print("s UNSATISFIABLE" if refuted else "s SATISFIABLE")
     sys.exit(20 if refuted else 10)

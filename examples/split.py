@@ -6,11 +6,11 @@ behind its clauses each literal of the cube as a unit clause."""
 import collections
 import itertools
 import pathlib
-import sys
 
-from dimacs import read_formula, text_of_formula
+from dimacs import read_formula, text_of_formula, words_or_usage
 
-formula, count, folder = sys.argv[1], int(sys.argv[2]), pathlib.Path(sys.argv[3])
+formula, count, folder = words_or_usage(__doc__, 3)
+count, folder = int(count), pathlib.Path(folder)
 variables, clauses = read_formula(formula)
 uses = collections.Counter(abs(literal) for clause in clauses for literal in clause)
 chosen = sorted(sorted(uses, key=lambda variable: (-uses[variable], variable))[:count])

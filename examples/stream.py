@@ -7,10 +7,10 @@ numbers of lemmas, so that one stream can have several cubes. A line with RAT gr
 but maybe not beside others."""
 import sys
 
-from dimacs import read_cubes, read_formula
+from dimacs import read_cubes, read_formula, words_or_usage
 
-formula, cubes, index, proof = sys.argv[1:5]
-offset = int(sys.argv[5]) if len(sys.argv) > 5 else 0
+formula, cubes, index, proof, *offset = words_or_usage(__doc__, 4, 5)
+offset = int(offset[0]) if offset else 0
 count, cube = len(read_formula(formula)[1]), read_cubes(cubes)[int(index)]
 first_lemma = count + len(cube) + 1
 

@@ -13,7 +13,7 @@ use Rattle.lj_book.specs.State.{State, steps_of, live}
 use Rattle.lj_book.specs.History.{after_entry, tables_after, IsLegalCall}
 use Rattle.lj_book.specs.Calls.{free_refusal, binding_entry}
 use Rattle.lj_book.specs.inner.Kept.{IsKept}
-use Rattle.lj_book.proofs.HistoryLaws.{IsSound-reached, IsReached-after, live-same, held-found, steps_of-push, additions-append}
+use Rattle.lj_book.proofs.HistoryLaws.{IsSound-reached, IsReached-after, live-same, held-bound, steps_of-push, additions-append}
 use Rattle.lj_book.proofs.BookLaws.{same_state, verdict-same}
 
 -- an own number that is free
@@ -34,7 +34,7 @@ IsKept-bound s m count refuted seat own joint call kept free lives legal binds =
     let e : Entry = binding_entry seat call in
     let can = can_bind s seat own free in
     let held : (q : ℕ) → has_holder (tables_after s seat call) q ≡ has_holder s.tables q = λ q.
-    ap (λ (ts : Tables). has_holder ts q) binds ∙ held-found s seat own (Some joint) (IsSound-reached s kept.reached) can.here can.unbound lives q in
+    ap (λ (ts : Tables). has_holder ts q) binds ∙ held-bound s seat own joint (IsSound-reached s kept.reached) can.here can.unbound lives q in
     let before = kept.additions in
     let more = ap (λ ss. length (additions ss)) (steps_of-push s.history e) ∙ additions-append (steps_of s.history) [] in
     record {

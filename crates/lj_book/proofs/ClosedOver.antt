@@ -14,7 +14,7 @@ use Rattle.lj_book.specs.Calls.{IsRefusal, commit_told}
 use Rattle.lj_book.specs.Inside.{inside_reply}
 use Rattle.lj_book.specs.Solo.{view_of}
 use Rattle.lj_book.specs.Views.{IsClosedAlone}
-use Rattle.lj_book.specs.Named.{NamedState, beneath, named_over, has_variables_for}
+use Rattle.lj_book.specs.Named.{NamedState, named_over, has_variables_for}
 use Rattle.lj_book.specs.NamedReplies.{named_inside}
 use Rattle.lj_book.specs.NamedViews.{named_view, addition_beneath}
 use Rattle.lj_book.specs.NamedInside.{if_left}

@@ -1,18 +1,11 @@
 -- What a commit enters.
-use Rattle.std.proofs.Common.{◌≡◌, ap, refl, sym, ◌∙◌, subst, ◌<◌, Bool, true, false, arith}
-use Rattle.std.specs.Prelude.{ℤ, List, [], ◌∷◌, Option, Some, None, not, ◌||◌, ◌↔◌, IsTrue, if◌then◌else◌, is_some}
-use Rattle.std.specs.List.{list_all}
-use Rattle.std.proofs.lemmas.Bool.{false≢true, and_parts, and_from, or_right}
-use Rattle.std.specs.Ordering.{eq_by_cmp}
+use Rattle.std.proofs.Common.{◌≡◌, ap, refl, sym, ◌∙◌, subst, ◌<◌, true, false}
+use Rattle.std.specs.Prelude.{List, [], ◌∷◌, Option, Some, None, not, ◌||◌, if◌then◌else◌, is_some}
+use Rattle.std.proofs.lemmas.Bool.{false≢true, and_from}
 use Rattle.std.specs.FinMap as fin
-use Rattle.std.specs.Cmp.{both_ways}
-use Rattle.lj_clause.specs.Literal.{lit_cmp}
-use Rattle.lj_clause.specs.LiteralSet.{LiteralSet, holds, literals, negations}
+use Rattle.lj_clause.specs.LiteralSet.{LiteralSet, negations}
 use Rattle.lj_clause.specs.ClauseMap.{ClauseMap}
 use Rattle.lj_clause.specs.Propagation.{Propagation, Closed, hints_in, propagate_over, is_closed}
-use Rattle.lj_clause.proofs.LiteralSets.{same_set, holds-literals}
-use Rattle.lj_clause.proofs.Among.{among, itself}
-use Rattle.lj_clause.proofs.Literals.{same_literal}
 use Rattle.lj_text.specs.declared.line.Addition.{Addition}
 use Rattle.lj_text.specs.Steps.{names_all, names, is_in_place, first_propagation, is_rat_after, IsRecordedAfter}
 use Rattle.lj_hint.specs.declared.pair.Pair.{Pair}
@@ -21,39 +14,13 @@ use Rattle.lj_hint.specs.Receipt.{ReceiptValue, IsReceipt}
 use Rattle.lj_book.specs.Tables.{is_here, is_bound, has_holder}
 use Rattle.lj_book.specs.State.{State, addition_count, next, live}
 use Rattle.lj_book.specs.History.{IsLegal}
-use Rattle.lj_book.specs.Lookup.{is_same, is_clause}
+use Rattle.lj_book.specs.Lookup.{is_clause}
 use Rattle.lj_book.specs.Calls.{is_live_as}
 use Rattle.lj_book.specs.inner.Commits.{first_stale, commit_entry}
-use Rattle.lj_book.proofs.HistoryLaws.{IsSound, live-held}
+use Rattle.lj_book.proofs.Parts.{same_clauses}
+use Rattle.lj_book.proofs.HistoryLaws.{IsSound, live-held, not_there}
 
--- ---- clauses that are the same set
-
-all_hold : (d : LiteralSet) (ls : List ℤ) → list_all (holds d) ls ≡ true → (q : ℤ) → among q ls ≡ true → holds d q ≡ true
-all_hold d [] h q m = absurd (false≢true m)
-all_hold d (l ∷ ls) h q m =
-    let parts = and_parts (holds d l) (list_all (holds d) ls) h in
-    elim (eq_by_cmp lit_cmp q l) as (λ b. eq_by_cmp lit_cmp q l ≡ b → (b || among q ls) ≡ true → holds d q ≡ true) [
-      | true ↦ λ e m. ap (holds d) (same_literal q l e) ∙ parts.0
-      | false ↦ λ e m. all_hold d ls parts.1 q m
-    ] refl m
-
-pub same_clauses : (c d : LiteralSet) → is_same c d ≡ true → c ≡ d
-same_clauses c d h =
-    let parts = and_parts (list_all (holds d) (literals c)) (list_all (holds c) (literals d)) h in
-    same_set c d (λ q. both_ways (holds c q) (holds d q) (λ e. all_hold d (literals c) parts.0 q (sym (holds-literals c q) ∙ e)) (λ e. all_hold c (literals d) parts.1 q (sym (holds-literals d q) ∙ e)))
-
-each_holds : (d : LiteralSet) (ls : List ℤ) → ((q : ℤ) → among q ls ≡ true → holds d q ≡ true) → list_all (holds d) ls ≡ true
-each_holds d [] h = refl
-each_holds d (l ∷ ls) h = and_from (holds d l) (list_all (holds d) ls) (h l (ap (λ b. b || among l ls) (itself l))) (each_holds d ls (λ q m. h q (or_right (eq_by_cmp lit_cmp q l) (among q ls) m)))
-
-pub same_itself : (c : LiteralSet) → is_same c c ≡ true
-same_itself c =
-    let all = each_holds c (literals c) (λ q m. holds-literals c q ∙ m) in
-    and_from (list_all (holds c) (literals c)) (list_all (holds c) (literals c)) all all
-
--- what the code's test of two clauses says
-pub same_test : (b : Bool) (c d : LiteralSet) → (IsTrue b ↔ (d ≡ c)) → b ≡ is_same c d
-same_test b c d h = both_ways b (is_same c d) (λ e. ap (is_same c) (h.0 e) ∙ same_itself c) (λ e. h.1 (sym (same_clauses c d e)))
+-- ---- the listed clauses, where none is stale
 
 live_as : (p : ClauseMap) (pair : Pair) → is_live_as p pair ≡ true → fin.get p pair.joint ≡ Some pair.clause
 live_as p pair h = go (fin.get p pair.joint) h
@@ -61,8 +28,6 @@ live_as p pair h = go (fin.get p pair.joint) h
     go : (o : Option LiteralSet) → is_clause pair.clause o ≡ true → o ≡ Some pair.clause
     go None h = absurd (false≢true h)
     go (Some d) h = ap Some (sym (same_clauses pair.clause d h))
-
--- ---- the listed clauses, where none is stale
 
 record AllLive (p : ClauseMap) (pairs : List Pair) : Type 0 where
   hints : hints_in p (numbers pairs) ≡ named_hints pairs
@@ -90,13 +55,6 @@ pub record CanCommit (s : State) (r : ReceiptValue) : Type 0 where
   pub capacity : addition_count s.history < s.max_steps
 
 -- ---- the entry of a commit is legal
-
-pub not_there : (s : State) → IsSound s → fin.contains_key (live s) (next s) ≡ false
-not_there s sound = go (fin.contains_key (live s) (next s)) refl
-  where
-    go : (b : Bool) → fin.contains_key (live s) (next s) ≡ b → b ≡ false
-    go true e = let low = sound.given_below (next s) (sound.held_given (next s) (sym (live-held s sound (next s)) ∙ e)) in absurd (omega arith)
-    go false e = refl
 
 pub no_holder_at_next : (s : State) → IsSound s → has_holder s.tables (next s) ≡ false
 no_holder_at_next s sound = sym (live-held s sound (next s)) ∙ not_there s sound

@@ -18,7 +18,7 @@ use Rattle.lj_book.proofs.NumberMaps.{same_map}
 use Rattle.lj_book.proofs.VariableTables.{within}
 use Rattle.lj_book.proofs.VariableLaws.{part_of_itself}
 use Rattle.lj_book.proofs.OwnHoldings.{pair_back}
-use Rattle.lj_book.proofs.CommitLaws.{same_clauses, same_itself}
+use Rattle.lj_book.proofs.Parts.{same_clauses, same_itself}
 
 -- ---- clauses
 

@@ -12,6 +12,7 @@ use Rattle.std.specs.Cmp.{nat_cmp_total, unsigned_tied}
 use Rattle.std.specs.declared.cmp.Ordering.TheVariants.{Equal}
 use Rattle.std.specs.FinMap as fin
 use Rattle.std.specs.FinMap.{nat_cmp-IsAntisymmetric}
+use Rattle.lj_clause.specs.LiteralSet.{LiteralSet}
 use Rattle.lj_clause.specs.Lemma.{LemmaValue}
 use Rattle.lj_clause.specs.ClauseMap.{ClauseMap, FormulaValue, formula_map}
 use Rattle.lj_clause.proofs.Formulas.{clause_zero, clause_at}
@@ -26,10 +27,11 @@ use Rattle.lj_book.specs.declared.entry.Call.{Call}
 use Rattle.lj_book.specs.declared.entry.Call.TheVariants as calls
 use Rattle.lj_book.specs.declared.entry.Entry.{Entry}
 use Rattle.lj_book.specs.Tables.{Table, Tables, table_of, is_here, is_bound, has_holder, holds_joint, is_among, with_table, with_binding, without_keys, without_seat, up_to}
-use Rattle.lj_book.specs.Lookup.{least_number}
+use Rattle.lj_book.specs.Imports.{part_addition, import_step}
 use Rattle.lj_book.specs.State.{State, steps_of, next, with_additions, given_out, live, opening}
-use Rattle.lj_book.specs.History.{dead_numbers, with_found, some_lives, after_entry, after_entries, IsLegalCall, IsLegal, AreLegal, IsReached}
+use Rattle.lj_book.specs.History.{dead_numbers, with_found, after_entry, after_entries, IsLegalImport, IsLegalCall, IsLegal, AreLegal, IsReached}
 use Rattle.lj_book.proofs.NumberMaps.{same_map}
+use Rattle.lj_book.proofs.Parts.{FindsEqual, FindsPart, finds, IsProved, part_proved}
 use Rattle.lj_book.proofs.TableLaws.{held_counts, count-insert, count-up_to, count-without_keys, holders-with_table, holders-replicate, free_in_table}
 
 -- What each state that a legal history reaches keeps: what is held was given out, and no number from the next on was.
@@ -56,7 +58,18 @@ both false b h = refl
 pub live-held : (s : State) → IsSound s → (n : ℕ) → fin.contains_key (live s) n ≡ has_holder s.tables n
 live-held s sound n = ap is_some (get-live s n) ∙ some_or_none (has_holder s.tables n) (fin.get (given_out s) n) ∙ both (has_holder s.tables n) _ (sound.held_given n)
 
+pub not_there : (s : State) → IsSound s → fin.contains_key (live s) (next s) ≡ false
+not_there s sound = go (fin.contains_key (live s) (next s)) refl
+  where
+    go : (b : Bool) → fin.contains_key (live s) (next s) ≡ b → b ≡ false
+    go true e = let low = sound.given_below (next s) (sound.held_given (next s) (sym (live-held s sound (next s)) ∙ e)) in absurd (omega arith)
+    go false e = refl
+
 -- ---- the history with one entry more
+
+-- the state with other tables and one entry more
+abbrev pub with_entry : State → Tables → Entry → State
+with_entry s ts e = record s { tables = ts; history = s.history ++ e ∷ [] }
 
 pub steps_of-push : (es : List Entry) (e : Entry) → steps_of (es ++ e ∷ []) ≡ steps_of es ++ cons_option e.step []
 steps_of-push es e = filter_map-append (λ (x : Entry). x.step) es (e ∷ [])
@@ -109,16 +122,20 @@ has_table ts seat h = go (table_of ts seat) refl
     go None e = absurd (false≢true (sym (ap is_some e) ∙ h))
     go (Some t) e = (t, e)
 
+-- the state that an addition leaves, by whatever call it enters
+abbrev pub with_addition : State → ℕ → ℕ → Call → Addition → State
+with_addition s seat own call a = with_entry s (with_binding s.tables seat own (next s)) (record { seat = seat; call = call; step = Some (steps.Add a) })
+
 -- the clauses that an addition leaves
-pub live-addition : (s : State) (seat own : ℕ) (a : Addition) → IsSound s → is_here s.tables seat ≡ true → is_bound s.tables seat own ≡ false → a.number ≡ next s → live (after_entry s (record { seat = seat; call = calls.Add own a.lemma; step = Some (steps.Add a) })) ≡ fin.insert (live s) a.number a.lemma.clause
-live-addition s seat own a sound here free num =
+pub live-addition : (s : State) (seat own : ℕ) (call : Call) (a : Addition) → IsSound s → is_here s.tables seat ≡ true → is_bound s.tables seat own ≡ false → a.number ≡ next s → live (with_addition s seat own call a) ≡ fin.insert (live s) a.number a.lemma.clause
+live-addition s seat own call a sound here free num =
     let t = has_table s.tables seat here in
-    let e : Entry = record { seat = seat; call = calls.Add own a.lemma; step = Some (steps.Add a) } in
-    let given : given_out (after_entry s e) ≡ fin.insert (given_out s) a.number a.lemma.clause =
+    let e : Entry = record { seat = seat; call = call; step = Some (steps.Add a) } in
+    let given : given_out (with_addition s seat own call a) ≡ fin.insert (given_out s) a.number a.lemma.clause =
     ap (with_additions (formula_map s.formula)) (steps_of-push s.history e) ∙ with_additions-append (formula_map s.formula) (steps_of s.history) (steps.Add a ∷ []) in
     same_map _ _ (λ q.
-    get-live (after_entry s e) q
-    ∙ ap (λ b. cond b (fin.get (given_out (after_entry s e)) q) None) (held-bind s.tables seat own (next s) q t.0 t.1 (free_in_table s.tables seat own t.0 t.1 free))
+    get-live (with_addition s seat own call a) q
+    ∙ ap (λ b. cond b (fin.get (given_out (with_addition s seat own call a)) q) None) (held-bind s.tables seat own (next s) q t.0 t.1 (free_in_table s.tables seat own t.0 t.1 free))
     ∙ ap (λ o. cond (next s == q || has_holder s.tables q) o None) (ap (λ (m : ClauseMap). fin.get m q) given ∙ fin.get-insert nat_cmp_total (given_out s) a.number a.lemma.clause q)
     ∙ joined (next s == q) (has_holder s.tables q) (eq_by_cmp nat_cmp q a.number) (unsigned_tied q a.number ∙ ap (λ n. q == n) num ∙ turned q (next s)) (Some a.lemma.clause) (fin.get (given_out s) q)
     ∙ ap (cond (eq_by_cmp nat_cmp q a.number) (Some a.lemma.clause)) (sym (get-live s q))
@@ -131,19 +148,19 @@ live-addition s seat own a sound here free num =
     joined false true false e x y = refl
     joined false false false e x y = refl
 
-next-addition : (s : State) (seat own : ℕ) (lemma : LemmaValue) (a : Addition) → next (after_entry s (record { seat = seat; call = calls.Add own lemma; step = Some (steps.Add a) })) ≡ next s + 1
-next-addition s seat own lemma a =
-    let e : Entry = record { seat = seat; call = calls.Add own lemma; step = Some (steps.Add a) } in
+next-addition : (s : State) (seat own : ℕ) (call : Call) (a : Addition) → next (with_addition s seat own call a) ≡ next s + 1
+next-addition s seat own call a =
+    let e : Entry = record { seat = seat; call = call; step = Some (steps.Add a) } in
     let more = ap (λ ss. length (additions ss)) (steps_of-push s.history e) ∙ additions-append (steps_of s.history) (steps.Add a ∷ []) in
     omega arith
 
-sound-addition : (s : State) (seat own : ℕ) (a : Addition) → IsSound s → is_here s.tables seat ≡ true → is_bound s.tables seat own ≡ false → a.number ≡ next s → is_accepted (live s) (steps.Add a) ≡ true → IsSound (after_entry s (record { seat = seat; call = calls.Add own a.lemma; step = Some (steps.Add a) }))
-sound-addition s seat own a sound here free num accepted =
+sound-addition : (s : State) (seat own : ℕ) (call : Call) (a : Addition) → IsSound s → is_here s.tables seat ≡ true → is_bound s.tables seat own ≡ false → a.number ≡ next s → is_accepted (live s) (steps.Add a) ≡ true → IsSound (with_addition s seat own call a)
+sound-addition s seat own call a sound here free num accepted =
     let t = has_table s.tables seat here in
-    let e : Entry = record { seat = seat; call = calls.Add own a.lemma; step = Some (steps.Add a) } in
-    let given : given_out (after_entry s e) ≡ fin.insert (given_out s) a.number a.lemma.clause =
+    let e : Entry = record { seat = seat; call = call; step = Some (steps.Add a) } in
+    let given : given_out (with_addition s seat own call a) ≡ fin.insert (given_out s) a.number a.lemma.clause =
     ap (with_additions (formula_map s.formula)) (steps_of-push s.history e) ∙ with_additions-append (formula_map s.formula) (steps_of s.history) (steps.Add a ∷ []) in
-    let has : (q : ℕ) → fin.contains_key (given_out (after_entry s e)) q ≡ (next s == q || fin.contains_key (given_out s) q) = λ q.
+    let has : (q : ℕ) → fin.contains_key (given_out (with_addition s seat own call a)) q ≡ (next s == q || fin.contains_key (given_out s) q) = λ q.
     ap (λ (m : ClauseMap). fin.contains_key m q) given
     ∙ ap is_some (fin.get-insert nat_cmp_total (given_out s) a.number a.lemma.clause q)
     ∙ one_more (eq_by_cmp nat_cmp q a.number) (next s == q) (unsigned_tied q a.number ∙ ap (λ n. q == n) num ∙ turned q (next s)) (Some a.lemma.clause) (fin.get (given_out s) q) refl in
@@ -153,13 +170,13 @@ sound-addition s seat own a sound here free num accepted =
         | inr e ↦ or_right (next s == q) (fin.contains_key (given_out s) q) (sound.held_given q e)
       ];
       given_below = λ q h. elim (or_cases (next s == q) (fin.contains_key (given_out s) q) (sym (has q) ∙ h)) [
-        | inl e ↦ let more = next-addition s seat own a.lemma a in let is = eqb-true (next s) q e in omega arith
-        | inr e ↦ let more = next-addition s seat own a.lemma a in let low = sound.given_below q e in omega arith
+        | inl e ↦ let more = next-addition s seat own call a in let is = eqb-true (next s) q e in omega arith
+        | inr e ↦ let more = next-addition s seat own call a in let low = sound.given_below q e in omega arith
       ];
       replayed =
           ap (replay (formula_map s.formula)) (steps_of-push s.history e)
           ∙ replay-push (formula_map s.formula) (live s) (steps_of s.history) (steps.Add a) sound.replayed accepted
-          ∙ ap Some (sym (live-addition s seat own a sound here free num));
+          ∙ ap Some (sym (live-addition s seat own call a sound here free num));
     }
   where
     one_more : {X : Type 0} (c b : Bool) → c ≡ b → (x y : Option X) → is_some x ≡ true → is_some (cond c x y) ≡ (b || is_some y)
@@ -219,10 +236,6 @@ all_named p test (n ∷ ns) h = λ i. (first ∙ refl) i && all_named p test ns 
     first = h n (or_left (n == n) (is_among ns n) (itself n))
 
 -- ---- an entry that adds nothing
-
--- the state with other tables and one entry more
-abbrev pub with_entry : State → Tables → Entry → State
-with_entry s ts e = record s { tables = ts; history = s.history ++ e ∷ [] }
 
 none_given : (p : ClauseMap) (step : Option Step) → additions (cons_option step []) ≡ [] → with_additions p (cons_option step []) ≡ p
 none_given p None none = refl
@@ -327,9 +340,8 @@ live-leave s seat step sound none = live-fewer s (without_seat s.tables seat) (r
 
 -- ---- a binding of a live number
 
-pub held-found : (s : State) (seat own : ℕ) (o : Option ℕ) → IsSound s → is_here s.tables seat ≡ true → is_bound s.tables seat own ≡ false → some_lives s o ≡ true → (q : ℕ) → has_holder (with_found s.tables seat own o) q ≡ has_holder s.tables q
-held-found s seat own None sound here free lives q = refl
-held-found s seat own (Some joint) sound here free lives q =
+pub held-bound : (s : State) (seat own joint : ℕ) → IsSound s → is_here s.tables seat ≡ true → is_bound s.tables seat own ≡ false → fin.contains_key (live s) joint ≡ true → (q : ℕ) → has_holder (with_binding s.tables seat own joint) q ≡ has_holder s.tables q
+held-bound s seat own joint sound here free lives q =
     let t = has_table s.tables seat here in
     held-bind s.tables seat own joint q t.0 t.1 (free_in_table s.tables seat own t.0 t.1 free)
     ∙ already (joint == q) (has_holder s.tables q) (λ e. sym (ap (has_holder s.tables) (eqb-true joint q e)) ∙ sym (live-held s sound joint) ∙ lives)
@@ -338,6 +350,47 @@ held-found s seat own (Some joint) sound here free lives q =
     already true b h = sym (h refl)
     already false b h = refl
 
+-- ---- an import
+
+-- the state that it leaves where it finds an equal clause, and where it finds a part
+pub after_equal : (s : State) (seat own joint : ℕ) (clause : LiteralSet) (step : Option Step) → FindsEqual s clause joint → step ≡ import_step s clause → after_entry s (record { seat = seat; call = calls.Import own clause; step = step }) ≡ with_entry s (with_binding s.tables seat own joint) (record { seat = seat; call = calls.Import own clause; step = None })
+after_equal s seat own joint clause step f asked = λ i. with_entry s (with_found s.tables seat own (f.number i)) (record { seat = seat; call = calls.Import own clause; step = (asked ∙ f.step) i })
+
+pub after_part : (s : State) (seat own part : ℕ) (clause : LiteralSet) (step : Option Step) → FindsPart s clause part → step ≡ import_step s clause → after_entry s (record { seat = seat; call = calls.Import own clause; step = step }) ≡ with_addition s seat own (calls.Import own clause) (part_addition (next s) clause part)
+after_part s seat own part clause step f asked = λ i. with_entry s (with_found s.tables seat own (f.number i)) (record { seat = seat; call = calls.Import own clause; step = (asked ∙ f.step) i })
+
+pub proved_by_part : (s : State) (clause : LiteralSet) (part : ℕ) → IsSound s → FindsPart s clause part → IsProved (live s) (part_addition (next s) clause part)
+proved_by_part s clause part sound f = part_proved (live s) (next s) clause f.clause part (not_there s sound) f.lives f.covers
+
+-- an import with a step finds a part, by which its step adds the clause
+pub part_step : (s : State) (seat own : ℕ) (clause : LiteralSet) (a : Addition) → IsLegalImport s seat own clause (Some (steps.Add a)) → (part : ℕ) × (FindsPart s clause part × (a ≡ part_addition (next s) clause part))
+part_step s seat own clause a legal =
+    elim (finds s clause legal.finds) [
+      | inl equal ↦
+          let f : FindsEqual s clause equal.0 = equal.1 in
+          absurd (false≢true (sym (ap is_some (legal.asked ∙ f.step))))
+      | inr part ↦
+          let f : FindsPart s clause part.0 = part.1 in
+          (part.0, (f, one (legal.asked ∙ f.step)))
+    ]
+  where
+    one : {x y : Addition} → Some (steps.Add x) ≡ Some (steps.Add y) → x ≡ y
+    one e = cc
+
+pub no_deletion : (s : State) (seat own : ℕ) (clause : LiteralSet) (numbers : List ℕ) → IsLegalImport s seat own clause (Some (steps.Delete numbers)) → ⊥
+no_deletion s seat own clause numbers legal =
+    elim (finds s clause legal.finds) [
+      | inl equal ↦
+          let f : FindsEqual s clause equal.0 = equal.1 in
+          false≢true (sym (ap is_some (legal.asked ∙ f.step)))
+      | inr part ↦
+          let f : FindsPart s clause part.0 = part.1 in
+          apart (legal.asked ∙ f.step)
+    ]
+  where
+    apart : {x : Addition} → Some (steps.Delete numbers) ≡ Some (steps.Add x) → ⊥
+    apart e = cc
+
 -- ---- whole histories
 
 sound-call : (s : State) (seat : ℕ) (call : Call) (step : Option Step) → IsSound s → IsLegalCall s seat call step → IsSound (after_entry s (record { seat = seat; call = call; step = step }))
@@ -345,14 +398,23 @@ sound-call s seat (calls.Add own lemma) None sound legal = absurd legal.addition
 sound-call s seat (calls.Add own lemma) (Some (steps.Delete numbers)) sound legal = absurd legal.addition
 sound-call s seat (calls.Add own lemma) (Some (steps.Add a)) sound legal =
     subst (λ (l : LemmaValue). IsSound (after_entry s (record { seat = seat; call = calls.Add own l; step = Some (steps.Add a) }))) legal.addition.1.0
-    (sound-addition s seat own a sound legal.here legal.unbound legal.addition.0 legal.addition.1.1.0)
+    (sound-addition s seat own (calls.Add own a.lemma) a sound legal.here legal.unbound legal.addition.0 legal.addition.1.1.0)
 sound-call s seat (calls.Drop numbers) step sound legal =
     let t = has_table s.tables seat legal.here in
     sound-fewer s (with_table (without_keys numbers) s.tables seat) (record { seat = seat; call = calls.Drop numbers; step = step }) sound (λ q. held-drop s.tables seat q numbers t.0 t.1) legal.deletes
 sound-call s seat (calls.Adopt own joint) step sound legal =
-    sound-same s (with_binding s.tables seat own joint) (record { seat = seat; call = calls.Adopt own joint; step = step }) sound (held-found s seat own (Some joint) sound legal.here legal.unbound legal.lives) legal.stepless
+    sound-same s (with_binding s.tables seat own joint) (record { seat = seat; call = calls.Adopt own joint; step = step }) sound (held-bound s seat own joint sound legal.here legal.unbound legal.lives) legal.stepless
 sound-call s seat (calls.Import own clause) step sound legal =
-    sound-same s (with_found s.tables seat own (least_number (live s) clause)) (record { seat = seat; call = calls.Import own clause; step = step }) sound (held-found s seat own (least_number (live s) clause) sound legal.here legal.unbound legal.lives) legal.stepless
+    elim (finds s clause legal.finds) [
+      | inl equal ↦
+          let f : FindsEqual s clause equal.0 = equal.1 in
+          subst IsSound (sym (after_equal s seat own equal.0 clause step f legal.asked))
+          (sound-same s (with_binding s.tables seat own equal.0) (record { seat = seat; call = calls.Import own clause; step = None }) sound (held-bound s seat own equal.0 sound legal.here legal.unbound (ap is_some f.lives)) refl)
+      | inr part ↦
+          let f : FindsPart s clause part.0 = part.1 in
+          subst IsSound (sym (after_part s seat own part.0 clause step f legal.asked))
+          (sound-addition s seat own (calls.Import own clause) (part_addition (next s) clause part.0) sound legal.here legal.unbound refl (proved_by_part s clause part.0 sound f).accepted)
+    ]
 sound-call s seat calls.Leave step sound legal =
     sound-fewer s (without_seat s.tables seat) (record { seat = seat; call = calls.Leave; step = step }) sound (held-leave s.tables seat) legal.deletes
 

@@ -11,8 +11,8 @@ use Rattle.lj_book.specs.declared.entry.Call.TheVariants as calls
 use Rattle.lj_book.specs.declared.entry.Entry.{Entry}
 use Rattle.lj_book.specs.Tables.{Table, Tables, is_here, is_bound, with_table, with_binding, without_keys, without_seat, up_to}
 use Rattle.lj_book.specs.inner.Holders.{count_in, holders_of}
-use Rattle.lj_book.specs.Lookup.{least_number}
-use Rattle.lj_book.specs.State.{State, next, live, opening}
+use Rattle.lj_book.specs.State.{State, next, opening}
+use Rattle.lj_book.specs.Imports.{import_number}
 use Rattle.lj_book.specs.History.{tables_after, with_found, after_entry, after_entries, IsLegalCall, IsLegal, AreLegal, IsReached}
 use Rattle.lj_book.proofs.TableLaws.{count-insert, count-up_to, count-without_keys, holders-with_table, holders-replicate, free_in_table}
 use Rattle.lj_book.proofs.HistoryLaws.{has_table}
@@ -67,7 +67,7 @@ call-within : (s : State) (seat : ℕ) (call : Call) (step : Option Step) → Is
 call-within s seat (calls.Add own lemma) step legal = found-within s.tables seat own (Some (next s)) legal.here legal.unbound
 call-within s seat (calls.Drop numbers) step legal = record { seats = length-with_table (without_keys numbers) s.tables seat; more = λ q. let fewer = holders-keys s.tables seat q numbers legal.here in omega arith }
 call-within s seat (calls.Adopt own joint) step legal = found-within s.tables seat own (Some joint) legal.here legal.unbound
-call-within s seat (calls.Import own clause) step legal = found-within s.tables seat own (least_number (live s) clause) legal.here legal.unbound
+call-within s seat (calls.Import own clause) step legal = found-within s.tables seat own (import_number s clause) legal.here legal.unbound
 call-within s seat calls.Leave step legal = record { seats = length-without_seat s.tables seat; more = λ q. let fewer = holders-seat s.tables seat q in omega arith }
 
 -- ---- whole histories

@@ -33,10 +33,11 @@ use Rattle.lj_book.specs.Calls.{IsRefusal, unless_refused, pair_in, if_known, wi
 use Rattle.lj_book.specs.Inside.{propagation_refusal, open_refusal, rat_refusal, or_full, test_refusal, inside_after, inside_reply, inside_step, inside_entry}
 use Rattle.lj_book.specs.inner.JointLines.{LineParts, if_bound, with_joint, joints_in, with_joint_group, joint_groups_in, parts_with, joint_parts, addition_of_parts, tested_line, tested_parts, line_by, inside_line, line_entry}
 use Rattle.lj_book.specs.inner.Kept.{IsKept, refuted_after}
-use Rattle.lj_book.proofs.HistoryLaws.{IsSound, IsSound-reached, IsReached-after, live-addition, live-held, steps_of-push, additions-append}
+use Rattle.lj_book.specs.inner.Records.{entering_call, entering_entry}
+use Rattle.lj_book.proofs.HistoryLaws.{IsSound, IsSound-reached, IsReached-after, with_addition, after_part, part_step, live-addition, live-held, steps_of-push, additions-append, not_there}
 use Rattle.lj_book.proofs.BookLaws.{same_state, verdict-same, verdict-first, verdict-stays}
 use Rattle.lj_book.proofs.BindingLaws.{CanBind, can_bind}
-use Rattle.lj_book.proofs.CommitLaws.{not_there, no_holder_at_next}
+use Rattle.lj_book.proofs.CommitLaws.{no_holder_at_next}
 use Rattle.lj_book.proofs.SoloStates.{some_clause}
 use Rattle.lj_book.proofs.SoloTables.{bound_has_holder}
 
@@ -462,27 +463,55 @@ entered_legal s seat a step parts sound pivot e =
       addition = (same.0, (refl, (subst (λ (x : Addition). is_accepted p (steps.Add x) ≡ true) e.is kept.1, subst (IsRecorded p) e.is kept.0)));
     }
 
-refuted_next : (history : List Entry) (seat own : ℕ) (step : Addition) (refuted : Option ℕ) → refuted ≡ verdict history → refuted_after refuted (length history) step.lemma.clause ≡ verdict (history ++ line_entry seat own step ∷ [])
-refuted_next history seat own step (Some first) is = sym (verdict-stays history (line_entry seat own step) first (sym is))
-refuted_next history seat own step None is =
-    elim (fin.len step.lemma.clause == 0) as (λ b. (fin.len step.lemma.clause == 0) ≡ b → (if b then Some (length history) else None) ≡ verdict (history ++ line_entry seat own step ∷ [])) [
-      | true ↦ λ e. sym (verdict-first history (line_entry seat own step) e (sym is))
-      | false ↦ λ e. is ∙ sym (verdict-same history (line_entry seat own step) e)
+refuted_next : (history : List Entry) (b : Bool) (seat own : ℕ) (step : Addition) (refuted : Option ℕ) → refuted ≡ verdict history → refuted_after refuted (length history) step.lemma.clause ≡ verdict (history ++ entering_entry b seat own step ∷ [])
+refuted_next history b seat own step (Some first) is = sym (verdict-stays history (entering_entry b seat own step) first (sym is))
+refuted_next history b seat own step None is =
+    elim (fin.len step.lemma.clause == 0) as (λ b0. (fin.len step.lemma.clause == 0) ≡ b0 → (if b0 then Some (length history) else None) ≡ verdict (history ++ entering_entry b seat own step ∷ [])) [
+      | true ↦ λ e. sym (verdict-first history (entering_entry b seat own step) e (sym is))
+      | false ↦ λ e. is ∙ sym (verdict-same history (entering_entry b seat own step) e)
     ] refl
 
--- what a book keeps, after a legal addition
-pub IsKept-line : (s : State) (seat own : ℕ) (step : Addition) (m n : ClauseMap) (count : ℕ) (refuted : Option ℕ) → IsKept s m count refuted → IsLegal s (line_entry seat own step) → n ≡ fin.insert m (next s) step.lemma.clause → IsKept (after_entry s (line_entry seat own step)) n (count + 1) (refuted_after refuted (length s.history) step.lemma.clause)
-IsKept-line s seat own step m n count refuted kept legal is =
-    let sound = IsSound-reached s kept.reached in
-    let number = legal.addition.0 in
-    let before = kept.additions in
-    let more = ap (λ ss. length (additions ss)) (steps_of-push s.history (line_entry seat own step)) ∙ additions-append (steps_of s.history) (steps.Add step ∷ []) in
+-- A legal entry by which a lemma enters.
+pub record IsEntering (s : State) (b : Bool) (seat own : ℕ) (step : Addition) : Type 0 where
+  pub here : is_here s.tables seat ≡ true
+  pub unbound : is_bound s.tables seat own ≡ false
+  pub capacity : addition_count s.history < s.max_steps
+  pub number : step.number ≡ next s
+  pub leaves : after_entry s (entering_entry b seat own step) ≡ with_addition s seat own (entering_call b own step.lemma) step
+
+pub entering : (s : State) (b : Bool) (seat own : ℕ) (step : Addition) → IsLegal s (entering_entry b seat own step) → IsEntering s b seat own step
+entering s false seat own step legal = record { here = legal.here; unbound = legal.unbound; capacity = legal.capacity; number = legal.addition.0; leaves = refl }
+entering s true seat own step legal =
+    let part = part_step s seat own step.lemma.clause step legal in
     record {
-      reached = IsReached-after s (line_entry seat own step) kept.reached legal;
-      lives = is ∙ (λ i. fin.insert (kept.lives i) (sym number i) step.lemma.clause) ∙ sym (live-addition s seat own step sound legal.here legal.unbound number);
-      additions = omega arith;
-      first_empty = refuted_next s.history seat own step refuted kept.first_empty;
+      here = legal.here;
+      unbound = legal.unbound;
+      capacity = legal.capacity refl;
+      number = ap (λ (a : Addition). a.number) part.1.1;
+      leaves = after_part s seat own part.0 step.lemma.clause (Some (steps.Add step)) part.1.0 legal.asked ∙ ap (with_addition s seat own (calls.Import own step.lemma.clause)) (sym part.1.1);
     }
+
+-- what a book keeps, after a legal entry by which a lemma enters
+pub IsKept-entering : (s : State) (b : Bool) (seat own : ℕ) (step : Addition) (m n : ClauseMap) (count : ℕ) (refuted : Option ℕ) → IsKept s m count refuted → IsLegal s (entering_entry b seat own step) → n ≡ fin.insert m (next s) step.lemma.clause → IsKept (after_entry s (entering_entry b seat own step)) n (count + 1) (refuted_after refuted (length s.history) step.lemma.clause)
+IsKept-entering s b seat own step m n count refuted kept legal is =
+    let sound = IsSound-reached s kept.reached in
+    let e = entering s b seat own step legal in
+    let number = e.number in
+    let before = kept.additions in
+    let more = ap (λ ss. length (additions ss)) (steps_of-push s.history (entering_entry b seat own step)) ∙ additions-append (steps_of s.history) (steps.Add step ∷ []) in
+    record {
+      reached = IsReached-after s (entering_entry b seat own step) kept.reached legal;
+      lives = is ∙ (λ i. fin.insert (kept.lives i) (sym number i) step.lemma.clause) ∙ sym (live-addition s seat own (entering_call b own step.lemma) step sound e.here e.unbound number) ∙ ap live (sym e.leaves);
+      additions = omega arith;
+      first_empty = refuted_next s.history b seat own step refuted kept.first_empty;
+    }
+
+pub entering_state : (s : State) (b : Bool) (seat own : ℕ) (step : Addition) (tables : Tables) (history : List Entry) → IsEntering s b seat own step → tables ≡ with_table (λ t. fin.insert t own step.number) s.tables seat → history ≡ s.history ++ entering_entry b seat own step ∷ [] → ◌≡◌ {A = State} (record { formula = s.formula; max_steps = s.max_steps; tables = tables; history = history }) (after_entry s (entering_entry b seat own step))
+entering_state s b seat own step tables history e bound pushed =
+    same_state s.formula s.max_steps tables _ history _
+    (bound ∙ ap (λ (j : ℕ). with_table (λ (t : Table). fin.insert t own j) s.tables seat) e.number)
+    pushed
+    ∙ sym e.leaves
 
 pub line_state : (s : State) (seat own joint : ℕ) (step : Addition) (tables : Tables) (history : List Entry) → joint ≡ next s → tables ≡ with_table (λ t. fin.insert t own joint) s.tables seat → history ≡ s.history ++ line_entry seat own step ∷ [] → ◌≡◌ {A = State} (record { formula = s.formula; max_steps = s.max_steps; tables = tables; history = history }) (after_entry s (line_entry seat own step))
 line_state s seat own joint step tables history is bound pushed =
@@ -507,7 +536,7 @@ line_made s seat a step clauses more added refuted first tables history k pivot 
     let is = line_state s seat a.number step.number step tables history kept.0 bound pushed in (
       subst (λ (o : Option ℕ). IsKept (record { formula = s.formula; max_steps = s.max_steps; tables = tables; history = history }) more (added + 1) o) (sym empty)
           (subst (λ (t : State). IsKept t more (added + 1) (refuted_after refuted (length s.history) step.lemma.clause)) (sym is)
-          (IsKept-line s seat a.number step clauses more added refuted k legal (lives ∙ ap (λ (j : ℕ). fin.insert clauses j step.lemma.clause) kept.0))),
+          (IsKept-entering s false seat a.number step clauses more added refuted k legal (lives ∙ ap (λ (j : ℕ). fin.insert clauses j step.lemma.clause) kept.0))),
       is,
     )
 

@@ -6,6 +6,7 @@ pub mod VariableLaws
 pub mod GivenOrder
 pub mod GivenLaws
 pub mod NamedLaws
+pub mod Parts
 pub mod HistoryLaws
 pub mod DropLaws
 pub mod Copies
@@ -17,6 +18,7 @@ pub mod SoloStates
 pub mod SoloMoves
 pub mod SoloTakes
 pub mod SoloWorlds
+pub mod ImportRefusals
 pub mod SoloSteps
 pub mod ViewLaws
 pub mod NamedTakes
@@ -65,7 +67,8 @@ mod WithinTop
 mod Shifts
 mod OpenedLaws
 mod Bounds
-mod OccurrenceLaws
+pub mod OccurrenceLaws
+mod PartLists
 mod Chains
 mod FirstUseLaws
 pub mod InsideLaws

@@ -16,8 +16,8 @@ use Rattle.lj_book.specs.declared.entry.Call.{Call}
 use Rattle.lj_book.specs.declared.entry.Call.TheVariants as calls
 use Rattle.lj_book.specs.declared.entry.Entry.{Entry}
 use Rattle.lj_book.specs.Tables.{Table, Tables, up_to, is_here, with_table, without_seat, without_keys}
-use Rattle.lj_book.specs.State.{State, live, next}
-use Rattle.lj_book.specs.Lookup.{least_number}
+use Rattle.lj_book.specs.State.{State, next}
+use Rattle.lj_book.specs.Imports.{import_number}
 use Rattle.lj_book.specs.History.{tables_after, with_found, after_entry, after_entries, IsLegalCall, AreLegal}
 use Rattle.lj_book.specs.Variables.{Variables, IsVariables, renaming_of, given}
 use Rattle.lj_book.specs.Named.{NamedState, top_of, call_image, joint_entry, beneath, variables_behind, entry_beneath, after_named, after_all_named, NamesRightly, IsNamedLegal, AreNamedLegal, named_opening, IsNamedReached, BeneathIsReached, NamedKeepRules}
@@ -110,7 +110,7 @@ length-tables_after : (s : State) (seat : ℕ) (call : Call) → length (tables_
 length-tables_after s seat (calls.Add own lemma) = length-with_table (λ t. fin.insert t own (next s)) s.tables seat
 length-tables_after s seat (calls.Drop numbers) = length-with_table (without_keys numbers) s.tables seat
 length-tables_after s seat (calls.Adopt own joint) = length-with_table (λ t. fin.insert t own joint) s.tables seat
-length-tables_after s seat (calls.Import own clause) = length-with_found s.tables seat own (least_number (live s) clause)
+length-tables_after s seat (calls.Import own clause) = length-with_found s.tables seat own (import_number s clause)
 length-tables_after s seat calls.Leave = length-without_seat s.tables seat
 
 -- ---- one entry

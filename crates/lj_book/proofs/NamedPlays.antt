@@ -1,6 +1,5 @@
 -- Commits in lists of events of seats that name their variables.
 use Rattle.std.proofs.Common.{◌≡◌, refl, ℕ}
-use Rattle.lj_hint.specs.Case.{CaseValue}
 use Rattle.lj_hint.specs.Receipt.{ReceiptValue}
 use Rattle.lj_book.specs.declared.event.Reply.TheVariants as replies
 use Rattle.lj_book.specs.declared.event.Pending.{Pending}

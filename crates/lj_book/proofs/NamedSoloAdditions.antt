@@ -50,7 +50,7 @@ use Rattle.lj_book.specs.NamedAlone.{named_after_call}
 use Rattle.lj_book.proofs.HistoryLaws.{IsSound-reached}
 use Rattle.lj_book.proofs.TableLaws.{here_in_range}
 use Rattle.lj_book.proofs.BindingLaws.{can_bind}
-use Rattle.lj_book.proofs.CommitLaws.{same_itself}
+use Rattle.lj_book.proofs.Parts.{same_itself}
 use Rattle.lj_book.proofs.SoloStates.{IsGiven, IsGiven-sound}
 use Rattle.lj_book.proofs.SoloMoves.{given_out-addition, get-inserted}
 use Rattle.lj_book.proofs.SoloTakes.{take_alone, take_fits, AllHeld, IsHolding, IsFit}
@@ -167,7 +167,7 @@ given_at : (s : State) (seat own : ℕ) (lemma : LemmaValue) (step : Option Step
 given_at s seat own lemma None legal = absurd legal.addition
 given_at s seat own lemma (Some (steps.Delete numbers)) legal = absurd legal.addition
 given_at s seat own lemma (Some (steps.Add a)) legal =
-    ap (λ p. fin.get p (next s)) (given_out-addition s seat own lemma a legal.addition.0)
+    ap (λ p. fin.get p (next s)) (given_out-addition s seat own (calls.Add own lemma) a legal.addition.0)
     ∙ get-inserted (given_out s) (next s) a.lemma.clause
     ∙ ap (λ (l : LemmaValue). Some l.clause) legal.addition.1.0
 

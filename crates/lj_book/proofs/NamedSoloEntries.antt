@@ -16,21 +16,21 @@ use Rattle.lj_book.specs.declared.entry.Added.{Added}
 use Rattle.lj_book.specs.declared.entry.Dropped.{Dropped}
 use Rattle.lj_book.specs.declared.entry.Imported.{Imported}
 use Rattle.lj_book.specs.Tables.{is_here}
-use Rattle.lj_book.specs.Lookup.{least_number}
-use Rattle.lj_book.specs.State.{State, live}
-use Rattle.lj_book.specs.History.{some_lives, IsLegal, IsReached}
+use Rattle.lj_book.specs.State.{State, addition_count, live}
+use Rattle.lj_book.specs.Imports.{import_step, import_number}
+use Rattle.lj_book.specs.History.{IsLegal, IsReached}
 use Rattle.lj_book.specs.Inside.{inside_reply, inside_entry}
-use Rattle.lj_book.specs.Calls.{commit_told, drop_entry, free_refusal, if_free, adopt_entry, import_entry, leave_entry}
+use Rattle.lj_book.specs.Calls.{commit_told, drop_entry, free_refusal, if_free, adopt_entry, leave_entry}
 use Rattle.lj_book.specs.Variables.{is_own}
 use Rattle.lj_book.specs.inner.JointLines.{inside_line}
 use Rattle.lj_book.specs.Named.{NamedState, top_of, names_of, beneath, has_variables_for, IsOwnLive, IsNamedLegal, IsNamedReached}
 use Rattle.lj_book.specs.NamedViews.{names_with, addition_beneath}
 use Rattle.lj_book.specs.NamedReplies.{named_inside_after, named_inside, named_commit_refusal, named_commit, named_drop, adopted, named_adopt, or_private, import_refusal, named_import, named_leave}
-use Rattle.lj_book.specs.NamedEntries.{named_commit_entry}
+use Rattle.lj_book.specs.NamedEntries.{named_commit_entry, named_import_entry}
 use Rattle.lj_book.specs.NamedInside.{named_inside_entry, if_left}
 use Rattle.lj_book.specs.NamedSolo.{IsProper}
 use Rattle.lj_book.proofs.HistoryLaws.{IsSound-reached}
-use Rattle.lj_book.proofs.SoloWorlds.{imported_lives}
+use Rattle.lj_book.proofs.SoloWorlds.{imported_is}
 use Rattle.lj_book.proofs.BindingLaws.{CanBind, can_bind}
 use Rattle.lj_book.proofs.InsideLaws.{IsPivot, taken_refused, inside_refused, entered, entered_entry, entered_legal}
 use Rattle.lj_book.proofs.NamedLaws.{rules_reached, given_grows, beneath_is_reached}
@@ -173,25 +173,25 @@ module _ (s : NamedState) (reached : IsNamedReached s) where
   pub record IsImportable (seat own : ℕ) (c : LiteralSet) (joint : ℕ) : Type 0 where
     pub can : CanBind (beneath s) seat own
     pub named : is_named (top_of s) (names_of s seat) c ≡ true
-    pub least : least_number (live (beneath s)) (image (names_of s seat) c) ≡ Some joint
-    pub lives : fin.get (live (beneath s)) joint ≡ Some (image (names_of s seat) c)
+    pub number : import_number (beneath s) (image (names_of s seat) c) ≡ Some joint
+    pub capacity : is_some (import_step (beneath s) (image (names_of s seat) c)) ≡ true → addition_count (beneath s).history < s.max_steps
 
   pub importable : (seat own : ℕ) (c : LiteralSet) (x : Imported) → named_import s seat own c ≡ Ok x → IsImportable seat own c x.joint
   importable seat own c x ok =
       let parts = free_none (import_refusal s seat own c) _ x ok in
-      let found = imported_lives (beneath s) (image (names_of s seat) c) (length s.history) x parts.1 in
+      let found = imported_is (beneath s) (image (names_of s seat) c) x parts.1 in
       let both = by (free_refusal (beneath s) seat own) (is_named (top_of s) (names_of s seat) c) parts.0 in
-      record { can = can_bind (beneath s) seat own both.0; named = both.1; least = found.0; lives = found.1 }
+      record { can = can_bind (beneath s) seat own both.0; named = both.1; number = found.number; capacity = found.capacity }
     where
       by : (o : Option Refusal) (b : Bool) → or_private o b ≡ None → (o ≡ None) × (b ≡ true)
       by (Some e) b h = absurd (let no : ⊥ = cc in no)
       by None true h = (refl, refl)
       by None false h = absurd (let no : ⊥ = cc in no)
 
-  pub import_legal : (seat own : ℕ) (c : LiteralSet) (x : Imported) → named_import s seat own c ≡ Ok x → IsNamedLegal s (import_entry seat own c)
+  pub import_legal : (seat own : ℕ) (c : LiteralSet) (x : Imported) → named_import s seat own c ≡ Ok x → IsNamedLegal s (named_import_entry s seat own c)
   import_legal seat own c x ok =
       let i = importable seat own c x ok in
       record {
         names = i.named;
-        legal = record { here = i.can.here; unbound = i.can.unbound; lives = ap (some_lives (beneath s)) i.least ∙ ap is_some i.lives; stepless = refl };
+        legal = record { here = i.can.here; unbound = i.can.unbound; finds = ap is_some i.number; capacity = i.capacity; asked = refl };
       }

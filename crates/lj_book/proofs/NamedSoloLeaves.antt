@@ -21,14 +21,14 @@ use Rattle.lj_book.specs.declared.event.Reply.{Reply}
 use Rattle.lj_book.specs.declared.event.Reply.TheVariants as replies
 use Rattle.lj_book.specs.declared.event.Pending.{Pending}
 use Rattle.lj_book.specs.declared.event.Pending.TheVariants as pendings
-use Rattle.lj_book.specs.Calls.{free_refusal, drop_entry, adopt_entry, import_entry, leave_entry}
+use Rattle.lj_book.specs.Calls.{free_refusal, drop_entry, adopt_entry, leave_entry}
 use Rattle.lj_book.specs.Events.{seat_of}
 use Rattle.lj_book.specs.Worlds.{IsCalled, IsTried, case_taken, pending_after_test, IsTestOf}
 use Rattle.lj_book.specs.Solo.{View, Solo}
 use Rattle.lj_book.specs.Named.{NamedState, beneath, after_named, IsNamedLegal, IsNamedReached}
 use Rattle.lj_book.specs.NamedViews.{named_view, named_take}
 use Rattle.lj_book.specs.NamedReplies.{named_inside, named_commit_refusal, named_commit, named_drop, named_adopt, import_refusal, named_import, named_leave}
-use Rattle.lj_book.specs.NamedEntries.{named_commit_entry}
+use Rattle.lj_book.specs.NamedEntries.{named_commit_entry, named_import_entry}
 use Rattle.lj_book.specs.NamedInside.{named_inside_entry}
 use Rattle.lj_book.specs.NamedWorlds.{NamedWorld, named_nothing_pending, named_pending_at, with_named_pending, if_named_entered, IsNamedCommitOf, IsNamedAnswered}
 use Rattle.lj_book.specs.NamedSolo.{IsProper, IsProperEvent}
@@ -202,6 +202,6 @@ named_leaves w w' (events.Drop seat numbers) reply settled proper answered =
 named_leaves w w' (events.Adopt seat own joint) reply settled proper answered =
     leaves_called w w' (adopt_entry seat own joint) (named_adopt w.state seat own joint) replies.Adopted reply settled (λ x e. adopt_legal w.state settled.reached seat own joint x e) answered
 named_leaves w w' (events.Import seat own clause) reply settled proper answered =
-    leaves_tried w w' (import_entry seat own clause) (import_refusal w.state seat own clause) (named_import w.state seat own clause) replies.Imported reply settled (λ x e. import_legal w.state settled.reached seat own clause x e) answered
+    leaves_tried w w' (named_import_entry w.state seat own clause) (import_refusal w.state seat own clause) (named_import w.state seat own clause) replies.Imported reply settled (λ x e. import_legal w.state settled.reached seat own clause x e) answered
 named_leaves w w' (events.Leave seat) reply settled proper answered =
     leaves_called w w' (leave_entry (beneath w.state) seat) (named_leave w.state seat) replies.Left reply settled (λ x e. leave_legal w.state settled.reached seat x e) answered

@@ -1,6 +1,6 @@
 -- An own event of a seat that names its variables, answered as its solo object decides.
 use Rattle.std.proofs.Common.{◌≡◌, ap, refl, sym, ◌∙◌, subst, ℕ, ◌-◌, ◌≤◌, Bool, true, false}
-use Rattle.std.specs.Prelude.{List, length, Option, Some, None, option_map, option_and_then, is_some, if◌then◌else◌, IfSome, IfErr, Result, Ok, Err}
+use Rattle.std.specs.Prelude.{nat_lt, List, length, Option, Some, None, option_map, option_and_then, is_some, if◌then◌else◌, IfSome, IfErr, Result, Ok, Err}
 use Rattle.std.specs.FinMap as fin
 use Rattle.lj_clause.specs.LiteralSet.{LiteralSet}
 use Rattle.lj_clause.specs.ClauseMap.{ClauseMap}
@@ -9,7 +9,7 @@ use Rattle.lj_clause.proofs.Renaming.{renaming_laws}
 use Rattle.lj_hint.specs.declared.pair.Pair.{Pair}
 use Rattle.lj_hint.specs.Images.{pair_image}
 use Rattle.lj_book.specs.declared.refusal.Refusal.{Refusal}
-use Rattle.lj_book.specs.declared.refusal.Refusal.TheVariants.{SeatGone, NumberTaken, PrivateVariable, NoSuchClause}
+use Rattle.lj_book.specs.declared.refusal.Refusal.TheVariants.{SeatGone, NumberTaken, PrivateVariable, NoSuchClause, Full}
 use Rattle.lj_book.specs.declared.entry.Entry.{Entry}
 use Rattle.lj_book.specs.declared.entry.Dropped.{Dropped}
 use Rattle.lj_book.specs.declared.entry.Imported.{Imported}
@@ -19,9 +19,11 @@ use Rattle.lj_book.specs.declared.event.Reply.TheVariants as replies
 use Rattle.lj_book.specs.declared.event.Pending.{Pending}
 use Rattle.lj_book.specs.declared.event.Pending.TheVariants as pendings
 use Rattle.lj_book.specs.Tables.{Table, table_of, without_keys, keys_lost}
-use Rattle.lj_book.specs.Lookup.{least_number}
-use Rattle.lj_book.specs.State.{given_out, live}
-use Rattle.lj_book.specs.Calls.{drop_entry, free_refusal, if_free, adopt_entry, imported_at, import_entry, leave_entry}
+use Rattle.lj_book.specs.declared.found.Found.{Found}
+use Rattle.lj_book.specs.declared.found.Found.TheVariants.{Equal, Part, Neither}
+use Rattle.lj_book.specs.State.{State, addition_count, next, given_out, live}
+use Rattle.lj_book.specs.Imports.{found, import_step}
+use Rattle.lj_book.specs.Calls.{drop_entry, free_refusal, if_free, adopt_entry, imported, leave_entry}
 use Rattle.lj_book.specs.Worlds.{reply_by, IsCalled, IsTried}
 use Rattle.lj_book.specs.Solo.{Holdings, View, solo_refusal, IsRefusedSolo, IfHere, IfNotTaken, IfFree, holdings_of, without_holdings, IsSoloDrop, IsSoloAdoption, IsSoloImport, IsSoloLeave, IsSoloAnswer, view_of}
 use Rattle.lj_book.specs.Views.{with_found_holding}
@@ -29,14 +31,17 @@ use Rattle.lj_book.specs.Variables.{is_own}
 use Rattle.lj_book.specs.Named.{NamedState, top_of, names_of, beneath, after_named}
 use Rattle.lj_book.specs.NamedViews.{named_view, holdings_image}
 use Rattle.lj_book.specs.NamedReplies.{named_drop, adopted, named_adopt, or_private, import_refusal, named_import, named_leave}
+use Rattle.lj_book.specs.NamedEntries.{named_import_entry}
 use Rattle.lj_book.specs.NamedWorlds.{NamedWorld, named_pending_at, with_named_pending, if_named_entered, IsNamedAnswered}
 use Rattle.lj_book.specs.NamedSolo.{own_clauses, counted_as}
 use Rattle.lj_book.specs.NamedAlone.{named_after_call}
 use Rattle.lj_book.proofs.SoloTables.{holdings-without, len-holdings}
-use Rattle.lj_book.proofs.SoloStates.{live-given, with_clause-is}
+use Rattle.lj_book.proofs.HistoryLaws.{IsSound-reached}
+use Rattle.lj_book.proofs.SoloStates.{IsGiven-sound, live-given, with_clause-is}
+use Rattle.lj_book.proofs.SoloMoves.{import_gives}
 use Rattle.lj_book.proofs.SoloTakes.{refusal_alone}
 use Rattle.lj_book.proofs.SoloWorlds.{called_by, tried_by, pending-set}
-use Rattle.lj_book.proofs.NamedLaws.{rules_reached}
+use Rattle.lj_book.proofs.NamedLaws.{rules_reached, beneath_after, beneath_is_reached}
 use Rattle.lj_book.proofs.NamedSoloViews.{image-without, image-len, image-refusal, Keeps, stands_later, keeps_entry, sees_behind}
 use Rattle.lj_book.proofs.NamedSoloEntries.{drop_legal, leave_legal, adoptable, adopt_legal, importable, import_legal}
 use Rattle.lj_book.proofs.NamedSoloLeaves.{named_solo_of, IsNamedSettled}
@@ -238,8 +243,8 @@ module _ (end : NamedState) (w w' : NamedWorld) (seat own : ℕ) (reply : Reply)
       (λ h at unbound. tried_by (import_refusal s seat own c) (named_import s seat own c) replies.Imported (if_named_entered w entry) reply w'
       (λ r after. Keeps after.state end → IsSoloImport (own_clauses end seat) own c (named_solo_of w seat) h (counted_as r) (named_solo_of after seat))
       (λ x e more. accepted h at x e more)
-      (λ y e more. refused h (is_named (top_of s) (names_of s seat) c) (least_number (live (beneath s)) (image (names_of s seat) c)) y
-      (sym (ap (λ (o : Option Refusal). if_free (or_private o (is_named (top_of s) (names_of s seat) c)) (imported_at (length s.history) (least_number (live (beneath s)) (image (names_of s seat) c)))) (free_here s seat own h at unbound)) ∙ e))
+      (λ y e more. refused h (is_named (top_of s) (names_of s seat) c) (found (beneath s) (image (names_of s seat) c)) y
+      (sym (ap (λ (o : Option Refusal). if_free (or_private o (is_named (top_of s) (names_of s seat) c)) (imported (beneath s) (found (beneath s) (image (names_of s seat) c)))) (free_here s seat own h at unbound)) ∙ e))
       (λ more. refl)
       called later)
       called
@@ -248,7 +253,7 @@ module _ (end : NamedState) (w w' : NamedWorld) (seat own : ℕ) (reply : Reply)
       s = w.state
 
       entry : Entry
-      entry = import_entry seat own c
+      entry = named_import_entry s seat own c
 
       accepted : (h : Holdings) → named_view s seat ≡ Some h → (x : Imported) → named_import s seat own c ≡ Ok x → Keeps (after_named s entry) end
           → IsSoloImport (own_clauses end seat) own c (named_solo_of w seat) h (replies.Imported x) (named_solo_of (record w { state = after_named s entry }) seat)
@@ -258,14 +263,20 @@ module _ (end : NamedState) (w w' : NamedWorld) (seat own : ℕ) (reply : Reply)
           let m : Renaming = names_of s seat in
           let one : IsOneToOne (top_of s) m = (rules_reached s settled.reached).variables.one_to_one seat in
           let back : image (inverse m) (image m c) ≡ c = renaming_laws.given_back (top_of s) m c one i.named in
-          let stays = (keeps_entry s settled.formula settled.reached entry legal).more.stays x.joint (image m c) (live-given (beneath s) x.joint (image m c) i.lives) in (
-            stands_later (after_named s entry) end seat x.joint (image m c) more stays (renaming_laws.named_back (top_of s) m c one i.named) ∙ ap Some back,
+          let given = ap (λ (t : State). fin.get (given_out t) x.joint) (beneath_after s (rules_reached s settled.reached) entry legal)
+          ∙ import_gives (beneath s) seat own (image m c) (import_step (beneath s) (image m c)) x.joint (IsGiven-sound (beneath s) (IsSound-reached (beneath s) (beneath_is_reached s settled.reached))) legal.legal i.number in (
+            stands_later (after_named s entry) end seat x.joint (image m c) more given (renaming_laws.named_back (top_of s) m c one i.named) ∙ ap Some back,
             entered_solo w seat (after_named s entry) (Some (fin.insert h own (record { joint = x.joint; clause = c })))
                 (sees_behind s settled.formula settled.reached entry legal ∙ ap (option_and_then (named_after_call s seat entry.call)) at
-                ∙ ap (λ (o : Option ℕ). Some (with_found_holding h own o c)) i.least),
+                ∙ ap (λ (o : Option ℕ). Some (with_found_holding h own o c)) i.number),
           )
 
-      refused : (h : Holdings) (b : Bool) (o : Option ℕ) (y : Refusal) → if_free (or_private None b) (imported_at (length s.history) o) ≡ Err y → IsSoloImport (own_clauses end seat) own c (named_solo_of w seat) h (counted_as (replies.Refused y)) (named_solo_of w seat)
-      refused h true None y e = let same : NoSuchClause ≡ y = cc in subst (λ (z : Refusal). IsSoloImport (own_clauses end seat) own c (named_solo_of w seat) h (counted_as (replies.Refused z)) (named_solo_of w seat)) same refl
-      refused h true (Some joint) y e = absurd (let no : ⊥ = cc in no)
-      refused h false o y e = let same : PrivateVariable ≡ y = cc in subst (λ (z : Refusal). IsSoloImport (own_clauses end seat) own c (named_solo_of w seat) h (counted_as (replies.Refused z)) (named_solo_of w seat)) same refl
+      full : (h : Holdings) (b : Bool) (x : Imported) (y : Refusal) → (if b then Ok x else Err Full) ≡ Err y → IsSoloImport (own_clauses end seat) own c (named_solo_of w seat) h (counted_as (replies.Refused y)) (named_solo_of w seat)
+      full h true x y e = absurd (let no : ⊥ = cc in no)
+      full h false x y e = let same : Full ≡ y = cc in subst (λ (z : Refusal). IsSoloImport (own_clauses end seat) own c (named_solo_of w seat) h (counted_as (replies.Refused z)) (named_solo_of w seat)) same refl
+
+      refused : (h : Holdings) (b : Bool) (f : Found) (y : Refusal) → if_free (or_private None b) (imported (beneath s) f) ≡ Err y → IsSoloImport (own_clauses end seat) own c (named_solo_of w seat) h (counted_as (replies.Refused y)) (named_solo_of w seat)
+      refused h true Neither y e = let same : NoSuchClause ≡ y = cc in subst (λ (z : Refusal). IsSoloImport (own_clauses end seat) own c (named_solo_of w seat) h (counted_as (replies.Refused z)) (named_solo_of w seat)) same refl
+      refused h true (Equal joint) y e = absurd (let no : ⊥ = cc in no)
+      refused h true (Part part) y e = full h (nat_lt (addition_count (beneath s).history) s.max_steps) (record { place = length (beneath s).history; joint = next (beneath s) }) y e
+      refused h false f y e = let same : PrivateVariable ≡ y = cc in subst (λ (z : Refusal). IsSoloImport (own_clauses end seat) own c (named_solo_of w seat) h (counted_as (replies.Refused z)) (named_solo_of w seat)) same refl

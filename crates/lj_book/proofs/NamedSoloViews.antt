@@ -10,8 +10,6 @@ use Rattle.lj_clause.specs.LiteralSet.{LiteralSet}
 use Rattle.lj_clause.specs.ClauseMap.{FormulaValue, IsFormula}
 use Rattle.lj_clause.specs.Renaming.{Renaming, image, inverse, IsOneToOne, IsPartOf}
 use Rattle.lj_clause.proofs.Renaming.{renaming_laws, inverse_gives, gives_inverse, get-clauses_image}
-use Rattle.lj_text.specs.declared.step.Step.{Step}
-use Rattle.lj_text.specs.declared.step.Step.TheVariants as steps
 use Rattle.lj_hint.specs.declared.pair.Pair.{Pair}
 use Rattle.lj_hint.specs.Images.{pair_image}
 use Rattle.lj_book.specs.declared.refusal.Refusal.TheVariants.{NumberTaken}
@@ -19,9 +17,8 @@ use Rattle.lj_book.specs.declared.entry.Call.{Call}
 use Rattle.lj_book.specs.declared.entry.Call.TheVariants as calls
 use Rattle.lj_book.specs.declared.entry.Entry.{Entry}
 use Rattle.lj_book.specs.Tables.{is_among}
-use Rattle.lj_book.specs.Lookup.{least_number}
 use Rattle.lj_book.specs.State.{State, next, given_out, live}
-use Rattle.lj_book.specs.History.{some_lives, after_entry, IsLegalCall}
+use Rattle.lj_book.specs.Imports.{import_number}
 use Rattle.lj_book.specs.Solo.{Holdings, View, solo_refusal, with_clause, without_holdings, view_of}
 use Rattle.lj_book.specs.Views.{with_found_holding}
 use Rattle.lj_book.specs.inner.Views.{view_after_call}
@@ -33,8 +30,8 @@ use Rattle.lj_book.specs.NamedAlone.{named_after_call}
 use Rattle.lj_book.proofs.HistoryLaws.{IsSound-reached, among-keys}
 use Rattle.lj_book.proofs.DropLaws.{Rises-keys, same_rising}
 use Rattle.lj_book.proofs.SoloTables.{same_holdings}
-use Rattle.lj_book.proofs.SoloStates.{IsGiven, IsGiven-sound, Extends, Extends-refl, Extends-trans, some_clause}
-use Rattle.lj_book.proofs.SoloMoves.{Moves, moves-drop, moves-leave, moves-adopt, moves-import, moves-addition, least_lives}
+use Rattle.lj_book.proofs.SoloStates.{IsGiven, IsGiven-sound, Extends, Extends-refl, Extends-trans}
+use Rattle.lj_book.proofs.SoloMoves.{moves-legal}
 use Rattle.lj_book.proofs.ViewLaws.{view_follows}
 use Rattle.lj_book.proofs.NamedLaws.{Grows, Rules, CallNamed, grown, same_grows, beneath_after, beneath_is_reached, rules_reached}
 use Rattle.lj_book.proofs.NamedTakes.{get-holdings_image}
@@ -133,27 +130,6 @@ stands_later s t seat joint c keeps at own =
     ∙ ap (option_map (image (inverse (names_of t seat)))) (keeps.more.stays joint c at)
     ∙ ap Some (own_later (top_of s) s.variables t.variables seat c keeps.grows own)
 
-some_found : (s : State) (o : Option ℕ) → some_lives s o ≡ true → (joint : ℕ) × (o ≡ Some joint)
-some_found s (Some joint) lives = (joint, refl)
-some_found s None lives = absurd (let no : ⊥ = cc in no)
-
--- what a legal entry leaves of what was given out
-moves_so : (s : State) (seat : ℕ) (call : Call) (step : Option Step) → IsGiven s → IsLegalCall s seat call step → Moves seat s (after_entry s (record { seat = seat; call = call; step = step }))
-moves_so s seat (calls.Add own lemma) None given legal = absurd legal.addition
-moves_so s seat (calls.Add own lemma) (Some (steps.Delete numbers)) given legal = absurd legal.addition
-moves_so s seat (calls.Add own lemma) (Some (steps.Add a)) given legal = moves-addition s seat own lemma a given legal.addition.0
-moves_so s seat (calls.Drop numbers) step given legal =
-    subst (λ (o : Option Step). Moves seat s (after_entry s (record { seat = seat; call = calls.Drop numbers; step = o }))) (sym legal.deletes) (moves-drop s seat numbers given)
-moves_so s seat (calls.Adopt own joint) step given legal =
-    let c = some_clause (fin.get (live s) joint) legal.lives in
-    subst (λ (o : Option Step). Moves seat s (after_entry s (record { seat = seat; call = calls.Adopt own joint; step = o }))) (sym legal.stepless) (moves-adopt s seat own joint c.0 given c.1)
-moves_so s seat (calls.Import own clause) step given legal =
-    let found = some_found s (least_number (live s) clause) legal.lives in
-    subst (λ (o : Option Step). Moves seat s (after_entry s (record { seat = seat; call = calls.Import own clause; step = o }))) (sym legal.stepless)
-    (moves-import s seat own found.0 clause clause given found.1 (least_lives (live s) clause found.0 found.1))
-moves_so s seat calls.Leave step given legal =
-    subst (λ (o : Option Step). Moves seat s (after_entry s (record { seat = seat; call = calls.Leave; step = o }))) (sym legal.deletes) (moves-leave s seat given)
-
 -- ---- what its seat sees behind an entry
 
 module _ (s : NamedState) (is : IsFormula s.formula) (reached : IsNamedReached s) where
@@ -182,7 +158,7 @@ module _ (s : NamedState) (is : IsFormula s.formula) (reached : IsNamedReached s
       formula = refl;
       grows = (grown s rules e legal).0;
       more = subst (λ (t : State). Extends (given_out (beneath s)) (given_out t)) (sym (beneath_after s rules e legal))
-          (moves_so (beneath s) e.seat (entry_beneath s e).call e.step given legal.legal).more;
+          (moves-legal (beneath s) e.seat (entry_beneath s e).call e.step given legal.legal).more;
     }
 
   by_call : (seat : ℕ) (call : Call) (h : Holdings) → Grows (top_of s) s.variables (variables_behind s seat call) → CallNamed (top_of s) (variables_behind s seat call) seat call → view_of (beneath s) seat ≡ Some h
@@ -196,7 +172,7 @@ module _ (s : NamedState) (is : IsFormula s.formula) (reached : IsNamedReached s
       ∙ (λ i. Some (fin.insert (held_later w seat h grows at i) own (record { joint = next (beneath s); clause = back i })))
   by_call seat (calls.Drop numbers) h grows named at = ap Some (image-without (inverse (names_of s seat)) numbers h)
   by_call seat (calls.Adopt own joint) h grows named at = ap Some (image-insert (inverse (names_of s seat)) h own (with_clause (live (beneath s)) joint))
-  by_call seat (calls.Import own c) h grows named at = found (least_number (live (beneath s)) (image (names_of s seat) c))
+  by_call seat (calls.Import own c) h grows named at = found (import_number (beneath s) (image (names_of s seat) c))
     where
       found : (o : Option ℕ) → view_image (inverse (names_of s seat)) (Some (with_found_holding h own o (image (names_of s seat) c))) ≡ Some (with_found_holding (holdings_image (inverse (names_of s seat)) h) own o c)
       found None = refl

@@ -1,6 +1,6 @@
 -- Literals of variables that no clause has change nothing in a propagation, where no two of them contradict each other.
 use Rattle.std.proofs.Common.{◌≡◌, ap, refl, sym, ◌∙◌, subst, ⊎_elim, ℕ, ◌==◌, Bool, cond, true, false}
-use Rattle.std.specs.Prelude.{ℤ, pos, neg_ℤ, int_lt, not, ◌||◌, ◌&&◌, ◌⊎◌, List, [], ◌∷◌, filter, Option, Some, None, IfSome, is_some, unwrap_or}
+use Rattle.std.specs.Prelude.{ℤ, pos, neg_ℤ, int_lt, not, ◌||◌, ◌&&◌, List, [], ◌∷◌, filter, Option, Some, None, IfSome, is_some, unwrap_or}
 use Rattle.std.specs.List.{AllByRecursion}
 use Rattle.std.specs.Ordering.{eq_by_cmp}
 use Rattle.std.specs.Cmp.{both_ways}

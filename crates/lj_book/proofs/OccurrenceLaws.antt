@@ -24,7 +24,7 @@ use Rattle.lj_book.specs.inner.Occurrences.{Lists, keys_of, list_or_empty, list_
 use Rattle.lj_book.proofs.TableLaws.{among_push}
 use Rattle.lj_book.proofs.HistoryLaws.{among-filter, among_tied}
 use Rattle.lj_book.proofs.DropLaws.{Rises-sorted, sorted-keys, same_rising}
-use Rattle.lj_book.proofs.CommitLaws.{same_clauses}
+use Rattle.lj_book.proofs.Parts.{same_clauses}
 
 itself : (a : ℕ) → (a == a) ≡ true
 itself a = grind (arith, nat_tests)
@@ -226,7 +226,7 @@ all_places c m now i n some past before k =
 
 -- ---- what is found
 
-abbrev passes : (LiteralSet → Bool) → Option LiteralSet → Bool
+abbrev pub passes : (LiteralSet → Bool) → Option LiteralSet → Bool
 passes test None = false
 passes test (Some c) = test c
 
@@ -250,7 +250,7 @@ among_where test (e ∷ es) q h =
     ] refl
 
 -- a rising list of just the numbers whose clause passes the test
-found_all : (p : ClauseMap) (test : LiteralSet → Bool) (ns : List ℕ) → IsStrictlySortedBy nat_cmp ns → ((q : ℕ) → is_among ns q ≡ passes test (fin.get p q)) → ns ≡ numbers_where test p
+pub found_all : (p : ClauseMap) (test : LiteralSet → Bool) (ns : List ℕ) → IsStrictlySortedBy nat_cmp ns → ((q : ℕ) → is_among ns q ≡ passes test (fin.get p q)) → ns ≡ numbers_where test p
 found_all p test ns rising is =
     same_rising ns (numbers_where test p) (Rises-sorted ns rising)
     (subst T (sym (sorted-keys (filter (λ e. test e.1) (fin.entries p)))) (is_sorted-filter (λ e. test e.1) (fin.entries p) (fin.entries_sorted p)))
@@ -268,7 +268,7 @@ not_one : (l : ℤ) → (1 == index_of l) ≡ false
 not_one l = elim l as (λ x. (1 == index_of x) ≡ false) [ pos n ↦ grind (arith, nat_tests) | negsuc n ↦ grind (arith, nat_tests) ]
 
 -- a clause is listed under the place of a literal where it holds it
-holds_place : (c : LiteralSet) (l : ℤ) → is_among (keys_of c) (index_of l) ≡ holds c l
+pub holds_place : (c : LiteralSet) (l : ℤ) → is_among (keys_of c) (index_of l) ≡ holds c l
 holds_place c l =
     elim (length (literals c) == 0) as (λ b. (length (literals c) == 0) ≡ b → is_among (cond b (1 ∷ []) (map index_of (literals c))) (index_of l) ≡ holds c l) [
       | true ↦ λ e.

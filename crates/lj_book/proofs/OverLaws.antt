@@ -15,18 +15,18 @@ use Rattle.lj_hint.specs.declared.pair.Pair.{Pair}
 use Rattle.lj_hint.specs.Case.{CaseValue}
 use Rattle.lj_hint.specs.Images.{pair_image, hinted_image}
 use Rattle.lj_book.specs.declared.entry.Entry.{Entry}
-use Rattle.lj_book.specs.declared.entry.Imported.{Imported}
 use Rattle.lj_book.specs.declared.refusal.Refusal.{Refusal}
 use Rattle.lj_book.specs.declared.refusal.Refusal.TheVariants as refusals
 use Rattle.lj_book.specs.declared.refusal.Refusal.TheVariants.{PrivateVariable, NoSuchClause}
 use Rattle.lj_book.specs.State.{State, opening, live, steps_of, is_refutation, verdict_from}
 use Rattle.lj_book.specs.History.{after_entry, IsReached}
-use Rattle.lj_book.specs.Lookup.{least_number}
-use Rattle.lj_book.specs.Calls.{IsRefusal, IsReply, take_reply, free_refusal, if_free, adopt_entry, imported_at, import_entry}
-use Rattle.lj_book.specs.inner.Bindings.{adopt_reply, import_reply}
+use Rattle.lj_book.specs.Imports.{found, import_step}
+use Rattle.lj_book.specs.Calls.{IsRefusal, IsReply, take_reply, free_refusal, if_free, adopt_entry, imported}
+use Rattle.lj_book.specs.inner.Bindings.{adopt_reply, import_reply, import_entry}
 use Rattle.lj_book.specs.Variables.{Variables, renaming_of, no_variables, is_own}
 use Rattle.lj_book.specs.Named.{NamedState, top_of, names_of, own_entry, beneath, named_over, variables_behind, entry_beneath, after_named, IsOwnLive, NamesRightly, named_opening, IsNamedReached}
 use Rattle.lj_book.specs.NamedViews.{take_image, named_take}
+use Rattle.lj_book.specs.NamedEntries.{named_import_entry}
 use Rattle.lj_book.specs.NamedReplies.{adopted, named_adopt, or_private, import_refusal, named_import}
 use Rattle.lj_book.specs.inner.VariableTables.{TopVariables, variables_at}
 use Rattle.lj_book.specs.inner.Over.{IsOver, is_private}
@@ -196,15 +196,14 @@ module _ (s : NamedState) (seat own : ℕ) (c : LiteralSet) where
   named_so d named is =
       let f : Option Refusal = free_refusal (beneath s) seat own in
       let free : f ≡ import_refusal s seat own c = sym (or_named f) ∙ ap (or_private f) (sym named) in
-      let len : length (beneath s).history ≡ length s.history = length-map s.history _ in
       let back : d ≡ image (names_of s seat) c = sym is in
-      λ i. if_free (free i) (imported_at (len i) (least_number (live (beneath s)) (back i)))
+      λ i. if_free (free i) (imported (beneath s) (found (beneath s) (back i)))
 
   pub within_named : IsNamedReached s → names_up_to (top_of s) c ≡ true → (is_named (top_of s) (names_of s seat) c ≡ true) × (image (names_of s seat) c ≡ c)
   within_named reached within = renaming_laws.unmoved (top_of s) (names_of s seat) c ((rules_reached s reached).variables.one_to_one seat) within
 
   pub refused_so : (e : Refusal) → import_refusal s seat own c ≡ Some e → named_import s seat own c ≡ Err e
-  refused_so e is = ap (λ (o : Option Refusal). if_free o (imported_at (length s.history) (least_number (live (beneath s)) (image (names_of s seat) c)))) is
+  refused_so e is = ap (λ (o : Option Refusal). if_free o (imported (beneath s) (found (beneath s) (image (names_of s seat) c)))) is
 
 -- ---- at the opening
 
@@ -277,15 +276,19 @@ module _ (joint : State) (t : TopVariables) (s : NamedState) (over : IsOver join
   image_there : image (names_of (named_over joint t.variables) seat) c ≡ d
   image_there = subst (λ (u : NamedState). image (names_of u seat) c ≡ d) (sym is) same
 
-  module _ (r : Result Imported Refusal) (after : State) (legal : IsReached after) (ok : OnOk r (after ≡ after_entry joint (import_entry seat own d))) (err : OnErr r (after ≡ joint)) where
-    entered_so : OnOk r (after ≡ after_entry joint (entry_beneath (named_over joint t.variables) (import_entry seat own c)))
-    entered_so = on_ok_weaker r (λ e. e ∙ ap (λ (x : LiteralSet). after_entry joint (import_entry seat own x)) (sym image_there)) ok
+  -- the step that it takes
+  pub step_alike : import_step joint d ≡ (named_import_entry s seat own c).step
+  step_alike = (λ i. import_step (under joint t s over is i) (sym same i)) ∙ refl
+
+  module _ {A : Type 0} (r : Result A Refusal) (after : State) (legal : IsReached after) (ok : OnOk r (after ≡ after_entry joint (import_entry joint seat own d))) (err : OnErr r (after ≡ joint)) where
+    entered_so : OnOk r (after ≡ after_entry joint (entry_beneath (named_over joint t.variables) (named_import_entry (named_over joint t.variables) seat own c)))
+    entered_so = on_ok_weaker r (λ e. e ∙ (λ i. after_entry joint (import_entry (sym over.below i) seat own (sym image_there i)))) ok
 
     pub import_over : IsOver after t
-    import_over = over_answered r joint after t (import_entry seat own c) over legal (on_ok r named_there) refl entered_so err
+    import_over = over_answered r joint after t (named_import_entry (named_over joint t.variables) seat own c) over legal (on_ok r named_there) refl entered_so err
 
-    pub import_left : OnOk r (named_over after t.variables ≡ after_named s (import_entry seat own c))
-    import_left = on_ok_weaker r (λ e. e ∙ ap (λ (u : NamedState). after_named u (import_entry seat own c)) is) (left_answered r joint after t (import_entry seat own c) over legal (on_ok r named_there) refl entered_so err)
+    pub import_left : OnOk r (named_over after t.variables ≡ after_named s (named_import_entry s seat own c))
+    import_left = on_ok_weaker r (λ e. e ∙ ap (λ (u : NamedState). after_named u (named_import_entry u seat own c)) is) (left_answered r joint after t (named_import_entry (named_over joint t.variables) seat own c) over legal (on_ok r named_there) refl entered_so err)
 
 -- What an adoption is answered by the book beneath, where its clause is the seat's own.
 module _ (joint : State) (t : TopVariables) (s : NamedState) (over : IsOver joint t) (is : named_over joint t.variables ≡ s) (seat own number : ℕ)

@@ -18,7 +18,7 @@ use Rattle.lj_book.specs.declared.entry.Call.{Call}
 use Rattle.lj_book.specs.declared.entry.Call.TheVariants as calls
 use Rattle.lj_book.specs.declared.entry.Entry.{Entry}
 use Rattle.lj_book.specs.Tables.{Table, table_of, up_to, is_among}
-use Rattle.lj_book.specs.Lookup.{least_number}
+use Rattle.lj_book.specs.Imports.{import_number}
 use Rattle.lj_book.specs.State.{State, live}
 use Rattle.lj_book.specs.History.{IsReached}
 use Rattle.lj_book.specs.Solo.{Holdings, View, without_holdings, holdings_of, view_of}
@@ -95,7 +95,7 @@ module _ (s : NamedState) (held : OwnHeld s) where
   own_after seat (calls.Drop numbers) names grows named h at own p e = kept seat s.variables grows h at own p (was_there h numbers own p e)
   own_after seat (calls.Adopt k joint) names grows named h at own p e = bound seat s.variables grows h at own p k _ (live_own seat (fin.get (live (beneath s)) joint) names) e
   own_after seat (calls.Import k c) names grows named h at own p e =
-      found_bound seat s.variables grows h at own p k (image (renaming_of s.variables seat) c) (image_own seat s.variables grows h at own p c named) (least_number (live (beneath s)) (image (renaming_of s.variables seat) c)) e
+      found_bound seat s.variables grows h at own p k (image (renaming_of s.variables seat) c) (image_own seat s.variables grows h at own p c named) (import_number (beneath s) (image (renaming_of s.variables seat) c)) e
   own_after seat calls.Leave names grows named h at own p e = absurd (cc)
 
   module _ (rules : Rules s) (reached : IsReached (beneath s)) (e : Entry) (legal : IsNamedLegal s e) where

@@ -1,6 +1,6 @@
 -- Additions with a private pivot are answered as their seat decides alone.
-use Rattle.std.proofs.Common.{◌≡◌, ap, refl, sym, ◌∙◌, subst, inl, inr, ⊎_elim, ℕ, zero, suc, ◌<◌, Bool, true, false, arith}
-use Rattle.std.specs.Prelude.{◌⊎◌, ℤ, List, [], ◌∷◌, ◌++◌, length, take, nat_le, nat_lt, Option, Some, None, is_some, slice_get, option_map, if◌then◌else◌, Result, Ok, Err}
+use Rattle.std.proofs.Common.{◌≡◌, ap, refl, sym, ◌∙◌, subst, inl, inr, ⊎_elim, ℕ, ◌<◌, Bool, true, false, arith}
+use Rattle.std.specs.Prelude.{ℤ, List, [], ◌∷◌, ◌++◌, length, take, nat_le, nat_lt, Option, Some, None, is_some, slice_get, option_map, if◌then◌else◌, Result, Ok, Err}
 use Rattle.std.proofs.lemmas.Bool.{false≢true, or_cases, leb-true}
 use Rattle.std.specs.FinMap as fin
 use Rattle.lj_clause.specs.Memory.{no_memory}
@@ -8,7 +8,7 @@ use Rattle.lj_clause.specs.Literal.{variable_of}
 use Rattle.lj_clause.specs.LiteralSet.{LiteralSet, holds}
 use Rattle.lj_clause.specs.Lemma.{LemmaValue, IsLemma}
 use Rattle.lj_clause.specs.ClauseMap.{IsFormula}
-use Rattle.lj_clause.specs.Propagation.{Propagation, Open}
+use Rattle.lj_clause.specs.Propagation.{Open}
 use Rattle.lj_clause.specs.Rat.{rat}
 use Rattle.lj_clause.specs.Renaming.{Renaming, has_name, lemma_image}
 use Rattle.lj_clause.proofs.Renaming.{all_known}
@@ -25,13 +25,12 @@ use Rattle.lj_book.specs.declared.event.Reply.{Reply}
 use Rattle.lj_book.specs.declared.event.Reply.TheVariants as replies
 use Rattle.lj_book.specs.Tables.{Table, table_of, is_here}
 use Rattle.lj_book.specs.State.{State, addition_count, next, given_out, live}
-use Rattle.lj_book.specs.Calls.{free_refusal, if_free, take_reply, commit_told}
+use Rattle.lj_book.specs.Calls.{free_refusal, if_free, commit_told}
 use Rattle.lj_book.specs.Inside.{joint_addition, rat_refusal, open_refusal, propagation_refusal, or_full}
-use Rattle.lj_book.specs.Solo.{View, holdings_of, view_of, solo_take}
-use Rattle.lj_book.specs.Variables.{renaming_of}
-use Rattle.lj_book.specs.Named.{NamedState, top_of, beneath, given_in, has_variables_for, IsNamedReached}
-use Rattle.lj_book.specs.NamedViews.{take_image, named_view, seen_clauses, names_with, addition_beneath, IsOpenAlone, IsPrivatePivot}
-use Rattle.lj_book.specs.NamedReplies.{named_test, if_variables_left, named_inside_after, named_inside}
+use Rattle.lj_book.specs.Solo.{holdings_of, view_of, solo_take}
+use Rattle.lj_book.specs.Named.{NamedState, top_of, beneath, has_variables_for, IsNamedReached}
+use Rattle.lj_book.specs.NamedViews.{take_image, named_view, seen_clauses, names_with, addition_beneath, IsPrivatePivot}
+use Rattle.lj_book.specs.NamedReplies.{if_variables_left, named_inside_after, named_inside}
 use Rattle.lj_book.specs.NamedInside.{named_inside_entry}
 use Rattle.lj_book.specs.Worlds.{IsTried}
 use Rattle.lj_book.specs.NamedWorlds.{NamedWorld, named_nothing_pending, if_named_entered, IsNamedAnswered, IsNamedRun}

@@ -1,6 +1,6 @@
 -- How the code finds that a seat's clause is a joint one.
-use Rattle.std.proofs.Common.{◌≡◌, ap, refl, sym, ◌∙◌, subst, inl, inr, ℕ, Bool, true, false}
-use Rattle.std.specs.Prelude.{ℤ, ◌&&◌, ◌||◌, List, [], ◌∷◌}
+use Rattle.std.proofs.Common.{◌≡◌, ap, refl, sym, ◌∙◌, subst, inl, inr, ℕ, Bool, true}
+use Rattle.std.specs.Prelude.{ℤ, ◌&&◌, List, [], ◌∷◌}
 use Rattle.std.specs.List.{list_all}
 use Rattle.std.specs.Ordering.{eq_by_cmp}
 use Rattle.std.specs.Cmp.{both_ways}
@@ -18,7 +18,7 @@ use Rattle.lj_hint.specs.declared.pair.Pair.{Pair}
 use Rattle.lj_book.specs.Lookup.{is_same}
 use Rattle.lj_book.specs.Variables.{Variables, IsVariables, renaming_of, is_own}
 use Rattle.lj_book.specs.inner.ReceiptForms.{is_joint_form}
-use Rattle.lj_book.proofs.CommitLaws.{same_clauses, same_itself}
+use Rattle.lj_book.proofs.Parts.{same_clauses, same_itself}
 use Rattle.lj_book.proofs.VariableLaws.{part_of_itself}
 use Rattle.lj_book.proofs.OwnHoldings.{pair_back}
 

@@ -21,7 +21,7 @@ use Rattle.lj_text.specs.Needed.{if_some}
 use Rattle.lj_book.specs.declared.entry.Call.TheVariants as calls
 use Rattle.lj_book.specs.declared.entry.Entry.{Entry}
 use Rattle.lj_book.specs.inner.Encoding.{number_encoding, list_encoding, hint_groups_encoding, number_in, list_in, hint_groups_in}
-use Rattle.lj_book.specs.inner.Records.{lemma_lits, pivot_before, some_lits, seat_in, kind_in, head_encoding, add_encoding, drop_encoding, adopt_encoding, import_encoding, leave_encoding, lits_in, behind_lits, addition_in, call_in, step_in, entry_in, named_in, read_in, entry_of, call_lits, IsWritten, AreWritten, entries_in}
+use Rattle.lj_book.specs.inner.Records.{lemma_lits, pivot_before, some_lits, seat_in, kind_in, head_encoding, add_encoding, drop_encoding, adopt_encoding, import_encoding, leave_encoding, lits_in, behind_lits, addition_in, call_in, step_in, entry_in, named_in, read_in, entry_of, entering_kind, entering_entry, entry_lits, IsWritten, AreWritten, entries_in}
 use Rattle.lj_book.proofs.Lists.{not_empty}
 use Rattle.lj_book.proofs.WordLaws.{number_back, number_then, list_back, list_then, groups_back}
 
@@ -100,7 +100,7 @@ added_back lits a at more is there =
     parts : ℕ → LemmaValue → List ℕ × List ℕ → Addition
     parts number lemma read = addition_of number lemma read.0 (hint_groups_in read.1).0
 
-pub addition_back : (lits : List ℤ) (seat own : ℕ) (a : Addition) (at : ℕ) (more : List ℕ) → IsLemma a.lemma → some_lits lits at (length (lemma_lits a.lemma)) ≡ lemma_lits a.lemma → read_in lits (add_encoding seat own a at ++ more) ≡ (entry_of seat (calls.Add own a.lemma) (Some (steps.Add a)), lemma_lits a.lemma)
+addition_back : (lits : List ℤ) (seat own : ℕ) (a : Addition) (at : ℕ) (more : List ℕ) → IsLemma a.lemma → some_lits lits at (length (lemma_lits a.lemma)) ≡ lemma_lits a.lemma → read_in lits (add_encoding 0 seat own a at ++ more) ≡ (entry_of seat (calls.Add own a.lemma) (Some (steps.Add a)), lemma_lits a.lemma)
 addition_back lits seat own a at more is there =
     let n : ℕ = length (lemma_lits a.lemma) in
     let hints_on : List ℕ = list_encoding a.hints ++ hint_groups_encoding a.groups in
@@ -110,6 +110,26 @@ addition_back lits seat own a at more is there =
     ∙ ap (λ (p : ℕ × List ℕ). (entry_of seat (calls.Add p.0 (addition_in lits p.1).lemma) (Some (steps.Add (addition_in lits p.1))), lits_in lits (number_in p.1).1)) (number_then own added_on more)
     ∙ (λ i. (entry_of seat (calls.Add own (added_back lits a at more is there i).lemma) (Some (steps.Add (added_back lits a at more is there i))), lits_in lits (number_then a.number lits_on more i).1))
     ∙ ap (λ ls. (entry_of seat (calls.Add own a.lemma) (Some (steps.Add a)), ls)) (named_then lits at n hints_on more ∙ there)
+
+part_back : (lits : List ℤ) (seat own : ℕ) (a : Addition) (at : ℕ) (more : List ℕ) → IsLemma a.lemma → some_lits lits at (length (lemma_lits a.lemma)) ≡ lemma_lits a.lemma → read_in lits (add_encoding 5 seat own a at ++ more) ≡ (entry_of seat (calls.Import own a.lemma.clause) (Some (steps.Add a)), lemma_lits a.lemma)
+part_back lits seat own a at more is there =
+    let n : ℕ = length (lemma_lits a.lemma) in
+    let hints_on : List ℕ = list_encoding a.hints ++ hint_groups_encoding a.groups in
+    let lits_on : List ℕ = number_encoding at ++ (number_encoding n ++ hints_on) in
+    let added_on : List ℕ = number_encoding a.number ++ lits_on in
+    head_then lits seat 5 (number_encoding own ++ added_on) more (omega arith)
+    ∙ ap (λ (p : ℕ × List ℕ). (entry_of seat (calls.Import p.0 (addition_in lits p.1).lemma.clause) (Some (steps.Add (addition_in lits p.1))), lits_in lits (number_in p.1).1)) (number_then own added_on more)
+    ∙ (λ i. (entry_of seat (calls.Import own (added_back lits a at more is there i).lemma.clause) (Some (steps.Add (added_back lits a at more is there i))), lits_in lits (number_then a.number lits_on more i).1))
+    ∙ ap (λ ls. (entry_of seat (calls.Import own a.lemma.clause) (Some (steps.Add a)), ls)) (named_then lits at n hints_on more ∙ there)
+
+-- an entry by which a lemma enters, and the literals that it is kept by
+pub entering_back : (lits : List ℤ) (b : Bool) (seat own : ℕ) (a : Addition) (at : ℕ) (more : List ℕ) → IsLemma a.lemma → some_lits lits at (length (lemma_lits a.lemma)) ≡ lemma_lits a.lemma → read_in lits (add_encoding (entering_kind b) seat own a at ++ more) ≡ (entering_entry b seat own a, lemma_lits a.lemma)
+entering_back lits false seat own a at more is there = addition_back lits seat own a at more is there
+entering_back lits true seat own a at more is there = part_back lits seat own a at more is there
+
+pub entering_lits : (b : Bool) (seat own : ℕ) (a : Addition) → lemma_lits a.lemma ≡ entry_lits (entering_entry b seat own a)
+entering_lits false seat own a = refl
+entering_lits true seat own a = refl
 
 pub drop_back : (lits : List ℤ) (seat : ℕ) (given died more : List ℕ) → read_in lits (drop_encoding seat given died ++ more) ≡ (entry_of seat (calls.Drop given) (if_some died), [])
 drop_back lits seat given died more =
@@ -161,12 +181,12 @@ stays lits more encoding behind start is =
           ∙ ap (read_in (lits ++ (more ++ ls))) (append_assoc (drop start encoding) behind ws)
           ∙ is.whole (more ++ ls) (behind ++ ws)
           ∙ sym same;
-      named = (λ i. (same i).1) ∙ is.named ∙ (λ i. call_lits (sym same i).0.call);
+      named = (λ i. (same i).1) ∙ is.named ∙ (λ i. entry_lits (sym same i).0);
       seated = subst (λ (p : Entry × List ℤ). p.0.seat < 4294967296) (sym same) is.seated;
     }
 
 -- what is written at the end: the words of an entry and its literals
-written_at_end : (lits ls : List ℤ) (encoding ws : List ℕ) (e : Entry) → e.seat < 4294967296 → ls ≡ call_lits e.call → ((all : List ℤ) (more : List ℕ) → some_lits all (length lits) (length ls) ≡ ls → read_in all (ws ++ more) ≡ (e, ls)) → IsWritten (lits ++ ls) (encoding ++ ws) (length encoding)
+written_at_end : (lits ls : List ℤ) (encoding ws : List ℕ) (e : Entry) → e.seat < 4294967296 → ls ≡ entry_lits e → ((all : List ℤ) (more : List ℕ) → some_lits all (length lits) (length ls) ≡ ls → read_in all (ws ++ more) ≡ (e, ls)) → IsWritten (lits ++ ls) (encoding ++ ws) (length encoding)
 written_at_end lits ls encoding ws e few named back =
     let at_end : drop (length encoding) (encoding ++ ws) ≡ ws = drop-append_seam encoding ws in
     let whole : (more : List ℤ) (behind : List ℕ) → read_in ((lits ++ ls) ++ more) (drop (length encoding) (encoding ++ ws) ++ behind) ≡ (e, ls) =
@@ -176,7 +196,7 @@ written_at_end lits ls encoding ws e few named back =
     record {
       within = let n : length (encoding ++ ws) ≡ length encoding + length ws = length-append encoding ws in omega arith;
       whole = λ more behind. whole more behind ∙ sym is;
-      named = (λ i. (is i).1) ∙ named ∙ (λ i. call_lits (sym is i).0.call);
+      named = (λ i. (is i).1) ∙ named ∙ (λ i. entry_lits (sym is i).0);
       seated = subst (λ (p : Entry × List ℤ). p.0.seat < 4294967296) (sym is) few;
     }
 
@@ -189,7 +209,7 @@ all_and_one lits encoding [] s are is = (is, tt)
 all_and_one lits encoding (t ∷ ts) s are is = (are.0, all_and_one lits encoding ts s are.1 is)
 
 -- The words and literals of an entry are put behind the others.
-pub more_written : (lits ls : List ℤ) (encoding ws : List ℕ) (starts : List ℕ) (e : Entry) → e.seat < 4294967296 → ls ≡ call_lits e.call → ((all : List ℤ) (more : List ℕ) → some_lits all (length lits) (length ls) ≡ ls → read_in all (ws ++ more) ≡ (e, ls)) → AreWritten lits encoding starts → AreWritten (lits ++ ls) (encoding ++ ws) (starts ++ length encoding ∷ [])
+pub more_written : (lits ls : List ℤ) (encoding ws : List ℕ) (starts : List ℕ) (e : Entry) → e.seat < 4294967296 → ls ≡ entry_lits e → ((all : List ℤ) (more : List ℕ) → some_lits all (length lits) (length ls) ≡ ls → read_in all (ws ++ more) ≡ (e, ls)) → AreWritten lits encoding starts → AreWritten (lits ++ ls) (encoding ++ ws) (starts ++ length encoding ∷ [])
 more_written lits ls encoding ws starts e few named back are =
     all_and_one (lits ++ ls) (encoding ++ ws) starts (length encoding) (all_stay lits ls encoding ws starts are) (written_at_end lits ls encoding ws e few named back)
 
@@ -212,7 +232,7 @@ more_entries lits ls encoding ws starts e back are =
 
 -- ---- the same of an entry without literals
 
-pub more_words_written : (lits : List ℤ) (encoding ws : List ℕ) (starts : List ℕ) (e : Entry) → e.seat < 4294967296 → [] ≡ call_lits e.call → ((all : List ℤ) (more : List ℕ) → read_in all (ws ++ more) ≡ (e, [])) → AreWritten lits encoding starts → AreWritten lits (encoding ++ ws) (starts ++ length encoding ∷ [])
+pub more_words_written : (lits : List ℤ) (encoding ws : List ℕ) (starts : List ℕ) (e : Entry) → e.seat < 4294967296 → [] ≡ entry_lits e → ((all : List ℤ) (more : List ℕ) → read_in all (ws ++ more) ≡ (e, [])) → AreWritten lits encoding starts → AreWritten lits (encoding ++ ws) (starts ++ length encoding ∷ [])
 more_words_written lits encoding ws starts e few named back are =
     subst (λ (ls : List ℤ). AreWritten ls (encoding ++ ws) (starts ++ length encoding ∷ [])) (append-nil lits)
     (more_written lits [] encoding ws starts e few named (λ all more _. back all more) are)

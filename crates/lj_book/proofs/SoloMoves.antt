@@ -1,29 +1,26 @@
 -- What an event leaves: everything that was given out, and the tables and pending things of other seats.
 use Rattle.std.proofs.Common.{◌≡◌, ap, refl, sym, ◌∙◌, inl, inr, subst, ℕ, ◌+◌, Bool, cond, true, false, arith}
-use Rattle.std.specs.Prelude.{T, ◌⊎◌, List, [], ◌∷◌, map, filter, length, Some, is_some, ◌==◌, slice_get}
-use Rattle.std.proofs.lemmas.Bool.{false≢true}
-use Rattle.std.proofs.lemmas.Bool.Decides.{nat_tests}
+use Rattle.std.specs.Prelude.{◌⊎◌, List, length, Option, Some, None, is_some}
 use Rattle.std.specs.Ordering.{nat_cmp, eq_by_cmp, is_eq}
-use Rattle.std.specs.Cmp.{nat_cmp_total, unsigned_tied, tied_itself}
+use Rattle.std.specs.Cmp.{nat_cmp_total, tied_itself}
 use Rattle.std.specs.FinMap as fin
-use Rattle.std.specs.FinMap.Entries.{find, is_sorted}
 use Rattle.lj_clause.specs.LiteralSet.{LiteralSet}
 use Rattle.lj_clause.specs.ClauseMap.{ClauseMap}
-use Rattle.lj_clause.specs.Lemma.{LemmaValue}
-use Rattle.lj_clause.proofs.Tests.{left_of, right_of}
-use Rattle.lj_clause.proofs.SortedEntries.{none_below}
 use Rattle.lj_text.specs.declared.line.Addition.{Addition}
+use Rattle.lj_text.specs.declared.step.Step.{Step}
 use Rattle.lj_text.specs.declared.step.Step.TheVariants as steps
+use Rattle.lj_book.specs.declared.entry.Call.{Call}
 use Rattle.lj_book.specs.declared.entry.Call.TheVariants as calls
 use Rattle.lj_book.specs.declared.entry.Entry.{Entry}
 use Rattle.lj_book.specs.Tables.{Tables, table_of, joint_of, with_table, with_binding, without_keys, without_seat}
-use Rattle.lj_book.specs.Lookup.{is_same, least_number}
 use Rattle.lj_book.specs.State.{State, next, given_out, live}
-use Rattle.lj_book.specs.History.{dead_numbers, with_found, after_entry}
-use Rattle.lj_book.specs.Calls.{drop_entry, adopt_entry, import_entry, leave_entry}
-use Rattle.lj_book.proofs.CommitLaws.{same_clauses}
+use Rattle.lj_book.specs.Imports.{part_addition, import_number}
+use Rattle.lj_book.specs.History.{dead_numbers, after_entry, IsLegalImport, IsLegalCall}
+use Rattle.lj_book.specs.Calls.{drop_entry, binding_entry, leave_entry}
+use Rattle.lj_book.proofs.Parts.{tied_number, FindsEqual, FindsPart, finds}
+use Rattle.lj_book.proofs.HistoryLaws.{with_entry, with_addition, after_equal, after_part}
 use Rattle.lj_book.proofs.SoloTables.{table_of-other, table_of-left_other, length-with_table, length-without_seat, joint_of-binding, joint_of-dropped, joint_of-left}
-use Rattle.lj_book.proofs.SoloStates.{IsGiven, Extends, Extends-same, Extends-insert, AddsNothing, contains-extends, given_out-entry, given_out-same, next-entry, not_given, nothing_added, live-given}
+use Rattle.lj_book.proofs.SoloStates.{IsGiven, some_clause, Extends, Extends-same, Extends-insert, AddsNothing, contains-extends, given_out-entry, given_out-same, next-entry, not_given, nothing_added, live-given}
 
 -- What an entry of a seat leaves.
 pub record Moves (k : ℕ) (s s' : State) : Type 0 where
@@ -32,16 +29,13 @@ pub record Moves (k : ℕ) (s s' : State) : Type 0 where
   pub seats : length s'.tables ≡ length s.tables
   pub given : IsGiven s'
 
-tied_number : (q k : ℕ) → eq_by_cmp nat_cmp q k ≡ true → q ≡ k
-tied_number q k e = let f : (q == k) ≡ true = sym (unsigned_tied q k) ∙ e in grind (arith, nat_tests)
-
 -- an entry without an addition, after which what is bound was bound or given out before
-moves_by : (k : ℕ) (s : State) (e : Entry) → IsGiven s → AddsNothing e → ((seat : ℕ) → (k ≡ seat → ⊥) → table_of (after_entry s e).tables seat ≡ table_of s.tables seat) → length (after_entry s e).tables ≡ length s.tables → ((seat own joint : ℕ) → joint_of (after_entry s e).tables seat own ≡ Some joint → (joint_of s.tables seat own ≡ Some joint) ⊎ (fin.contains_key (given_out s) joint ≡ true)) → Moves k s (after_entry s e)
-moves_by k s e given none others seats bound =
+moves_by : (k : ℕ) (s : State) (ts : Tables) (e : Entry) → IsGiven s → AddsNothing e → ((seat : ℕ) → (k ≡ seat → ⊥) → table_of ts seat ≡ table_of s.tables seat) → length ts ≡ length s.tables → ((seat own joint : ℕ) → joint_of ts seat own ≡ Some joint → (joint_of s.tables seat own ≡ Some joint) ⊎ (fin.contains_key (given_out s) joint ≡ true)) → Moves k s (with_entry s ts e)
+moves_by k s ts e given none others seats bound =
     let same = given_out-same s e none in
     let later = next-entry s e in
     record {
-      more = Extends-same (given_out s) (given_out (after_entry s e)) same;
+      more = Extends-same (given_out s) (given_out (with_entry s ts e)) same;
       tables = others;
       seats = seats;
       given = record {
@@ -55,7 +49,7 @@ moves_by k s e given none others seats bound =
 
 pub moves-drop : (s : State) (seat : ℕ) (numbers : List ℕ) → IsGiven s → Moves seat s (after_entry s (drop_entry s seat numbers))
 moves-drop s seat numbers given =
-    moves_by seat s (drop_entry s seat numbers) given
+    moves_by seat s (with_table (without_keys numbers) s.tables seat) (drop_entry s seat numbers) given
     (record { additions_same = nothing_added (dead_numbers s (with_table (without_keys numbers) s.tables seat)) })
     (λ other apart. table_of-other (without_keys numbers) s.tables seat other apart)
     (length-with_table (without_keys numbers) s.tables seat)
@@ -63,7 +57,7 @@ moves-drop s seat numbers given =
 
 pub moves-leave : (s : State) (seat : ℕ) → IsGiven s → Moves seat s (after_entry s (leave_entry s seat))
 moves-leave s seat given =
-    moves_by seat s (leave_entry s seat) given
+    moves_by seat s (without_seat s.tables seat) (leave_entry s seat) given
     (record { additions_same = nothing_added (dead_numbers s (without_seat s.tables seat)) })
     (λ other apart. table_of-left_other s.tables seat other apart)
     (length-without_seat s.tables seat)
@@ -76,31 +70,23 @@ bound_to s k own0 j0 seat own joint there is =
       | inr same ↦ inr (ap (fin.contains_key (given_out s)) same ∙ there)
     ]
 
-pub moves-adopt : (s : State) (seat own joint : ℕ) (c : LiteralSet) → IsGiven s → fin.get (live s) joint ≡ Some c → Moves seat s (after_entry s (adopt_entry seat own joint))
-moves-adopt s seat own joint c given lives =
-    moves_by seat s (adopt_entry seat own joint) given
+-- a binding of a number that lives
+pub moves-bound : (s : State) (seat own joint : ℕ) (call : Call) (c : LiteralSet) → IsGiven s → fin.get (live s) joint ≡ Some c → Moves seat s (with_entry s (with_binding s.tables seat own joint) (binding_entry seat call))
+moves-bound s seat own joint call c given lives =
+    moves_by seat s (with_binding s.tables seat own joint) (binding_entry seat call) given
     (record { additions_same = λ p. refl })
     (λ other apart. table_of-other (λ t. fin.insert t own joint) s.tables seat other apart)
     (length-with_table (λ t. fin.insert t own joint) s.tables seat)
     (λ other k n is. bound_to s seat own joint other k n (ap is_some (live-given s joint c lives)) is)
 
-pub moves-import : (s : State) (seat own joint : ℕ) (clause c : LiteralSet) → IsGiven s → least_number (live s) clause ≡ Some joint → fin.get (live s) joint ≡ Some c → Moves seat s (after_entry s (import_entry seat own clause))
-moves-import s seat own joint clause c given found lives =
-    let is : with_found s.tables seat own (least_number (live s) clause) ≡ with_binding s.tables seat own joint = ap (with_found s.tables seat own) found in
-    moves_by seat s (import_entry seat own clause) given
-    (record { additions_same = λ p. refl })
-    (λ other apart. ap (λ (ts : Tables). table_of ts other) is ∙ table_of-other (λ t. fin.insert t own joint) s.tables seat other apart)
-    (ap (λ (ts : Tables). length ts) is ∙ length-with_table (λ t. fin.insert t own joint) s.tables seat)
-    (λ other k n h. bound_to s seat own joint other k n (ap is_some (live-given s joint c lives)) (sym (ap (λ (ts : Tables). joint_of ts other k) is) ∙ h))
-
 -- ---- an addition
 
--- the entry of an addition
-abbrev pub addition_entry : ℕ → ℕ → LemmaValue → Addition → Entry
-addition_entry seat own lemma a = record { seat = seat; call = calls.Add own lemma; step = Some (steps.Add a) }
+-- its entry, by whatever call it enters
+abbrev addition_entry : ℕ → Call → Addition → Entry
+addition_entry seat call a = record { seat = seat; call = call; step = Some (steps.Add a) }
 
-pub given_out-addition : (s : State) (seat own : ℕ) (lemma : LemmaValue) (a : Addition) → a.number ≡ next s → given_out (after_entry s (addition_entry seat own lemma a)) ≡ fin.insert (given_out s) (next s) a.lemma.clause
-given_out-addition s seat own lemma a is = given_out-entry s (addition_entry seat own lemma a) ∙ ap (λ (n : ℕ). fin.insert (given_out s) n a.lemma.clause) is
+pub given_out-addition : (s : State) (seat own : ℕ) (call : Call) (a : Addition) → a.number ≡ next s → given_out (with_addition s seat own call a) ≡ fin.insert (given_out s) (next s) a.lemma.clause
+given_out-addition s seat own call a is = given_out-entry s (addition_entry seat call a) ∙ ap (λ (n : ℕ). fin.insert (given_out s) n a.lemma.clause) is
 
 contains_inserted : (p : ClauseMap) (n : ℕ) (c : LiteralSet) (q : ℕ) → fin.contains_key (fin.insert p n c) q ≡ true → (q ≡ n) ⊎ (fin.contains_key p q ≡ true)
 contains_inserted p n c q h = go (eq_by_cmp nat_cmp q n) refl (sym (ap is_some (fin.get-insert nat_cmp_total p n c q)) ∙ h)
@@ -112,11 +98,11 @@ contains_inserted p n c q h = go (eq_by_cmp nat_cmp q n) refl (sym (ap is_some (
 pub get-inserted : {X : Type 0} (p : fin.FinMap nat_cmp X) (n : ℕ) (c : X) → fin.get (fin.insert p n c) n ≡ Some c
 get-inserted {X} p n c = fin.get-insert nat_cmp_total p n c n ∙ ap (λ b. cond b (Some c) (fin.get p n)) (ap is_eq (tied_itself nat_cmp_total n))
 
-pub moves-addition : (s : State) (seat own : ℕ) (lemma : LemmaValue) (a : Addition) → IsGiven s → a.number ≡ next s → Moves seat s (after_entry s (addition_entry seat own lemma a))
-moves-addition s seat own lemma a given num =
-    let e : Entry = addition_entry seat own lemma a in
-    let s' = after_entry s e in
-    let is : given_out s' ≡ fin.insert (given_out s) (next s) a.lemma.clause = given_out-addition s seat own lemma a num in
+pub moves-addition : (s : State) (seat own : ℕ) (call : Call) (a : Addition) → IsGiven s → a.number ≡ next s → Moves seat s (with_addition s seat own call a)
+moves-addition s seat own call a given num =
+    let e : Entry = addition_entry seat call a in
+    let s' = with_addition s seat own call a in
+    let is : given_out s' ≡ fin.insert (given_out s) (next s) a.lemma.clause = given_out-addition s seat own call a num in
     let more : Extends (given_out s) (given_out s') = subst (Extends (given_out s)) (sym is) (Extends-insert (given_out s) (next s) a.lemma.clause (not_given s given)) in
     let later : next s' ≡ next s + 1 = next-entry s e in
     record {
@@ -135,38 +121,50 @@ moves-addition s seat own lemma a given num =
       };
     }
 
--- ---- the least number that has a clause
+-- ---- an import
 
--- a number with its clause, which passes the test
-record Found {X : Type 0} (test : X → Bool) (es : List (ℕ × X)) (n : ℕ) : Type 0 where
-  clause : X
-  there : find nat_cmp n es ≡ Some clause
-  passes : test clause ≡ true
+pub moves-import : (s : State) (seat own : ℕ) (clause : LiteralSet) (step : Option Step) → IsGiven s → IsLegalImport s seat own clause step → Moves seat s (after_entry s (record { seat = seat; call = calls.Import own clause; step = step }))
+moves-import s seat own clause step given legal =
+    elim (finds s clause legal.finds) [
+      | inl equal ↦
+          let f : FindsEqual s clause equal.0 = equal.1 in
+          subst (Moves seat s) (sym (after_equal s seat own equal.0 clause step f legal.asked)) (moves-bound s seat own equal.0 (calls.Import own clause) clause given f.lives)
+      | inr part ↦
+          let f : FindsPart s clause part.0 = part.1 in
+          subst (Moves seat s) (sym (after_part s seat own part.0 clause step f legal.asked)) (moves-addition s seat own (calls.Import own clause) (part_addition (next s) clause part.0) given refl)
+    ]
 
-found_first : {X : Type 0} (test : X → Bool) (es : List (ℕ × X)) (n : ℕ) → T (is_sorted nat_cmp es) → slice_get (map (λ e. e.0) (filter (λ e. test e.1) es)) 0 ≡ Some n → Found test es n
-found_first test [] n sorted h = absurd (false≢true (ap is_some h))
-found_first {X} test (e ∷ es) n sorted h =
-    elim (test e.1) as (λ b. test e.1 ≡ b → slice_get (map (λ (f : ℕ × X). f.0) (cond b (e ∷ filter (λ f. test f.1) es) (filter (λ f. test f.1) es))) 0 ≡ Some n → Found test (e ∷ es) n) [
-      | true ↦ λ passes g.
-          let is : e.0 ≡ n = cc in
-          record {
-            clause = e.1;
-            there = ap (λ (k : ℕ). cond (is_eq (nat_cmp k e.0)) (Some e.1) (find nat_cmp k es)) (sym is) ∙ ap (λ r. cond (is_eq r) (Some e.1) (find nat_cmp e.0 es)) (tied_itself nat_cmp_total e.0);
-            passes = passes;
-          }
-      | false ↦ λ fails g.
-          let later = found_first test es n (right_of _ _ sorted) g in
-          record {
-            clause = later.clause;
-            there = elim (eq_by_cmp nat_cmp n e.0) as (λ b. eq_by_cmp nat_cmp n e.0 ≡ b → cond b (Some e.1) (find nat_cmp n es) ≡ Some later.clause) [
-              | true ↦ λ t. absurd (false≢true (sym (ap is_some (ap (λ (k : ℕ). find nat_cmp k es) (tied_number n e.0 t) ∙ none_below e.0 es (left_of _ _ sorted))) ∙ ap is_some later.there))
-              | false ↦ λ t. later.there
-            ] refl;
-            passes = later.passes;
-          }
-    ] refl h
+-- the number that it binds has its clause
+pub import_gives : (s : State) (seat own : ℕ) (clause : LiteralSet) (step : Option Step) (joint : ℕ) → IsGiven s → IsLegalImport s seat own clause step → import_number s clause ≡ Some joint → fin.get (given_out (after_entry s (record { seat = seat; call = calls.Import own clause; step = step }))) joint ≡ Some clause
+import_gives s seat own clause step joint given legal number =
+    elim (finds s clause legal.finds) [
+      | inl equal ↦
+          let f : FindsEqual s clause equal.0 = equal.1 in
+          let same : equal.0 ≡ joint = one (sym f.number ∙ number) in
+          (moves-import s seat own clause step given legal).more.stays joint clause (live-given s joint clause (ap (fin.get (live s)) (sym same) ∙ f.lives))
+      | inr part ↦
+          let f : FindsPart s clause part.0 = part.1 in
+          let same : next s ≡ joint = one (sym f.number ∙ number) in
+          ap (λ (u : State). fin.get (given_out u) joint) (after_part s seat own part.0 clause step f legal.asked)
+          ∙ ap (fin.get (given_out (with_addition s seat own (calls.Import own clause) (part_addition (next s) clause part.0)))) (sym same)
+          ∙ ap (λ (m : ClauseMap). fin.get m (next s)) (given_out-addition s seat own (calls.Import own clause) (part_addition (next s) clause part.0) refl)
+          ∙ get-inserted (given_out s) (next s) clause
+    ]
+  where
+    one : {a b : ℕ} → Some a ≡ Some b → a ≡ b
+    one e = cc
 
-pub least_lives : (p : ClauseMap) (c : LiteralSet) (n : ℕ) → least_number p c ≡ Some n → fin.get p n ≡ Some c
-least_lives p c n h =
-    let found = found_first (is_same c) (fin.entries p) n (fin.entries_sorted p) h in
-    fin.get-entries p n ∙ found.there ∙ ap Some (sym (same_clauses c found.clause found.passes))
+-- ---- an entry that is legal
+
+pub moves-legal : (s : State) (seat : ℕ) (call : Call) (step : Option Step) → IsGiven s → IsLegalCall s seat call step → Moves seat s (after_entry s (record { seat = seat; call = call; step = step }))
+moves-legal s seat (calls.Add own lemma) None given legal = absurd legal.addition
+moves-legal s seat (calls.Add own lemma) (Some (steps.Delete numbers)) given legal = absurd legal.addition
+moves-legal s seat (calls.Add own lemma) (Some (steps.Add a)) given legal = moves-addition s seat own (calls.Add own lemma) a given legal.addition.0
+moves-legal s seat (calls.Drop numbers) step given legal =
+    subst (λ (o : Option Step). Moves seat s (after_entry s (record { seat = seat; call = calls.Drop numbers; step = o }))) (sym legal.deletes) (moves-drop s seat numbers given)
+moves-legal s seat (calls.Adopt own joint) step given legal =
+    let c = some_clause (fin.get (live s) joint) legal.lives in
+    subst (λ (o : Option Step). Moves seat s (after_entry s (record { seat = seat; call = calls.Adopt own joint; step = o }))) (sym legal.stepless) (moves-bound s seat own joint (calls.Adopt own joint) c.0 given c.1)
+moves-legal s seat (calls.Import own clause) step given legal = moves-import s seat own clause step given legal
+moves-legal s seat calls.Leave step given legal =
+    subst (λ (o : Option Step). Moves seat s (after_entry s (record { seat = seat; call = calls.Leave; step = o }))) (sym legal.deletes) (moves-leave s seat given)

@@ -1,5 +1,5 @@
 -- A seat's own event, answered as its solo object decides.
-use Rattle.std.proofs.Common.{◌≡◌, ap, refl, sym, ◌∙◌, subst, ℕ, ◌-◌}
+use Rattle.std.proofs.Common.{◌≡◌, ap, refl, sym, ◌∙◌, subst, ℕ}
 use Rattle.std.specs.Prelude.{List, [], ◌∷◌, Option, Some, None, option_map, is_some}
 use Rattle.std.proofs.lemmas.Bool.{false≢true}
 use Rattle.std.specs.FinMap as fin

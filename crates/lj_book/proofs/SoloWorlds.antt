@@ -1,7 +1,8 @@
 -- Worlds: whose the pending things are, and what an event leaves for the other seats.
-use Rattle.std.proofs.Common.{◌≡◌, ap, refl, sym, ◌∙◌, subst, ℕ, zero, suc, ◌≤◌, arith}
-use Rattle.std.specs.Prelude.{List, [], ◌∷◌, length, Option, Some, None, slice_index_or, slice_set, Result, Ok, Err, IfErr}
-use Rattle.std.specs.FinMap as fin
+use Rattle.std.proofs.Common.{◌≡◌, ap, refl, sym, ◌∙◌, subst, ℕ, zero, suc, ◌<◌, ◌≤◌, Bool, true, false, arith}
+use Rattle.std.specs.Prelude.{nat_lt, List, [], ◌∷◌, length, Option, Some, is_some, if◌then◌else◌, slice_index_or, slice_set, Result, Ok, Err, IfErr}
+use Rattle.std.proofs.lemmas.Bool.{false≢true}
+use Rattle.std.proofs.lemmas.Bool.Decides.{nat_tests}
 use Rattle.lj_clause.specs.LiteralSet.{LiteralSet}
 use Rattle.lj_clause.specs.Memory.{no_memory}
 use Rattle.lj_clause.specs.Propagation.{Propagation, Closed, Open, Stuck}
@@ -11,17 +12,18 @@ use Rattle.lj_hint.specs.Tested.{tested_of, IfAnswered, IfNoMemory}
 use Rattle.lj_hint.specs.declared.tested.Tested.{Tested}
 use Rattle.lj_hint.specs.declared.tested.Tested.TheVariants as tests
 use Rattle.lj_book.specs.declared.refusal.Refusal.{Refusal}
-use Rattle.lj_book.specs.declared.refusal.Refusal.TheVariants.{NoMemory}
+use Rattle.lj_book.specs.declared.refusal.Refusal.TheVariants.{Full, NoMemory}
 use Rattle.lj_book.specs.declared.entry.Imported.{Imported}
 use Rattle.lj_book.specs.declared.event.Reply.{Reply}
 use Rattle.lj_book.specs.declared.event.Reply.TheVariants as replies
 use Rattle.lj_book.specs.declared.event.Pending.{Pending}
 use Rattle.lj_book.specs.declared.event.Pending.TheVariants as pendings
-use Rattle.lj_book.specs.Lookup.{least_number}
-use Rattle.lj_book.specs.State.{State, live}
-use Rattle.lj_book.specs.Calls.{IsRefusal, IsReply, imported_at}
+use Rattle.lj_book.specs.declared.found.Found.{Found}
+use Rattle.lj_book.specs.declared.found.Found.TheVariants.{Equal, Part, Neither}
+use Rattle.lj_book.specs.State.{State, addition_count, next}
+use Rattle.lj_book.specs.Imports.{step_by, number_by, found, import_step, import_number}
+use Rattle.lj_book.specs.Calls.{IsRefusal, IsReply, imported}
 use Rattle.lj_book.specs.Worlds.{reply_by, IsCalled, IsTried, pending_after_test}
-use Rattle.lj_book.proofs.SoloMoves.{least_lives}
 
 -- ---- calls and tests by their outcome
 
@@ -90,13 +92,34 @@ pending_past (q ∷ ps) (suc seat) h = pending_past ps seat (omega arith)
 
 -- ---- what an event of a seat leaves
 
-pub imported_lives : (s : State) (clause : LiteralSet) (place : ℕ) (x : Imported) → imported_at place (least_number (live s) clause) ≡ Ok x → (least_number (live s) clause ≡ Some x.joint) × (fin.get (live s) x.joint ≡ Some clause)
-imported_lives s clause place x e = go (least_number (live s) clause) refl e
+-- What an accepted import binds, and what its step needs.
+pub record IsImported (s : State) (c : LiteralSet) (x : Imported) : Type 0 where
+  pub number : import_number s c ≡ Some x.joint
+  pub capacity : is_some (import_step s c) ≡ true → addition_count s.history < s.max_steps
+
+pub imported_is : (s : State) (c : LiteralSet) (x : Imported) → imported s (found s c) ≡ Ok x → IsImported s c x
+imported_is s c x e = go (found s c) refl e
   where
-    go : (o : Option ℕ) → least_number (live s) clause ≡ o → imported_at place o ≡ Ok x → (least_number (live s) clause ≡ Some x.joint) × (fin.get (live s) x.joint ≡ Some clause)
-    go None at e = absurd (cc)
-    go (Some joint) at e =
-        let made : Imported = record { place = place; joint = joint } in
-        let is : made ≡ x = cc in
-        let same : joint ≡ x.joint = ap (λ (i : Imported). i.joint) is in
-        (at ∙ ap Some same, least_lives (live s) clause x.joint (at ∙ ap Some same))
+    fits : (n m : ℕ) → nat_lt n m ≡ true → n < m
+    fits n m e = grind (arith, nat_tests)
+
+    full : (b : Bool) (y : Imported) → nat_lt (addition_count s.history) s.max_steps ≡ b → (if b then Ok y else Err Full) ≡ Ok x → (addition_count s.history < s.max_steps) × (y ≡ x)
+    full true y lt h = (fits (addition_count s.history) s.max_steps lt, (let same : y ≡ x = cc in same))
+    full false y lt h = absurd (let no : ⊥ = cc in no)
+
+    go : (f : Found) → found s c ≡ f → imported s f ≡ Ok x → IsImported s c x
+    go (Equal joint) is h =
+        let made : Imported = record { place = length s.history; joint = joint } in
+        let same : made ≡ x = cc in
+        record {
+          number = ap (number_by (next s)) is ∙ ap (λ (i : Imported). Some i.joint) same;
+          capacity = λ some. absurd (false≢true (sym (ap (λ (f : Found). is_some (step_by (next s) c f)) is) ∙ some));
+        }
+    go (Part part) is h =
+        let made : Imported = record { place = length s.history; joint = next s } in
+        let both = full (nat_lt (addition_count s.history) s.max_steps) made refl h in
+        record {
+          number = ap (number_by (next s)) is ∙ ap (λ (i : Imported). Some i.joint) both.1;
+          capacity = λ some. both.0;
+        }
+    go Neither is h = absurd (let no : ⊥ = cc in no)

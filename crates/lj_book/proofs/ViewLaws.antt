@@ -1,8 +1,8 @@
 -- What each entry of a legal history leaves of what a seat sees, and what a seat decides alone.
-use Rattle.std.proofs.Common.{◌≡◌, ap, refl, sym, ◌∙◌, subst, ℕ, zero, suc, Bool, cond, true, false, arith}
+use Rattle.std.proofs.Common.{◌≡◌, ap, refl, sym, ◌∙◌, inl, inr, subst, ℕ, zero, suc, Bool, cond, true, false, arith}
 use Rattle.std.specs.Prelude.{List, [], ◌∷◌, ◌++◌, length, nat_lt, nat_le, ◌==◌, ◌&&◌, Option, Some, None, option_map, option_and_then, if◌then◌else◌, Result, Ok, Err}
 use Rattle.std.proofs.lemmas.List.{length-replicate}
-use Rattle.std.proofs.lemmas.Bool.{false≢true, eqb-true}
+use Rattle.std.proofs.lemmas.Bool.{eqb-true}
 use Rattle.std.proofs.lemmas.Bool.Decides.{nat_tests}
 use Rattle.std.specs.Ordering.{nat_cmp}
 use Rattle.std.specs.Cmp.{nat_cmp_total, unsigned_tied}
@@ -24,18 +24,19 @@ use Rattle.lj_book.specs.declared.entry.Entry.{Entry}
 use Rattle.lj_book.specs.declared.refusal.Refusal.{Refusal}
 use Rattle.lj_book.specs.declared.refusal.Refusal.TheVariants.{HintNotUnit}
 use Rattle.lj_book.specs.Tables.{Table, Tables, table_of, up_to, with_binding, without_keys}
-use Rattle.lj_book.specs.Lookup.{least_number}
+use Rattle.lj_book.specs.Imports.{clause_lemma, part_addition, import_number}
 use Rattle.lj_book.specs.State.{State, next, given_out, live, opening}
-use Rattle.lj_book.specs.History.{tables_after, with_found, some_lives, after_entry, after_entries, IsLegalCall, IsLegal, AreLegal, IsReached}
+use Rattle.lj_book.specs.History.{tables_after, with_found, after_entry, after_entries, IsLegalCall, IsLegal, AreLegal, IsReached}
 use Rattle.lj_book.specs.Calls.{take_reply, unless_refused, commit_told}
 use Rattle.lj_book.specs.Inside.{joint_addition, propagation_refusal, or_full, inside_after, inside_reply}
 use Rattle.lj_book.specs.Solo.{View, with_clause, holdings_of, view_of, solo_take}
 use Rattle.lj_book.specs.Views.{with_found_holding, HoldsTheFormula, stuck_refusal, decided_by, decided_refusal}
 use Rattle.lj_book.specs.inner.Views.{view_after_call}
-use Rattle.lj_book.proofs.HistoryLaws.{IsSound-reached, has_table, formula_has, past_the_end}
+use Rattle.lj_book.proofs.HistoryLaws.{IsSound-reached, with_addition, after_part, has_table, formula_has, past_the_end}
 use Rattle.lj_book.proofs.SoloTables.{table_of-left, length-with_table, length-without_seat, get-holdings}
 use Rattle.lj_book.proofs.SoloStates.{IsGiven, IsGiven-sound, some_clause, with_clause-is, live-given, view-same}
-use Rattle.lj_book.proofs.SoloMoves.{Moves, moves-drop, moves-leave, moves-adopt, moves-import, moves-addition, given_out-addition, get-inserted, least_lives}
+use Rattle.lj_book.proofs.Parts.{FindsEqual, FindsPart, finds}
+use Rattle.lj_book.proofs.SoloMoves.{Moves, moves-legal, given_out-addition, get-inserted}
 use Rattle.lj_book.proofs.SoloTakes.{take_alone, take_fits, IsFit}
 use Rattle.lj_book.proofs.SoloSteps.{view_is, view_bound, view_dropped, held_named}
 
@@ -49,7 +50,7 @@ pub seats_after : (s : State) (seat : ℕ) (call : Call) → length (tables_afte
 seats_after s seat (calls.Add own lemma) = length-with_table (λ t. fin.insert t own (next s)) s.tables seat
 seats_after s seat (calls.Drop numbers) = length-with_table (without_keys numbers) s.tables seat
 seats_after s seat (calls.Adopt own joint) = length-with_table (λ t. fin.insert t own joint) s.tables seat
-seats_after s seat (calls.Import own clause) = seats_found s.tables seat own (least_number (live s) clause)
+seats_after s seat (calls.Import own clause) = seats_found s.tables seat own (import_number s clause)
 seats_after s seat calls.Leave = length-without_seat s.tables seat
 
 seats_after_all : (s : State) (es : List Entry) → length (after_entries s es).tables ≡ length s.tables
@@ -78,35 +79,15 @@ legal_entry s e r later =
 abbrev entry_of : ℕ → Call → Option Step → Entry
 entry_of seat call step = record { seat = seat; call = call; step = step }
 
-some_found : (s : State) (o : Option ℕ) → some_lives s o ≡ true → (joint : ℕ) × (o ≡ Some joint)
-some_found s None lives = absurd (false≢true lives)
-some_found s (Some joint) lives = (joint, refl)
-
-moves_legal : (s : State) (seat : ℕ) (call : Call) (step : Option Step) → IsGiven s → IsLegalCall s seat call step → Moves seat s (after_entry s (entry_of seat call step))
-moves_legal s seat (calls.Add own lemma) None given legal = absurd legal.addition
-moves_legal s seat (calls.Add own lemma) (Some (steps.Delete numbers)) given legal = absurd legal.addition
-moves_legal s seat (calls.Add own lemma) (Some (steps.Add a)) given legal = moves-addition s seat own lemma a given legal.addition.0
-moves_legal s seat (calls.Drop numbers) step given legal =
-    subst (λ (o : Option Step). Moves seat s (after_entry s (entry_of seat (calls.Drop numbers) o))) (sym legal.deletes) (moves-drop s seat numbers given)
-moves_legal s seat (calls.Adopt own joint) step given legal =
-    let c = some_clause (fin.get (live s) joint) legal.lives in
-    subst (λ (o : Option Step). Moves seat s (after_entry s (entry_of seat (calls.Adopt own joint) o))) (sym legal.stepless) (moves-adopt s seat own joint c.0 given c.1)
-moves_legal s seat (calls.Import own clause) step given legal =
-    let found = some_found s (least_number (live s) clause) legal.lives in
-    subst (λ (o : Option Step). Moves seat s (after_entry s (entry_of seat (calls.Import own clause) o))) (sym legal.stepless)
-    (moves-import s seat own found.0 clause clause given found.1 (least_lives (live s) clause found.0 found.1))
-moves_legal s seat calls.Leave step given legal =
-    subst (λ (o : Option Step). Moves seat s (after_entry s (entry_of seat calls.Leave o))) (sym legal.deletes) (moves-leave s seat given)
-
 -- ---- what the seat of an entry sees behind it
 
 -- what is seen behind the call, by the seat's table before it
 seen_by : (s s' : State) (seat : ℕ) (call : Call) (t : Table) → table_of s.tables seat ≡ Some t → view_of s' seat ≡ view_after_call s call (holdings_of (given_out s) t) → view_of s' seat ≡ option_and_then (view_after_call s call) (view_of s seat)
 seen_by s s' seat call t at is = is ∙ sym (ap (option_and_then (view_after_call s call)) (view_is s seat (Some t) at))
 
-given_of : (s : State) (seat own : ℕ) (lemma : LemmaValue) (a : Addition) → a.number ≡ next s → a.lemma ≡ lemma → fin.get (given_out (after_entry s (entry_of seat (calls.Add own lemma) (Some (steps.Add a))))) (next s) ≡ Some lemma.clause
-given_of s seat own lemma a num same =
-    ap (λ (p : ClauseMap). fin.get p (next s)) (given_out-addition s seat own lemma a num)
+given_of : (s : State) (seat own : ℕ) (call : Call) (lemma : LemmaValue) (a : Addition) → a.number ≡ next s → a.lemma ≡ lemma → fin.get (given_out (with_addition s seat own call a)) (next s) ≡ Some lemma.clause
+given_of s seat own call lemma a num same =
+    ap (λ (p : ClauseMap). fin.get p (next s)) (given_out-addition s seat own call a num)
     ∙ get-inserted (given_out s) (next s) a.lemma.clause
     ∙ ap (λ (l : LemmaValue). Some l.clause) same
 
@@ -118,7 +99,7 @@ own_view s seat (calls.Add own lemma) None t given at moves legal = absurd legal
 own_view s seat (calls.Add own lemma) (Some (steps.Delete numbers)) t given at moves legal = absurd legal.addition
 own_view s seat (calls.Add own lemma) (Some (steps.Add a)) t given at moves legal =
     view_bound s (after_entry s (entry_of seat (calls.Add own lemma) (Some (steps.Add a)))) seat t own (next s) lemma.clause given moves.more at refl
-    (given_of s seat own lemma a legal.addition.0 legal.addition.1.0)
+    (given_of s seat own (calls.Add own lemma) lemma a legal.addition.0 legal.addition.1.0)
 own_view s seat (calls.Drop numbers) step t given at moves legal =
     ap (λ (o : Option Step). view_of (after_entry s (entry_of seat (calls.Drop numbers) o)) seat) legal.deletes ∙ view_dropped s seat numbers t at
 own_view s seat (calls.Adopt own joint) step t given at moves legal =
@@ -126,10 +107,17 @@ own_view s seat (calls.Adopt own joint) step t given at moves legal =
     view_adopted s (after_entry s (entry_of seat (calls.Adopt own joint) step)) seat own joint t c.0 given moves at refl c.1
     ∙ ap (λ (p : Pair). Some (fin.insert (holdings_of (given_out s) t) own p)) (sym (with_clause-is (live s) joint c.0 c.1))
 own_view s seat (calls.Import own clause) step t given at moves legal =
-    let found = some_found s (least_number (live s) clause) legal.lives in
-    view_adopted s (after_entry s (entry_of seat (calls.Import own clause) step)) seat own found.0 t clause given moves at
-    (ap (with_found s.tables seat own) found.1) (least_lives (live s) clause found.0 found.1)
-    ∙ ap (λ (o : Option ℕ). Some (with_found_holding (holdings_of (given_out s) t) own o clause)) (sym found.1)
+    elim (finds s clause legal.finds) [
+      | inl equal ↦
+          let f : FindsEqual s clause equal.0 = equal.1 in
+          view_adopted s (after_entry s (entry_of seat (calls.Import own clause) step)) seat own equal.0 t clause given moves at (ap (with_found s.tables seat own) f.number) f.lives
+          ∙ ap (λ (o : Option ℕ). Some (with_found_holding (holdings_of (given_out s) t) own o clause)) (sym f.number)
+      | inr part ↦
+          let f : FindsPart s clause part.0 = part.1 in
+          view_bound s (after_entry s (entry_of seat (calls.Import own clause) step)) seat t own (next s) clause given moves.more at (ap (with_found s.tables seat own) f.number)
+          (ap (λ (u : State). fin.get (given_out u) (next s)) (after_part s seat own part.0 clause step f legal.asked) ∙ given_of s seat own (calls.Import own clause) (clause_lemma clause) (part_addition (next s) clause part.0) refl refl)
+          ∙ ap (λ (o : Option ℕ). Some (with_found_holding (holdings_of (given_out s) t) own o clause)) (sym f.number)
+    ]
 own_view s seat calls.Leave step t given at moves legal = view_is (after_entry s (entry_of seat calls.Leave step)) seat None (table_of-left s.tables seat)
 
 is_here_legal : (s : State) (seat : ℕ) (call : Call) (step : Option Step) → IsLegalCall s seat call step → (t : Table) × (table_of s.tables seat ≡ Some t)
@@ -146,9 +134,9 @@ pub view_follows : (s : State) (e : Entry) (seat : ℕ) → IsGiven s → IsLega
 view_follows s e seat given legal true is =
     let t = is_here_legal s e.seat e.call e.step legal in
     subst (λ (k : ℕ). view_of (after_entry s e) k ≡ option_and_then (view_after_call s e.call) (view_of s k)) (eqb-true e.seat seat is)
-    (seen_by s (after_entry s e) e.seat e.call t.0 t.1 (own_view s e.seat e.call e.step t.0 given t.1 (moves_legal s e.seat e.call e.step given legal) legal))
+    (seen_by s (after_entry s e) e.seat e.call t.0 t.1 (own_view s e.seat e.call e.step t.0 given t.1 (moves-legal s e.seat e.call e.step given legal) legal))
 view_follows s e seat given legal false is =
-    let moves = moves_legal s e.seat e.call e.step given legal in
+    let moves = moves-legal s e.seat e.call e.step given legal in
     view-same s (after_entry s e) seat given moves.more (moves.tables seat (apart e.seat seat is))
 
 -- ---- the opening

@@ -1,9 +1,8 @@
 -- The sequential object: for each call on a state its reply, the first refusal that holds if one does, and the entry that
 -- an accepted call makes. The state after an accepted call is the one that its entry leaves; after a refused one it is the
 -- state before.
-use Rattle.std.specs.Prelude.{◌≡◌, ℕ, Bool, false, List, [], ◌∷◌, length, Option, Some, None, option_map, option_and_then, if◌then◌else◌, Result, Ok, Err, MatchResult}
+use Rattle.std.specs.Prelude.{◌≡◌, ℕ, nat_lt, Bool, false, List, [], ◌∷◌, length, Option, Some, None, option_map, option_and_then, if◌then◌else◌, Result, Ok, Err, MatchResult}
 use Rattle.std.specs.FinMap as fin
-use Rattle.lj_clause.specs.LiteralSet.{LiteralSet}
 use Rattle.lj_clause.specs.ClauseMap.{ClauseMap}
 use Rattle.lj_clause.specs.Rat.{HintGroup}
 use Rattle.lj_text.specs.declared.line.Addition.{Addition}
@@ -18,8 +17,10 @@ use Rattle.lj_book.specs.declared.entry.Entry.{Entry}
 use Rattle.lj_book.specs.declared.entry.Added.{Added}
 use Rattle.lj_book.specs.declared.entry.Dropped.{Dropped}
 use Rattle.lj_book.specs.declared.entry.Imported.{Imported}
+use Rattle.lj_book.specs.declared.found.Found.{Found}
+use Rattle.lj_book.specs.declared.found.Found.TheVariants.{Equal, Part, Neither}
 use Rattle.lj_book.specs.declared.refusal.Refusal.{Refusal}
-use Rattle.lj_book.specs.declared.refusal.Refusal.TheVariants.{SeatGone, NumberTaken, UnknownNumber, GroupRepeated, Stale, NoSuchClause, NoMemory}
+use Rattle.lj_book.specs.declared.refusal.Refusal.TheVariants.{SeatGone, NumberTaken, UnknownNumber, GroupRepeated, Stale, NoSuchClause, Full, NoMemory}
 use Rattle.lj_book.specs.Tables.{Tables, table_of, is_here, is_bound, is_among, joint_of, with_table, without_keys, without_seat, keys_lost}
 use Rattle.lj_book.specs.Lookup.{is_clause}
 use Rattle.lj_book.specs.State.{State, addition_count, next, live}
@@ -153,7 +154,7 @@ leave_entry s seat = record {
 abbrev pub leave_reply : State → ℕ → Result ℕ Refusal
 leave_reply s seat = if is_here s.tables seat then Ok (length s.history) else Err SeatGone
 
--- ---- binding an own number to a live clause
+-- ---- adopting and importing
 
 -- the refusal of a binding of the seat's own number, whatever it is to be bound to
 abbrev pub free_refusal : State → ℕ → ℕ → Option Refusal
@@ -166,7 +167,7 @@ abbrev pub if_free : {A : Type 0} → Option Refusal → Result A Refusal → Re
 if_free None later = later
 if_free (Some e) later = Err e
 
--- the entry of a call that binds an own number to a live clause has no step
+-- the entry of a call that binds an own number to a clause that lives already has no step
 abbrev pub binding_entry : ℕ → Call → Entry
 binding_entry seat call = record { seat = seat; call = call; step = None }
 
@@ -174,14 +175,13 @@ binding_entry seat call = record { seat = seat; call = call; step = None }
 abbrev pub adopt_entry : ℕ → ℕ → ℕ → Entry
 adopt_entry seat own joint = binding_entry seat (calls.Adopt own joint)
 
--- the entry of an import, which has no step
-abbrev pub import_entry : ℕ → ℕ → LiteralSet → Entry
-import_entry seat own clause = binding_entry seat (calls.Import own clause)
-
--- the reply to an import by the number that it found, if there is one
-abbrev pub imported_at : ℕ → Option ℕ → Result Imported Refusal
-imported_at place None = Err NoSuchClause
-imported_at place (Some joint) = Ok (record { place = place; joint = joint })
+-- the reply to an import by what it finds
+abbrev pub imported : State → Found → Result Imported Refusal
+imported s (Equal joint) = Ok (record { place = length s.history; joint = joint })
+imported s (Part part) = if nat_lt (addition_count s.history) s.max_steps
+    then Ok (record { place = length s.history; joint = next s })
+    else Err Full
+imported s Neither = Err NoSuchClause
 
 -- ---- committing a receipt
 

@@ -1,6 +1,7 @@
 -- What an entry leaves, and when a history is legal.
-use Rattle.std.specs.Prelude.{◌≡◌, ℕ, ◌<◌, Bool, true, false, not, List, [], ◌∷◌, ◌++◌, Option, Some, None, filter}
+use Rattle.std.specs.Prelude.{◌≡◌, ℕ, ◌<◌, true, false, not, List, [], ◌∷◌, ◌++◌, Option, Some, None, filter, is_some}
 use Rattle.std.specs.FinMap as fin
+use Rattle.lj_clause.specs.LiteralSet.{LiteralSet}
 use Rattle.lj_clause.specs.Lemma.{LemmaValue}
 use Rattle.lj_text.specs.declared.step.Step.{Step}
 use Rattle.lj_text.specs.declared.step.Step.TheVariants as steps
@@ -10,8 +11,8 @@ use Rattle.lj_book.specs.declared.entry.Call.{Call}
 use Rattle.lj_book.specs.declared.entry.Call.TheVariants as calls
 use Rattle.lj_book.specs.declared.entry.Entry.{Entry}
 use Rattle.lj_book.specs.Tables.{Tables, is_here, is_bound, has_holder, with_table, with_binding, without_keys, without_seat}
-use Rattle.lj_book.specs.Lookup.{least_number}
 use Rattle.lj_book.specs.State.{State, addition_count, next, live, opening}
+use Rattle.lj_book.specs.Imports.{import_step, import_number}
 
 -- the tables where the seat's own number is bound to the joint number, if there is one
 abbrev pub with_found : Tables → ℕ → ℕ → Option ℕ → Tables
@@ -23,18 +24,13 @@ abbrev pub tables_after : State → ℕ → Call → Tables
 tables_after s seat (calls.Add own lemma) = with_binding s.tables seat own (next s)
 tables_after s seat (calls.Drop numbers) = with_table (without_keys numbers) s.tables seat
 tables_after s seat (calls.Adopt own joint) = with_binding s.tables seat own joint
-tables_after s seat (calls.Import own clause) = with_found s.tables seat own
-    (least_number (live s) clause)
+tables_after s seat (calls.Import own clause) =
+    with_found s.tables seat own (import_number s clause)
 tables_after s seat calls.Leave = without_seat s.tables seat
 
 -- the numbers that are live and no longer are with these tables, rising
 abbrev pub dead_numbers : State → Tables → List ℕ
 dead_numbers s tables = filter (λ n. not (has_holder tables n)) (fin.keys (live s))
-
--- whether there is a number, and a clause lives under it
-abbrev pub some_lives : State → Option ℕ → Bool
-some_lives s None = false
-some_lives s (Some joint) = fin.contains_key (live s) joint
 
 -- the state that an entry leaves
 abbrev pub after_entry : State → Entry → State
@@ -66,14 +62,22 @@ pub record IsLegalDrop (s : State) (seat : ℕ) (numbers : List ℕ) (step : Opt
   pub here : is_here s.tables seat ≡ true
   pub deletes : step ≡ if_some (dead_numbers s (with_table (without_keys numbers) s.tables seat))
 
--- An own number is bound to a joint number legally where the seat is there, its own number is unbound, the joint
--- number lives, and there is no step.
-pub record IsLegalBinding (s : State) (seat own : ℕ) (joint : Option ℕ)
+-- An adoption is legal where the seat is there, its own number is unbound, the joint number lives, and there is no step.
+pub record IsLegalAdoption (s : State) (seat own joint : ℕ) (step : Option Step) : Type 0 where
+  pub here : is_here s.tables seat ≡ true
+  pub unbound : is_bound s.tables seat own ≡ false
+  pub lives : fin.contains_key (live s) joint ≡ true
+  pub stepless : step ≡ None
+
+-- An import is legal where the seat is there, its own number is unbound, something is found, and the step is what that
+-- asks for. There is room for a step.
+pub record IsLegalImport (s : State) (seat own : ℕ) (clause : LiteralSet)
     (step : Option Step) : Type 0 where
   pub here : is_here s.tables seat ≡ true
   pub unbound : is_bound s.tables seat own ≡ false
-  pub lives : some_lives s joint ≡ true
-  pub stepless : step ≡ None
+  pub finds : is_some (import_number s clause) ≡ true
+  pub capacity : is_some step ≡ true → addition_count s.history < s.max_steps
+  pub asked : step ≡ import_step s clause
 
 -- A leave is legal where the seat is there and the step, if there is one, deletes what died.
 pub record IsLegalLeave (s : State) (seat : ℕ) (step : Option Step) : Type 0 where
@@ -84,9 +88,8 @@ pub record IsLegalLeave (s : State) (seat : ℕ) (step : Option Step) : Type 0 w
 abbrev pub IsLegalCall : State → ℕ → Call → Option Step → Type 0
 IsLegalCall s seat (calls.Add own lemma) step = IsLegalAddition s seat own lemma step
 IsLegalCall s seat (calls.Drop numbers) step = IsLegalDrop s seat numbers step
-IsLegalCall s seat (calls.Adopt own joint) step = IsLegalBinding s seat own (Some joint) step
-IsLegalCall s seat (calls.Import own clause) step = IsLegalBinding s seat own
-    (least_number (live s) clause) step
+IsLegalCall s seat (calls.Adopt own joint) step = IsLegalAdoption s seat own joint step
+IsLegalCall s seat (calls.Import own clause) step = IsLegalImport s seat own clause step
 IsLegalCall s seat calls.Leave step = IsLegalLeave s seat step
 
 -- The entry is legal in the state.

@@ -3,6 +3,7 @@ pub mod Variables
 pub mod VariableLaws
 pub mod Lookup
 pub mod State
+pub mod Imports
 pub mod History
 pub mod Calls
 pub mod Inside

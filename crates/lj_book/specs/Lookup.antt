@@ -5,9 +5,13 @@ use Rattle.std.specs.FinMap as fin
 use Rattle.lj_clause.specs.LiteralSet.{LiteralSet, holds, literals}
 use Rattle.lj_clause.specs.ClauseMap.{ClauseMap}
 
+-- whether each literal of the second clause is one of the first
+abbrev pub is_part : LiteralSet → LiteralSet → Bool
+is_part c d = list_all (holds c) (literals d)
+
 -- whether the two clauses are the same set
 abbrev pub is_same : LiteralSet → LiteralSet → Bool
-is_same c d = list_all (holds d) (literals c) && list_all (holds c) (literals d)
+is_same c d = is_part d c && is_part c d
 
 -- whether there is a clause, and it is this one
 abbrev pub is_clause : LiteralSet → Option LiteralSet → Bool
@@ -25,3 +29,7 @@ numbers_holding p l = numbers_where (λ c. holds c l) p
 -- the least number whose clause is exactly this one
 abbrev pub least_number : ClauseMap → LiteralSet → Option ℕ
 least_number p c = slice_get (numbers_where (is_same c) p) 0
+
+-- the least number whose clause is a part of this one
+abbrev pub least_part : ClauseMap → LiteralSet → Option ℕ
+least_part p c = slice_get (numbers_where (is_part c) p) 0

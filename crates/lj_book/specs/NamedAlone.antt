@@ -12,7 +12,7 @@ use Rattle.lj_book.specs.declared.entry.Entry.{Entry}
 use Rattle.lj_book.specs.declared.refusal.Refusal.{Refusal}
 use Rattle.lj_book.specs.declared.refusal.Refusal.TheVariants.{NoSuchClause, PrivateVariable}
 use Rattle.lj_book.specs.State.{next, live}
-use Rattle.lj_book.specs.Lookup.{least_number}
+use Rattle.lj_book.specs.Imports.{import_number}
 use Rattle.lj_book.specs.Calls.{free_refusal}
 use Rattle.lj_book.specs.Solo.{Holdings, View, with_clause, without_holdings, solo_refusal}
 use Rattle.lj_book.specs.Views.{decided_refusal, formula_holdings, with_found_holding}
@@ -31,7 +31,7 @@ named_after_call s seat (calls.Drop numbers) h = Some (without_holdings numbers 
 named_after_call s seat (calls.Adopt own joint) h = Some (fin.insert h own
     (pair_image (inverse (names_of s seat)) (with_clause (live (beneath s)) joint)))
 named_after_call s seat (calls.Import own c) h = Some
-    (with_found_holding h own (least_number (live (beneath s)) (image (names_of s seat) c)) c)
+    (with_found_holding h own (import_number (beneath s) (image (names_of s seat) c)) c)
 named_after_call s seat calls.Leave h = None
 
 -- what a seat sees behind an entry: that of another seat changes nothing

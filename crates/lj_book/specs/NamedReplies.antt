@@ -17,9 +17,9 @@ use Rattle.lj_book.specs.declared.refusal.Refusal.TheVariants.{SeatGone, NumberT
 use Rattle.lj_book.specs.Tables.{is_here, is_bound}
 use Rattle.lj_book.specs.Variables.{renaming_of, is_own}
 use Rattle.lj_book.specs.State.{addition_count, next, live}
-use Rattle.lj_book.specs.Calls.{take_reply, drop_reply, leave_reply, free_refusal, if_free, imported_at, is_live_as, stale_or, commit_told}
+use Rattle.lj_book.specs.Calls.{take_reply, drop_reply, leave_reply, free_refusal, if_free, imported, is_live_as, stale_or, commit_told}
 use Rattle.lj_book.specs.Inside.{joint_addition, test_refusal}
-use Rattle.lj_book.specs.Lookup.{least_number}
+use Rattle.lj_book.specs.Imports.{found}
 use Rattle.lj_book.specs.Named.{NamedState, top_of, names_of, beneath, given_in, has_variables_for}
 
 -- ---- adding with a test
@@ -99,8 +99,7 @@ import_refusal s seat own c =
 -- the reply to an import
 abbrev pub named_import : NamedState → ℕ → ℕ → LiteralSet → Result Imported Refusal
 named_import s seat own c = if_free (import_refusal s seat own c)
-    (imported_at (length s.history)
-    (least_number (live (beneath s)) (image (names_of s seat) c)))
+    (imported (beneath s) (found (beneath s) (image (names_of s seat) c)))
 
 -- ---- giving up, and leaving
 

@@ -8,13 +8,13 @@ use Rattle.lj_book.specs.declared.event.Reply.{Reply}
 use Rattle.lj_book.specs.declared.event.Reply.TheVariants as replies
 use Rattle.lj_book.specs.declared.event.Pending.{Pending}
 use Rattle.lj_book.specs.declared.event.Pending.TheVariants as pendings
-use Rattle.lj_book.specs.Calls.{free_refusal, drop_entry, adopt_entry, import_entry, leave_entry}
+use Rattle.lj_book.specs.Calls.{free_refusal, drop_entry, adopt_entry, leave_entry}
 use Rattle.lj_book.specs.Worlds.{IsCalled, IsTried, case_taken, IsNothing, IsTestOf}
 use Rattle.lj_book.specs.Named.{NamedState, beneath, after_named}
 use Rattle.lj_book.specs.NamedViews.{named_take}
 use Rattle.lj_book.specs.NamedReplies.{named_inside, named_commit_refusal, named_commit, named_drop, named_adopt, import_refusal, named_import, named_leave}
 use Rattle.lj_book.specs.NamedInside.{named_inside_entry}
-use Rattle.lj_book.specs.NamedEntries.{named_commit_entry}
+use Rattle.lj_book.specs.NamedEntries.{named_commit_entry, named_import_entry}
 
 -- A state, and for each seat what is pending for it, in its own variables.
 pub record NamedWorld : Type 0 where
@@ -68,7 +68,7 @@ IsNamedAnswered w (events.Adopt seat own joint) reply after =
     (if_named_entered w (adopt_entry seat own joint)) reply after
 IsNamedAnswered w (events.Import seat own clause) reply after =
     IsTried (import_refusal w.state seat own clause) (named_import w.state seat own clause)
-    replies.Imported (if_named_entered w (import_entry seat own clause)) reply after
+    replies.Imported (if_named_entered w (named_import_entry w.state seat own clause)) reply after
 IsNamedAnswered w (events.Leave seat) reply after =
     IsCalled (named_leave w.state seat) replies.Left
     (if_named_entered w (leave_entry (beneath w.state) seat)) reply after

@@ -170,11 +170,13 @@ IsSoloAdoption clauses own joint o h (replies.Refused NoSuchClause) after = afte
 IsSoloAdoption clauses own joint o h (replies.Refused (NoMemory _)) after = after ≡ o
 IsSoloAdoption clauses own joint o h reply after = ⊥
 
--- The own number is bound to the reply's number, which has the clause that the event names.
+-- The own number is bound to the reply's number, which has the clause that the event names. Else nothing is found, the
+-- history is full, or memory is short.
 abbrev pub IsSoloImport : ClauseMap → ℕ → LiteralSet → Solo → Holdings → Reply → Solo → Type 0
 IsSoloImport clauses own c o h (replies.Imported imported) after =
     (fin.get clauses imported.joint ≡ Some c) × (after ≡ with_holding o h own imported.joint c)
 IsSoloImport clauses own c o h (replies.Refused NoSuchClause) after = after ≡ o
+IsSoloImport clauses own c o h (replies.Refused Full) after = after ≡ o
 IsSoloImport clauses own c o h (replies.Refused (NoMemory _)) after = after ≡ o
 IsSoloImport clauses own c o h reply after = ⊥
 

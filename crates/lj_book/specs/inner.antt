@@ -21,5 +21,6 @@ pub mod ReceiptForms
 pub mod Limits
 pub mod JointForms
 pub mod Over
+pub mod Parts
 pub mod PrivateSteps
 pub mod Views

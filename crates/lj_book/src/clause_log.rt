@@ -3,12 +3,11 @@ ghost use Rattle.std.specs.Prelude.{◌≡◌, ℕ, ◌+◌, ◌*◌, ◌<◌, �
 ghost use Rattle.std.specs.FinMap as fin;
 ghost use Rattle.lj_clause.specs.LiteralSet.{literals};
 ghost use Rattle.lj_clause.specs.ClauseMap.{ClauseMap, formula_map};
-ghost use Rattle.lj_text.specs.declared.step.Step.TheVariants.{Add};
 ghost use Rattle.lj_text.specs.Needed.{if_some};
 ghost use Rattle.lj_text.specs.Steps.{without};
 ghost use Rattle.lj_book.specs.declared.entry.Call.TheVariants as calls;
-ghost use Rattle.lj_book.specs.Lookup.{numbers_holding, least_number};
-ghost use Rattle.lj_book.specs.inner.Records.{binding_call, entry_of};
+ghost use Rattle.lj_book.specs.Lookup.{numbers_holding, least_number, least_part};
+ghost use Rattle.lj_book.specs.inner.Records.{binding_call, entry_of, entering_entry};
 ghost use Rattle.lj_book.specs.inner.Occurrences.{AreOccurrences, AreListed};
 ghost use Rattle.lj_book.specs.inner.FirstUses.{IsSince};
 ghost use Rattle.lj_book.specs.inner.Ranges.{pivots};
@@ -234,7 +233,31 @@ impl ClauseLog {
         least
     }
 
-    /// Takes a seat's addition behind the others, and gives its clause the step's number. Takes constant time for each
+    /// The least number whose live clause is a part of this one. Takes time linear in the lists of its literals, where they
+    /// are made, O(log n) for each of its n literals there; otherwise in all clauses, with their literals likewise. Sweeps
+    /// these lists.
+    pub(crate) fn least_part(&mut self, wanted: &Clause) -> Option<u64>
+        ensures least { result ≡ least_part self.old.live wanted.now }
+        ensures same { self.new ≡ self.old }
+    {
+        let Some(lists) = &self.lists else {
+            return self.lent().least_part(wanted, self.last);
+        };
+        let least = lists.least_part(&self.lent(), wanted);
+        self.sweep_lists(wanted);
+        least
+    }
+
+    /// Sweeps the lists of a clause's literals.
+    fn sweep_lists(&mut self, clause: &Clause)
+        ensures { self.new ≡ self.old }
+    {
+        for lit in clause.lits() {
+            self.sweep_list(lit.index() as u64);
+        }
+    }
+
+    /// Takes a seat's addition, or an import that adds its clause, behind the others, and gives the clause the step's number. Takes constant time for each
     /// number, and O(log n) time for the clause and each of its literals, amortized.
     ///
     /// # Errors
@@ -244,9 +267,10 @@ impl ClauseLog {
         seat: u32,
         own: u64,
         step: &LentAddition<'_>,
+        is_import: bool,
     ) -> Result<(), NoMemory>
         ensures entries { OnOk result (self.new.history.entries ≡ self.old.history.entries
-            ++ entry_of seat (calls.Add own step.now.lemma) (Some (Add step.now)) ∷ []) }
+            ++ entering_entry is_import seat own step.now ∷ []) }
         ensures live { OnOk result
             (self.new.live ≡ fin.insert self.old.live step.now.number step.now.lemma.clause) }
         ensures same { OnErr result (self.new.history.entries ≡ self.old.history.entries) }
@@ -259,7 +283,7 @@ impl ClauseLog {
             self.lists = None;
             return Err(refused);
         }
-        self.history.push_addition(seat, own, step);
+        self.history.push_addition(seat, own, step, is_import);
         self.uses.add_clause(step.number, self.last, &step.clause);
         if step.number > self.last {
             self.last = step.number;

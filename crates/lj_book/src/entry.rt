@@ -14,7 +14,8 @@ pub enum Call {
     Drop { numbers: Numbers },
     /// The seat's own number was bound to a live joint number.
     Adopt { own: u64, joint: u64 },
-    /// The seat's own number was bound to the least live number with exactly this clause.
+    /// The seat's own number was bound to the least live number with exactly this clause, or to a new one under which the clause
+    /// entered by a part of it that lives.
     Import { own: u64, clause: Clause },
     /// The seat left.
     Leave,

@@ -7,9 +7,8 @@ ghost use Rattle.lj_text.specs.StepText.{proof_text};
 ghost use Rattle.lj_text.specs.Writing.{IsBeginning, IsCutShort};
 ghost use Rattle.lj_book.specs.State.{steps_of};
 ghost use Rattle.lj_book.specs.declared.entry.Call.TheVariants as calls;
-ghost use Rattle.lj_book.specs.Calls.{import_entry};
-ghost use Rattle.lj_book.specs.inner.JointLines.{line_entry};
-ghost use Rattle.lj_book.specs.inner.Records.{lemma_lits, addition_numbers, binding_call, binding_lits, entry_of};
+ghost use Rattle.lj_book.specs.Calls.{binding_entry};
+ghost use Rattle.lj_book.specs.inner.Records.{lemma_lits, addition_numbers, binding_call, binding_lits, entry_of, entering_kind, entering_call, entering_entry};
 
 mod lines;
 mod matching;
@@ -38,6 +37,9 @@ const ADOPT: u64 = 2;
 const IMPORT: u64 = 3;
 
 const LEAVE: u64 = 4;
+
+/// An import by a part of its clause, which it adds.
+const PART: u64 = 5;
 
 /// How many words and literals have room from the opening on: in so much memory, each list stands apart from others.
 const FIRST_ENCODING: usize = 33_000;
@@ -187,18 +189,31 @@ impl History {
         self.reserve(4, lits)
     }
 
-    /// Takes a seat's addition behind the others.
-    pub(crate) fn push_addition(&mut self, seat: u32, own: u64, step: &LentAddition<'_>)
+    /// Takes a seat's addition, or an import that adds its clause, behind the others.
+    pub(crate) fn push_addition(
+        &mut self,
+        seat: u32,
+        own: u64,
+        step: &LentAddition<'_>,
+        is_import: bool,
+    )
         requires encoding { 3 * addition_numbers step.now ≤ self.old.encoding_capacity }
         requires lits { length (lemma_lits step.now.lemma) ≤ self.old.lit_capacity }
         requires capacity { 0 < self.old.entry_capacity }
         ensures entries { self.new.entries ≡ self.old.entries
-            ++ entry_of seat (calls.Add own step.now.lemma) (Some (Add step.now)) ∷ [] }
+            ++ entering_entry is_import seat own step.now ∷ [] }
         ensures lits { self.new.lits ≡ self.old.lits ++ lemma_lits step.now.lemma }
     {
         let _ = step.lemma.pivot();
         let start = self.encoding.len() as u64;
-        put_addition(&mut self.encoding, &mut self.lits, seat, own, step);
+        put_addition(
+            &mut self.encoding,
+            &mut self.lits,
+            seat,
+            own,
+            step,
+            is_import,
+        );
         self.starts.push_reserved(start);
     }
 
@@ -368,30 +383,49 @@ impl History {
         }
     }
 
-    /// Whether the entry at a place, counted from 0, is that of the seat's addition under its own number by this step. Takes
-    /// time linear in its contents, and no memory.
-    pub(crate) fn is_line(&self, place: u64, seat: u32, own: u64, addition: &Addition) -> bool
-        ensures { IsTrue result
-            ↔ (slice_get self.now.entries place ≡ Some (line_entry seat own addition.now)) }
+    /// Whether the entry at a place, counted from 0, is that of the seat's addition under its own number by this step, or of its
+    /// import that adds its clause so. Takes time linear in its contents, and no memory.
+    pub(crate) fn is_line(
+        &self,
+        place: u64,
+        seat: u32,
+        own: u64,
+        addition: &Addition,
+        is_import: bool,
+    ) -> bool
+        ensures { IsTrue result ↔ (slice_get self.now.entries place
+            ≡ Some (entering_entry is_import seat own addition.now)) }
     {
         match encoding_at(&self.starts, &self.encoding, place) {
-            Some(encoding) => matching::is_line(&self.lits, encoding, seat, own, addition),
+            Some(encoding) => {
+                matching::is_line(&self.lits, encoding, seat, own, addition, is_import)
+            }
             None => false,
         }
     }
 
-    /// The clause of the seat's import under its own number, if the entry at a place, counted from 0, is one.
+    /// The clause of the seat's import under its own number, if the entry at a place, counted from 0, is one without a step.
     pub(crate) fn imported(&self, place: u64, seat: u32, own: u64) -> Option<ClauseView<'_>>
         ensures some { IfSome result
-            (λ c. slice_get self.now.entries place ≡ Some (import_entry seat own c)) }
+            (λ c. slice_get self.now.entries place
+            ≡ Some (binding_entry seat (calls.Import own c))) }
         ensures none { IfNone result ((c : LiteralSet)
-            → slice_get self.now.entries place ≡ Some (import_entry seat own c) → ⊥) }
+            → slice_get self.now.entries place ≡ Some (binding_entry seat (calls.Import own c))
+            → ⊥) }
     {
         match encoding_at(&self.starts, &self.encoding, place) {
             Some(encoding) => matching::imported(&self.lits, encoding, seat, own),
             None => None,
         }
     }
+}
+
+/// The kind of the entry by which a lemma enters.
+#[inline(always)]
+fn entering_kind(is_import: bool) -> u64
+    ensures { result ≡ entering_kind is_import }
+{
+    if is_import { PART } else { ADDITION }
 }
 
 /// How many numbers an addition is written as, or the greatest number where they are more.

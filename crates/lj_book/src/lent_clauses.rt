@@ -1,12 +1,13 @@
 //! Live clauses, lent with the list of their literals.
 ghost use Rattle.std.specs.Prelude.{◌≡◌, ◌≤◌, ℕ, IfOk, true};
 ghost use Rattle.std.specs.FinMap as fin;
-ghost use Rattle.lj_book.specs.Lookup.{numbers_holding, least_number};
+ghost use Rattle.lj_book.specs.Lookup.{numbers_holding, least_number, least_part};
 ghost use Rattle.lj_book.specs.inner.FirstUses.{IsSince};
 ghost use Rattle.lj_book.specs.inner.Ranges.{stored, AreRanges};
 
 use crate::lit_range::{LitRange, clause_at};
 use crate::own_map::OwnMap;
+use crate::part::is_part;
 use lj_clause::{Clause, ClauseView, Lit, NoMemory};
 use std::alloc::Global;
 use std::marker::Model;
@@ -97,6 +98,22 @@ impl<'a> LentClauses<'a> {
         for number in 0..=last {
             if let Some(clause) = self.get(number) {
                 if clause.same(wanted) {
+                    return Some(number);
+                }
+            }
+        }
+        None
+    }
+
+    /// The least number whose clause is a part of this one, where no clause is behind the last one. Takes time linear in the
+    /// numbers.
+    pub(crate) fn least_part(&self, wanted: &Clause, last: u64) -> Option<u64>
+        requires { (n : ℕ) → fin.contains_key self.now n ≡ true → n ≤ last }
+        ensures { result ≡ least_part self.now wanted.now }
+    {
+        for number in 0..=last {
+            if let Some(clause) = self.get(number) {
+                if is_part(wanted, &clause) {
                     return Some(number);
                 }
             }

@@ -1,14 +1,16 @@
 //! Lists of the clauses that hold a literal.
-ghost use Rattle.std.specs.Prelude.{◌≡◌, ◌<◌, ◌≤◌, ℕ, IfOk, IfSome, true, length, filter, map, slice_get};
+ghost use Rattle.std.specs.Prelude.{◌≡◌, ◌<◌, ◌≤◌, ℕ, IfOk, IfSome, Some, true, length, filter, map, slice_get};
 ghost use Rattle.std.specs.FinMap as fin;
 ghost use Rattle.lj_clause.specs.Literal.{index_of};
 ghost use Rattle.lj_book.specs.Tables.{is_among};
-ghost use Rattle.lj_book.specs.Lookup.{is_clause};
+ghost use Rattle.lj_book.specs.Lookup.{is_clause, least_part};
+ghost use Rattle.lj_book.specs.inner.Parts.{first_key, is_first, begins_part, lesser};
 ghost use Rattle.lj_book.specs.inner.Occurrences.{AreOccurrences, list_at, keys_of, put_if, with_number};
 ghost use Rattle.lj_book.specs.inner.Chains.{AreChains, AreLinked, chain, last_at, with_list};
 
 use crate::lent_clauses::LentClauses;
 use crate::own_map::OwnMap;
+use crate::part::is_part;
 use lj_clause::{Clause, ClauseView, Lit, NoMemory};
 use std::alloc::Global;
 use std::marker::Model;
@@ -177,6 +179,42 @@ impl OccurrenceLists {
         shortest
     }
 
+    /// The least number whose clause is a part of this one. Looks through the lists of the clause's literals, and that of the
+    /// empty clauses, but at a number only in the list of the first literal of its clause. Takes time linear in these lists,
+    /// O(log n) for each of the clause's n literals there.
+    pub(crate) fn least_part(&self, clauses: &LentClauses<'_>, wanted: &Clause) -> Option<u64>
+        ensures { (bound : ℕ) → AreOccurrences self.now (fin.get clauses.now) bound
+            → result ≡ least_part clauses.now wanted.now }
+    {
+        let mut least = self.first_part(&None, clauses, wanted);
+        for lit in wanted.lits() {
+            least = lesser(least, self.first_part(&Some(*lit), clauses, wanted));
+        }
+        least
+    }
+
+    /// The first number under the place of a literal whose clause begins with it and is a part of this one; without a literal,
+    /// the first of an empty clause.
+    fn first_part(
+        &self,
+        first: &Option<Lit>,
+        clauses: &LentClauses<'_>,
+        wanted: &Clause,
+    ) -> Option<u64>
+        ensures { result ≡ slice_get
+            (filter (λ n. begins_part wanted.now first.now (fin.get clauses.now n))
+            (list_at self.now (first_key first.now))) 0 }
+    {
+        let key = first_key(first);
+        part_before(
+            &self.links,
+            last_of(&self.lasts, key),
+            clauses,
+            first,
+            wanted,
+        )
+    }
+
     /// Takes the numbers without a clause out of a list, where they are more than half of it and it isn't short. Answers
     /// whether a growth was granted: where it wasn't, the lists are of no use.
     ///
@@ -213,6 +251,16 @@ impl OccurrenceLists {
             }
         }
         true
+    }
+}
+
+/// The place where the clauses with this first literal are listed, and the empty ones.
+fn first_key(first: &Option<Lit>) -> u64
+    ensures { result ≡ first_key first.now }
+{
+    match first {
+        Some(lit) => lit.index() as u64,
+        None => EMPTY_KEY,
     }
 }
 
@@ -285,6 +333,65 @@ fn first_before(
         at = link.before as usize;
     }
     first
+}
+
+/// The oldest number, among those of this link and of all before it, whose clause begins so and is a part of this one. Takes
+/// time linear in the links that it passes by, and that of [`is_part`] for each whose clause begins so.
+fn part_before(
+    links: &[Link],
+    last: u64,
+    clauses: &LentClauses<'_>,
+    first: &Option<Lit>,
+    wanted: &Clause,
+) -> Option<u64>
+    requires linked { AreLinked links.now }
+    requires there { last ≤ length links.now }
+    ensures { result ≡ slice_get
+        (filter (λ n. begins_part wanted.now first.now (fin.get clauses.now n))
+        (chain links.now last)) 0 }
+{
+    let mut oldest = None;
+    let mut at = last as usize;
+    while at > 0 {
+        let link = links[at - 1];
+        let number = u64::from(link.number);
+        if let Some(clause) = clauses.get(number) {
+            if begins_part(wanted, first, &clause) {
+                oldest = Some(number);
+            }
+        }
+        at = link.before as usize;
+    }
+    oldest
+}
+
+/// Whether the clause begins with this literal, or is empty where there is none, and is a part of the wanted one.
+fn begins_part(wanted: &Clause, first: &Option<Lit>, clause: &ClauseView<'_>) -> bool
+    ensures { result ≡ begins_part wanted.now first.now (Some clause.now) }
+{
+    begins_with(clause.lits(), first) && is_part(wanted, clause)
+}
+
+/// Whether this is the first of the literals, or there is neither.
+fn begins_with(lits: &[Lit], first: &Option<Lit>) -> bool
+    ensures { result ≡ is_first first.now (slice_get lits.now 0) }
+{
+    match (first, lits) {
+        (Some(wanted), [lit, ..]) => lit == wanted,
+        (None, []) => true,
+        _ => false,
+    }
+}
+
+/// The lesser of the numbers that there are.
+fn lesser(one: Option<u64>, other: Option<u64>) -> Option<u64>
+    ensures { result ≡ lesser one other }
+{
+    match (one, other) {
+        (Some(n), Some(m)) => Some(n.min(m)),
+        (Some(n), None) => Some(n),
+        (None, _) => other,
+    }
 }
 
 /// Whether at least half of the numbers of this link and of all before it have a clause. Takes time linear in the links that it

@@ -34,7 +34,7 @@ pub enum Refusal {
     Stale(u64),
     /// The clause names a variable above the formula's that the seat was not given.
     PrivateVariable,
-    /// No such live clause.
+    /// No such live clause, and of an import no part of it.
     NoSuchClause,
     /// The history holds as many additions as it may.
     Full,

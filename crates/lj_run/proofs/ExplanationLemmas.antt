@@ -3,7 +3,7 @@ use Rattle.std.proofs.Common.{◌≡◌, ℕ, suc, ◌+◌, ◌<◌, Bool, true,
 use Rattle.std.specs.Prelude.{Result, Ok, Err, OnOk}
 use Rattle.std.proofs.lemmas.List.{take_more, length-take}
 use Rattle.lj_run.specs.declared.outcome.Report.{Report}
-use Rattle.lj_run.specs.Explanation.{AreSentences, IsExplanation, IsExplained, MaySay}
+use Rattle.lj_run.specs.Explanation.{AreSentences, IsExplained, MaySay}
 
 -- what is said of one more stream stands behind the rest
 AreSentences-push : {S : Type 0} (reports : List (Report S)) (n : ℕ) (report : Report S) (text one : List ℕ) → AreSentences n reports text → MaySay (n + length reports) report.end one

@@ -13,7 +13,8 @@ use Rattle.lj_book.specs.State.{live, steps_of}
 use Rattle.lj_book.specs.Named.{NamedState, named_opening, IsNamedReached, after_named, beneath}
 use Rattle.lj_book.specs.NamedReplies.{named_drop, named_import, named_inside}
 use Rattle.lj_book.specs.NamedInside.{named_inside_entry}
-use Rattle.lj_book.specs.Calls.{drop_entry, import_entry}
+use Rattle.lj_book.specs.NamedEntries.{named_import_entry}
+use Rattle.lj_book.specs.Calls.{drop_entry}
 use Rattle.lj_share.specs.Refusals.{IsRefusedLine}
 use Rattle.lj_share.specs.declared.numbered.Numbered.{Numbered}
 use Rattle.lj_run.specs.Run.{if_accepted, state_after_line, state_after_said, state_after_lines, has_verdict, StreamEnds, IsStreamRun}
@@ -44,7 +45,7 @@ one_accepted (Err refusal) s t e is = cc
 one_entered : (seat : ℕ) (s t : NamedState) (line : Line) → state_after_line seat s line ≡ Some t → OneMore s t
 one_entered seat s t (Add a) is = one_accepted (named_inside s seat a) s t (named_inside_entry s seat a) is
 one_entered seat s t (Delete numbers) is = one_accepted (named_drop s seat numbers) s t (drop_entry (beneath s) seat numbers) is
-one_entered seat s t (Import number clause) is = one_accepted (named_import s seat number clause) s t (import_entry seat number clause) is
+one_entered seat s t (Import number clause) is = one_accepted (named_import s seat number clause) s t (named_import_entry s seat number clause) is
 
 pub entered_longer : (seat : ℕ) (s t : NamedState) (line : Line) → state_after_line seat s line ≡ Some t → length t.history ≡ length s.history + 1
 unfolding OneMore

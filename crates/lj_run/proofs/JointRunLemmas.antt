@@ -14,8 +14,6 @@ use Rattle.lj_text.specs.declared.line.Line.{Line}
 use Rattle.lj_text.specs.Lines.{Said, all_said}
 use Rattle.lj_text.specs.Steps.{replay, refutes}
 use Rattle.lj_text.specs.Streams.{SourceState}
-use Rattle.lj_book.specs.declared.entry.Call.{Call}
-use Rattle.lj_book.specs.declared.entry.Entry.{Entry}
 use Rattle.lj_book.specs.State.{live, steps_of}
 use Rattle.lj_book.specs.Named.{NamedState, IsNamedReached, beneath}
 use Rattle.lj_book.specs.declared.refusal.Refusal.{Refusal}

@@ -2,6 +2,7 @@
 use Rattle.std.proofs.Common.{◌≡◌, ℕ, Bool, true, false, cond, List, [], ◌∷◌, length, Option, Some, None, refl, sym, ap, ◌∙◌, subst, arith}
 use Rattle.std.specs.List.{list_any, cons_option}
 use Rattle.lj_clause.specs.ClauseMap.{FormulaValue}
+use Rattle.lj_text.specs.declared.line.Addition.{Addition}
 use Rattle.lj_text.specs.declared.step.Step.{Step}
 use Rattle.lj_text.specs.Steps.{adds_empty}
 use Rattle.lj_text.specs.Needed.{up_to_empty, trimmed_steps}
@@ -15,9 +16,10 @@ use Rattle.lj_trim.proofs.RefutationLemmas.{front_refutes, trimmed_refutes}
 use Rattle.lj_book.specs.declared.entry.Call.{Call}
 use Rattle.lj_book.specs.declared.entry.Call.TheVariants as calls
 use Rattle.lj_book.specs.declared.entry.Entry.{Entry}
-use Rattle.lj_book.specs.State.{State, steps_of}
+use Rattle.lj_book.specs.State.{State, next, steps_of}
 use Rattle.lj_book.specs.Named.{NamedState, beneath, entry_beneath, after_named, AreNamedLegal, IsNamedReached}
 use Rattle.lj_book.specs.History.{IsLegalCall}
+use Rattle.lj_book.proofs.HistoryLaws.{part_step, no_deletion}
 use Rattle.lj_run.specs.declared.outcome.ProofEnd.{ProofEnd}
 use Rattle.lj_run.specs.declared.outcome.ProofEnd.TheVariants.{NotAsked, Written, Failed}
 use Rattle.lj_run.specs.declared.outcome.ProofFault.TheVariants.{Device, NoMemory}
@@ -64,7 +66,11 @@ call_above s seat (calls.Add own lemma) (Some (steps.Delete ns)) ss legal h = ab
 call_above s seat (calls.Add own lemma) (Some (steps.Add a)) ss legal h = (omega (arith, legal.addition.0), h)
 call_above s seat (calls.Drop numbers) step ss legal h = deletion_above (length s.formula.clauses) step _ ss legal.deletes h
 call_above s seat (calls.Adopt own joint) step ss legal h = more_above (length s.formula.clauses) step ss legal.stepless h
-call_above s seat (calls.Import own clause) step ss legal h = more_above (length s.formula.clauses) step ss legal.stepless h
+call_above s seat (calls.Import own clause) None ss legal h = h
+call_above s seat (calls.Import own clause) (Some (steps.Delete ns)) ss legal h = absurd (no_deletion s seat own clause ns legal)
+call_above s seat (calls.Import own clause) (Some (steps.Add a)) ss legal h =
+    let number : a.number ≡ next s = ap (λ (x : Addition). x.number) (part_step s seat own clause a legal).1.1 in
+    (omega (arith, number), h)
 call_above s seat calls.Leave step ss legal h = deletion_above (length s.formula.clauses) step _ ss legal.deletes h
 
 history_above : (s : NamedState) (es : List Entry) → AreNamedLegal s es → AreAbove (length s.formula.clauses) (steps_of es)

@@ -1,7 +1,7 @@
 -- The run of one stream.
 use Rattle.std.proofs.Common.{◌≡◌, ℕ, zero, suc, ◌+◌, ◌≤◌, ◌<◌, true, false, cond, List, [], ◌∷◌, ◌++◌, length, map, filter, take, drop, Bool, Option, None, Some, Result, Ok, Err, refl, sym, ap, ◌∙◌, subst, inl, arith, add-one, add-zero, append_assoc, length-append}
-use Rattle.std.specs.Prelude.{slice_get, IfSome, MatchOption}
-use Rattle.std.proofs.lemmas.List.{append-nil, map-append, length-map}
+use Rattle.std.specs.Prelude.{slice_get, IfSome}
+use Rattle.std.proofs.lemmas.List.{append-nil}
 use Rattle.std.proofs.lemmas.List.Elements.{filter-append}
 use Rattle.lj_clause.specs.declared.memory.NoMemory.{NoMemory}
 use Rattle.lj_clause.specs.declared.lit.TheConstants.{MAX_VARIABLE}
@@ -24,7 +24,7 @@ use Rattle.lj_run.specs.declared.reading.Next.TheVariants as nexts
 use Rattle.lj_run.specs.declared.stream.Tally.{Tally}
 use Rattle.lj_run.specs.Reading.{IsMemoryRefused, FailsAt, AreWhole}
 use Rattle.lj_run.specs.Run.{says_addition, says_deletion, says_import, how_many, AreCountsOf, MeetsFault, IfReadFailed, IfMemoryRefused, failed_reads, judged_count, KeepsRefused, StreamEnds, IsStreamRun}
-use Rattle.lj_run.specs.inner.Block.{said_in_block, AreNext, BlockRead, EndsInBlock, BlockEntered}
+use Rattle.lj_run.specs.inner.Block.{said_in_block, AreNext, BlockRead, EndsInBlock}
 use Rattle.lj_run.specs.inner.Joint.{report_of}
 use Rattle.lj_run.specs.inner.Reading.{LineRead, LineMissed, IsMiss, IfOutOfMemory, reads_failed, with_missed}
 use Rattle.lj_run.specs.inner.Tally.{with_count, with_lines, with_end, missed_at}

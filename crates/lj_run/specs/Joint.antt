@@ -1,5 +1,5 @@
 -- What comes of a run of streams beside one another, on one shared book.
-use Rattle.std.specs.Prelude.{◌≡◌, ℕ, ◌+◌, Bool, true, false, List, [], ◌∷◌, length, map, filter, take, drop, Option, None, Some, Result, Ok, Err, slice_get, if◌then◌else◌}
+use Rattle.std.specs.Prelude.{◌≡◌, ℕ, ◌+◌, Bool, true, false, List, [], ◌∷◌, length, map, Option, None, Some, Result, Ok, Err, slice_get, if◌then◌else◌}
 use Rattle.std.specs.List.{sum_by}
 use Rattle.lj_clause.specs.ClauseMap.{FormulaValue, formula_map}
 use Rattle.lj_clause.specs.Truth.{IsUnsatisfiable}
@@ -9,7 +9,6 @@ use Rattle.lj_text.specs.Lines.{Said}
 use Rattle.lj_text.specs.Steps.{replay, refutes}
 use Rattle.lj_text.specs.Streams.{SourceState}
 use Rattle.lj_book.specs.declared.entry.Call.{Call}
-use Rattle.lj_book.specs.declared.entry.Entry.{Entry}
 use Rattle.lj_book.specs.declared.refusal.Refusal.{Refusal}
 use Rattle.lj_book.specs.State.{live, steps_of}
 use Rattle.lj_book.specs.Named.{NamedState, IsNamedReached, beneath}

@@ -11,11 +11,11 @@ use Rattle.lj_book.specs.State.{verdict}
 use Rattle.lj_book.specs.Named.{NamedState, after_named, beneath}
 use Rattle.lj_book.specs.NamedReplies.{named_drop, named_import, named_inside}
 use Rattle.lj_book.specs.NamedInside.{named_inside_entry}
-use Rattle.lj_book.specs.Calls.{drop_entry, import_entry}
+use Rattle.lj_book.specs.NamedEntries.{named_import_entry}
+use Rattle.lj_book.specs.Calls.{drop_entry}
 use Rattle.lj_run.specs.Reading.{FailsAt, IsMemoryRefused, AreWhole}
 use Rattle.lj_run.specs.declared.outcome.End.{End}
 use Rattle.lj_run.specs.declared.outcome.End.TheVariants.{Ended, Stopped, Line as AtLine}
-use Rattle.lj_run.specs.declared.outcome.LineEnd.{LineEnd}
 use Rattle.lj_run.specs.declared.outcome.Report.{Report}
 use Rattle.lj_run.specs.declared.outcome.LineEnd.TheVariants.{Fault, Refused, ReadFailed}
 use Rattle.lj_clause.specs.declared.lit.TheConstants.{MAX_VARIABLE}
@@ -34,7 +34,7 @@ state_after_line seat s (Add a) = if_accepted (named_inside s seat a)
 state_after_line seat s (Delete numbers) = if_accepted (named_drop s seat numbers)
     (after_named s (drop_entry (beneath s) seat numbers))
 state_after_line seat s (Import number clause) = if_accepted (named_import s seat number clause)
-    (after_named s (import_entry seat number clause))
+    (after_named s (named_import_entry s seat number clause))
 
 -- ---- the lines of a stream
 

@@ -111,6 +111,18 @@ fn with_error_flags<'a>(alloc: Global, command: Command<'a>) -> Result<Command<'
 /// The version that `--version` tells.
 const VERSION: &str = "0.2.0";
 
+/// What the help tells behind the options.
+const MORE_HELP: &str = "Example: two provers, and a closing stream that imports what they derived
+  lratjoin formula.cnf first.lrat second.lrat --close closing.lrat --proof joint.lrat --trim
+
+Exit status:
+  0  verified, or this help was printed
+  1  not verified
+  2  a fault of the formula or of a file, refused memory, or an unconfirmed verdict
+  3  wrong arguments
+
+docs/GUIDE.md makes a portfolio step by step. docs/FORMATS.md has all formats.";
+
 /// The program without its arguments.
 fn without_arguments<'a>(alloc: Global) -> Command<'a>
     ensures { app_of result ≡ bare_app }
@@ -118,6 +130,7 @@ fn without_arguments<'a>(alloc: Global) -> Command<'a>
     Command::new(alloc, "lratjoin")
         .about("Checks LRAT proofs that a CNF formula can't be satisfied")
         .version(VERSION)
+        .after_help(MORE_HELP)
         .no_binary_name(true)
 }
 

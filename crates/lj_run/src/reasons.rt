@@ -34,7 +34,7 @@ impl ClosedSeat<'_> {
             }
             (Line::Import { clause, .. }, Refusal::NoSuchClause) => {
                 let clause = clause_text(self.alloc, clause.lits())?;
-                Ok(format!(in self.alloc; "no live clause has exactly the literals {clause}")?)
+                Ok(format!(in self.alloc; "no live clause is a part of {clause}")?)
             }
             (Line::Import { clause, .. }, Refusal::PrivateVariable) => {
                 self.private_variable(clause)
@@ -179,7 +179,9 @@ impl ClosedSeat<'_> {
             Some(pivot) => format!(in alloc; " for the pivot {pivot}")?,
             None => String::new(alloc),
         };
-        Ok(format!(in alloc; "{candidate} needs a group of hints{pivot}, and the line has none")?)
+        Ok(format!(in alloc;
+            "the hints reach no conflict, and {candidate} has no group of hints{pivot}"
+        )?)
     }
 
     /// The hint at a place of the group of a candidate isn't unit.

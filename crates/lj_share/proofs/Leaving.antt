@@ -6,9 +6,9 @@ use Rattle.std.proofs.lemmas.List.{length-replicate}
 use Rattle.lj_book.specs.declared.entry.Call.{Call}
 use Rattle.lj_book.specs.declared.entry.Call.TheVariants as calls
 use Rattle.lj_book.specs.declared.entry.Entry.{Entry}
-use Rattle.lj_book.specs.Lookup.{least_number}
+use Rattle.lj_book.specs.Imports.{import_number}
 use Rattle.lj_clause.specs.Renaming.{Renaming}
-use Rattle.lj_book.specs.State.{State, live}
+use Rattle.lj_book.specs.State.{State}
 use Rattle.lj_book.specs.History.{tables_after, with_found}
 use Rattle.lj_book.specs.Tables.{Table, Tables, is_here, with_table, without_seat}
 use Rattle.lj_book.specs.Named.{NamedState, named_opening, after_all_named, after_named, beneath, call_image, entry_beneath}
@@ -40,7 +40,7 @@ here_after : (s : State) (k : ℕ) (call : Call) (seat : ℕ) → (k ≡ seat �
 here_after s k (calls.Add own lemma) seat none = here_with _ s.tables k seat
 here_after s k (calls.Drop numbers) seat none = here_with _ s.tables k seat
 here_after s k (calls.Adopt own joint) seat none = here_with _ s.tables k seat
-here_after s k (calls.Import own clause) seat none = here_found s.tables k own seat (least_number (live s) clause)
+here_after s k (calls.Import own clause) seat none = here_found s.tables k own seat (import_number s clause)
 here_after s k calls.Leave seat none = here_without s.tables k seat (λ same. false≢true (sym (none same)))
 
 -- a leave is one in joint variables too

@@ -18,11 +18,11 @@ use Rattle.lj_book.specs.declared.entry.Added.{Added}
 use Rattle.lj_book.specs.declared.entry.Dropped.{Dropped}
 use Rattle.lj_book.specs.declared.refusal.Refusal.{Refusal}
 use Rattle.lj_book.specs.declared.refusal.Refusal.TheVariants.{SeatGone, NumberTaken, UnknownNumber, GroupRepeated, HintNotUnit, EmptyOpen, MissingGroup, GroupStuck, GroupOpen, PrivateVariable, NoSuchClause, Stale, Full, NoVariableLeft, NoMemory}
-use Rattle.lj_book.specs.Lookup.{least_number}
+use Rattle.lj_book.specs.Imports.{found}
 use Rattle.lj_book.specs.State.{State, addition_count, live, next}
 use Rattle.lj_book.specs.History.{IsReached}
 use Rattle.lj_book.specs.Tables.{Table, is_here, is_bound, table_of}
-use Rattle.lj_book.specs.Calls.{IsRefusal, commit_told, free_refusal, if_free, imported_at, unless_refused}
+use Rattle.lj_book.specs.Calls.{IsRefusal, commit_told, free_refusal, if_free, imported, unless_refused}
 use Rattle.lj_book.specs.Inside.{inside_after, inside_reply, joint_addition, open_refusal, or_full, rat_refusal, propagation_refusal}
 use Rattle.lj_book.specs.Solo.{View, solo_refusal, solo_take, view_of}
 use Rattle.lj_book.specs.Views.{decided_by, decided_refusal, stuck_refusal}
@@ -32,6 +32,7 @@ use Rattle.lj_book.specs.NamedReplies.{named_drop, named_import, named_inside, o
 use Rattle.lj_book.specs.NamedInside.{if_left}
 use Rattle.lj_book.specs.NamedAlone.{NamedFreeAlone}
 use Rattle.lj_book.proofs.HistoryLaws.{IsSound-reached}
+use Rattle.lj_book.proofs.ImportRefusals.{import_refused}
 use Rattle.lj_book.proofs.SoloStates.{IsGiven, IsGiven-sound}
 use Rattle.lj_book.proofs.SoloSteps.{held_named, view_is}
 use Rattle.lj_book.proofs.SoloTakes.{IsFit, take_alone, take_fits}
@@ -199,13 +200,12 @@ dropped_open laws s seat dropped clear = by (is_here s.tables seat) (named_view 
     by false (Some h) same is x = absurd (there (Some h) (fin.contains_key h 0) same)
 
 imported_open : NamedFreeAlone → (s : NamedState) (seat own : ℕ) (c : LiteralSet) → solo_refusal (named_view s seat) own ≡ None → IfErr (named_import s seat own c) IsNotFound
-imported_open laws s seat own c clear = by (free_refusal (beneath s) seat own) (is_named (top_of s) (names_of s seat) c) (least_number (live (beneath s)) (image (names_of s seat) c)) (laws s seat own ∙ clear)
+imported_open laws s seat own c clear = by (free_refusal (beneath s) seat own) (is_named (top_of s) (names_of s seat) c) (laws s seat own ∙ clear)
   where
-    by : (free : Option Refusal) (named : Bool) (found : Option ℕ) → free ≡ None → IfErr (if_free (or_private free named) (imported_at (length s.history) found)) IsNotFound
-    by (Some e) named found is = absurd (false≢true (sym (ap is_some is)))
-    by None false found is = tt
-    by None true None is = tt
-    by None true (Some joint) is = tt
+    by : (free : Option Refusal) (named : Bool) → free ≡ None → IfErr (if_free (or_private free named) (imported (beneath s) (found (beneath s) (image (names_of s seat) c)))) IsNotFound
+    by (Some e) named is = absurd (false≢true (sym (ap is_some is)))
+    by None false is = tt
+    by None true is = import_refused (beneath s) (image (names_of s seat) c) IsNotFound tt tt
 
 -- ---- lines
 

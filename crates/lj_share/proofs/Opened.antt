@@ -16,7 +16,7 @@ use Rattle.lj_book.specs.Calls.{commit_told, if_free}
 use Rattle.lj_book.specs.declared.entry.Call.{Call}
 use Rattle.lj_book.specs.declared.entry.Call.TheVariants as calls
 use Rattle.lj_book.specs.declared.entry.Entry.{Entry}
-use Rattle.lj_book.specs.Lookup.{least_number}
+use Rattle.lj_book.specs.Imports.{import_number}
 use Rattle.lj_book.specs.State.{State, live, next}
 use Rattle.lj_book.specs.History.{tables_after, with_found}
 use Rattle.lj_book.specs.Solo.{View, with_clause, without_holdings}
@@ -50,7 +50,7 @@ pub seats_kept : (s : State) (seat : ℕ) (call : Call) → length (tables_after
 seats_kept s seat (calls.Add own lemma) = length-with_table _ s.tables seat
 seats_kept s seat (calls.Drop numbers) = length-with_table _ s.tables seat
 seats_kept s seat (calls.Adopt own joint) = length-with_table _ s.tables seat
-seats_kept s seat (calls.Import own clause) = length-with_found s.tables seat own (least_number (live s) clause)
+seats_kept s seat (calls.Import own clause) = length-with_found s.tables seat own (import_number s clause)
 seats_kept s seat calls.Leave = length-without_seat s.tables seat
 
 -- the book stays that of its opening
@@ -139,7 +139,7 @@ abbrev pub HasFound : NamedState → ℕ → Call → Type 0
 HasFound s seat (calls.Add own lemma) = Unit {0}
 HasFound s seat (calls.Drop numbers) = Unit {0}
 HasFound s seat (calls.Adopt own joint) = Unit {0}
-HasFound s seat (calls.Import own clause) = (joint : ℕ) × (least_number (live (beneath s)) (image (names_of s seat) clause) ≡ Some joint)
+HasFound s seat (calls.Import own clause) = (joint : ℕ) × (import_number (beneath s) (image (names_of s seat) clause) ≡ Some joint)
 HasFound s seat calls.Leave = Unit {0}
 
 -- the clause of an adoption, in the seat's variables
@@ -203,7 +203,7 @@ added_in views s t e own lemma joint v u w formula reached onward same is before
     by (Some h) = refl
 
 -- behind an import, under the joint number that was found
-pub imported_in : NamedViewsFollowEntries → (s t : NamedState) (e : Entry) (own : ℕ) (clause : LiteralSet) (joint : ℕ) (v u w : SeatValue) → IsFormula s.formula → IsNamedReached s → IsNamedReached t → e.seat ≡ u.number → t ≡ after_named s e → seat_of_book s v.number ≡ v → u ≡ v → w ≡ seat_of_book t u.number → e.call ≡ calls.Import own clause → least_number (live (beneath s)) (image (names_of s e.seat) clause) ≡ Some joint → w.view ≡ with_bound own joint clause v.view
+pub imported_in : NamedViewsFollowEntries → (s t : NamedState) (e : Entry) (own : ℕ) (clause : LiteralSet) (joint : ℕ) (v u w : SeatValue) → IsFormula s.formula → IsNamedReached s → IsNamedReached t → e.seat ≡ u.number → t ≡ after_named s e → seat_of_book s v.number ≡ v → u ≡ v → w ≡ seat_of_book t u.number → e.call ≡ calls.Import own clause → import_number (beneath s) (image (names_of s e.seat) clause) ≡ Some joint → w.view ≡ with_bound own joint clause v.view
 imported_in views s t e own clause joint v u w formula reached onward same is before kept after named found =
     view_in views s t e (calls.Import own clause) v u w formula reached onward same is before kept after named ∙ by v.view
   where

@@ -71,10 +71,11 @@ IsRatOrFull Full = Unit {0}
 IsRatOrFull NoVariableLeft = Unit {0}
 IsRatOrFull e = IsWantOfMemory e
 
--- the clause has a variable that the seat was not given, no such clause lives, or memory is short
+-- the clause has a variable that the seat was not given, no part of it lives, the history is full, or memory is short
 abbrev pub IsNotFound : Refusal → Type 0
 IsNotFound PrivateVariable = Unit {0}
 IsNotFound NoSuchClause = Unit {0}
+IsNotFound Full = Unit {0}
 IsNotFound e = IsWantOfMemory e
 
 -- how a line can be refused where what the seat sees decides no refusal

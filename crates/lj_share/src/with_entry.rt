@@ -1,12 +1,13 @@
 //! Calls on the book that tell a copy of their entry where it is asked for, and the joint number that an own number is bound to.
 ghost use Rattle.std.specs.Prelude.{◌≡◌, IfOk, IfErr, OnOk, OnErr, Some, is_ok, true};
 ghost use Rattle.lj_clause.specs.Renaming.{image};
-ghost use Rattle.lj_book.specs.Calls.{IsRefusal, drop_entry, import_entry};
+ghost use Rattle.lj_book.specs.Calls.{IsRefusal, drop_entry};
 ghost use Rattle.lj_book.specs.Views.{IsClosedAlone};
-ghost use Rattle.lj_book.specs.Lookup.{least_number};
-ghost use Rattle.lj_book.specs.State.{live, next};
+ghost use Rattle.lj_book.specs.State.{next};
+ghost use Rattle.lj_book.specs.Imports.{import_number};
 ghost use Rattle.lj_book.specs.NamedReplies.{named_drop, named_import, named_inside};
 ghost use Rattle.lj_book.specs.Named.{after_named, beneath, names_of};
+ghost use Rattle.lj_book.specs.NamedEntries.{named_import_entry};
 ghost use Rattle.lj_book.specs.NamedInside.{named_inside_entry};
 ghost use Rattle.lj_book.specs.NamedViews.{named_view};
 ghost use Rattle.lj_share.specs.inner.WithEntry.{IsAsked};
@@ -99,7 +100,8 @@ pub(crate) fn drop_numbers(
     Ok(None)
 }
 
-/// Binds a seat's own number to a live clause with exactly these literals, which are in the seat's variables.
+/// Binds a seat's own number to a live clause with exactly these literals, which are in the seat's variables, or to one that enters
+/// by a live part of it.
 ///
 /// # Errors
 /// As [`Book::import`].
@@ -111,10 +113,10 @@ pub(crate) fn import(
     with_entry: bool,
 ) -> Result<(Option<Entry>, u64), Refusal>
     ensures ok { OnOk result
-        (book.new ≡ after_named book.old (import_entry seat own clause.now)) }
-    ensures told { IfOk result (λ told. IsAsked with_entry (import_entry seat own clause.now)
-        told.0) }
-    ensures found { IfOk result (λ told. least_number (live (beneath book.old))
+        (book.new ≡ after_named book.old (named_import_entry book.old seat own clause.now)) }
+    ensures told { IfOk result (λ told. IsAsked with_entry
+        (named_import_entry book.old seat own clause.now) told.0) }
+    ensures found { IfOk result (λ told. import_number (beneath book.old)
         (image (names_of book.old seat) clause.now) ≡ Some told.1) }
     ensures err { OnErr result (book.new ≡ book.old) }
     ensures accepted { OnOk result (is_ok (named_import book.old seat own clause.now) ≡ true) }

@@ -23,3 +23,4 @@ case("a clause number of ten thousand zeros and a 5", "0" * 10_000 + "5 2 0 1 2 
 case("a clause number of ten thousand nines", "9" * 10_000 + " 2 0 1 2 0", REFUSED + "NumberRange", "")
 case("a closing token of a zero and a NUL", r"5 1 0 0\x00", REFUSED + "BadNumber", "")
 case("a closing token of a zero and a byte FF", r"5 1 0 0\xff", REFUSED + "BadNumber", "")
+case("a closing token of a byte FF alone", r"5 1 0 \xff", REFUSED + "BadNumber", "")

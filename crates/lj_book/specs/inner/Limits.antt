@@ -1,5 +1,5 @@
 -- The test of an addition that needs more joint variables than are left. Only the literals that have joint forms are tested.
-use Rattle.std.specs.Prelude.{ℕ, ℤ, neg_ℤ, nat_lt, Bool, true, false, not, ◌&&◌, ◌||◌, if◌then◌else◌, List, ◌∷◌, map, filter, Option, Some, None, Result, Ok, Err}
+use Rattle.std.specs.Prelude.{ℕ, ℤ, neg_ℤ, nat_lt, Bool, false, not, ◌&&◌, ◌||◌, if◌then◌else◌, List, ◌∷◌, map, filter, Option, Some, None, Result, Ok, Err}
 use Rattle.std.specs.List.{list_any}
 use Rattle.lj_clause.specs.Literal.{variable_of}
 use Rattle.lj_clause.specs.LiteralSet.{LiteralSet, holds, literals}

@@ -1,5 +1,5 @@
 -- The entries of a history as words and literals, and how they are read again.
-use Rattle.std.specs.Prelude.{◌≡◌, ℕ, ◌+◌, ◌*◌, ◌%◌, ◌/◌, ◌<◌, ◌≤◌, ◌==◌, ℤ, List, [], ◌∷◌, ◌++◌, map, length, take, drop, Option, Some, None, if◌then◌else◌}
+use Rattle.std.specs.Prelude.{◌≡◌, Bool, true, false, ℕ, ◌+◌, ◌*◌, ◌%◌, ◌/◌, ◌<◌, ◌≤◌, ◌==◌, ℤ, List, [], ◌∷◌, ◌++◌, map, length, take, drop, Option, Some, None, if◌then◌else◌}
 use Rattle.std.specs.List.{AllByRecursion}
 use Rattle.lj_clause.specs.LiteralSet.{LiteralSet, literals, from_literals}
 use Rattle.lj_clause.specs.Lemma.{LemmaValue, lemma_of}
@@ -40,13 +40,22 @@ import_kind = 3
 abbrev pub leave_kind : ℕ
 leave_kind = 4
 
+-- that of an import by a part of its clause
+abbrev pub part_kind : ℕ
+part_kind = 5
+
+-- the kind of a call by which a lemma enters: an import, or an addition
+abbrev pub entering_kind : Bool → ℕ
+entering_kind true = part_kind
+entering_kind false = addition_kind
+
 abbrev pub head_encoding : ℕ → ℕ → List ℕ
 head_encoding seat kind = number_encoding (8 * seat + kind)
 
--- the words of a seat's addition, whose literals begin at this place
-abbrev pub add_encoding : ℕ → ℕ → Addition → ℕ → List ℕ
-add_encoding seat own a at =
-    head_encoding seat addition_kind ++ (number_encoding own ++
+-- the words of a seat's call of this kind by which a lemma enters, whose literals begin at this place
+abbrev pub add_encoding : ℕ → ℕ → ℕ → Addition → ℕ → List ℕ
+add_encoding kind seat own a at =
+    head_encoding seat kind ++ (number_encoding own ++
     (number_encoding a.number ++ (number_encoding at
     ++ (number_encoding (length (lemma_lits a.lemma)) ++
     (list_encoding a.hints ++ hint_groups_encoding a.groups)))))
@@ -91,6 +100,7 @@ call_in lits kind ws =
     else if kind == drop_kind then calls.Drop (list_in ws).0
     else if kind == adopt_kind then calls.Adopt (number_in ws).0 (number_in (number_in ws).1).0
     else if kind == import_kind then calls.Import (number_in ws).0 (from_literals (lits_in lits (number_in ws).1))
+    else if kind == part_kind then calls.Import (number_in ws).0 (addition_in lits (number_in ws).1).lemma.clause
     else calls.Leave
 
 abbrev pub step_in : List ℤ → ℕ → List ℕ → Option Step
@@ -99,6 +109,7 @@ step_in lits kind ws =
     else if kind == drop_kind then if_some (list_in (list_in ws).1).0
     else if kind == adopt_kind then None
     else if kind == import_kind then None
+    else if kind == part_kind then Some (steps.Add (addition_in lits (number_in ws).1))
     else if_some (list_in ws).0
 
 -- the parts of the first number of an entry
@@ -125,11 +136,22 @@ abbrev pub binding_call : ℕ → ℕ → Option LiteralSet → Call
 binding_call own joint None = calls.Adopt own joint
 binding_call own joint (Some clause) = calls.Import own clause
 
+-- the call by which a lemma enters: an import of its clause, or its addition
+abbrev pub entering_call : Bool → ℕ → LemmaValue → Call
+entering_call true own lemma = calls.Import own lemma.clause
+entering_call false own lemma = calls.Add own lemma
+
+-- the entry of that call, with the step that adds the lemma
+abbrev pub entering_entry : Bool → ℕ → ℕ → Addition → Entry
+entering_entry is_import seat own a = entry_of seat (entering_call is_import own a.lemma)
+    (Some (steps.Add a))
+
 -- the literals that the words of a kind name
 abbrev pub named_in : List ℤ → ℕ → List ℕ → List ℤ
 named_in lits kind ws =
     if kind == addition_kind then lits_in lits (number_in (number_in ws).1).1
     else if kind == import_kind then lits_in lits (number_in ws).1
+    else if kind == part_kind then lits_in lits (number_in (number_in ws).1).1
     else []
 
 -- the entry, and the literals that its words name
@@ -141,13 +163,23 @@ abbrev pub binding_lits : Option LiteralSet → List ℤ
 binding_lits None = []
 binding_lits (Some clause) = literals clause
 
--- the literals that the call of an entry is kept by
-abbrev pub call_lits : Call → List ℤ
-call_lits (calls.Add own lemma) = lemma_lits lemma
-call_lits (calls.Drop numbers) = []
-call_lits (calls.Adopt own joint) = []
-call_lits (calls.Import own clause) = literals clause
-call_lits calls.Leave = []
+-- the literals that an import is kept by: those of its clause, or of the lemma that it adds
+abbrev pub import_lits : LiteralSet → Option Step → List ℤ
+import_lits clause None = literals clause
+import_lits clause (Some (steps.Add a)) = lemma_lits a.lemma
+import_lits clause (Some (steps.Delete numbers)) = literals clause
+
+-- the literals that a call with its step is kept by
+abbrev pub call_lits : Call → Option Step → List ℤ
+call_lits (calls.Add own lemma) step = lemma_lits lemma
+call_lits (calls.Drop numbers) step = []
+call_lits (calls.Adopt own joint) step = []
+call_lits (calls.Import own clause) step = import_lits clause step
+call_lits calls.Leave step = []
+
+-- the literals that an entry is kept by
+abbrev pub entry_lits : Entry → List ℤ
+entry_lits e = call_lits e.call e.step
 
 -- From this place on stand the words of an entry, whatever stands behind them, with the literals that it is kept by.
 pub record IsWritten (lits : List ℤ) (encoding : List ℕ) (start : ℕ) : Type 0 where
@@ -155,7 +187,7 @@ pub record IsWritten (lits : List ℤ) (encoding : List ℕ) (start : ℕ) : Typ
   pub whole : (more : List ℤ) (behind : List ℕ)
       → read_in (lits ++ more) (drop start encoding ++ behind) ≡ read_in lits (drop start encoding)
   pub named : (read_in lits (drop start encoding)).1
-      ≡ call_lits (read_in lits (drop start encoding)).0.call
+      ≡ entry_lits (read_in lits (drop start encoding)).0
   pub seated : (entry_in lits (drop start encoding)).seat < 4294967296
 
 -- Each entry stands where it begins.

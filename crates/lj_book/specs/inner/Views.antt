@@ -6,7 +6,7 @@ use Rattle.lj_book.specs.declared.entry.Call.TheVariants as calls
 use Rattle.lj_book.specs.declared.refusal.Refusal.{Refusal}
 use Rattle.lj_book.specs.declared.refusal.Refusal.TheVariants.{Full, NoMemory}
 use Rattle.lj_book.specs.State.{State, next, live}
-use Rattle.lj_book.specs.Lookup.{least_number}
+use Rattle.lj_book.specs.Imports.{import_number}
 use Rattle.lj_book.specs.Solo.{Holdings, View, with_clause, without_holdings}
 use Rattle.lj_book.specs.Views.{with_found_holding}
 
@@ -19,8 +19,7 @@ view_after_call s (calls.Add own lemma) h = Some
 view_after_call s (calls.Drop numbers) h = Some (without_holdings numbers h)
 view_after_call s (calls.Adopt own joint) h = Some
     (fin.insert h own (with_clause (live s) joint))
-view_after_call s (calls.Import own c) h = Some
-    (with_found_holding h own (least_number (live s) c) c)
+view_after_call s (calls.Import own c) h = Some (with_found_holding h own (import_number s c) c)
 view_after_call s calls.Leave h = None
 
 -- ---- refusals

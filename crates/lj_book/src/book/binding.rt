@@ -1,13 +1,14 @@
-//! Own numbers that are bound to clauses which live already, as seats name them.
-ghost use Rattle.std.specs.Prelude.{◌≡◌, None, OnOk, OnErr, IfErr, IfSome, IsOk, Err, true};
+//! Own numbers that are bound to clauses which live already, or by clauses which do, as seats name them.
+ghost use Rattle.std.specs.Prelude.{◌≡◌, if◌then◌else◌, None, OnOk, OnErr, IfOk, IfErr, IfSome, IsOk, Err, true};
 ghost use Rattle.std.specs.FinMap as fin;
 ghost use Rattle.lj_clause.specs.ClauseMap.{names_up_to};
 ghost use Rattle.lj_clause.specs.Renaming.{is_named, image};
 ghost use Rattle.lj_book.specs.State.{live};
-ghost use Rattle.lj_book.specs.Calls.{IsReply, adopt_entry, import_entry};
+ghost use Rattle.lj_book.specs.Calls.{IsReply, IsReplyBy, adopt_entry};
 ghost use Rattle.lj_book.specs.Named.{top_of, names_of, beneath, after_named};
 ghost use Rattle.lj_book.specs.inner.Over.{is_private};
 ghost use Rattle.lj_book.specs.NamedReplies.{named_adopt, import_refusal, named_import};
+ghost use Rattle.lj_book.specs.NamedEntries.{named_import_entry};
 ghost use Rattle.lj_book.specs.NamedAlone.{clause_for};
 
 use crate::book::Book;
@@ -15,6 +16,7 @@ use crate::entry::Imported;
 use crate::joint_book::laws::history_is_legal;
 use crate::refusal::Refusal;
 use lj_clause::Clause;
+use lj_text::Step;
 
 impl Book {
     /// The live clause of a joint number, in the seat's variables. Takes the time of [`Book::clause`], and time linear in its
@@ -61,37 +63,72 @@ impl Book {
         adopted
     }
 
-    /// Binds the seat's own number to the least live number with exactly this clause, which is in the seat's variables. Takes
-    /// time linear in the clause's literals, and that again for each clause that holds the literal of it which the fewest
-    /// hold; those that died since one asked for this literal count too. The first time it takes O(log n) time for each joint
-    /// number given so far, and for each literal of the live clauses. Where the clause has a variable above the formula's, it
-    /// also takes the time of [`Book::variable`] for each literal, and O(n log n) time for n of them.
+    /// Binds the seat's own number to the least live number with exactly this clause, which is in the seat's variables. Where none
+    /// lives, but a part of the clause does, the clause enters under the next joint number: its hint is the least such part, or
+    /// none where the clause holds a literal and its negation, and its pivot the least literal in joint variables.
+    ///
+    /// Takes time linear in the clause's literals, and that again for each clause that holds the literal of it which the fewest
+    /// hold; those that died since one asked for this literal count too. Where no equal clause lives, takes time linear in the
+    /// lists of the clauses that hold each of its literals, O(log n) for each of its n literals there. The first time it takes
+    /// O(log n) time for each joint number given so far, and for each literal of the live clauses. Where the clause has a
+    /// variable above the formula's, it also takes the time of [`Book::variable`] for each literal, and O(n log n) time for n
+    /// of them.
     ///
     /// # Errors
-    /// [`Refusal::SeatGone`], [`Refusal::NumberTaken`], [`Refusal::PrivateVariable`], [`Refusal::NoSuchClause`] where no
-    /// clause with exactly these literals lives, and [`Refusal::NoMemory`] where a growth was refused.
+    /// [`Refusal::SeatGone`], [`Refusal::NumberTaken`], [`Refusal::PrivateVariable`], [`Refusal::NoSuchClause`] where no part
+    /// of the clause lives, [`Refusal::Full`], and [`Refusal::NoMemory`] where a growth was refused.
     pub fn import(&mut self, seat: u32, own: u64, clause: &Clause) -> Result<Imported, Refusal>
         ensures reply { IsReply result (named_import self.old seat own clause.now) }
         ensures refused { IfSome (import_refusal self.old seat own clause.now)
             (λ e. result ≡ Err e) }
         ensures within { names_up_to (top_of self.old) clause.now ≡ true
             → IfErr (named_import self.old seat own clause.now) (λ e. result ≡ Err e) }
-        ensures ok { OnOk result
-            (self.new ≡ after_named self.old (import_entry seat own clause.now)) }
+        ensures ok { OnOk result (self.new
+            ≡ after_named self.old (named_import_entry self.old seat own clause.now)) }
+        ensures err { OnErr result (self.new ≡ self.old) }
+    {
+        match self.import_told(seat, own, clause, false) {
+            Ok((imported, _step)) => Ok(imported),
+            Err(refusal) => Err(refusal),
+        }
+    }
+
+    /// As [`Book::import`], with the step where `copies` asks for it.
+    ///
+    /// # Errors
+    /// As [`Book::import`].
+    pub(super) fn import_told(
+        &mut self,
+        seat: u32,
+        own: u64,
+        clause: &Clause,
+        copies: bool,
+    ) -> Result<(Imported, Option<Step>), Refusal>
+        ensures reply { IsReplyBy (λ told. told.0) result
+            (named_import self.old seat own clause.now) }
+        ensures refused { IfSome (import_refusal self.old seat own clause.now)
+            (λ e. result ≡ Err e) }
+        ensures within { names_up_to (top_of self.old) clause.now ≡ true
+            → IfErr (named_import self.old seat own clause.now) (λ e. result ≡ Err e) }
+        ensures told { IfOk result (λ told. told.1 ≡ (if copies
+            then (named_import_entry self.old seat own clause.now).step
+            else None)) }
+        ensures ok { OnOk result (self.new
+            ≡ after_named self.old (named_import_entry self.old seat own clause.now)) }
         ensures err { OnErr result (self.new ≡ self.old) }
     {
         if self.variables.is_within(clause) {
-            return self.import_joint(seat, own, clause, clause);
+            return self.import_joint(seat, own, clause, clause, copies);
         }
         if let Some(refusal) = self.import_refusal(seat, own, clause) {
             return Err(refusal);
         }
         let alloc = self.joint.allocator();
         let renamed = clause.renamed(alloc, &self.variables.to_joint(seat))?;
-        self.import_joint(seat, own, clause, &renamed)
+        self.import_joint(seat, own, clause, &renamed, copies)
     }
 
-    /// As [`Book::import`], by the clause in joint variables. The other one is told to the proof alone.
+    /// As [`Book::import_told`], by the clause in joint variables. The other one is told to the proof alone.
     ///
     /// # Errors
     /// As [`Book::import`].
@@ -101,18 +138,23 @@ impl Book {
         own: u64,
         clause: &Clause,
         joint: &Clause,
-    ) -> Result<Imported, Refusal>
+        copies: bool,
+    ) -> Result<(Imported, Option<Step>), Refusal>
         requires named { is_named (top_of self.old) (names_of self.old seat) clause.now ≡ true }
         requires joint { image (names_of self.old seat) clause.now ≡ joint.now }
-        ensures reply { IsReply result (named_import self.old seat own clause.now) }
+        ensures reply { IsReplyBy (λ told. told.0) result
+            (named_import self.old seat own clause.now) }
         ensures refused { IfErr (named_import self.old seat own clause.now)
             (λ e. result ≡ Err e) }
-        ensures ok { OnOk result
-            (self.new ≡ after_named self.old (import_entry seat own clause.now)) }
+        ensures told { IfOk result (λ told. told.1 ≡ (if copies
+            then (named_import_entry self.old seat own clause.now).step
+            else None)) }
+        ensures ok { OnOk result (self.new
+            ≡ after_named self.old (named_import_entry self.old seat own clause.now)) }
         ensures err { OnErr result (self.new ≡ self.old) }
     {
         let _ = clause;
-        let imported = self.joint.import(seat, own, joint);
+        let imported = self.joint.import(seat, own, joint, copies);
         history_is_legal(&self.joint);
         imported
     }
@@ -141,10 +183,7 @@ impl Book {
         if !self.variables.is_within(clause) {
             return None;
         }
-        if self.joint.least_number(clause).is_none() {
-            return Some(Refusal::NoSuchClause);
-        }
-        None
+        self.joint.found_refusal(clause)
     }
 
     /// The first refusal of an import that holds before its clause is sought.

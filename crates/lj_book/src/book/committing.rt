@@ -169,7 +169,7 @@ fn enter_joint(
         Some(lemma) => {
             let step = LentAddition::new(book.next(), &lemma, &hints, &groups);
             let entry = entry_if(copies, receipt, &step)?;
-            let added = book.enter_legal(seat, receipt.own(), &step)?;
+            let added = book.enter_legal(seat, receipt.own(), &step, false)?;
             Ok((added, entry))
         }
         None => unreachable!(),

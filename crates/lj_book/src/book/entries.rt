@@ -1,5 +1,5 @@
 //! Entries in their seats' variables.
-ghost use Rattle.std.specs.Prelude.{◌≡◌, ◌↔◌, IsTrue, IfOk, Some, slice_get};
+ghost use Rattle.std.specs.Prelude.{◌≡◌, ◌↔◌, IsTrue, IfOk, Some, None, slice_get};
 ghost use Rattle.lj_clause.specs.Renaming.{inverse};
 ghost use Rattle.lj_book.specs.declared.entry.Call.TheVariants as calls;
 ghost use Rattle.lj_book.specs.Named.{names_of, call_image, own_entry};
@@ -68,7 +68,10 @@ impl Book {
         match step {
             Step::Add(addition) => {
                 self.variables.is_own_lemma(seat, lemma, &addition.lemma)
-                    && self.joint.history().is_line(place, seat, own, addition)
+                    && self
+                        .joint
+                        .history()
+                        .is_line(place, seat, own, addition, false)
             }
             Step::Delete { .. } => false,
         }
@@ -87,12 +90,38 @@ impl Book {
             (record { seat = seat; call = calls.Import own clause.now; step = step.now })) }
     {
         history_is_legal(self);
-        if step.is_some() {
-            return false;
+        match step {
+            Some(step) => self.is_part_import(place, seat, own, clause, step),
+            None => self.is_equal_import(place, seat, own, clause),
         }
+    }
+
+    /// The same, without a step.
+    fn is_equal_import(&self, place: u64, seat: u32, own: u64, clause: &Clause) -> bool
+        ensures { IsTrue result ↔ (slice_get self.now.history place ≡ Some
+            (record { seat = seat; call = calls.Import own clause.now; step = None })) }
+    {
         match self.joint.history().imported(place, seat, own) {
             Some(joint) => self.variables.is_joint_form(seat, clause, &joint),
             None => false,
+        }
+    }
+
+    /// The same, by a step that is there.
+    fn is_part_import(&self, place: u64, seat: u32, own: u64, clause: &Clause, step: &Step) -> bool
+        ensures { IsTrue result ↔ (slice_get self.now.history place ≡ Some
+            (record { seat = seat; call = calls.Import own clause.now; step = Some step.now })) }
+    {
+        match step {
+            Step::Add(addition) => {
+                let joint = addition.lemma.clause().view();
+                self.variables.is_joint_form(seat, clause, &joint)
+                    && self
+                        .joint
+                        .history()
+                        .is_line(place, seat, own, addition, true)
+            }
+            Step::Delete { .. } => false,
         }
     }
 

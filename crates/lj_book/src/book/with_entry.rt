@@ -1,11 +1,11 @@
 //! Calls that also tell the entry that they make: a copy, made before the book changes.
 ghost use Rattle.std.specs.Prelude.{◌≡◌, OnOk, OnErr, IfOk, IfErr, IfSome, Err, true};
 ghost use Rattle.lj_clause.specs.ClauseMap.{names_up_to};
-ghost use Rattle.lj_book.specs.Calls.{IsReplyBy, drop_entry, adopt_entry, import_entry, leave_entry};
+ghost use Rattle.lj_book.specs.Calls.{IsReplyBy, drop_entry, adopt_entry, leave_entry};
 ghost use Rattle.lj_book.specs.WithEntry.{without_receipt};
 ghost use Rattle.lj_book.specs.Named.{top_of, beneath, after_named};
 ghost use Rattle.lj_book.specs.NamedReplies.{named_commit_refusal, named_commit, named_drop, named_adopt, import_refusal, named_import, named_leave};
-ghost use Rattle.lj_book.specs.NamedEntries.{named_commit_entry};
+ghost use Rattle.lj_book.specs.NamedEntries.{named_commit_entry, named_import_entry};
 
 use super::Book;
 use crate::entry::{Added, Call, Dropped, Entry, Imported};
@@ -103,9 +103,10 @@ impl Book {
             (λ e. result ≡ Err e) }
         ensures within { names_up_to (top_of self.old) clause.now ≡ true
             → IfErr (named_import self.old seat own clause.now) (λ e. result ≡ Err e) }
-        ensures told { IfOk result (λ told. told.1 ≡ import_entry seat own clause.now) }
-        ensures ok { OnOk result
-            (self.new ≡ after_named self.old (import_entry seat own clause.now)) }
+        ensures told { IfOk result
+            (λ told. told.1 ≡ named_import_entry self.old seat own clause.now) }
+        ensures ok { OnOk result (self.new
+            ≡ after_named self.old (named_import_entry self.old seat own clause.now)) }
         ensures err { OnErr result (self.new ≡ self.old) }
     {
         if let Some(refusal) = self.known_refusal(seat, own, clause) {
@@ -115,9 +116,8 @@ impl Book {
             own,
             clause: clause.try_clone()?,
         };
-        let step = None;
-        match self.import(seat, own, clause) {
-            Ok(imported) => Ok((imported, Entry { seat, call, step })),
+        match self.import_told(seat, own, clause, true) {
+            Ok((imported, step)) => Ok((imported, Entry { seat, call, step })),
             Err(refusal) => Err(refusal),
         }
     }

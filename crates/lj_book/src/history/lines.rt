@@ -1,9 +1,10 @@
 //! The lines of the steps of entries, written from words and literals. Nothing here takes memory.
-ghost use Rattle.std.specs.Prelude.{◌≡◌, ◌∷◌, ◌≤◌, map, filter, filter_map, not, length, flat_map};
+ghost use Rattle.std.specs.Prelude.{◌≡◌, ◌∷◌, ◌≤◌, Some, map, filter, filter_map, not, length, flat_map};
 ghost use Rattle.std.specs.Fmt.{decimal, signed_decimal};
 ghost use Rattle.std.specs.List.{AllByRecursion};
 ghost use Rattle.std.specs.Ordering.{eq_by_cmp};
 ghost use Rattle.lj_clause.specs.Literal.{lit_cmp};
+ghost use Rattle.lj_text.specs.declared.step.Step.TheVariants.{Add};
 ghost use Rattle.lj_text.specs.Needed.{if_some, up_to_empty};
 ghost use Rattle.lj_text.specs.StepText.{group_tokens, addition_text, text_after};
 ghost use Rattle.lj_text.specs.inner.Writing.{spaced_tokens};
@@ -13,7 +14,7 @@ ghost use Rattle.lj_book.specs.inner.Records.{lemma_lits, addition_in, call_in, 
 ghost use Rattle.lj_book.specs.inner.StepLines.{kept_as_written, entry_text, entry_greatest, ends_proof};
 
 use super::reading::{encoding_from, named};
-use super::{ADDITION, ADOPT, DROP, IMPORT, KINDS};
+use super::{ADDITION, ADOPT, DROP, IMPORT, KINDS, PART};
 use crate::encoding::{behind_list, number};
 use lj_clause::Lit;
 use lj_text::{LineToken, Sink, TokenWriter};
@@ -157,7 +158,7 @@ fn write_step<W: Sink>(
 ) -> u64
     requires may { MayBeGiven (token_state (W.taken sink.old) (W.failures sink.old) writer.old) }
     requires named { named_in lits.now kind encoding.now
-        ≡ call_lits (call_in lits.now kind encoding.now) }
+        ≡ call_lits (call_in lits.now kind encoding.now) (step_in lits.now kind encoding.now) }
 
     ensures given { WasGiven (token_state (W.taken sink.old) (W.failures sink.old) writer.old)
         (entry_text greatest (step_in lits.now kind encoding.now))
@@ -165,7 +166,7 @@ fn write_step<W: Sink>(
     ensures greatest { result ≡ entry_greatest greatest (step_in lits.now kind encoding.now) }
 {
     match kind {
-        ADDITION => {
+        ADDITION | PART => {
             let (_, rest) = number(encoding);
             greatest.max(write_addition(writer, sink, lits, rest))
         }
@@ -184,12 +185,19 @@ fn write_step<W: Sink>(
 /// Whether the step of a kind, behind the first number of its entry, adds the empty clause.
 fn ends_proof(lits: &[Lit], kind: u64, encoding: &[u32]) -> bool
     requires { named_in lits.now kind encoding.now
-        ≡ call_lits (call_in lits.now kind encoding.now) }
+        ≡ call_lits (call_in lits.now kind encoding.now) (step_in lits.now kind encoding.now) }
     ensures { result ≡ ends_proof (step_in lits.now kind encoding.now) }
 {
-    if kind != ADDITION {
-        return false;
+    match kind {
+        ADDITION | PART => adds_empty(lits, encoding),
+        _ => false,
     }
+}
+
+/// Whether the addition behind an own number has the empty clause.
+fn adds_empty(lits: &[Lit], encoding: &[u32]) -> bool
+    ensures { result ≡ ends_proof (Some (Add (addition_in lits.now (number_in encoding.now).1))) }
+{
     let (_, rest) = number(encoding);
     let (_, rest) = number(rest);
     let (literals, _) = named(lits, rest);

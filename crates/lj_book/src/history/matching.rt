@@ -2,13 +2,13 @@
 ghost use Rattle.std.specs.Prelude.{◌≡◌, ◌↔◌, ◌<◌, IsTrue, IfSome, IfNone};
 ghost use Rattle.lj_clause.specs.LiteralSet.{LiteralSet, literals, from_literals};
 ghost use Rattle.lj_text.specs.Needed.{if_some};
-ghost use Rattle.lj_book.specs.Calls.{import_entry};
-ghost use Rattle.lj_book.specs.inner.JointLines.{line_entry};
+ghost use Rattle.lj_book.specs.declared.entry.Call.TheVariants as calls;
+ghost use Rattle.lj_book.specs.Calls.{binding_entry};
 ghost use Rattle.lj_book.specs.inner.Encoding.{number_in, list_in, hint_groups_in};
-ghost use Rattle.lj_book.specs.inner.Records.{lemma_lits, lits_in, call_lits, addition_in, call_in, step_in, entry_in, read_in, named_in};
+ghost use Rattle.lj_book.specs.inner.Records.{lemma_lits, lits_in, call_lits, entry_lits, entering_entry, addition_in, call_in, step_in, entry_in, read_in, named_in};
 
 use super::reading::named;
-use super::{ADDITION, ADOPT, DROP, IMPORT, KINDS};
+use super::{ADDITION, ADOPT, DROP, IMPORT, KINDS, PART, entering_kind};
 use crate::encoding::{groups_match, list_matches, number, numbers_match};
 use crate::entry::{Call, Entry};
 use crate::same::same_lemma;
@@ -142,10 +142,26 @@ fn is_import(lits: &[Lit], encoding: &[u32], call: &Call, step: &Option<Step>) -
     step.is_none()
 }
 
+/// Whether the words behind the first number of an import that adds its clause are those of this call and this step.
+fn is_part(lits: &[Lit], encoding: &[u32], call: &Call, step: &Option<Step>) -> bool
+    requires { lits_in lits.now (number_in (number_in encoding.now).1).1
+        ≡ lemma_lits (addition_in lits.now (number_in encoding.now).1).lemma }
+    ensures { IsTrue result ↔ ((call_in lits.now 5 encoding.now ≡ call.now)
+        × (step_in lits.now 5 encoding.now ≡ step.now)) }
+{
+    let (found, rest) = number(encoding);
+    match (call, step) {
+        (Call::Import { own, clause }, Some(Step::Add(addition))) => {
+            found == *own && clause.same(addition.lemma.clause()) && is_added(lits, rest, addition)
+        }
+        _ => false,
+    }
+}
+
 /// Whether the words behind the first number of an entry of a kind are those of this call and this step.
 fn is_of_kind(lits: &[Lit], kind: u64, encoding: &[u32], call: &Call, step: &Option<Step>) -> bool
     requires { named_in lits.now kind encoding.now
-        ≡ call_lits (call_in lits.now kind encoding.now) }
+        ≡ call_lits (call_in lits.now kind encoding.now) (step_in lits.now kind encoding.now) }
     ensures { IsTrue result ↔ ((call_in lits.now kind encoding.now ≡ call.now)
         × (step_in lits.now kind encoding.now ≡ step.now)) }
 {
@@ -154,31 +170,35 @@ fn is_of_kind(lits: &[Lit], kind: u64, encoding: &[u32], call: &Call, step: &Opt
         DROP => is_drop(lits, encoding, call, step),
         ADOPT => is_adoption(lits, encoding, call, step),
         IMPORT => is_import(lits, encoding, call, step),
+        PART => is_part(lits, encoding, call, step),
         _ => matches!(call, Call::Leave) && is_deletion(encoding, step),
     }
 }
 
-/// Whether the entry whose words these begin with is that of the seat's addition under its own number by this step.
+/// Whether the entry whose words these begin with is that of the seat's addition under its own number by this step, or of its
+/// import that adds its clause so.
 pub(super) fn is_line(
     lits: &[Lit],
     encoding: &[u32],
     seat: u32,
     own: u64,
     addition: &Addition,
+    is_import: bool,
 ) -> bool
     requires { (read_in lits.now encoding.now).1
-        ≡ call_lits (read_in lits.now encoding.now).0.call }
-    ensures { IsTrue result ↔ (entry_in lits.now encoding.now ≡ line_entry seat own addition.now) }
+        ≡ entry_lits (read_in lits.now encoding.now).0 }
+    ensures { IsTrue result
+        ↔ (entry_in lits.now encoding.now ≡ entering_entry is_import seat own addition.now) }
 {
     let (head, rest) = number(encoding);
     let (found, behind) = number(rest);
-    if head / KINDS != u64::from(seat) || head % KINDS != ADDITION {
+    if head / KINDS != u64::from(seat) || head % KINDS != entering_kind(is_import) {
         return false;
     }
     found == own && is_added(lits, behind, addition)
 }
 
-/// The clause of the seat's import under its own number, if the entry whose words these begin with is one.
+/// The clause of the seat's import under its own number, if the entry whose words these begin with is one without a step.
 pub(super) fn imported<'a>(
     lits: &'a [Lit],
     encoding: &[u32],
@@ -186,10 +206,11 @@ pub(super) fn imported<'a>(
     own: u64,
 ) -> Option<ClauseView<'a>>
     requires { (read_in lits.now encoding.now).1
-        ≡ call_lits (read_in lits.now encoding.now).0.call }
-    ensures some { IfSome result (λ c. entry_in lits.now encoding.now ≡ import_entry seat own c) }
+        ≡ entry_lits (read_in lits.now encoding.now).0 }
+    ensures some { IfSome result (λ c. entry_in lits.now encoding.now
+        ≡ binding_entry seat (calls.Import own c)) }
     ensures none { IfNone result ((c : LiteralSet)
-        → entry_in lits.now encoding.now ≡ import_entry seat own c → ⊥) }
+        → entry_in lits.now encoding.now ≡ binding_entry seat (calls.Import own c) → ⊥) }
 {
     let (head, rest) = number(encoding);
     let (found, behind) = number(rest);
@@ -206,7 +227,7 @@ pub(super) fn imported<'a>(
 /// Whether the entry whose words these begin with is this one.
 pub(super) fn is_entry(lits: &[Lit], encoding: &[u32], entry: &Entry) -> bool
     requires named { (read_in lits.now encoding.now).1
-        ≡ call_lits (read_in lits.now encoding.now).0.call }
+        ≡ entry_lits (read_in lits.now encoding.now).0 }
     requires seated { (entry_in lits.now encoding.now).seat < 4294967296 }
     ensures { IsTrue result ↔ (entry_in lits.now encoding.now ≡ entry.now) }
 {

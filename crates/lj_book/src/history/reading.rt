@@ -4,7 +4,7 @@ ghost use Rattle.lj_text.specs.Needed.{if_some};
 ghost use Rattle.lj_book.specs.inner.Encoding.{number_in, list_in};
 ghost use Rattle.lj_book.specs.inner.Records.{some_lits, lits_in, behind_lits, addition_in, seat_in, call_in, step_in, entry_in};
 
-use super::{ADDITION, ADOPT, DROP, IMPORT, KINDS};
+use super::{ADDITION, ADOPT, DROP, IMPORT, KINDS, PART};
 use crate::encoding::{behind_list, groups, list, number};
 use crate::entry::{Call, Entry};
 use lj_clause::{Clause, Lemma, Lit, NoMemory};
@@ -92,7 +92,7 @@ pub(super) fn step(
     ensures some { OnErr result (step_in lits.now kind encoding.now ≢ None) }
 {
     match kind {
-        ADDITION => {
+        ADDITION | PART => {
             let (_, rest) = number(encoding);
             Ok(Some(Step::Add(addition(alloc, lits, rest)?)))
         }
@@ -128,6 +128,14 @@ fn call(alloc: Global, lits: &[Lit], kind: u64, encoding: &[u32]) -> Result<Call
             Call::Adopt { own, joint }
         }
         IMPORT => {
+            let (literals, _) = named(lits, rest);
+            Call::Import {
+                own,
+                clause: Clause::from_lits(alloc, literals)?,
+            }
+        }
+        PART => {
+            let (_, rest) = number(rest);
             let (literals, _) = named(lits, rest);
             Call::Import {
                 own,

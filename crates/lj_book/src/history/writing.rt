@@ -1,9 +1,9 @@
 //! Entries that are written as words and literals.
 ghost use Rattle.std.specs.Prelude.{◌≡◌, ◌+◌, ◌*◌, ◌<◌, ◌≤◌, ◌++◌, length, vec_len, vec_capacity};
 ghost use Rattle.lj_clause.specs.LiteralSet.{literals};
-ghost use Rattle.lj_book.specs.inner.Records.{lemma_lits, head_encoding, add_encoding, drop_encoding, adopt_encoding, import_encoding, leave_encoding, addition_numbers};
+ghost use Rattle.lj_book.specs.inner.Records.{lemma_lits, entering_kind, head_encoding, add_encoding, drop_encoding, adopt_encoding, import_encoding, leave_encoding, addition_numbers};
 
-use super::{ADDITION, ADOPT, DROP, IMPORT, KINDS, LEAVE};
+use super::{ADOPT, DROP, IMPORT, KINDS, LEAVE, entering_kind};
 use crate::encoding::{put_groups, put_list, put_number, put_numbers};
 use crate::lent_addition::LentAddition;
 use lj_clause::{Clause, Lit};
@@ -53,7 +53,8 @@ fn put_lits(lits: &mut Vec<Lit>, more: &[Lit])
     }
 }
 
-/// Puts the words and the literals of a seat's addition behind the others, which have room for them.
+/// Puts the words and the literals of a seat's addition, or of an import that adds its clause, behind the others, which have
+/// room for them.
 #[inline(always)]
 pub(super) fn put_addition(
     encoding: &mut Vec<u32>,
@@ -61,18 +62,20 @@ pub(super) fn put_addition(
     seat: u32,
     own: u64,
     step: &LentAddition<'_>,
+    is_import: bool,
 )
     requires encoding { vec_len encoding.old + 3 * addition_numbers step.now ≤ vec_capacity
         encoding.old }
     requires lits { vec_len lits.old + length (lemma_lits step.now.lemma) ≤ vec_capacity lits.old }
     ensures encoding { encoding.new.items
-        ≡ encoding.old.items ++ add_encoding seat own step.now (length lits.old.items) }
+        ≡ encoding.old.items
+        ++ add_encoding (entering_kind is_import) seat own step.now (length lits.old.items) }
     ensures lits { lits.new.items ≡ lits.old.items ++ lemma_lits step.now.lemma }
 {
     let at = lits.len();
     put_lemma(lits, step);
     let count = lits.len() - at;
-    put_head(encoding, seat, ADDITION);
+    put_head(encoding, seat, entering_kind(is_import));
     put_number(encoding, own);
     put_number(encoding, step.number);
     put_number(encoding, at as u64);

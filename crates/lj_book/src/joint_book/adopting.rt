@@ -1,18 +1,25 @@
-//! Own numbers that are bound to clauses which live already.
-ghost use Rattle.std.specs.Prelude.{◌≡◌, option_copied, Option, None, Some, OnOk, OnErr, IfOk, IfErr, Err, true, false, length};
+//! Own numbers that are bound to clauses which live already, or by clauses which do.
+ghost use Rattle.std.specs.Prelude.{◌≡◌, if◌then◌else◌, option_copied, Option, None, Some, OnOk, OnErr, IfOk, IfErr, IfSome, IsOk, Err, true, false, length};
 ghost use Rattle.std.specs.FinMap as fin;
 ghost use Rattle.lj_book.specs.Tables.{is_here, is_bound, with_binding};
-ghost use Rattle.lj_book.specs.Lookup.{least_number};
+ghost use Rattle.lj_text.specs.declared.step.Step.TheVariants.{Add};
+ghost use Rattle.lj_book.specs.declared.found.Found.TheVariants.{Part};
 ghost use Rattle.lj_book.specs.State.{live};
+ghost use Rattle.lj_book.specs.Imports.{part_hints, found, import_step};
 ghost use Rattle.lj_book.specs.History.{after_entry, tables_after, IsLegalCall};
 ghost use Rattle.lj_book.specs.inner.Records.{binding_call};
-ghost use Rattle.lj_book.specs.Calls.{IsReply, free_refusal, binding_entry, adopt_entry, import_entry};
-ghost use Rattle.lj_book.specs.inner.Bindings.{adopt_reply, import_reply};
+ghost use Rattle.lj_book.specs.Calls.{IsReply, IsReplyBy, free_refusal, binding_entry, adopt_entry, imported};
+ghost use Rattle.lj_book.specs.inner.Bindings.{adopt_reply, import_reply, import_entry};
 
 use crate::entry::Imported;
+use crate::found::Found;
 use crate::joint_book::JointBook;
+use crate::lent_addition::LentAddition;
+use crate::part::is_contradictory;
 use crate::refusal::Refusal;
-use lj_clause::{Clause, NoMemory};
+use lj_clause::{Clause, Lemma, NoMemory};
+use lj_text::{Groups, Numbers, Step};
+use std::alloc::Global;
 
 impl JointBook {
     /// Binds the seat's own number to a joint number that lives. Answers the entry's place in the history. Takes
@@ -36,36 +43,106 @@ impl JointBook {
         Ok(self.bind_live(seat, own, joint, None)?)
     }
 
-    /// Binds the seat's own number to the least live number with exactly this clause.
+    /// Binds the seat's own number to the least live number with exactly this clause, without a step. Where none lives, but a part
+    /// of the clause does, the clause enters under the next number, by the least such part. Tells the step where `copies` asks
+    /// for it.
     ///
     /// # Errors
-    /// [`Refusal::SeatGone`], [`Refusal::NumberTaken`], [`Refusal::NoSuchClause`] where no clause with exactly these
-    /// literals lives, and [`Refusal::NoMemory`] where a growth was refused.
-    pub fn import(&mut self, seat: u32, own: u64, clause: &Clause) -> Result<Imported, Refusal>
-        ensures reply { IsReply result (import_reply self.old seat own clause.now) }
+    /// [`Refusal::SeatGone`], [`Refusal::NumberTaken`], [`Refusal::NoSuchClause`] where no part of the clause lives,
+    /// [`Refusal::Full`], and [`Refusal::NoMemory`] where a growth was refused.
+    pub fn import(
+        &mut self,
+        seat: u32,
+        own: u64,
+        clause: &Clause,
+        copies: bool,
+    ) -> Result<(Imported, Option<Step>), Refusal>
+        ensures reply { IsReplyBy (λ told. told.0) result
+            (import_reply self.old seat own clause.now) }
         ensures refused { IfErr (import_reply self.old seat own clause.now) (λ e. result ≡ Err e) }
+        ensures told { IfOk result (λ told. told.1
+            ≡ (if copies then import_step self.old clause.now else None)) }
         ensures ok { OnOk result
-            (self.new ≡ after_entry self.old (import_entry seat own clause.now)) }
+            (self.new ≡ after_entry self.old (import_entry self.old seat own clause.now)) }
         ensures err { OnErr result (self.new ≡ self.old) }
     {
         if let Some(refusal) = self.free_refusal(seat, own) {
             return Err(refusal);
         }
-        let Some(joint) = self.least_number(clause) else {
-            return Err(Refusal::NoSuchClause);
-        };
-        let place = self.bind_live(seat, own, joint, Some(clause))?;
-        Ok(Imported { place, joint })
+        match self.found(clause) {
+            Found::Equal(joint) => {
+                let place = self.bind_live(seat, own, joint, Some(clause))?;
+                Ok((Imported { place, joint }, None))
+            }
+            Found::Part(part) => self.import_by_part(seat, own, clause, part, copies),
+            Found::Neither => Err(Refusal::NoSuchClause),
+        }
     }
 
-    /// The least live number with exactly this clause, for which the lists of the clauses are made. The book stays as it
-    /// is.
-    pub(crate) fn least_number(&mut self, clause: &Clause) -> Option<u64>
-        ensures number { result ≡ least_number (live self.old) clause.now }
+    /// Enters a clause by a part of it, and binds the seat's own number to it.
+    ///
+    /// # Errors
+    /// [`Refusal::Full`], and [`Refusal::NoMemory`] where a growth was refused.
+    fn import_by_part(
+        &mut self,
+        seat: u32,
+        own: u64,
+        clause: &Clause,
+        part: u64,
+        copies: bool,
+    ) -> Result<(Imported, Option<Step>), Refusal>
+        requires free { free_refusal self.old seat own ≡ None }
+        requires found { found self.old clause.now ≡ Part part }
+        ensures reply { IsReplyBy (λ told. told.0) result (imported self.old (Part part)) }
+        ensures refused { IfErr (imported self.old (Part part)) (λ e. result ≡ Err e) }
+        ensures told { IfOk result (λ told. told.1
+            ≡ (if copies then import_step self.old clause.now else None)) }
+        ensures ok { OnOk result
+            (self.new ≡ after_entry self.old (import_entry self.old seat own clause.now)) }
+        ensures err { OnErr result (self.new ≡ self.old) }
+    {
+        if self.is_full() {
+            return Err(Refusal::Full);
+        }
+        let alloc = self.allocator();
+        let lemma = Lemma::from_lits(alloc, clause.lits())?;
+        let hints = part_hints(alloc, clause, part)?;
+        let groups = Groups::new(alloc);
+        let step = LentAddition::new(self.next(), &lemma, &hints, &groups);
+        let told = step_if(copies, &step)?;
+        let added = self.enter_legal(seat, own, &step, true)?;
+        let (place, joint) = (added.place, added.joint);
+        Ok((Imported { place, joint }, told))
+    }
+
+    /// The refusal of an import of this clause whose number may be bound, if there is one. The book stays as it is.
+    pub(crate) fn found_refusal(&mut self, clause: &Clause) -> Option<Refusal>
+        ensures some { IfSome result
+            (λ e. imported self.old (found self.old clause.now) ≡ Err e) }
+        ensures none { result ≡ None → IsOk (imported self.old (found self.old clause.now)) }
+        ensures same { self.new ≡ self.old }
+    {
+        match self.found(clause) {
+            Found::Equal(_joint) => None,
+            Found::Part(_part) if self.is_full() => Some(Refusal::Full),
+            Found::Part(_part) => None,
+            Found::Neither => Some(Refusal::NoSuchClause),
+        }
+    }
+
+    /// What an import of this clause finds, for which the lists of the clauses are made. The book stays as it is.
+    fn found(&mut self, clause: &Clause) -> Found
+        ensures found { result ≡ found self.old clause.now }
         ensures same { self.new ≡ self.old }
     {
         self.clause_log.make_lists();
-        self.clause_log.least_number(clause)
+        if let Some(joint) = self.clause_log.least_number(clause) {
+            return Found::Equal(joint);
+        }
+        match self.clause_log.least_part(clause) {
+            Some(part) => Found::Part(part),
+            None => Found::Neither,
+        }
     }
 
     /// The refusal of a binding of this own number, whatever it is to be bound to.
@@ -109,4 +186,31 @@ impl JointBook {
         self.clause_log.push_binding(seat, own, joint, imported);
         Ok(place)
     }
+}
+
+/// The hints that prove a clause by a part of it: none where it holds a literal and its negation.
+///
+/// # Errors
+/// [`NoMemory`] where a growth was refused.
+fn part_hints(alloc: Global, clause: &Clause, part: u64) -> Result<Numbers, NoMemory>
+    ensures { IfOk result (λ hints. hints ≡ part_hints clause.now part) }
+{
+    let mut hints = Numbers::with_capacity(alloc, 1)?;
+    if !is_contradictory(clause) {
+        hints.push(part)?;
+    }
+    Ok(hints)
+}
+
+/// A copy of the step where `copies` asks for it.
+///
+/// # Errors
+/// [`NoMemory`] where a growth was refused.
+fn step_if(copies: bool, step: &LentAddition<'_>) -> Result<Option<Step>, NoMemory>
+    ensures { IfOk result (λ told. told ≡ (if copies then Some (Add step.now) else None)) }
+{
+    if !copies {
+        return Ok(None);
+    }
+    Ok(Some(Step::Add(step.try_clone()?)))
 }

@@ -1,6 +1,5 @@
 -- How the lines of a stream are read from its source.
 use Rattle.std.specs.Prelude.{◌≡◌, ℕ, ◌+◌, Bool, true, false, List, [], ◌++◌, take, None, Some, Ok, Err, slice_get, if◌then◌else◌}
-use Rattle.lj_text.specs.declared.line.Line.{Line}
 use Rattle.lj_text.specs.Lines.{Said, all_said}
 use Rattle.lj_text.specs.LinesRead.{LinesRead, LineReaderStandsAt, is_line_no_memory}
 use Rattle.lj_text.specs.Streams.{SourceState, HasGiven, HasEnded}

@@ -5,7 +5,7 @@ use Rattle.std.specs.FinMap as fin
 use Rattle.lj_book.specs.declared.occurrence_lists.Link.{Link}
 use Rattle.lj_book.specs.Lookup.{is_clause}
 use Rattle.lj_book.specs.inner.Chains.{chain}
-use Rattle.lj_book.proofs.CommitLaws.{same_test}
+use Rattle.lj_book.proofs.Parts.{same_test}
 use Rattle.lj_book.proofs.Chains.{before_less, first_more, first_no_more}
 use Rattle.lj_book.proofs.occurrence_lists.first_before.Goals as goal
 use Rattle.lj_book.proofs.occurrence_lists.first_before.Goals.{in-Some+then-same, in-Some+else-same, in_default}

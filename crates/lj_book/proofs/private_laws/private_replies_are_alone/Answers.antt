@@ -1,8 +1,5 @@
 use Rattle.lj_book.proofs.PrivateReplies.{private_replies}
 use Rattle.lj_book.proofs.OtherViews.{others_leave_views}
-use Rattle.lj_book.proofs.NamedCommits.{named_commit_legal}
-use Rattle.lj_book.proofs.GivenBack.{given_taken_back}
-use Rattle.lj_book.proofs.ReceiptForms.{forms_alike}
 use Rattle.lj_book.proofs.private_laws.private_replies_are_alone.Goals as goal
 
 pub returns-clause-private : goal.returns-clause-private

@@ -1,4 +1,4 @@
-use Rattle.std.proofs.Common.{◌≡◌, ◌≤◌, ◌+◌, drop, length}
+use Rattle.std.proofs.Common.{◌≡◌, ◌+◌, drop}
 use Rattle.lj_run.specs.inner.Tally.{with_lines}
 use Rattle.lj_run.proofs.stream.count_lines.Given as goal
 

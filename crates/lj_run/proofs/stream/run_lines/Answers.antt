@@ -1,6 +1,5 @@
-use Rattle.std.proofs.Common.{rules, ◌≡◌, List, Ok, length, take, Option, None, sym, ap, ◌∙◌, subst}
+use Rattle.std.proofs.Common.{rules, List, Ok, Option, None, sym, ap, ◌∙◌, subst}
 use Rattle.lj_text.specs.Streams.{source_state}
-use Rattle.lj_text.specs.Lines.{Said}
 use Rattle.lj_text.specs.LinesRead.{LinesRead}
 use Rattle.lj_share.specs.declared.numbered.Numbered.{Numbered}
 use Rattle.lj_run.specs.Run.{IsStreamRun}
@@ -10,7 +9,7 @@ use Rattle.lj_run.specs.inner.Joint.{report_of}
 use Rattle.lj_run.specs.declared.reading.Next.TheVariants as nexts
 use Rattle.lj_run.specs.inner.Reading.{LineRead, LineMissed}
 use Rattle.lj_run.specs.inner.Tally.{with_end}
-use Rattle.lj_run.proofs.StreamLemmas.{EnteredBefore, entered_more, entered_begin, lines_entered, block_entered, run_stopped, run_ended, run_missed, run_missed_ahead, run_without_memory, run_ended_within}
+use Rattle.lj_run.proofs.StreamLemmas.{EnteredBefore, entered_more, lines_entered, block_entered, run_stopped, run_ended, run_missed, run_missed_ahead, run_without_memory, run_ended_within}
 use Rattle.lj_run.proofs.stream.run_lines.Goals as goal
 use Rattle.lj_clause.specs.declared.lit.TheConstants.{MAX_VARIABLE}
 

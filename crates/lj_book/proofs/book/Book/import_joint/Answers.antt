@@ -1,12 +1,13 @@
 use Rattle.std.proofs.Common.{◌≡◌, ap, ◌∙◌, subst}
-use Rattle.std.specs.Prelude.{Result, Err, IfErr}
+use Rattle.std.specs.Prelude.{Option, None, Result, Err, IfErr, IfOk, if◌then◌else◌}
 use Rattle.std.proofs.lemmas.Result.{on_err_weaker}
+use Rattle.lj_text.specs.declared.step.Step.{Step}
 use Rattle.lj_book.specs.declared.entry.Imported.{Imported}
 use Rattle.lj_book.specs.declared.refusal.Refusal.{Refusal}
 use Rattle.lj_book.specs.State.{State}
-use Rattle.lj_book.specs.Calls.{IsReply}
+use Rattle.lj_book.specs.Calls.{IsReplyBy}
 use Rattle.lj_book.specs.Named.{named_over}
-use Rattle.lj_book.proofs.OverLaws.{import_alike, import_over, import_left}
+use Rattle.lj_book.proofs.OverLaws.{import_alike, step_alike, import_over, import_left}
 use Rattle.lj_book.proofs.book.Book.import_joint.Goals as goal
 
 pub invariant_of-self : goal.invariant_of-self
@@ -16,7 +17,7 @@ invariant_of-self c =
 
 pub returns-clause-reply : goal.returns-clause-reply
 returns-clause-reply c =
-    subst (λ (r : Result Imported Refusal). IsReply c.import-imported.result r)
+    subst (λ (r : Result Imported Refusal). IsReplyBy (λ told. told.0) c.import-imported.result r)
     (import_alike c.self.inside.joint c.self.inside.variables c.args.self.now c.self.invariant c.self.view_is c.args.seat c.args.own c.args.clause.now c.args.joint.now c.requires.named c.requires.joint)
     c.import-imported.ensures.reply
 
@@ -25,6 +26,12 @@ returns-clause-refused c =
     subst (λ (r : Result Imported Refusal). IfErr r (λ e. c.import-imported.result ≡ Err e))
     (import_alike c.self.inside.joint c.self.inside.variables c.args.self.now c.self.invariant c.self.view_is c.args.seat c.args.own c.args.clause.now c.args.joint.now c.requires.named c.requires.joint)
     c.import-imported.ensures.refused
+
+pub returns-clause-told : goal.returns-clause-told
+returns-clause-told c =
+    subst (λ (o : Option Step). IfOk c.import-imported.result (λ told. told.1 ≡ (if c.args.copies then o else None)))
+    (step_alike c.self.inside.joint c.self.inside.variables c.args.self.now c.self.invariant c.self.view_is c.args.seat c.args.own c.args.clause.now c.args.joint.now c.requires.named c.requires.joint)
+    c.import-imported.ensures.told
 
 pub returns-clause-ok : goal.returns-clause-ok
 returns-clause-ok c =

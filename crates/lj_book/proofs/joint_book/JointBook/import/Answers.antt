@@ -1,30 +1,94 @@
-use Rattle.std.proofs.Common.{◌≡◌, ap, sym, ◌∙◌, subst, refl}
-use Rattle.std.specs.Prelude.{None, Some}
+use Rattle.std.proofs.Common.{◌≡◌, ap, refl, sym, ◌∙◌, subst, Bool, true, false}
+use Rattle.std.specs.Prelude.{Option, None, is_some, if◌then◌else◌, Result, Err, IfOk, IfErr, OnOk, OnErr}
+use Rattle.std.proofs.lemmas.Bool.{false≢true}
 use Rattle.std.specs.FinMap as fin
+use Rattle.lj_clause.specs.LiteralSet.{LiteralSet}
+use Rattle.lj_text.specs.declared.step.Step.{Step}
 use Rattle.lj_book.specs.declared.entry.Call.TheVariants as calls
-use Rattle.lj_book.specs.Lookup.{least_number}
+use Rattle.lj_book.specs.declared.entry.Imported.{Imported}
+use Rattle.lj_book.specs.declared.found.Found.TheVariants.{Part}
+use Rattle.lj_book.specs.declared.refusal.Refusal.{Refusal}
 use Rattle.lj_book.specs.State.{State, live}
-use Rattle.lj_book.specs.History.{some_lives, IsLegalCall}
+use Rattle.lj_book.specs.Imports.{found, import_step}
+use Rattle.lj_book.specs.Calls.{IsReplyBy, if_free, imported}
+use Rattle.lj_book.specs.inner.Bindings.{import_reply, import_entry}
+use Rattle.lj_book.specs.History.{tables_after, with_found, after_entry, IsLegalCall}
+use Rattle.lj_book.specs.Tables.{with_binding}
 use Rattle.lj_book.proofs.BindingLaws.{can_bind}
-use Rattle.lj_book.proofs.Scans.{least_is_there}
+use Rattle.lj_book.proofs.Parts.{FindsEqual, equal_found}
 use Rattle.lj_book.proofs.joint_book.JointBook.import.Goals as goal
 
 pub bind_live-requires-clause-lives : goal.bind_live-requires-clause-lives
 bind_live-requires-clause-lives c =
-    ap (λ (s : State). fin.contains_key (live s) c.in-Some-least_number.joint) c.least_number.ensures.same
-    ∙ least_is_there (live c.args.self.now) c.args.clause.now c.in-Some-least_number.joint (sym c.least_number.ensures.number ∙ c.in-Some-least_number.is)
+    let s : State = c.args.self.now in
+    let d : LiteralSet = c.args.clause.now in
+    let f : FindsEqual s d c.in-Equal.joint = equal_found s d c.in-Equal.joint (sym c.found.ensures.found ∙ c.in-Equal.is) in
+    ap (λ (t : State). fin.contains_key (live t) c.in-Equal.joint) c.found.ensures.same ∙ ap is_some f.lives
 
 pub bind_live-requires-clause-legal : goal.bind_live-requires-clause-legal
 bind_live-requires-clause-legal c =
-    let s = c.args.self.now in
+    let s : State = c.args.self.now in
+    let d : LiteralSet = c.args.clause.now in
+    let f : FindsEqual s d c.in-Equal.joint = equal_found s d c.in-Equal.joint (sym c.found.ensures.found ∙ c.in-Equal.is) in
     let can = can_bind s c.args.seat c.args.own (sym c.free_refusal.ensures ∙ c.in_default.is) in
-    let found : least_number (live s) c.args.clause.now ≡ Some c.in-Some-least_number.joint =
-    sym c.least_number.ensures.number
-    ∙ c.in-Some-least_number.is in
-    subst (λ (t : State). IsLegalCall t c.args.seat (calls.Import c.args.own c.args.clause.now) None) (sym c.least_number.ensures.same)
-    (record {
-      here = can.here;
-      unbound = can.unbound;
-      lives = ap (some_lives s) found ∙ least_is_there (live s) c.args.clause.now c.in-Some-least_number.joint (sym c.least_number.ensures.number ∙ c.in-Some-least_number.is);
-      stepless = refl;
-    })
+    subst (λ (t : State). IsLegalCall t c.args.seat (calls.Import c.args.own d) None) (sym c.found.ensures.same)
+    (record { here = can.here; unbound = can.unbound; finds = ap is_some f.number; capacity = λ some. absurd (false≢true some); asked = sym f.step })
+
+pub bind_live-requires-clause-binds : goal.bind_live-requires-clause-binds
+bind_live-requires-clause-binds c =
+    let s : State = c.args.self.now in
+    let d : LiteralSet = c.args.clause.now in
+    let f : FindsEqual s d c.in-Equal.joint = equal_found s d c.in-Equal.joint (sym c.found.ensures.found ∙ c.in-Equal.is) in
+    subst (λ (t : State). tables_after t c.args.seat (calls.Import c.args.own d) ≡ with_binding t.tables c.args.seat c.args.own c.in-Equal.joint) (sym c.found.ensures.same)
+    (ap (with_found s.tables c.args.seat c.args.own) f.number)
+
+no_copy : (b : Bool) (o : Option Step) → o ≡ None → ◌≡◌ {A = Option Step} None (if b then o else None)
+no_copy true o e = sym e
+no_copy false o e = refl
+
+pub returns-in_ok-place-in-Equal-clause-told : goal.returns-in_ok-place-in-Equal-clause-told
+returns-in_ok-place-in-Equal-clause-told c =
+    let s : State = c.args.self.now in
+    let d : LiteralSet = c.args.clause.now in
+    let f : FindsEqual s d c.in-Equal.joint = equal_found s d c.in-Equal.joint (sym c.found.ensures.found ∙ c.in-Equal.is) in
+    no_copy c.args.copies (import_step s d) f.step
+
+pub returns-in_ok-place-in-Equal-clause-ok : goal.returns-in_ok-place-in-Equal-clause-ok
+returns-in_ok-place-in-Equal-clause-ok c =
+    let s : State = c.args.self.now in
+    let d : LiteralSet = c.args.clause.now in
+    let f : FindsEqual s d c.in-Equal.joint = equal_found s d c.in-Equal.joint (sym c.found.ensures.found ∙ c.in-Equal.is) in
+    c.in_ok-place-in-Equal.ensures.ok
+    ∙ (λ i. after_entry (c.found.ensures.same i) (record { seat = c.args.seat; call = calls.Import c.args.own d; step = sym f.step i }))
+
+pub returns-in-Part-clause-reply : goal.returns-in-Part-clause-reply
+returns-in-Part-clause-reply c =
+    let s : State = c.args.self.now in
+    let d : LiteralSet = c.args.clause.now in
+    let is : imported c.found.new.self (Part c.in-Part.part) ≡ import_reply s c.args.seat c.args.own d =
+    ap (λ (t : State). imported t (Part c.in-Part.part)) c.found.ensures.same
+    ∙ ap (imported s) (sym c.in-Part.is ∙ c.found.ensures.found)
+    ∙ sym (ap (λ (o : Option Refusal). if_free o (imported s (found s d))) (sym c.free_refusal.ensures ∙ c.in_default.is)) in
+    subst (λ (r : Result Imported Refusal). IsReplyBy (λ told. told.0) c.import_by_part.result r) is c.import_by_part.ensures.reply
+
+pub returns-in-Part-clause-refused : goal.returns-in-Part-clause-refused
+returns-in-Part-clause-refused c =
+    let s : State = c.args.self.now in
+    let d : LiteralSet = c.args.clause.now in
+    let is : imported c.found.new.self (Part c.in-Part.part) ≡ import_reply s c.args.seat c.args.own d =
+    ap (λ (t : State). imported t (Part c.in-Part.part)) c.found.ensures.same
+    ∙ ap (imported s) (sym c.in-Part.is ∙ c.found.ensures.found)
+    ∙ sym (ap (λ (o : Option Refusal). if_free o (imported s (found s d))) (sym c.free_refusal.ensures ∙ c.in_default.is)) in
+    subst (λ (r : Result Imported Refusal). IfErr r (λ e. c.import_by_part.result ≡ Err e)) is c.import_by_part.ensures.refused
+
+pub returns-in-Part-clause-told : goal.returns-in-Part-clause-told
+returns-in-Part-clause-told c =
+    subst (λ (t : State). IfOk c.import_by_part.result (λ told. told.1 ≡ (if c.args.copies then import_step t c.args.clause.now else None))) c.found.ensures.same c.import_by_part.ensures.told
+
+pub returns-in-Part-clause-ok : goal.returns-in-Part-clause-ok
+returns-in-Part-clause-ok c =
+    subst (λ (t : State). OnOk c.import_by_part.result (c.import_by_part.new.self ≡ after_entry t (import_entry t c.args.seat c.args.own c.args.clause.now))) c.found.ensures.same c.import_by_part.ensures.ok
+
+pub returns-in-Part-clause-err : goal.returns-in-Part-clause-err
+returns-in-Part-clause-err c =
+    subst (λ (t : State). OnErr c.import_by_part.result (c.import_by_part.new.self ≡ t)) c.found.ensures.same c.import_by_part.ensures.err

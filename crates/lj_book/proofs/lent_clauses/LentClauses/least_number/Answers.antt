@@ -2,7 +2,7 @@ use Rattle.std.proofs.Common.{ap, sym, ◌∙◌, ◌≡◌, ◌+◌, ◌<◌, �
 use Rattle.std.specs.Prelude.{slice_get}
 use Rattle.lj_book.specs.Lookup.{is_same}
 use Rattle.lj_book.proofs.Bounds.{numbers_from, from-first, from-empty, from-taken, from-passed, from-end, before-given}
-use Rattle.lj_book.proofs.CommitLaws.{same_test}
+use Rattle.lj_book.proofs.Parts.{same_test}
 use Rattle.lj_book.proofs.lent_clauses.LentClauses.least_number.Goals as goal
 use Rattle.lj_book.proofs.lent_clauses.LentClauses.least_number.Goals.{in-Some+else-same, in_default}
 

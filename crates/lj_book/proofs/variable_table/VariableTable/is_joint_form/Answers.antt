@@ -3,7 +3,7 @@ use Rattle.std.specs.List.{list_all}
 use Rattle.lj_clause.specs.LiteralSet.{holds, literals}
 use Rattle.lj_clause.specs.Renaming.{literal_image, inverse}
 use Rattle.lj_book.specs.Variables.{renaming_of}
-use Rattle.lj_book.proofs.CommitLaws.{same_test}
+use Rattle.lj_book.proofs.Parts.{same_test}
 use Rattle.lj_book.proofs.ReceiptForms.{within_form, forms_found}
 use Rattle.lj_book.proofs.variable_table.VariableTable.is_joint_form.Goals as goal
 

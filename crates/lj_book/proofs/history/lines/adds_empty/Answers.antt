@@ -1,10 +1,9 @@
-use Rattle.std.proofs.Common.{◌≡◌, ℕ, ℤ, List, ap, sym, ◌∙◌, length}
+use Rattle.std.proofs.Common.{◌≡◌, ℕ, ℤ, List, ap, ◌∙◌, length}
 use Rattle.std.specs.Prelude.{◌==◌}
 use Rattle.lj_book.specs.inner.Encoding.{number_in}
-use Rattle.lj_book.specs.inner.Records.{lits_in, step_in}
-use Rattle.lj_book.specs.inner.StepLines.{ends_proof}
+use Rattle.lj_book.specs.inner.Records.{lits_in}
 use Rattle.lj_book.proofs.StepLineLemmas.{kept_none}
-use Rattle.lj_book.proofs.history.lines.ends_proof.Goals as goal
+use Rattle.lj_book.proofs.history.lines.adds_empty.Goals as goal
 
 pub returns : goal.returns
 returns c =
@@ -13,5 +12,4 @@ returns c =
     let kept : List ℤ = lits_in ls (number_in (number_in ws).1).1 in
     let is : c.named.result.0.now ≡ kept =
     c.named.ensures.lits ∙ ap (lits_in ls) (c.number-2.ensures.rest ∙ ap (λ us. (number_in us).1) c.number.ensures.rest) in
-    let kind : c.args.kind ≡ 0 = c.if-kind-ne-ADDITION.false in
-    c.is_empty.ensures ∙ ap (λ ys. length ys == 0) is ∙ kept_none kept ∙ ap (λ k. ends_proof (step_in ls k ws)) (sym kind)
+    c.is_empty.ensures ∙ ap (λ ys. length ys == 0) is ∙ kept_none kept

@@ -4,7 +4,7 @@ use Rattle.lj_clause.specs.Renaming.{image}
 use Rattle.lj_book.specs.Variables.{renaming_of}
 use Rattle.lj_book.specs.Named.{NamedState, names_of}
 use Rattle.lj_book.proofs.OverLaws.{within_named, unrefused_named, over_top, reached_over}
-use Rattle.lj_book.proofs.book.Book.import.Goals as goal
+use Rattle.lj_book.proofs.book.Book.import_told.Goals as goal
 
 pub import_joint-requires-clause-named : goal.import_joint-requires-clause-named
 import_joint-requires-clause-named c =

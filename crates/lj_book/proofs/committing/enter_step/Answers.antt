@@ -4,7 +4,7 @@ use Rattle.lj_text.specs.declared.line.Addition.{Addition}
 use Rattle.lj_book.specs.Tables.{Table, with_table, is_here, has_holder}
 use Rattle.lj_book.proofs.TableLaws.{none_held, put_and_taken, here-with_table}
 use Rattle.lj_book.specs.inner.Holders.{holders_of}
-use Rattle.lj_book.proofs.committing.enter_addition.Goals as goal
+use Rattle.lj_book.proofs.committing.enter_step.Goals as goal
 
 pub bind-requires-clause-capacity : goal.bind-requires-clause-capacity
 bind-requires-clause-capacity c =
