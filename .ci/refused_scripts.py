@@ -39,7 +39,7 @@ AGAIN = {**dict.fromkeys(OF_BOOKS, range(1, 3)), **dict.fromkeys(OF_SHARED_BOOKS
 # The least count of runs of a program that have to tell NoMemory.
 LEAST = 10_000
 # The least count of calls that runs have to show refused for good.
-LEAST_CALLS = 300
+LEAST_CALLS = 700
 NO_START = "Error: Kind(OutOfMemory)\n"
 
 
