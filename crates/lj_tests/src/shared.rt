@@ -86,11 +86,12 @@ fn assert_seen<L: BookId, R: Wait + Abort>(
         number: 6,
         clause: Boxed::new(alloc, tables::clause(alloc, &[-2])?)?,
     };
+    let last = addition(alloc, 7, &[], &[5, 6])?;
     let mut note = shared.note();
-    for line in [import, addition(alloc, 7, &[], &[5, 6])?] {
-        assert!(rt; shared.verdict_seen(&mut note).is_none());
-        tokens.push(shared.submit(rt, seat, &line)?)?;
-    }
+    assert!(rt; shared.verdict_seen(&mut note).is_none());
+    tokens.push(shared.submit(rt, seat, &import)?)?;
+    assert!(rt; shared.verdict_seen(&mut note).is_none());
+    tokens.push(shared.submit(rt, seat, &last)?)?;
     assert!(rt; shared.verdict_seen(&mut note).is_some());
     assert!(rt; shared.verdict_now() == Some(3));
     Ok(())
