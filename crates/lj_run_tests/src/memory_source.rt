@@ -19,7 +19,8 @@ impl Model for MemorySource {
 
     ghost view = { λ source. (
       take source.given source.bytes.items,
-      (drop source.given source.bytes.items, source.ended),
+      drop source.given source.bytes.items,
+      source.ended,
     ) };
 
     ghost invariant = { λ source. (source.given ≤ vec_len source.bytes)
@@ -29,7 +30,7 @@ impl Model for MemorySource {
 impl MemorySource {
     /// All of these bytes are still to come.
     pub fn new(bytes: Vec<u8>) -> Self
-        ensures { result ≡ ([], (bytes.items, false)) }
+        ensures { result ≡ ([], bytes.items, false) }
     {
         MemorySource {
             bytes,
@@ -52,9 +53,9 @@ fn copy_front(from: &[u8], to: &mut [u8]) -> usize
 impl Source for MemorySource {
     ghost given = { λ source. source.0 };
 
-    ghost ended = { λ source. source.1.1 };
+    ghost ended = { λ source. source.2 };
 
-    ghost rest = { λ source. Some source.1.0 };
+    ghost rest = { λ source. Some source.1 };
 
     ghost failures = { λ _. 0 };
 
