@@ -124,7 +124,7 @@ fn addition_at_front<'a>(
     match write_at_front(&mut target, scratch, number, proof) {
         Some(after) => Some((Line::Add(Boxed::from_box(target)), after)),
         None => {
-            scratch.take_back(target);
+            let _ = scratch.take_back(target);
             None
         }
     }

@@ -222,7 +222,7 @@ impl LineReader {
                 let mut target = addition.into_box();
                 target.hints.let_go_of_many();
                 target.groups.let_go_of_many();
-                self.scratch.take_back(target);
+                let _ = self.scratch.take_back(target);
             }
             Line::Delete(_) | Line::Import { .. } => {}
         }

@@ -1,5 +1,5 @@
 //! Room for what a line says.
-ghost use Rattle.std.specs.Prelude.{◌≡◌, ◌<◌, ◌≤◌, [], length, None, Some, IfOk};
+ghost use Rattle.std.specs.Prelude.{◌≡◌, ◌<◌, ◌≤◌, ◌++◌, ◌∷◌, [], length, IfOk, OnOk};
 ghost use Rattle.lj_clause.specs.LiteralSet.{literals};
 ghost use Rattle.lj_text.specs.declared.line.Line.TheVariants.{Delete};
 
@@ -13,6 +13,9 @@ use std::alloc::Global;
 /// How many literals a lemma has at most that takes no memory for them.
 const INLINE: usize = 3;
 
+/// How many additions that are done are kept for those to come, of each kind.
+const MOST_SPARE: usize = 1_024;
+
 /// Room for the literals and the numbers of a line, which is used again for the next line.
 #[derive(Debug, Drop)]
 pub(super) struct Scratch {
@@ -20,24 +23,24 @@ pub(super) struct Scratch {
     pub literals: Vec<Lit>,
     /// The numbers of a deletion, or the hints of a group.
     pub numbers: Numbers,
-    /// Where the next addition of up to three literals is written, if there is a place.
-    inline: Option<Box<Addition>>,
-    /// Where the next one of more is, whose literals stand in memory of their own.
-    long: Option<Box<Addition>>,
+    /// Where additions of up to three literals are written.
+    inline: Vec<Box<Addition>>,
+    /// Where those of more are, whose literals stand in memory of their own.
+    long: Vec<Box<Addition>>,
 }
 
 impl Scratch {
     /// Room for nothing yet. Takes constant time.
     pub fn new(alloc: Global) -> Scratch
         ensures empty { (result.literals.items ≡ []) × (result.numbers ≡ []) }
-        ensures none { (result.inline ≡ None) × (result.long ≡ None) }
+        ensures none { (result.inline.items ≡ []) × (result.long.items ≡ []) }
     {
         Scratch {
             alloc,
             literals: Vec::new(alloc),
             numbers: Numbers::from_u32s(Vec::new(alloc)),
-            inline: None,
-            long: None,
+            inline: Vec::new(alloc),
+            long: Vec::new(alloc),
         }
     }
 
@@ -47,9 +50,9 @@ impl Scratch {
         ensures { self.new.literals ≡ self.old.literals }
     {
         let target = if self.literals.len() > INLINE {
-            self.long.take()
+            self.long.pop()
         } else {
-            self.inline.take()
+            self.inline.pop()
         };
         match target {
             Some(target) => Ok(target),
@@ -58,22 +61,30 @@ impl Scratch {
     }
 
     /// Takes a place back for additions to come whose literals are few as its own are, or many as those; lets go of one of
-    /// very many. Takes constant time.
+    /// very many, and where many places are kept. Takes constant time, amortized.
+    ///
+    /// # Errors
+    /// [`NoMemory`] where a growth was refused, and then the place is let go.
     #[inline(always)]
-    pub fn take_back(&mut self, target: Box<Addition>)
-        ensures inline { length (literals target.value.lemma.clause) ≤ 3
-            → self.new.inline ≡ Some target }
-        ensures long { 3 < length (literals target.value.lemma.clause)
-            → length (literals target.value.lemma.clause) ≤ MANY → self.new.long ≡ Some target }
+    pub fn take_back(&mut self, target: Box<Addition>) -> Result<(), NoMemory>
+        ensures inline { OnOk result (length (literals target.value.lemma.clause) ≤ 3
+            → length self.old.inline.items < 1024
+            → self.new.inline.items ≡ self.old.inline.items ++ target ∷ []) }
+        ensures long { OnOk result (3 < length (literals target.value.lemma.clause)
+            → length (literals target.value.lemma.clause) ≤ MANY
+            → length self.old.long.items < 1024
+            → self.new.long.items ≡ self.old.long.items ++ target ∷ []) }
         ensures kept { (self.new.literals ≡ self.old.literals)
             × (self.new.numbers ≡ self.old.numbers) }
     {
         let count = target.lemma.clause().lits().len();
         if count <= INLINE {
-            self.inline = Some(target);
-        } else if count <= MANY {
-            self.long = Some(target);
+            return keep(&mut self.inline, target);
         }
+        if count <= MANY {
+            return keep(&mut self.long, target);
+        }
+        Ok(())
     }
 
     /// A deletion of the numbers that were read, in exactly the memory that they need. Takes time linear in them.
@@ -85,6 +96,21 @@ impl Scratch {
         self.numbers.let_go_of_many();
         Ok(Line::Delete(Boxed::new(self.alloc, numbers)?))
     }
+}
+
+/// Keeps a place among the others, unless there are many.
+///
+/// # Errors
+/// [`NoMemory`] where a growth was refused.
+#[inline(always)]
+fn keep(spare: &mut Vec<Box<Addition>>, target: Box<Addition>) -> Result<(), NoMemory>
+    ensures { OnOk result (length spare.old.items < 1024
+        → spare.new.items ≡ spare.old.items ++ target ∷ []) }
+{
+    if spare.len() < MOST_SPARE {
+        spare.push(target)?;
+    }
+    Ok(())
 }
 
 /// A new place for an addition.
