@@ -1,5 +1,5 @@
 //! Lists of clause numbers.
-ghost use Rattle.std.specs.Prelude.{◌≡◌, true, ◌==◌, ◌<◌, ◌≤◌, ◌∷◌, ◌++◌, ◌⊎◌, [], length, take, drop, slice_get, IfOk, IfSome, OnOk, OnErr};
+ghost use Rattle.std.specs.Prelude.{◌≡◌, true, ◌==◌, ◌<◌, ◌≤◌, ◌∷◌, ◌++◌, ◌⊎◌, [], length, take, drop, slice_get, IfOk, IfSome, OnOk, OnErr, is_ok, if◌then◌else◌};
 ghost use Rattle.lj_text.specs.inner.LineReading.{IsReadOn};
 ghost use Rattle.lj_text.specs.inner.ShortNumbers.{AreNumbersAhead};
 
@@ -83,10 +83,7 @@ impl Numbers {
         ensures err { OnErr result (self.new ≡ self.old) }
     {
         match &mut self.form {
-            Form::U32(numbers) if number <= MAX_U32 => {
-                numbers.push(number as u32)?;
-                Ok(())
-            }
+            Form::U32(numbers) if number <= MAX_U32 => push_u32(numbers, number as u32),
             _ => self.push_long(number),
         }
     }
@@ -294,6 +291,23 @@ impl Numbers {
     }
 }
 
+/// Takes a number behind the others. Where there is room for it, that takes no call of the library.
+///
+/// # Errors
+/// [`AllocError`] where a growth was refused, and then nothing has changed.
+#[inline(always)]
+fn push_u32(numbers: &mut Vec<u32>, number: u32) -> Result<(), AllocError>
+    ensures items { numbers.new.items ≡ (if is_ok result then numbers.old.items ++ number ∷ []
+        else numbers.old.items) }
+{
+    if numbers.len() < numbers.capacity() {
+        numbers.push_reserved(number);
+        return Ok(());
+    }
+    numbers.push(number)?;
+    Ok(())
+}
+
 /// Takes the short numbers at the front of a line's bytes behind the others, up to a 0, and answers the bytes that follow.
 #[inline(never)]
 fn push_u32s<'a>(numbers: &mut Vec<u32>, bytes: &'a [u8]) -> &'a [u8]
@@ -329,7 +343,7 @@ fn numbers_within(numbers: &mut Vec<u32>, window: &[u8; WINDOW]) -> (usize, bool
         let Some(number) = number_of_digits(window, start, end) else {
             return (start, false);
         };
-        if number == 0 || numbers.push(number).is_err() {
+        if number == 0 || push_u32(numbers, number).is_err() {
             return (start, false);
         }
         start = end + 1;

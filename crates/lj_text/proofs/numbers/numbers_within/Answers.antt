@@ -29,7 +29,7 @@ loop-others-preserved c =
     let more : List ℕ = l.numbers.items ++ s.number ∷ [] in
     let after : List ℕ = drop (end + 1) window in
     let P : List ℕ → Type 0 = λ items. AreNumbersAhead c.args.numbers.now.items window items after in (
-      subst P (sym (c.push.ensures.items ∙ ap (λ ok. cond ok more l.numbers.items) c.if-is_err.ensures.negation))
+      subst P (sym (c.push_u32.ensures.items ∙ ap (λ ok. cond ok more l.numbers.items) c.if-is_err.ensures.negation))
           (numbers-more c.args.numbers.now.items window l.numbers.items (drop l.start window) s.number after c.if-number-eq0.false (omega (arith, s.ensures.number.small))
           (short-ahead (drop l.start window) s.number after s.ensures.number) l.invariant.0),
       omega (arith, at.within),
