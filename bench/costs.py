@@ -107,6 +107,13 @@ def long_imports_by_parts(count):
     return Input(formula(clauses), [lines(f"{count + 3 + k} i 1 {text([*literals, count + 3 + k])}" for k in range(9))])
 
 
+def parts_behind_dead_empty_clauses(count):
+    """Imports of one clause by a part of it, behind empty clauses of the formula that were given up since the first."""
+    empty = range(3, count + 3)
+    stream = [f"{count + 3} i 1 2 0", f"0 d {text(empty)}", *[f"0 d {count + 3} 0", f"{count + 3} i 1 2 0"] * count]
+    return Input(formula([[1], [2, 3], *[[]] * count]), [lines(stream)])
+
+
 def new_variables(tries):
     """Variables that come in with long lemmas, and so many lines that look through those of one for its negation."""
     rest, stream = text(range(1, 500)), []
@@ -231,6 +238,7 @@ def rows():
     yield twice("imports whose last literal is common", imports_common_last, 1_500)
     yield twice("imports by a part that are given up in turn", imports_by_parts, 1_500)
     yield twice("long imports by a part", long_imports_by_parts, 1_500)
+    yield twice("imports by a part behind dead empty clauses", parts_behind_dead_empty_clauses, 1_500)
     halved, living = imports_through_a_list(600, 300), imports_through_a_list(600, 0)
     yield Row("imports through a living list, beside a half dead one", halved, living, 1.4)
     unasked, asked = new_variables(0), new_variables(40)

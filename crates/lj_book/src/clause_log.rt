@@ -18,7 +18,7 @@ use crate::history::History;
 use crate::lent_addition::LentAddition;
 use crate::lent_clauses::LentClauses;
 use crate::lit_range::{LitRange, clause_at};
-use crate::occurrence_lists::OccurrenceLists;
+use crate::occurrence_lists::{EMPTY_KEY, OccurrenceLists};
 use crate::own_map::OwnMap;
 use crate::stored_clauses::clauses_of;
 use lj_clause::{Clause, ClauseView, Formula, Lemma, Lit, NoMemory};
@@ -235,7 +235,7 @@ impl ClauseLog {
 
     /// The least number whose live clause is a part of this one. Takes time linear in the lists of its literals, where they
     /// are made, O(log n) for each of its n literals there; otherwise in all clauses, with their literals likewise. Sweeps
-    /// these lists.
+    /// these lists, and that of the empty clauses, in which it looks too.
     pub(crate) fn least_part(&mut self, wanted: &Clause) -> Option<u64>
         ensures least { result ≡ least_part self.old.live wanted.now }
         ensures same { self.new ≡ self.old }
@@ -248,13 +248,14 @@ impl ClauseLog {
         least
     }
 
-    /// Sweeps the lists of a clause's literals.
+    /// Sweeps the lists of a clause's literals, and that of the empty clauses.
     fn sweep_lists(&mut self, clause: &Clause)
         ensures { self.new ≡ self.old }
     {
         for lit in clause.lits() {
             self.sweep_list(lit.index() as u64);
         }
+        self.sweep_list(EMPTY_KEY);
     }
 
     /// Takes a seat's addition, or an import that adds its clause, behind the others, and gives the clause the step's number. Takes constant time for each

@@ -16,7 +16,7 @@ use std::alloc::Global;
 use std::marker::Model;
 
 /// The place of the list of the empty clauses, which no literal has.
-const EMPTY_KEY: u64 = 1;
+pub(crate) const EMPTY_KEY: u64 = 1;
 
 /// A list of so many numbers stays as it is, however many of their clauses have died.
 const MOST_UNSWEPT: usize = 16;
