@@ -6,6 +6,7 @@ mod ListLaws
 mod Facts
 mod EnteredLaws
 mod FreeLaws
+mod LineLaws
 mod OpenLaws
 mod Leaving
 mod Adopting

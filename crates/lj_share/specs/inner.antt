@@ -5,6 +5,7 @@ pub mod Codes
 pub mod OwnCode
 pub mod Copies
 pub mod WithEntry
+pub mod Lines
 pub mod Dead
 pub mod Ahead
 pub mod Runs

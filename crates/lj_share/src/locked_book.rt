@@ -1,10 +1,8 @@
 //! What lies under the lock.
 ghost use Rattle.std.specs.Prelude.{◌≡◌, ◌≤◌, None, Some, IfOk, IfErr, IfSome, IsSome, OnOk, OnErr, length, slice_get, take};
 ghost use Rattle.lj_book.specs.declared.entry.Call.TheVariants as calls;
-ghost use Rattle.lj_text.specs.declared.line.Line.TheVariants as lines;
 ghost use Rattle.lj_share.specs.Entries.{IsEntryOf, call_of};
 ghost use Rattle.lj_book.specs.Solo.{solo_refusal};
-ghost use Rattle.lj_book.specs.Views.{IsClosedAlone, decided_refusal};
 ghost use Rattle.lj_book.specs.NamedReplies.{named_commit, named_adopt, named_leave};
 ghost use Rattle.lj_share.specs.Refusals.{HoldsInAState, IsBindingRefused, IsRefusedAt, IsRefusedLine, gone_refusal, line_refusal};
 ghost use Rattle.lj_share.specs.Seats.{IsMaking, with_bound};
@@ -12,7 +10,7 @@ ghost use Rattle.lj_share.specs.declared.numbered.Numbered.{Numbered};
 ghost use Rattle.lj_share.specs.Entered.{AreEntered};
 ghost use Rattle.lj_share.specs.inner.Ahead.{AreTested};
 ghost use Rattle.lj_share.specs.inner.Runs.{views_behind};
-ghost use Rattle.lj_share.specs.inner.Seats.{clauses_seen, IfClosed, IsLockedBook, IsOwnOf, IsTestedAs, view_behind};
+ghost use Rattle.lj_share.specs.inner.Seats.{clauses_seen, IsLockedBook, IsOwnOf, IsTestedAs, view_behind};
 ghost use Rattle.lj_share.specs.inner.WithEntry.{IsTokenOf};
 
 use crate::account::Account;
@@ -26,9 +24,9 @@ use crate::told::Told;
 use crate::verdict::Verdict;
 use crate::with_entry;
 use lj_book::{Book, Entry, Refusal};
-use lj_clause::{Clause, Formula};
+use lj_clause::Formula;
 use lj_hint::{Propagator, Receipt};
-use lj_text::{Addition, Line, Numbers};
+use lj_text::Line;
 use std::alloc::Global;
 use std::marker::Model;
 use std::sync::ledger::{Book as Tally, Share};
@@ -157,10 +155,27 @@ impl<L: BookId> LockedBook<L> {
         ensures refusal { IfErr result (λ e. HoldsInAState L.formula L.seats L.max_steps account.old
             (IsRefusedLine account.old.number line.now e)) }
     {
-        match line {
-            Line::Add(addition) => self.add(account, addition, unlocked, with_entry),
-            Line::Delete(numbers) => self.drop_numbers(account, numbers, with_entry),
-            Line::Import { number, clause } => self.import(account, *number, clause, with_entry),
+        let LockedBook {
+            book,
+            entries,
+            lists,
+            rest: _,
+            propagator,
+        } = self;
+        account.agree(lists, book);
+        match with_entry::enter(
+            book,
+            account.number(),
+            line,
+            unlocked,
+            propagator,
+            with_entry,
+        ) {
+            Ok((entry, joint)) => {
+                account.count_one(entries, lists, book);
+                Ok((token(entry), joint))
+            }
+            Err(refusal) => Err(refusal),
         }
     }
 
@@ -198,175 +213,6 @@ impl<L: BookId> LockedBook<L> {
             }
         }
         (count, None)
-    }
-
-    /// Enters an addition of the seat, which is tested here unless what the seat sees decided it.
-    fn add(
-        &mut self,
-        account: &mut Account<L>,
-        addition: &Addition,
-        unlocked: Unlocked,
-        with_entry: bool,
-    ) -> Result<(Option<Told>, u64), Refusal>
-        requires { IfClosed unlocked
-            (IsClosedAlone account.old.view account.old.number addition.now) }
-        ensures told { IfOk result (λ done. IsTokenOf with_entry account.old.number
-            (calls.Add addition.now.number addition.now.lemma) done.0) }
-        ensures view { IfOk result (λ done. account.new.view
-            ≡ view_behind (lines.Add addition.now) done.1 account.old.view) }
-        ensures made { OnOk result
-            (IsMaking (calls.Add addition.now.number addition.now.lemma) account.old account.new) }
-        ensures free { OnOk result
-            (decided_refusal account.old.view account.old.number addition.now ≡ None) }
-        ensures kept { OnErr result (account.new ≡ account.old) }
-        ensures refusal { IfErr result (λ e. HoldsInAState L.formula L.seats L.max_steps account.old
-            (IsRefusedLine account.old.number (lines.Add addition.now) e)) }
-    {
-        match unlocked {
-            Unlocked::Closed(read) => self.add_closed(account, addition, read, with_entry),
-            Unlocked::Open => self.add_inside(account, addition, with_entry),
-        }
-    }
-
-    /// Enters an addition that closes by what the seat sees, after so many of its hints.
-    fn add_closed(
-        &mut self,
-        account: &mut Account<L>,
-        addition: &Addition,
-        read: usize,
-        with_entry: bool,
-    ) -> Result<(Option<Told>, u64), Refusal>
-        requires { IsClosedAlone account.old.view account.old.number addition.now read }
-        ensures told { IfOk result (λ done. IsTokenOf with_entry account.old.number
-            (calls.Add addition.now.number addition.now.lemma) done.0) }
-        ensures view { IfOk result (λ done. account.new.view
-            ≡ view_behind (lines.Add addition.now) done.1 account.old.view) }
-        ensures made { OnOk result
-            (IsMaking (calls.Add addition.now.number addition.now.lemma) account.old account.new) }
-        ensures free { OnOk result
-            (decided_refusal account.old.view account.old.number addition.now ≡ None) }
-        ensures kept { OnErr result (account.new ≡ account.old) }
-        ensures refusal { IfErr result (λ e. HoldsInAState L.formula L.seats L.max_steps account.old
-            (IsRefusedLine account.old.number (lines.Add addition.now) e)) }
-    {
-        let LockedBook {
-            book,
-            entries,
-            lists,
-            ..
-        } = self;
-        account.agree(lists, book);
-        match with_entry::add_closed(book, account.number(), addition, read, with_entry) {
-            Ok((entry, joint)) => {
-                account.count_one(entries, lists, book);
-                Ok((token(entry), joint))
-            }
-            Err(refusal) => Err(refusal),
-        }
-    }
-
-    /// Tests a seat's addition, and enters it.
-    fn add_inside(
-        &mut self,
-        account: &mut Account<L>,
-        addition: &Addition,
-        with_entry: bool,
-    ) -> Result<(Option<Told>, u64), Refusal>
-        ensures told { IfOk result (λ done. IsTokenOf with_entry account.old.number
-            (calls.Add addition.now.number addition.now.lemma) done.0) }
-        ensures view { IfOk result (λ done. account.new.view
-            ≡ view_behind (lines.Add addition.now) done.1 account.old.view) }
-        ensures made { OnOk result
-            (IsMaking (calls.Add addition.now.number addition.now.lemma) account.old account.new) }
-        ensures free { OnOk result
-            (decided_refusal account.old.view account.old.number addition.now ≡ None) }
-        ensures kept { OnErr result (account.new ≡ account.old) }
-        ensures refusal { IfErr result (λ e. HoldsInAState L.formula L.seats L.max_steps account.old
-            (IsRefusedLine account.old.number (lines.Add addition.now) e)) }
-    {
-        let LockedBook {
-            book,
-            entries,
-            lists,
-            rest: _,
-            propagator,
-        } = self;
-        account.agree(lists, book);
-        match with_entry::add_inside(book, account.number(), addition, propagator, with_entry) {
-            Ok((entry, joint)) => {
-                account.count_one(entries, lists, book);
-                Ok((token(entry), joint))
-            }
-            Err(refusal) => Err(refusal),
-        }
-    }
-
-    /// Gives own numbers of the seat up.
-    fn drop_numbers(
-        &mut self,
-        account: &mut Account<L>,
-        numbers: &Numbers,
-        with_entry: bool,
-    ) -> Result<(Option<Told>, u64), Refusal>
-        ensures told { IfOk result
-            (λ done. IsTokenOf with_entry account.old.number (calls.Drop numbers.now) done.0) }
-        ensures view { IfOk result (λ done. account.new.view
-            ≡ view_behind (lines.Delete numbers.now) done.1 account.old.view) }
-        ensures made { OnOk result (IsMaking (calls.Drop numbers.now) account.old account.new) }
-        ensures free { OnOk result (gone_refusal account.old.view ≡ None) }
-        ensures kept { OnErr result (account.new ≡ account.old) }
-        ensures refusal { IfErr result (λ e. HoldsInAState L.formula L.seats L.max_steps account.old
-            (IsRefusedLine account.old.number (lines.Delete numbers.now) e)) }
-    {
-        let LockedBook {
-            book,
-            entries,
-            lists,
-            ..
-        } = self;
-        account.agree(lists, book);
-        match with_entry::drop_numbers(book, account.number(), numbers, with_entry) {
-            Ok(entry) => {
-                account.count_one(entries, lists, book);
-                Ok((token(entry), 0))
-            }
-            Err(refusal) => Err(refusal),
-        }
-    }
-
-    /// Binds the seat's own number to a live clause with exactly these literals, which are in the seat's variables.
-    fn import(
-        &mut self,
-        account: &mut Account<L>,
-        own: u64,
-        clause: &Clause,
-        with_entry: bool,
-    ) -> Result<(Option<Told>, u64), Refusal>
-        ensures told { IfOk result
-            (λ done. IsTokenOf with_entry account.old.number (calls.Import own clause.now) done.0) }
-        ensures view { IfOk result (λ done. account.new.view
-            ≡ view_behind (lines.Import own clause.now) done.1 account.old.view) }
-        ensures made { OnOk result (IsMaking (calls.Import own clause.now) account.old
-            account.new) }
-        ensures free { OnOk result (solo_refusal account.old.view own ≡ None) }
-        ensures kept { OnErr result (account.new ≡ account.old) }
-        ensures refusal { IfErr result (λ e. HoldsInAState L.formula L.seats L.max_steps account.old
-            (IsRefusedLine account.old.number (lines.Import own clause.now) e)) }
-    {
-        let LockedBook {
-            book,
-            entries,
-            lists,
-            ..
-        } = self;
-        account.agree(lists, book);
-        match with_entry::import(book, account.number(), own, clause, with_entry) {
-            Ok((entry, joint)) => {
-                account.count_one(entries, lists, book);
-                Ok((token(entry), joint))
-            }
-            Err(refusal) => Err(refusal),
-        }
     }
 
     /// Binds the seat's own number, which is free, to a joint number that lives. What the seat keeps follows, with the clause in the

@@ -10,18 +10,83 @@ ghost use Rattle.lj_book.specs.Named.{after_named, beneath, names_of};
 ghost use Rattle.lj_book.specs.NamedEntries.{named_import_entry};
 ghost use Rattle.lj_book.specs.NamedInside.{named_inside_entry};
 ghost use Rattle.lj_book.specs.NamedViews.{named_view};
+ghost use Rattle.lj_share.specs.Refusals.{IsRefusedLine};
+ghost use Rattle.lj_share.specs.inner.Lines.{IsJointOf, accepts_line, seat_line_entry};
+ghost use Rattle.lj_share.specs.inner.Seats.{IfClosed, IsTestedAs};
 ghost use Rattle.lj_share.specs.inner.WithEntry.{IsAsked};
 
+use crate::seat::Unlocked;
 use lj_book::{Book, Entry, Refusal};
 use lj_clause::Clause;
 use lj_hint::Propagator;
-use lj_text::{Addition, Numbers};
+use lj_text::{Addition, Line, Numbers};
+
+/// Enters a seat's line, with a copy of its entry where one is asked for; gives the joint number that a number of the line is
+/// bound to. An addition is tested here, unless what the seat sees decided it.
+///
+/// # Errors
+/// As [`Book::add_inside`], [`Book::drop_numbers`] and [`Book::import`].
+pub(crate) fn enter(
+    book: &mut Book,
+    seat: u32,
+    line: &Line,
+    unlocked: Unlocked,
+    propagator: &mut Propagator,
+    with_entry: bool,
+) -> Result<(Option<Entry>, u64), Refusal>
+    requires { IsTestedAs (named_view book.old seat) seat line.now unlocked }
+    ensures ok { OnOk result
+        (book.new ≡ after_named book.old (seat_line_entry book.old seat line.now)) }
+    ensures told { IfOk result
+        (λ told. IsAsked with_entry (seat_line_entry book.old seat line.now) told.0) }
+    ensures joint { IfOk result (λ told. IsJointOf book.old seat line.now told.1) }
+    ensures err { OnErr result (book.new ≡ book.old) }
+    ensures accepted { OnOk result (accepts_line book.old seat line.now ≡ true) }
+    ensures refusal { IfErr result (λ e. IsRefusedLine seat line.now e book.old) }
+{
+    match line {
+        Line::Add(addition) => add(book, seat, addition, unlocked, propagator, with_entry),
+        Line::Delete(numbers) => match drop_numbers(book, seat, numbers, with_entry) {
+            Ok(entry) => Ok((entry, 0)),
+            Err(refusal) => Err(refusal),
+        },
+        Line::Import { number, clause } => import(book, seat, *number, clause, with_entry),
+    }
+}
+
+/// Enters a seat's addition.
+///
+/// # Errors
+/// As [`Book::add_inside`].
+fn add(
+    book: &mut Book,
+    seat: u32,
+    addition: &Addition,
+    unlocked: Unlocked,
+    propagator: &mut Propagator,
+    with_entry: bool,
+) -> Result<(Option<Entry>, u64), Refusal>
+    requires { IfClosed unlocked (IsClosedAlone (named_view book.old seat) seat addition.now) }
+    ensures ok { OnOk result
+        (book.new ≡ after_named book.old (named_inside_entry book.old seat addition.now)) }
+    ensures told { IfOk result (λ told. IsAsked with_entry
+        (named_inside_entry book.old seat addition.now) told.0) }
+    ensures joint { IfOk result (λ told. told.1 ≡ next (beneath book.old)) }
+    ensures err { OnErr result (book.new ≡ book.old) }
+    ensures accepted { OnOk result (is_ok (named_inside book.old seat addition.now) ≡ true) }
+    ensures refusal { IfErr result (λ e. IsRefusal e (named_inside book.old seat addition.now)) }
+{
+    match unlocked {
+        Unlocked::Closed(read) => add_closed(book, seat, addition, read, with_entry),
+        Unlocked::Open => add_inside(book, seat, addition, propagator, with_entry),
+    }
+}
 
 /// Tests a seat's addition, and enters it.
 ///
 /// # Errors
 /// As [`Book::add_inside`].
-pub(crate) fn add_inside(
+fn add_inside(
     book: &mut Book,
     seat: u32,
     addition: &Addition,
@@ -49,7 +114,7 @@ pub(crate) fn add_inside(
 ///
 /// # Errors
 /// As [`Book::add_closed`].
-pub(crate) fn add_closed(
+fn add_closed(
     book: &mut Book,
     seat: u32,
     addition: &Addition,
@@ -78,7 +143,7 @@ pub(crate) fn add_closed(
 ///
 /// # Errors
 /// As [`Book::drop_numbers`].
-pub(crate) fn drop_numbers(
+fn drop_numbers(
     book: &mut Book,
     seat: u32,
     numbers: &Numbers,
@@ -105,7 +170,7 @@ pub(crate) fn drop_numbers(
 ///
 /// # Errors
 /// As [`Book::import`].
-pub(crate) fn import(
+fn import(
     book: &mut Book,
     seat: u32,
     own: u64,
