@@ -37,12 +37,8 @@ pub(crate) fn add_inside(
     ensures accepted { OnOk result (is_ok (named_inside book.old seat addition.now) ≡ true) }
     ensures refusal { IfErr result (λ e. IsRefusal e (named_inside book.old seat addition.now)) }
 {
-    if with_entry {
-        let (added, entry) = book.add_inside_with_entry(seat, addition, propagator)?;
-        return Ok((Some(entry), added.joint));
-    }
-    let added = book.add_inside(seat, addition, propagator)?;
-    Ok((None, added.joint))
+    let (added, entry) = book.add_inside_with_entry(seat, addition, propagator, with_entry)?;
+    Ok((entry, added.joint))
 }
 
 /// Enters a seat's addition that closes by what the seat sees, after so many of its hints.
@@ -66,12 +62,8 @@ pub(crate) fn add_closed(
     ensures accepted { OnOk result (is_ok (named_inside book.old seat addition.now) ≡ true) }
     ensures refusal { IfErr result (λ e. IsRefusal e (named_inside book.old seat addition.now)) }
 {
-    if with_entry {
-        let (added, entry) = book.add_closed_with_entry(seat, addition, read)?;
-        return Ok((Some(entry), added.joint));
-    }
-    let added = book.add_closed(seat, addition, read)?;
-    Ok((None, added.joint))
+    let (added, entry) = book.add_closed_with_entry(seat, addition, read, with_entry)?;
+    Ok((entry, added.joint))
 }
 
 /// Gives own numbers of a seat up.

@@ -8,12 +8,12 @@ ghost use Rattle.lj_book.specs.Calls.{IsReply, IsReplyBy, answer_alone, commit_t
 ghost use Rattle.lj_book.specs.Named.{after_named};
 ghost use Rattle.lj_book.specs.NamedReplies.{named_first_stale, named_commit_refusal, named_commit};
 ghost use Rattle.lj_book.specs.NamedEntries.{receipt_step, receipt_entry, named_commit_entry};
-ghost use Rattle.lj_book.specs.inner.ReceiptForms.{lives_in_form, entry_by};
+ghost use Rattle.lj_book.specs.inner.ReceiptForms.{lives_in_form};
 ghost use Rattle.lj_book.specs.inner.JointLines.{line_entry};
 
 use super::Book;
 use crate::committing::numbers_of;
-use crate::entry::{Added, Call, Entry};
+use crate::entry::{Added, Entry};
 use crate::joint_book::JointBook;
 use crate::joint_book::laws::history_is_legal;
 use crate::lent_addition::LentAddition;
@@ -21,7 +21,7 @@ use crate::refusal::Refusal;
 use crate::variable_table::VariableTable;
 use lj_clause::NoMemory;
 use lj_hint::{Pair, Receipt};
-use lj_text::{Groups, Step};
+use lj_text::Groups;
 
 impl Book {
     /// Enters the lemma of a receipt, while the clauses that it lists still live in joint variables. The lemma's variables above
@@ -163,42 +163,17 @@ fn enter_joint(
 {
     let alloc = book.allocator();
     let seat = receipt.seat();
+    let own = receipt.own();
+    let named = receipt.lemma();
     let hints = numbers_of(alloc, receipt.listed())?;
     let groups = Groups::new(alloc);
-    match variables.joint_lemma(alloc, seat, receipt.lemma())? {
+    match variables.joint_lemma(alloc, seat, named)? {
         Some(lemma) => {
             let step = LentAddition::new(book.next(), &lemma, &hints, &groups);
-            let entry = entry_if(copies, receipt, &step)?;
-            let added = book.enter_legal(seat, receipt.own(), &step, false)?;
+            let entry = step.entry_if(copies, seat, own, named)?;
+            let added = book.enter_legal(seat, own, &step, false)?;
             Ok((added, entry))
         }
         None => unreachable!(),
     }
-}
-
-/// The entry of a receipt with this step, where `copies` asks for it.
-///
-/// # Errors
-/// [`NoMemory`] where a growth was refused.
-fn entry_if(
-    copies: bool,
-    receipt: &Receipt,
-    step: &LentAddition<'_>,
-) -> Result<Option<Entry>, NoMemory>
-    ensures { IfOk result (λ entry. entry
-        ≡ (if copies then Some (entry_by receipt.now step.now) else None)) }
-{
-    if !copies {
-        return Ok(None);
-    }
-    let call = Call::Add {
-        own: receipt.own(),
-        lemma: receipt.lemma().try_clone()?,
-    };
-    let step = Some(Step::Add(step.try_clone()?));
-    Ok(Some(Entry {
-        seat: receipt.seat(),
-        call,
-        step,
-    }))
 }

@@ -1,83 +1,15 @@
 //! Calls that also tell the entry that they make: a copy, made before the book changes.
-ghost use Rattle.std.specs.Prelude.{◌≡◌, OnOk, OnErr, IfOk, IfErr, IfSome, Ok, Err};
+ghost use Rattle.std.specs.Prelude.{◌≡◌, OnOk, OnErr, IfOk, IfErr, Err};
 ghost use Rattle.lj_book.specs.History.{after_entry};
-ghost use Rattle.lj_book.specs.Calls.{IsReplyBy, drop_reply, drop_entry, leave_reply, leave_entry, free_refusal};
-ghost use Rattle.lj_book.specs.Inside.{inside_reply, inside_entry};
-ghost use Rattle.lj_book.specs.inner.JointLines.{line_entry};
+ghost use Rattle.lj_book.specs.Calls.{IsReplyBy, drop_reply, drop_entry, leave_reply, leave_entry};
 
 use crate::dying::{rising, without_holder};
-use crate::entry::{Added, Call, Dropped, Entry};
+use crate::entry::{Call, Dropped, Entry};
 use crate::joint_book::{JointBook, deletion_of};
-use crate::joint_line::clear;
-use crate::lent_addition::LentAddition;
 use crate::refusal::Refusal;
-use lj_clause::NoMemory;
-use lj_hint::Propagator;
-use lj_text::{Addition, Groups, Numbers, Step};
+use lj_text::Numbers;
 
 impl JointBook {
-    /// As [`JointBook::add_inside`], with a copy of the entry. Takes time linear in the entry beside that.
-    ///
-    /// # Errors
-    /// As [`JointBook::add_inside`].
-    pub fn add_inside_with_entry(
-        &mut self,
-        seat: u32,
-        addition: &Addition,
-        propagator: &mut Propagator,
-    ) -> Result<(Added, Entry), Refusal>
-        ensures reply { IsReplyBy (λ told. told.0) result
-            (inside_reply self.old seat addition.now) }
-        ensures refused { IfSome (free_refusal self.old seat addition.now.number)
-            (λ e. result ≡ Err e) }
-        ensures told { IfOk result (λ told. told.1 ≡ inside_entry self.old seat addition.now) }
-        ensures ok { OnOk result
-            (self.new ≡ after_entry self.old (inside_entry self.old seat addition.now)) }
-        ensures err { OnErr result (self.new ≡ self.old) }
-    {
-        let (mut hints, mut groups) = self.lend_joints();
-        let told = self.add_line_with_entry(seat, addition, &mut hints, &mut groups, propagator);
-        clear(&mut groups);
-        self.joints = hints;
-        self.joint_groups = groups;
-        told
-    }
-
-    /// The same, with lists for the hints and the groups in joint numbers.
-    ///
-    /// # Errors
-    /// As [`JointBook::add_inside`].
-    fn add_line_with_entry(
-        &mut self,
-        seat: u32,
-        addition: &Addition,
-        hints: &mut Numbers,
-        groups: &mut Groups,
-        propagator: &mut Propagator,
-    ) -> Result<(Added, Entry), Refusal>
-        ensures reply { IsReplyBy (λ told. told.0) result
-            (inside_reply self.old seat addition.now) }
-        ensures refused { IfSome (free_refusal self.old seat addition.now.number)
-            (λ e. result ≡ Err e) }
-        ensures told { IfOk result (λ told. told.1 ≡ inside_entry self.old seat addition.now) }
-        ensures ok { OnOk result
-            (self.new ≡ after_entry self.old (inside_entry self.old seat addition.now)) }
-        ensures err { OnErr result (self.new ≡ self.old) }
-    {
-        if let Err(refusal) = self.inside_line(seat, addition, hints, groups, propagator) {
-            return Err(refusal);
-        }
-        let step = LentAddition::new(self.next(), &addition.lemma, hints, groups);
-        let entry = match entry_of_line(seat, addition.number, &step) {
-            Ok(entry) => entry,
-            Err(refused) => return Err(Refusal::NoMemory(refused)),
-        };
-        match self.enter_line(seat, addition, &step) {
-            Ok(added) => Ok((added, entry)),
-            Err(refused) => Err(Refusal::NoMemory(refused)),
-        }
-    }
-
     /// As [`JointBook::drop_numbers`], with a copy of the entry. Takes time linear in the entry beside that.
     ///
     /// # Errors
@@ -135,19 +67,4 @@ impl JointBook {
         let step = deletion_of(without_holder(&self.tables, joints));
         Ok((place, Entry { seat, call, step }))
     }
-}
-
-/// The entry of a seat's addition with this step.
-///
-/// # Errors
-/// [`NoMemory`] where a growth was refused.
-pub(crate) fn entry_of_line(seat: u32, own: u64, step: &LentAddition<'_>) -> Result<Entry, NoMemory>
-    ensures { IfOk result (λ entry. entry ≡ line_entry seat own step.now) }
-{
-    let call = Call::Add {
-        own,
-        lemma: step.lemma.try_clone()?,
-    };
-    let step = Some(Step::Add(step.try_clone()?));
-    Ok(Entry { seat, call, step })
 }
