@@ -84,12 +84,8 @@ pub(crate) fn drop_numbers(
     ensures accepted { OnOk result (is_ok (named_drop book.old seat numbers.now) ≡ true) }
     ensures refusal { IfErr result (λ e. IsRefusal e (named_drop book.old seat numbers.now)) }
 {
-    if with_entry {
-        let (_, entry) = book.drop_with_entry(seat, numbers)?;
-        return Ok(Some(entry));
-    }
-    book.drop_numbers(seat, numbers)?;
-    Ok(None)
+    let (_, entry) = book.drop_with_entry(seat, numbers, with_entry)?;
+    Ok(entry)
 }
 
 /// Binds a seat's own number to a live clause with exactly these literals, which are in the seat's variables, or to one that enters

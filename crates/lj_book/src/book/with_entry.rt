@@ -1,5 +1,5 @@
 //! Calls that also tell the entry that they make: a copy, made before the book changes.
-ghost use Rattle.std.specs.Prelude.{◌≡◌, OnOk, OnErr, IfOk, IfErr, IfSome, Err, true};
+ghost use Rattle.std.specs.Prelude.{◌≡◌, if◌then◌else◌, Some, None, OnOk, OnErr, IfOk, IfErr, IfSome, Err, true};
 ghost use Rattle.lj_clause.specs.ClauseMap.{names_up_to};
 ghost use Rattle.lj_book.specs.Calls.{IsReplyBy, drop_entry, adopt_entry, leave_entry};
 ghost use Rattle.lj_book.specs.WithEntry.{without_receipt};
@@ -41,7 +41,7 @@ impl Book {
         }
     }
 
-    /// As [`Book::drop_numbers`], with a copy of the entry. Takes time linear in the entry beside that.
+    /// As [`Book::drop_numbers`], with a copy of the entry where it is wanted, which takes time linear in the entry.
     ///
     /// # Errors
     /// As [`Book::drop_numbers`].
@@ -49,16 +49,17 @@ impl Book {
         &mut self,
         seat: u32,
         numbers: &Numbers,
-    ) -> Result<(Dropped, Entry), Refusal>
+        wanted: bool,
+    ) -> Result<(Dropped, Option<Entry>), Refusal>
         ensures reply { IsReplyBy (λ told. told.0) result (named_drop self.old seat numbers.now) }
         ensures refused { IfErr (named_drop self.old seat numbers.now) (λ e. result ≡ Err e) }
-        ensures told { IfOk result
-            (λ told. told.1 ≡ drop_entry (beneath self.old) seat numbers.now) }
+        ensures told { IfOk result (λ told. told.1
+            ≡ (if wanted then Some (drop_entry (beneath self.old) seat numbers.now) else None)) }
         ensures ok { OnOk result (self.new
             ≡ after_named self.old (drop_entry (beneath self.old) seat numbers.now)) }
         ensures err { OnErr result (self.new ≡ self.old) }
     {
-        let told = self.joint.drop_with_entry(seat, numbers);
+        let told = self.joint.drop_numbers(seat, numbers, wanted);
         history_is_legal(&self.joint);
         told
     }
@@ -122,7 +123,7 @@ impl Book {
         }
     }
 
-    /// As [`Book::leave`], with a copy of the entry. Takes time linear in the entry beside that.
+    /// As [`Book::leave`], with the entry.
     ///
     /// # Errors
     /// As [`Book::leave`].
@@ -134,7 +135,7 @@ impl Book {
             (self.new ≡ after_named self.old (leave_entry (beneath self.old) seat)) }
         ensures err { OnErr result (self.new ≡ self.old) }
     {
-        let told = self.joint.leave_with_entry(seat);
+        let told = self.joint.leave(seat);
         history_is_legal(&self.joint);
         told
     }
