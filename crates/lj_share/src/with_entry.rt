@@ -110,10 +110,6 @@ pub(crate) fn import(
     ensures accepted { OnOk result (is_ok (named_import book.old seat own clause.now) ≡ true) }
     ensures refusal { IfErr result (λ e. IsRefusal e (named_import book.old seat own clause.now)) }
 {
-    if with_entry {
-        let (imported, entry) = book.import_with_entry(seat, own, clause)?;
-        return Ok((Some(entry), imported.joint));
-    }
-    let imported = book.import(seat, own, clause)?;
-    Ok((None, imported.joint))
+    let (imported, entry) = book.import_with_entry(seat, own, clause, with_entry)?;
+    Ok((entry, imported.joint))
 }

@@ -48,20 +48,20 @@ impl Book {
         }
     }
 
-    /// As [`Book::commit`], by a receipt that is lent, with a copy of the entry where `copies` asks for it.
+    /// As [`Book::commit`], by a receipt that is lent, with a copy of the entry where it is wanted.
     ///
     /// # Errors
     /// As [`Book::commit`], without the receipt.
     pub(super) fn enter_receipt(
         &mut self,
         receipt: &Receipt,
-        copies: bool,
+        wanted: bool,
     ) -> Result<(Added, Option<Entry>), Refusal>
         ensures reply { IsReplyBy (λ told. told.0) result (named_commit self.old receipt.now) }
         ensures refused { IfSome (named_commit_refusal self.old receipt.now)
             (λ e. result ≡ Err e) }
         ensures told { IfOk result (λ told. told.1
-            ≡ (if copies then Some (named_commit_entry self.old receipt.now) else None)) }
+            ≡ (if wanted then Some (named_commit_entry self.old receipt.now) else None)) }
         ensures ok { OnOk result
             (self.new ≡ after_named self.old (named_commit_entry self.old receipt.now)) }
         ensures err { OnErr result (self.new ≡ self.old) }
@@ -76,7 +76,7 @@ impl Book {
         if !left {
             return Err(Refusal::NoVariableLeft);
         }
-        match enter_joint(&mut self.joint, &self.variables, receipt, copies) {
+        match enter_joint(&mut self.joint, &self.variables, receipt, wanted) {
             Ok(told) => {
                 history_is_legal(&self.joint);
                 Ok(told)
@@ -135,7 +135,7 @@ fn lives_in_form(book: &JointBook, variables: &VariableTable, seat: u32, pair: &
     }
 }
 
-/// Enters the lemma of a receipt in joint variables, which it has, with a copy of the entry where `copies` asks for it.
+/// Enters the lemma of a receipt in joint variables, which it has, with a copy of the entry where it is wanted.
 ///
 /// # Errors
 /// [`NoMemory`] where a growth was refused.
@@ -143,7 +143,7 @@ fn enter_joint(
     book: &mut JointBook,
     variables: &VariableTable,
     receipt: &Receipt,
-    copies: bool,
+    wanted: bool,
 ) -> Result<(Added, Option<Entry>), NoMemory>
     requires named { is_named variables.now.top
         (renaming_of variables.now.variables receipt.now.seat) receipt.now.lemma.clause ≡ true }
@@ -151,7 +151,7 @@ fn enter_joint(
         (receipt_step (renaming_of variables.now.variables receipt.now.seat) (next book.old)
         receipt.now)) }
     ensures added { IfOk result (λ told. told.0 ≡ commit_told book.old) }
-    ensures told { IfOk result (λ told. told.1 ≡ (if copies
+    ensures told { IfOk result (λ told. told.1 ≡ (if wanted
         then Some (receipt_entry (renaming_of variables.now.variables receipt.now.seat)
         (next book.old) receipt.now)
         else None)) }
@@ -170,7 +170,7 @@ fn enter_joint(
     match variables.joint_lemma(alloc, seat, named)? {
         Some(lemma) => {
             let step = LentAddition::new(book.next(), &lemma, &hints, &groups);
-            let entry = step.entry_if(copies, seat, own, named)?;
+            let entry = step.entry_if(wanted, seat, own, named)?;
             let added = book.enter_legal(seat, own, &step, false)?;
             Ok((added, entry))
         }

@@ -38,7 +38,7 @@ returns-clause-told c =
     (sym c.in-Some.is ∙ c.in_ok-lemma.ensures ∙ (λ i. lemma_as_joint t.top t.variables (c.seat-seat.ensures i) (c.lemma-named.ensures.lemma i))) in
     let step : c.new-step.result ≡ receipt_step (renaming_of t.variables r.seat) (next j) r =
     c.new-step.ensures ∙ (λ i. addition_of_parts (c.next.ensures i) (lemma i) ((c.in_ok-hints.ensures ∙ ap numbers c.listed.ensures.listed) i, c.new-groups.ensures i)) in
-    c.in_ok-entry-in-Some.ensures ∙ (λ i. if c.args.copies then Some (entry_of (c.seat-seat.ensures i) (calls.Add (c.own-own.ensures i) (c.lemma-named.ensures.lemma i)) (Some (steps.Add (step i)))) else None)
+    c.in_ok-entry-in-Some.ensures ∙ (λ i. if c.args.wanted then Some (entry_of (c.seat-seat.ensures i) (calls.Add (c.own-own.ensures i) (c.lemma-named.ensures.lemma i)) (Some (steps.Add (step i)))) else None)
 
 pub returns-clause-ok : goal.returns-clause-ok
 returns-clause-ok c =
