@@ -67,9 +67,6 @@ Speaks (calls.Import own clause) = ⊥
 Speaks calls.Leave = Unit {0}
 
 module _ (s : NamedState) (reached : IsNamedReached s) (k : ℕ) where
-  v : Variables
-  v = s.variables
-
   rules : IsVariables (top_of s) s.variables
   rules = (rules_reached s reached).variables
 

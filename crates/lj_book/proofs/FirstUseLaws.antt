@@ -138,16 +138,6 @@ after_more p k v d old l above n c at has = by (one_more p k n c d at)
     by (inl e) = omega (arith, e.0)
     by (inr before) = absurd (let lt = old n c l before has in let no : ⊥ = omega (arith, lt, above) in no)
 
-pub each_and_one : (p : ClauseMap) (last : ℕ) (us : List FirstUse) (u : FirstUse) → AllByRecursion (IsFirstUse p last) us → IsFirstUse p last u → AllByRecursion (IsFirstUse p last) (us ++ u ∷ [])
-each_and_one p last [] u are is = (is, tt)
-each_and_one p last (v ∷ us) u are is = (are.0, each_and_one p last us u are.1 is)
-
--- one of them
-pub use_at : (p : ClauseMap) (last : ℕ) (us : List FirstUse) (i : ℕ) (d : FirstUse) → i < length us → AllByRecursion (IsFirstUse p last) us → IsFirstUse p last (get_or us i d)
-use_at p last [] i d lt are = absurd (let no : ⊥ = omega (arith, lt) in no)
-use_at p last (u ∷ us) zero d lt are = are.0
-use_at p last (u ∷ us) (suc i) d lt are = use_at p last us i d (omega (arith, lt)) are.1
-
 -- ---- those of a formula
 
 pub name_at : (v : ℕ) (cs : List LiteralSet) (i : ℕ) (c : LiteralSet) → list_all (names_up_to v) cs ≡ true → slice_get cs i ≡ Some c → names_up_to v c ≡ true

@@ -317,11 +317,6 @@ parts_full p s seat a step lives free h le = told_by_parts p s seat a (Ok step) 
 pub parts_passed : (p : ClauseMap) (s : State) (seat : ℕ) (a step : Addition) → p ≡ live s → free_refusal s seat a.number ≡ None → parts_tested p s seat a ≡ Ok step → addition_count s.history < s.max_steps → inside_line s seat a ≡ Ok step
 parts_passed p s seat a step lives free h lt = told_by_parts p s seat a (Ok step) lives free h (λ y is same. absurd (let no : ⊥ = cc in no)) (λ parts taken tested. line_passed s seat a parts step taken tested lt)
 
--- what is refused before anything else isn't entered
-pub not_refused : {A B : Type 0} (o : Option Refusal) (x : A) (y : B) → IfSome o (λ e. ◌≡◌ {A = Result A Refusal} (Ok x) (Err e)) → IfSome o (λ e. ◌≡◌ {A = Result B Refusal} (Ok y) (Err e))
-not_refused None x y h = tt
-not_refused (Some e) x y h = cc
-
 -- ---- the entry is legal
 
 pub parts_of : (rep : Option ℕ) (hs : Result (List ℕ) Refusal) (gs : Result (List HintGroup) Refusal) (parts : LineParts) → parts_with rep hs gs ≡ Ok parts → (rep ≡ None) × (hs ≡ Ok parts.0) × (gs ≡ Ok parts.1)

@@ -128,10 +128,10 @@ module _ (joint : State) (t : TopVariables) (over : IsOver joint t) (seat : ℕ)
     pub given_reply : inside_reply joint seat (joint_form u.variables seat a) ≡ named_inside s seat a
     given_reply = ap (inside_reply joint seat) form_is ∙ same_reply enough
 
-    pub given_entry : with_call a (inside_entry joint seat (joint_form u.variables seat a)) ≡ named_inside_entry s seat a
+    pub given_entry : with_call (calls.Add a.number a.lemma) (inside_entry joint seat (joint_form u.variables seat a)) ≡ named_inside_entry s seat a
     given_entry =
-        ap (λ (b : Addition). with_call a (inside_entry joint seat b)) form_is
-        ∙ ap (λ (j : State). with_call a (inside_entry j seat below)) (sym over.below)
+        ap (λ (b : Addition). with_call (calls.Add a.number a.lemma) (inside_entry joint seat b)) form_is
+        ∙ ap (λ (j : State). with_call (calls.Add a.number a.lemma) (inside_entry j seat below)) (sym over.below)
 
     pub given_entered : (after : State) → IsReached after → after ≡ after_entry joint (inside_entry joint seat (joint_form u.variables seat a)) → IsOverAfter s (named_inside_entry s seat a) after u
     given_entered after reached is =

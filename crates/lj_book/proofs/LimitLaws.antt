@@ -189,9 +189,6 @@ module _ (s : NamedState) (is : IsFormula s.formula) (reached : IsNamedReached s
     abbrev later : Renaming
     later = renaming_of (given_in s seat c) seat
 
-    abbrev top : ℕ
-    top = top_of s
-
     grows : Grows (top_of s) s.variables (given_in s seat c)
     grows = (given_grows_within s rules seat c within).0
 

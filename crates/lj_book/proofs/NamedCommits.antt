@@ -50,10 +50,6 @@ pub same_steps : (v : Variables) (es : List Entry) → steps_of (map (joint_entr
 same_steps v [] = refl
 same_steps v (e ∷ es) = ap (cons_option e.step) (same_steps v es)
 
-pub same_verdict : (v : Variables) (place : ℕ) (es : List Entry) → verdict_from place (map (joint_entry v) es) ≡ verdict_from place es
-same_verdict v place [] = refl
-same_verdict v place (e ∷ es) = ap (λ (o : Option ℕ). if is_refutation e.step then Some place else o) (same_verdict v (place + 1) es)
-
 pub same_count : (s : NamedState) → addition_count (beneath s).history ≡ addition_count s.history
 same_count s = ap (λ (ss : List Step). length (additions ss)) (same_steps s.variables s.history)
 

@@ -203,9 +203,6 @@ place_among [] i d lt = absurd (omega arith)
 place_among (l ∷ ls) zero d lt = or_left (index_of l == index_of l) (is_among (map index_of ls) (index_of l)) (itself (index_of l))
 place_among (l ∷ ls) (suc i) d lt = or_right (index_of l == index_of (get_or ls i d)) (is_among (map index_of ls) (index_of (get_or ls i d))) (place_among ls i d (grind arith))
 
-pub some_places : (c : LiteralSet) → (length (literals c) == 0) ≡ false → keys_of c ≡ map index_of (literals c)
-some_places c h = ap (λ b. cond b (1 ∷ []) (map index_of (literals c))) h
-
 pub one_place : (c : LiteralSet) → (length (literals c) == 0) ≡ true → keys_of c ≡ 1 ∷ []
 one_place c h = ap (λ b. cond b (1 ∷ []) (map index_of (literals c))) h
 
@@ -218,11 +215,6 @@ only_place c m after n none is k =
       | false ↦ λ e. refl
     ]) refl
     ∙ ap (λ b. put_if b (list_at m k) n) (ap (λ b. b || false) (turned k 1) ∙ ap (λ ks. is_among ks k) (sym (one_place c none)))
-
--- all places of the clause were passed
-pub all_places : (c : LiteralSet) (m now : Lists) (i n : ℕ) → (length (literals c) == 0) ≡ false → length (literals c) ≤ i → ((k : ℕ) → list_at now k ≡ put_if (is_among (map index_of (take i (literals c))) k) (list_at m k) n) → (k : ℕ) → list_at now k ≡ put_if (is_among (keys_of c) k) (list_at m k) n
-all_places c m now i n some past before k =
-    before k ∙ ap (λ ks. put_if (is_among ks k) (list_at m k) n) (ap (map index_of) (take_all i (literals c) past) ∙ sym (some_places c some))
 
 -- ---- what is found
 
@@ -355,12 +347,6 @@ all_listed p m n end are is given = fewer_clauses m (clauses_below p n) (fin.get
     within q n h = grind (arith, nat_tests)
 
 -- ---- what is kept beside the clauses
-
-pub Indexed-empty : (p : ClauseMap) → p ≡ fin.empty → AreIndexed None p 0
-Indexed-empty p is = record {
-  given = λ n there. absurd (false≢true (ap is_some (sym (fin.get-empty nat_cmp n)) ∙ ap (λ (m : ClauseMap). fin.contains_key m n) (sym is) ∙ there));
-  listed = tt;
-}
 
 if_some : {X : Type 0} (o : Option X) (P Q : X → Type 0) → ((x : X) → P x → Q x) → IfSome o P → IfSome o Q
 if_some None P Q f h = tt

@@ -145,38 +145,12 @@ module _ (joint : State) (t : TopVariables) (s : NamedState) (over : IsOver join
 
 -- ---- adoptions
 
-not_true : (b : Bool) → not b ≡ true → b ≡ false
-not_true true h = absurd (false≢true h)
-not_true false h = refl
-
 not_false : (b : Bool) → not b ≡ false → b ≡ true
 not_false true h = refl
 not_false false h = absurd (false≢true (sym h))
 
-if_free-err : {A : Type 0} (o : Option Refusal) (e : Refusal) → if_free {A = A} o (Err e) ≡ Err (unwrap_or o e)
-if_free-err None e = refl
-if_free-err (Some x) e = refl
-
 module _ (s : NamedState) (seat own joint : ℕ) where
-  -- an adoption of a clause that isn't the seat's own
-  pub private_adopt : is_private s seat (fin.get (live (beneath s)) joint) ≡ true → named_adopt s seat own joint ≡ Err (unwrap_or (free_refusal (beneath s) seat own) PrivateVariable)
-  private_adopt private = ap (if_free (free_refusal (beneath s) seat own)) (by (fin.get (live (beneath s)) joint) private) ∙ if_free-err (free_refusal (beneath s) seat own) PrivateVariable
-    where
-      by : (o : Option LiteralSet) → is_private s seat o ≡ true → adopted s seat o ≡ Err PrivateVariable
-      by None h = absurd (false≢true h)
-      by (Some c) h = ap (λ b. cond b (Ok (length s.history)) (Err PrivateVariable)) (not_true (is_own (top_of s) s.variables seat c) h)
-
-  -- any other is answered as in the book beneath
-  pub own_adopt : is_private s seat (fin.get (live (beneath s)) joint) ≡ false → adopt_reply (beneath s) seat own joint ≡ named_adopt s seat own joint
-  own_adopt private = ap (if_free (free_refusal (beneath s) seat own)) (by (fin.get (live (beneath s)) joint) private)
-    where
-      by : (o : Option LiteralSet) → is_private s seat o ≡ false → (if is_some o then Ok (length (beneath s).history) else Err NoSuchClause) ≡ adopted s seat o
-      by None h = refl
-      by (Some c) h =
-          ap Ok (length-map s.history _)
-          ∙ sym (ap (λ b. cond b (Ok (length s.history)) (Err PrivateVariable)) (not_false (is_own (top_of s) s.variables seat c) h))
-
-  -- one that is accepted there names rightly
+  -- an adoption that is accepted beneath names rightly
   pub own_live : (place : ℕ) → is_private s seat (fin.get (live (beneath s)) joint) ≡ false → adopt_reply (beneath s) seat own joint ≡ Ok place → IsOwnLive s seat (fin.get (live (beneath s)) joint)
   own_live place private ok = by (fin.get (live (beneath s)) joint) (free_refusal (beneath s) seat own) private ok
     where
@@ -252,10 +226,6 @@ own_answered s seat own joint (Err e) private is = tt
 
 -- ---- refusals of imports
 
-pub refused_first : {A : Type 0} (o : Option Refusal) (later : Result A Refusal) (P : Refusal → Type 0) → IfErr (if_free o later) P → IfSome o P
-refused_first None later P h = tt
-refused_first (Some e) later P h = h
-
 pub unrefused_named : (s : NamedState) (seat own : ℕ) (c : LiteralSet) → import_refusal s seat own c ≡ None → is_named (top_of s) (names_of s seat) c ≡ true
 unrefused_named s seat own c none = by (free_refusal (beneath s) seat own) (is_named (top_of s) (names_of s seat) c) none
   where
@@ -293,9 +263,6 @@ module _ (joint : State) (t : TopVariables) (s : NamedState) (over : IsOver join
 -- What an adoption is answered by the book beneath, where its clause is the seat's own.
 module _ (joint : State) (t : TopVariables) (s : NamedState) (over : IsOver joint t) (is : named_over joint t.variables ≡ s) (seat own number : ℕ)
     (private : is_private s seat (fin.get (live (beneath s)) number) ≡ false) where
-  pub adopt_alike : adopt_reply joint seat own number ≡ named_adopt s seat own number
-  adopt_alike = ap (λ (j : State). adopt_reply j seat own number) (under joint t s over is) ∙ own_adopt s seat own number private
-
   module _ (r : Result ℕ Refusal) (after : State) (legal : IsReached after) (reply : IsReply r (adopt_reply joint seat own number)) (ok : OnOk r (after ≡ after_entry joint (adopt_entry seat own number))) (err : OnErr r (after ≡ joint)) where
     lives : OnOk r (IsOwnLive (named_over joint t.variables) seat (fin.get (live (beneath (named_over joint t.variables))) number))
     lives = subst (λ (u : NamedState). OnOk r (IsOwnLive u seat (fin.get (live (beneath u)) number))) (sym is)
@@ -303,6 +270,3 @@ module _ (joint : State) (t : TopVariables) (s : NamedState) (over : IsOver join
 
     pub adopt_over : IsOver after t
     adopt_over = over_answered r joint after t (adopt_entry seat own number) over legal lives refl ok err
-
-    pub adopt_left : OnOk r (named_over after t.variables ≡ after_named s (adopt_entry seat own number))
-    adopt_left = on_ok_weaker r (λ e. e ∙ ap (λ (u : NamedState). after_named u (adopt_entry seat own number)) is) (left_answered r joint after t (adopt_entry seat own number) over legal lives refl ok err)

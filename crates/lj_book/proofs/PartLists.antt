@@ -81,9 +81,6 @@ least_in {X} f g (e ∷ es) sorted =
 abbrev pub first_of : LiteralSet → Option ℤ
 first_of d = slice_get (literals d) 0
 
-some_equal : {X : Type 0} {x y : X} → Some x ≡ Some y → x ≡ y
-some_equal e = cc
-
 no_first : (ls : List ℤ) → is_first None (slice_get ls 0) ≡ true → ls ≡ []
 no_first [] h = refl
 no_first (l ∷ ls) h = absurd (false≢true h)

@@ -59,9 +59,6 @@ same_test b c d h = both_ways b (is_same c d) (λ e. ap (is_same c) (h.0 e) ∙ 
 
 -- ---- parts
 
-pub part_holds : (c d : LiteralSet) → is_part c d ≡ true → (q : ℤ) → holds d q ≡ true → holds c q ≡ true
-part_holds c d h q m = all_hold c (literals d) h q (sym (holds-literals d q) ∙ m)
-
 none_left : (c : LiteralSet) (ls : List ℤ) → list_all (holds c) ls ≡ true → filter (λ l. not (holds (negations c) (neg_ℤ l))) ls ≡ []
 none_left c [] h = refl
 none_left c (l ∷ ls) h =

@@ -30,24 +30,6 @@ numbers_in test es = map (λ e. e.0) (filter (λ e. test e.1) es)
 numbers-taken : {X : Type 0} (test : X → Bool) (n : ℕ) (x : X) (es : List (ℕ × X)) → test x ≡ true → numbers_in test ((n, x) ∷ es) ≡ n ∷ numbers_in test es
 numbers-taken {X} test n x es h = ap (λ b. map (λ (e : ℕ × X). e.0) (cond b ((n, x) ∷ filter (λ e. test e.1) es) (filter (λ e. test e.1) es))) h
 
-numbers-skipped : {X : Type 0} (test : X → Bool) (n : ℕ) (x : X) (es : List (ℕ × X)) → test x ≡ false → numbers_in test ((n, x) ∷ es) ≡ numbers_in test es
-numbers-skipped {X} test n x es h = ap (λ b. map (λ (e : ℕ × X). e.0) (cond b ((n, x) ∷ filter (λ e. test e.1) es) (filter (λ e. test e.1) es))) h
-
--- what was found and what is left to be found, after an entry that passes, and after one that doesn't
-pub one_taken : {X : Type 0} (test : X → Bool) (found all : List ℕ) (left rest : List (ℕ × X)) (n : ℕ) (x : X) → found ++ numbers_in test left ≡ all → left ≡ (n, x) ∷ rest → test x ≡ true → (found ++ n ∷ []) ++ numbers_in test rest ≡ all
-one_taken test found all left rest n x before is h =
-    append_assoc found (n ∷ []) (numbers_in test rest)
-    ∙ ap (λ ms. found ++ ms) (sym (numbers-taken test n x rest h) ∙ ap (numbers_in test) (sym is))
-    ∙ before
-
-pub one_skipped : {X : Type 0} (test : X → Bool) (found all : List ℕ) (left rest : List (ℕ × X)) (n : ℕ) (x : X) → found ++ numbers_in test left ≡ all → left ≡ (n, x) ∷ rest → test x ≡ false → found ++ numbers_in test rest ≡ all
-one_skipped test found all left rest n x before is h =
-    ap (λ ms. found ++ ms) (sym (numbers-skipped test n x rest h) ∙ ap (numbers_in test) (sym is))
-    ∙ before
-
-pub all_taken : {X : Type 0} (test : X → Bool) (found all : List ℕ) (left : List (ℕ × X)) → found ++ numbers_in test left ≡ all → left ≡ [] → found ≡ all
-all_taken test found all left before is = sym (append-nil found) ∙ ap (λ es. found ++ numbers_in test es) (sym is) ∙ before
-
 -- the first that is found
 pub first_found : {X : Type 0} (test : X → Bool) (all : List ℕ) (left rest : List (ℕ × X)) (n : ℕ) (x : X) → numbers_in test left ≡ all → left ≡ (n, x) ∷ rest → test x ≡ true → Some n ≡ slice_get all 0
 first_found test all left rest n x before is h =
@@ -55,21 +37,3 @@ first_found test all left rest n x before is h =
 
 pub none_found : {X : Type 0} (test : X → Bool) (all : List ℕ) (left : List (ℕ × X)) → numbers_in test left ≡ all → left ≡ [] → None ≡ slice_get all 0
 none_found test all left before is = ap (λ ms. slice_get ms 0) (sym (ap (numbers_in test) is) ∙ before)
-
-pub none_skipped : {X : Type 0} (test : X → Bool) (all : List ℕ) (left rest : List (ℕ × X)) (n : ℕ) (x : X) → numbers_in test left ≡ all → left ≡ (n, x) ∷ rest → test x ≡ false → numbers_in test rest ≡ all
-none_skipped test all left rest n x before is h = one_skipped test [] all left rest n x before is h
-
--- a number that is found is a key
-first_is_key : {X : Type 0} (test : X → Bool) (es : List (ℕ × X)) (n : ℕ) → slice_get (numbers_in test es) 0 ≡ Some n → is_among (map (λ e. e.0) es) n ≡ true
-first_is_key test [] n h = cc
-first_is_key {X} test (e ∷ es) n h =
-    elim (test e.1) as (λ b. slice_get (map (λ (f : ℕ × X). f.0) (cond b (e ∷ filter (λ f. test f.1) es) (filter (λ f. test f.1) es))) 0 ≡ Some n → (e.0 == n || is_among (map (λ f. f.0) es) n) ≡ true) [
-      | true ↦ λ g. or_left (e.0 == n) (is_among (map (λ f. f.0) es) n) (itself e.0 n (let is : e.0 ≡ n = cc in is))
-      | false ↦ λ g. or_right (e.0 == n) (is_among (map (λ f. f.0) es) n) (first_is_key test es n g)
-    ] h
-  where
-    itself : (a b : ℕ) → a ≡ b → (a == b) ≡ true
-    itself a b e = grind (arith, nat_tests)
-
-pub least_is_there : (p : ClauseMap) (c : LiteralSet) (n : ℕ) → least_number p c ≡ Some n → fin.contains_key p n ≡ true
-least_is_there p c n h = sym (among-keys p n) ∙ first_is_key (is_same c) (fin.entries p) n h

@@ -19,9 +19,6 @@ use Rattle.lj_book.proofs.SoloStates.{IsGiven, some_clause, with_clause-is, live
 pair_is : (s : State) (seat : ℕ) (t : Table) → IsGiven s → table_of s.tables seat ≡ Some t → (own : ℕ) → pair_in s.tables (live s) seat own ≡ fin.get (holdings_of (given_out s) t) own
 pair_is s seat t given at own = go (fin.get t own) refl
   where
-    joined : ℕ → Option Pair
-    joined joint = option_map (λ (c : LiteralSet). record { joint = joint; clause = c }) (fin.get (live s) joint)
-
     found : joint_of s.tables seat own ≡ fin.get t own
     found = ap (option_and_then (λ (u : Table). fin.get u own)) at
 

@@ -64,10 +64,6 @@ given_then s m t x y w v = record {
           ap (λ (u : TokenState). u.failures) same ∙ broke.1,
         )
 
--- what may be given words may be given more
-pub may_still : (s t : TokenState) (x : List ℕ) → WasGiven s x t → MayBeGiven s → MayBeGiven t
-may_still s t x w may f = (w.whole f).2 ∙ may (w.whole f).0
-
 -- ---- what is left of a text
 
 pub remains_all : (s : TokenState) (whole : List ℕ) → Remains s whole s whole
@@ -82,9 +78,6 @@ remains_less s t u whole all x rest r e w = record {
 
 pub remains_none : (s t : TokenState) (whole : List ℕ) → Remains s whole t [] → WasGiven s whole t
 remains_none s t whole r = subst (λ y. WasGiven s y t) (sym (append-nil r.front) ∙ r.parts) r.given
-
-pub may_remain : (s t : TokenState) (whole rest : List ℕ) → Remains s whole t rest → MayBeGiven s → MayBeGiven t
-may_remain s t whole rest r may = may_still s t r.front r.given may
 
 -- ---- literals
 

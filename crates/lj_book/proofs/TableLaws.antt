@@ -87,10 +87,6 @@ with_table_counts change (u ∷ ts) (suc seat) t n h = let rest = with_table_cou
 pub holders-with_table : (change : Table → Table) (ts : Tables) (seat : ℕ) (t : Table) (n : ℕ) → table_of ts seat ≡ Some t → holders_of (with_table change ts seat) n + count_in (Some t) n ≡ holders_of ts n + count_in (Some (change t)) n
 holders-with_table = with_table_counts
 
-cond_same : {A : Type 0} (b : Bool) (x : A) → cond b x x ≡ x
-cond_same true x = refl
-cond_same false x = refl
-
 same_number : (q k : ℕ) → eq_by_cmp nat_cmp q k ≡ true → q ≡ k
 same_number q k e = let f : (q == k) ≡ true = sym (unsigned_tied q k) ∙ e in grind (arith, nat_tests)
 
@@ -137,11 +133,6 @@ count-remove t own joint n some =
 
 -- ---- one table in the list
 
-pub table_of-get_or : (ts : Tables) (seat : ℕ) → table_of ts seat ≡ get_or ts seat None
-table_of-get_or [] seat = refl
-table_of-get_or (t ∷ ts) zero = refl
-table_of-get_or (t ∷ ts) (suc seat) = table_of-get_or ts seat
-
 pub with_table-set : (change : Table → Table) (ts : Tables) (seat : ℕ) (t : Table) → table_of ts seat ≡ Some t → set ts seat (Some (change t)) ≡ with_table change ts seat
 with_table-set change [] seat t h = refl
 with_table-set change (u ∷ ts) zero t h = ap (λ o. option_map change o ∷ ts) (sym h)
@@ -152,10 +143,6 @@ with_table-with_table f g [] seat = refl
 with_table-with_table f g (None ∷ ts) zero = refl
 with_table-with_table f g (Some t ∷ ts) zero = refl
 with_table-with_table f g (t ∷ ts) (suc seat) = ap (λ us. t ∷ us) (with_table-with_table f g ts seat)
-
--- changes that do the same to the seat's table
-pub with_table-same : (f g : Table → Table) (ts : Tables) (seat : ℕ) (t : Table) → table_of ts seat ≡ Some t → f t ≡ g t → with_table f ts seat ≡ with_table g ts seat
-with_table-same f g ts seat t h e = sym (with_table-set f ts seat t h) ∙ ap (λ w. set ts seat (Some w)) e ∙ with_table-set g ts seat t h
 
 pub with_table-id : (f : Table → Table) (ts : Tables) (seat : ℕ) (t : Table) → table_of ts seat ≡ Some t → f t ≡ t → with_table f ts seat ≡ ts
 with_table-id f [] seat t h e = refl

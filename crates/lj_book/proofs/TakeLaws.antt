@@ -30,10 +30,6 @@ repeated-new joint before g gs j at fresh =
     sym (ap (λ o. if is_seen before o then Some g.candidate else repeated_after joint (with_seen o before) gs) at
     ∙ ap (λ b. if b then Some g.candidate else repeated_after joint (j ∷ before) gs) fresh)
 
-pub repeated-none : (joint : ℕ → Option ℕ) (before : List ℕ) (g : HintGroup) (gs : List HintGroup) → joint g.candidate ≡ None → repeated_after joint before gs ≡ repeated_after joint before (g ∷ gs)
-repeated-none joint before g gs at =
-    sym (ap (λ o. if is_seen before o then Some g.candidate else repeated_after joint (with_seen o before) gs) at)
-
 pub seen-none : (m : fin.FinMap nat_cmp (Unit {0})) → m ≡ fin.empty → (q : ℕ) → fin.contains_key m q ≡ is_among [] q
 seen-none m is q = ap (λ (k : fin.FinMap nat_cmp (Unit {0})). fin.contains_key k q) is ∙ ap is_some (fin.get-empty nat_cmp q)
 

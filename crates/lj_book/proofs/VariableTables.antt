@@ -193,9 +193,6 @@ get_removed : (m : Renaming) (k q : ℕ) → fin.get (fin.remove m k) q ≡ cond
 get_removed m k q = fin.get-remove nat_cmp_total m k q ∙ ap (λ b. cond b None (fin.get m q)) (unsigned_tied q k)
 
 module _ (top : ℕ) (ms : List Renaming) (rest : List Owner) (o : Owner) (are : AreOwners top ms (rest ++ o ∷ [])) where
-  abbrev renaming_at : ℕ → Renaming
-  renaming_at s = slice_index_or ms s fin.empty
-
   pub last_given : fin.get (slice_index_or ms o.seat fin.empty) o.variable ≡ Some (top + 1 + length rest)
   last_given = are.owned (length rest) o (slice_get_last rest o)
 

@@ -50,12 +50,6 @@ length-many one (suc n) ws = ap suc (length-many one n (one ws).1)
 
 -- ---- what is compared
 
-first_is : {A : Type 0} (a b : A) (xs bs : List A) → a ∷ xs ≡ b ∷ bs → a ≡ b
-first_is a b xs bs e = ap (λ ys. get_or ys 0 a) e
-
-others_are : {A : Type 0} (a b : A) (xs bs : List A) → a ∷ xs ≡ b ∷ bs → xs ≡ bs
-others_are a b xs bs e = ap (drop 1) e
-
 pub other_length : {A : Type 0} (one : List ℕ → A × List ℕ) (n : ℕ) (ws : List ℕ) (wanted : List A) → (n ≡ length wanted → ⊥) → (many_in one n ws).0 ≡ wanted → ⊥
 other_length one n ws wanted differ e = differ (sym (length-many one n ws) ∙ ap length e)
 
@@ -64,15 +58,6 @@ same_length one n ws wanted e = record {
   same = λ is. ap (λ k. many_in one k ws) e ∙ ap (λ xs. (xs, (many_in one (length wanted) ws).1)) is;
   other = λ is. ap (λ k. (many_in one k ws).0) (sym e) ∙ is;
 }
-
-pub next_matches : {A : Type 0} (one : List ℕ → A × List ℕ) (whole : List A × List ℕ) (wanted : List A) (rest : List ℕ) (a : A) (left : List A) → (one rest).0 ≡ a → Matches one whole wanted rest (a ∷ left) → Matches one whole wanted (one rest).1 left
-next_matches one whole wanted rest a left e m = record {
-  same = λ is. m.same ((λ i. e i ∷ is i));
-  other = λ is. others_are (one rest).0 a (many_in one (length left) (one rest).1).0 left (m.other is);
-}
-
-pub next_differs : {A : Type 0} (one : List ℕ → A × List ℕ) (whole : List A × List ℕ) (wanted : List A) (rest : List ℕ) (a : A) (left : List A) → ((one rest).0 ≡ a → ⊥) → Matches one whole wanted rest (a ∷ left) → whole.0 ≡ wanted → ⊥
-next_differs one whole wanted rest a left differ m is = differ (first_is (one rest).0 a (many_in one (length left) (one rest).1).0 left (m.other is))
 
 -- ---- what is read as far as a loop has come
 

@@ -206,9 +206,10 @@ impl Book {
             ≡ after_named self.old (drop_entry (beneath self.old) seat numbers.now)) }
         ensures err { OnErr result (self.new ≡ self.old) }
     {
-        let dropped = self.joint.drop_numbers(seat, numbers);
-        history_is_legal(&self.joint);
-        dropped
+        match self.drop_with_entry(seat, numbers, false) {
+            Ok((dropped, _entry)) => Ok(dropped),
+            Err(refusal) => Err(refusal),
+        }
     }
 
     /// Ends the bindings of a seat, which is then gone. The clauses that no seat holds any more die in the same entry,
@@ -224,8 +225,9 @@ impl Book {
             (self.new ≡ after_named self.old (leave_entry (beneath self.old) seat)) }
         ensures err { OnErr result (self.new ≡ self.old) }
     {
-        let left = self.joint.leave(seat);
-        history_is_legal(&self.joint);
-        left
+        match self.leave_with_entry(seat) {
+            Ok((place, _entry)) => Ok(place),
+            Err(refusal) => Err(refusal),
+        }
     }
 }

@@ -1,5 +1,5 @@
 //! The book.
-ghost use Rattle.std.specs.Prelude.{◌≡◌, ◌<◌, length, ◌↔◌, IsTrue, OnOk, OnErr, IfOk, IfErr, Err, option_map, slice_get, is_some, IfSome, None, Some};
+ghost use Rattle.std.specs.Prelude.{◌≡◌, ◌<◌, length, ◌↔◌, IsTrue, OnOk, OnErr, IfOk, IfErr, Err, option_map, slice_get, is_some, IfSome, None, Some, if◌then◌else◌};
 ghost use Rattle.std.specs.FinMap as fin;
 ghost use Rattle.lj_text.specs.Steps.{refutes};
 ghost use Rattle.lj_text.specs.Needed.{if_some};
@@ -7,7 +7,9 @@ ghost use Rattle.lj_book.specs.Lookup.{numbers_holding};
 ghost use Rattle.lj_book.specs.State.{State, opening, live, steps_of, verdict};
 ghost use Rattle.lj_book.specs.Tables.{joint_of};
 ghost use Rattle.lj_book.specs.History.{after_entry};
-ghost use Rattle.lj_book.specs.Calls.{IsReply, drop_reply, drop_entry, take_reply, free_refusal};
+ghost use Rattle.lj_book.specs.declared.entry.Call.TheVariants as calls;
+ghost use Rattle.lj_book.specs.Calls.{IsReply, IsReplyBy, drop_reply, drop_entry, take_reply, free_refusal};
+ghost use Rattle.lj_book.specs.inner.Records.{entry_of};
 
 mod adopting;
 mod closed;
@@ -15,11 +17,10 @@ mod entering;
 mod inside;
 pub(crate) mod laws;
 mod leaving;
-mod with_entry;
 
 use crate::clause_log::ClauseLog;
 use crate::dying::{rising, without_holder};
-use crate::entry::{Dropped, Entry};
+use crate::entry::{Call, Dropped, Entry};
 use crate::history::History;
 use crate::refusal::Refusal;
 use crate::seat_tables::SeatTables;
@@ -237,13 +238,20 @@ impl JointBook {
     }
 
     /// Gives own numbers of the seat up. Numbers that it doesn't hold are ignored, and one that stands twice counts
-    /// once. The clauses that no seat holds any more die in the same entry.
+    /// once. The clauses that no seat holds any more die in the same entry. Gives a copy of it where it is wanted.
     ///
     /// # Errors
     /// [`Refusal::SeatGone`], and [`Refusal::NoMemory`] where a growth was refused.
-    pub fn drop_numbers(&mut self, seat: u32, numbers: &Numbers) -> Result<Dropped, Refusal>
-        ensures reply { IsReply result (drop_reply self.old seat numbers.now) }
+    pub fn drop_numbers(
+        &mut self,
+        seat: u32,
+        numbers: &Numbers,
+        wanted: bool,
+    ) -> Result<(Dropped, Option<Entry>), Refusal>
+        ensures reply { IsReplyBy (λ told. told.0) result (drop_reply self.old seat numbers.now) }
         ensures refused { IfErr (drop_reply self.old seat numbers.now) (λ e. result ≡ Err e) }
+        ensures told { IfOk result (λ told. told.1
+            ≡ (if wanted then Some (drop_entry self.old seat numbers.now) else None)) }
         ensures ok { OnOk result
             (self.new ≡ after_entry self.old (drop_entry self.old seat numbers.now)) }
         ensures err { OnErr result (self.new ≡ self.old) }
@@ -252,14 +260,38 @@ impl JointBook {
             return Err(Refusal::SeatGone);
         }
         let alloc = self.clause_log.allocator();
+        let copied = clone_if(wanted, numbers)?;
         let joints = rising(self.tables.joints(alloc, seat, numbers)?);
         self.clause_log.reserve_deaths(numbers.len(), joints.len())?;
         let place = self.clause_log.history().len();
         let count = self.tables.unbind_all(seat, numbers);
         let died = without_holder(&self.tables, joints);
         self.clause_log.push_drop(seat, numbers, &died);
-        Ok(Dropped { place, count })
+        Ok((Dropped { place, count }, entry_of_drop(seat, copied, died)))
     }
+}
+
+/// A copy of the numbers, where it is wanted.
+///
+/// # Errors
+/// [`NoMemory`] where a growth was refused.
+fn clone_if(wanted: bool, numbers: &Numbers) -> Result<Option<Numbers>, NoMemory>
+    ensures { IfOk result (λ copied. copied ≡ (if wanted then Some numbers.now else None)) }
+{
+    if !wanted {
+        return Ok(None);
+    }
+    Ok(Some(numbers.try_clone()?))
+}
+
+/// The entry of a drop of these numbers, if there are any, by which those died.
+fn entry_of_drop(seat: u32, numbers: Option<Numbers>, died: Vec<u64>) -> Option<Entry>
+    ensures { result ≡ option_map
+        (λ ns. entry_of seat (calls.Drop ns) (if_some died.items)) numbers }
+{
+    let call = Call::Drop { numbers: numbers? };
+    let step = deletion_of(died);
+    Some(Entry { seat, call, step })
 }
 
 /// The deletion of these numbers, if there are any.

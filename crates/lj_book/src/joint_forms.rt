@@ -1,9 +1,9 @@
 //! Additions of seats that name their variables, in joint variables.
-ghost use Rattle.std.specs.Prelude.{◌≡◌, ◌++◌, ◌∷◌, [], ◌&&◌, not, neg_ℤ, OnOk, OnErr, IfOk, IfErr};
+ghost use Rattle.std.specs.Prelude.{◌≡◌, ◌++◌, ◌∷◌, [], ◌&&◌, not, neg_ℤ, if◌then◌else◌, Some, None, OnOk, OnErr, IfOk, IfErr};
 ghost use Rattle.lj_clause.specs.LiteralSet.{literals, holds};
 ghost use Rattle.lj_book.specs.Variables.{renaming_of};
 ghost use Rattle.lj_book.specs.History.{after_entry};
-ghost use Rattle.lj_book.specs.Calls.{IsRefusal, IsReply, IsReplyBy};
+ghost use Rattle.lj_book.specs.Calls.{IsRefusal, IsReplyBy};
 ghost use Rattle.lj_book.specs.Inside.{inside_reply, inside_entry};
 ghost use Rattle.lj_book.specs.Solo.{view_of};
 ghost use Rattle.lj_book.specs.Views.{IsClosedAlone};
@@ -12,7 +12,7 @@ ghost use Rattle.lj_book.specs.declared.entry.Call.TheVariants as calls;
 ghost use Rattle.lj_book.specs.inner.JointForms.{joint_form, with_call};
 ghost use Rattle.lj_book.specs.inner.Limits.{is_known, known_images, led_by, known_addition, closes_at_once, is_new, is_lifted, limit_reply};
 
-use crate::entry::{Added, Call, Entry};
+use crate::entry::{Added, Entry};
 use crate::joint_book::JointBook;
 use crate::lent_addition::LentAddition;
 use crate::refusal::Refusal;
@@ -23,7 +23,7 @@ use lj_text::{Addition, Groups, Numbers};
 use std::alloc::Global;
 
 /// Adds a seat's addition in joint variables, as [`JointBook::add_inside`]. Each of its variables has a joint one. It is copied only
-/// where one of them is renamed.
+/// where one of them is renamed. Where the entry is wanted, gives a copy, whose call is the seat's own.
 ///
 /// # Errors
 /// As [`JointBook::add_inside`].
@@ -33,49 +33,25 @@ pub(crate) fn add_joint_form(
     seat: u32,
     addition: &Addition,
     propagator: &mut Propagator,
-) -> Result<Added, Refusal>
-    ensures reply { IsReply result (inside_reply joint.old seat
-        (joint_form variables.now.variables seat addition.now)) }
-    ensures ok { OnOk result (joint.new ≡ after_entry joint.old
-        (inside_entry joint.old seat (joint_form variables.now.variables seat addition.now))) }
-    ensures err { OnErr result (joint.new ≡ joint.old) }
-{
-    if variables.is_unmoved(seat, addition.lemma.clause()) {
-        return joint.add_inside(seat, addition, propagator);
-    }
-    match joint_form(joint.allocator(), variables, seat, addition) {
-        Ok(renamed) => joint.add_inside(seat, &renamed, propagator),
-        Err(refused) => Err(Refusal::NoMemory(refused)),
-    }
-}
-
-/// As [`add_joint_form`], with a copy of the entry, whose call is the seat's own.
-///
-/// # Errors
-/// As [`JointBook::add_inside`].
-pub(crate) fn add_joint_form_with_entry(
-    joint: &mut JointBook,
-    variables: &VariableTable,
-    seat: u32,
-    addition: &Addition,
-    propagator: &mut Propagator,
-) -> Result<(Added, Entry), Refusal>
+    wanted: bool,
+) -> Result<(Added, Option<Entry>), Refusal>
     ensures reply { IsReplyBy (λ told. told.0) result (inside_reply joint.old seat
         (joint_form variables.now.variables seat addition.now)) }
-    ensures told { IfOk result (λ told. told.1 ≡ with_call addition.now
-        (inside_entry joint.old seat (joint_form variables.now.variables seat addition.now))) }
+    ensures told { IfOk result (λ told. told.1 ≡ (if wanted
+        then Some (with_call (calls.Add addition.now.number addition.now.lemma)
+        (inside_entry joint.old seat (joint_form variables.now.variables seat addition.now)))
+        else None)) }
     ensures ok { OnOk result (joint.new ≡ after_entry joint.old
         (inside_entry joint.old seat (joint_form variables.now.variables seat addition.now))) }
     ensures err { OnErr result (joint.new ≡ joint.old) }
 {
-    if variables.is_unmoved(seat, addition.lemma.clause()) {
-        return joint.add_inside_with_entry(seat, addition, propagator);
+    let named = &addition.lemma;
+    if variables.is_unmoved(seat, named.clause()) {
+        return joint.add_inside(seat, addition, propagator, wanted, named);
     }
-    let call = own_call(addition)?;
-    let renamed = joint_form(joint.allocator(), variables, seat, addition)?;
-    match joint.add_inside_with_entry(seat, &renamed, propagator) {
-        Ok((added, entry)) => Ok((added, with_call(entry, call))),
-        Err(refusal) => Err(refusal),
+    match joint_form(joint.allocator(), variables, seat, addition) {
+        Ok(renamed) => joint.add_inside(seat, &renamed, propagator, wanted, named),
+        Err(refused) => Err(Refusal::NoMemory(refused)),
     }
 }
 
@@ -89,77 +65,29 @@ pub(crate) fn close_joint_form(
     seat: u32,
     addition: &Addition,
     read: usize,
-) -> Result<Added, Refusal>
-    requires { IsClosedAlone (view_of joint.old seat) seat
-        (joint_form variables.now.variables seat addition.now) read }
-    ensures reply { IsReply result (inside_reply joint.old seat
-        (joint_form variables.now.variables seat addition.now)) }
-    ensures refusal { IfErr result IsFullOrNoMemory }
-    ensures ok { OnOk result (joint.new ≡ after_entry joint.old
-        (inside_entry joint.old seat (joint_form variables.now.variables seat addition.now))) }
-    ensures err { OnErr result (joint.new ≡ joint.old) }
-{
-    if variables.is_unmoved(seat, addition.lemma.clause()) {
-        return joint.add_closed(seat, addition, read);
-    }
-    match joint_form(joint.allocator(), variables, seat, addition) {
-        Ok(renamed) => joint.add_closed(seat, &renamed, read),
-        Err(refused) => Err(Refusal::NoMemory(refused)),
-    }
-}
-
-/// As [`close_joint_form`], with a copy of the entry, whose call is the seat's own.
-///
-/// # Errors
-/// As [`JointBook::add_closed`].
-pub(crate) fn close_joint_form_with_entry(
-    joint: &mut JointBook,
-    variables: &VariableTable,
-    seat: u32,
-    addition: &Addition,
-    read: usize,
-) -> Result<(Added, Entry), Refusal>
+    wanted: bool,
+) -> Result<(Added, Option<Entry>), Refusal>
     requires { IsClosedAlone (view_of joint.old seat) seat
         (joint_form variables.now.variables seat addition.now) read }
     ensures reply { IsReplyBy (λ told. told.0) result (inside_reply joint.old seat
         (joint_form variables.now.variables seat addition.now)) }
     ensures refusal { IfErr result IsFullOrNoMemory }
-    ensures told { IfOk result (λ told. told.1 ≡ with_call addition.now
-        (inside_entry joint.old seat (joint_form variables.now.variables seat addition.now))) }
+    ensures told { IfOk result (λ told. told.1 ≡ (if wanted
+        then Some (with_call (calls.Add addition.now.number addition.now.lemma)
+        (inside_entry joint.old seat (joint_form variables.now.variables seat addition.now)))
+        else None)) }
     ensures ok { OnOk result (joint.new ≡ after_entry joint.old
         (inside_entry joint.old seat (joint_form variables.now.variables seat addition.now))) }
     ensures err { OnErr result (joint.new ≡ joint.old) }
 {
-    if variables.is_unmoved(seat, addition.lemma.clause()) {
-        return joint.add_closed_with_entry(seat, addition, read);
+    let named = &addition.lemma;
+    if variables.is_unmoved(seat, named.clause()) {
+        return joint.add_closed(seat, addition, read, wanted, named);
     }
-    let call = own_call(addition)?;
-    let renamed = joint_form(joint.allocator(), variables, seat, addition)?;
-    match joint.add_closed_with_entry(seat, &renamed, read) {
-        Ok((added, entry)) => Ok((added, with_call(entry, call))),
-        Err(refusal) => Err(refusal),
+    match joint_form(joint.allocator(), variables, seat, addition) {
+        Ok(renamed) => joint.add_closed(seat, &renamed, read, wanted, named),
+        Err(refused) => Err(Refusal::NoMemory(refused)),
     }
-}
-
-/// The entry with this call in place of its own.
-fn with_call(entry: Entry, call: Call) -> Entry
-    ensures { result ≡ record entry { call = call } }
-{
-    let Entry { seat, step, .. } = entry;
-    Entry { seat, call, step }
-}
-
-/// The call of an addition, as it was made.
-///
-/// # Errors
-/// [`NoMemory`] where a growth was refused.
-pub(crate) fn own_call(addition: &Addition) -> Result<Call, NoMemory>
-    ensures { IfOk result (λ call. call ≡ calls.Add addition.now.number addition.now.lemma) }
-{
-    Ok(Call::Add {
-        own: addition.number,
-        lemma: addition.lemma.try_clone()?,
-    })
 }
 
 /// A copy of a seat's addition with its lemma in the joint variables that the seat was given.

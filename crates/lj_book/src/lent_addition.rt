@@ -1,9 +1,13 @@
 //! Additions that are lent part by part.
-ghost use Rattle.std.specs.Prelude.{◌≡◌, IfOk};
+ghost use Rattle.std.specs.Prelude.{◌≡◌, if◌then◌else◌, Some, None, IfOk};
+ghost use Rattle.lj_text.specs.declared.step.Step.TheVariants as steps;
+ghost use Rattle.lj_book.specs.declared.entry.Call.TheVariants as calls;
 ghost use Rattle.lj_book.specs.inner.JointLines.{addition_of_parts};
+ghost use Rattle.lj_book.specs.inner.Records.{entry_of};
 
+use crate::entry::{Call, Entry};
 use lj_clause::{ClauseView, Lemma, NoMemory};
-use lj_text::{Addition, Groups, Numbers};
+use lj_text::{Addition, Groups, Numbers, Step};
 use std::alloc::Global;
 use std::marker::Model;
 
@@ -72,5 +76,32 @@ impl<'a> LentAddition<'a> {
             hints: self.hints.try_clone()?,
             groups: self.groups.try_clone()?,
         })
+    }
+
+    /// The entry of a seat's call that adds this lemma, by this step, where it is wanted.
+    ///
+    /// # Errors
+    /// [`NoMemory`] where a growth was refused.
+    #[inline]
+    pub(crate) fn entry_if(
+        &self,
+        wanted: bool,
+        seat: u32,
+        own: u64,
+        lemma: &Lemma,
+    ) -> Result<Option<Entry>, NoMemory>
+        ensures { IfOk result (λ entry. entry ≡ (if wanted
+            then Some (entry_of seat (calls.Add own lemma.now) (Some (steps.Add self.now)))
+            else None)) }
+    {
+        if !wanted {
+            return Ok(None);
+        }
+        let call = Call::Add {
+            own,
+            lemma: lemma.try_clone()?,
+        };
+        let step = Some(Step::Add(self.try_clone()?));
+        Ok(Some(Entry { seat, call, step }))
     }
 }

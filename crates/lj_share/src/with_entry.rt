@@ -102,12 +102,8 @@ fn add_inside(
     ensures accepted { OnOk result (is_ok (named_inside book.old seat addition.now) ≡ true) }
     ensures refusal { IfErr result (λ e. IsRefusal e (named_inside book.old seat addition.now)) }
 {
-    if with_entry {
-        let (added, entry) = book.add_inside_with_entry(seat, addition, propagator)?;
-        return Ok((Some(entry), added.joint));
-    }
-    let added = book.add_inside(seat, addition, propagator)?;
-    Ok((None, added.joint))
+    let (added, entry) = book.add_inside_with_entry(seat, addition, propagator, with_entry)?;
+    Ok((entry, added.joint))
 }
 
 /// Enters a seat's addition that closes by what the seat sees, after so many of its hints.
@@ -131,12 +127,8 @@ fn add_closed(
     ensures accepted { OnOk result (is_ok (named_inside book.old seat addition.now) ≡ true) }
     ensures refusal { IfErr result (λ e. IsRefusal e (named_inside book.old seat addition.now)) }
 {
-    if with_entry {
-        let (added, entry) = book.add_closed_with_entry(seat, addition, read)?;
-        return Ok((Some(entry), added.joint));
-    }
-    let added = book.add_closed(seat, addition, read)?;
-    Ok((None, added.joint))
+    let (added, entry) = book.add_closed_with_entry(seat, addition, read, with_entry)?;
+    Ok((entry, added.joint))
 }
 
 /// Gives own numbers of a seat up.
@@ -157,12 +149,8 @@ fn drop_numbers(
     ensures accepted { OnOk result (is_ok (named_drop book.old seat numbers.now) ≡ true) }
     ensures refusal { IfErr result (λ e. IsRefusal e (named_drop book.old seat numbers.now)) }
 {
-    if with_entry {
-        let (_, entry) = book.drop_with_entry(seat, numbers)?;
-        return Ok(Some(entry));
-    }
-    book.drop_numbers(seat, numbers)?;
-    Ok(None)
+    let (_, entry) = book.drop_with_entry(seat, numbers, with_entry)?;
+    Ok(entry)
 }
 
 /// Binds a seat's own number to a live clause with exactly these literals, which are in the seat's variables, or to one that enters
@@ -187,10 +175,6 @@ fn import(
     ensures accepted { OnOk result (is_ok (named_import book.old seat own clause.now) ≡ true) }
     ensures refusal { IfErr result (λ e. IsRefusal e (named_import book.old seat own clause.now)) }
 {
-    if with_entry {
-        let (imported, entry) = book.import_with_entry(seat, own, clause)?;
-        return Ok((Some(entry), imported.joint));
-    }
-    let imported = book.import(seat, own, clause)?;
-    Ok((None, imported.joint))
+    let (imported, entry) = book.import_with_entry(seat, own, clause, with_entry)?;
+    Ok((entry, imported.joint))
 }

@@ -5,7 +5,7 @@ use Rattle.lj_clause.specs.Literal.{variable_of}
 use Rattle.lj_clause.specs.LiteralSet.{LiteralSet, literals}
 use Rattle.lj_clause.specs.Renaming.{Renaming, renamed, is_named, lemma_image}
 use Rattle.lj_text.specs.declared.line.Addition.{Addition}
-use Rattle.lj_book.specs.declared.entry.Call.TheVariants as calls
+use Rattle.lj_book.specs.declared.entry.Call.{Call}
 use Rattle.lj_book.specs.declared.entry.Entry.{Entry}
 use Rattle.lj_book.specs.Variables.{Variables, renaming_of}
 
@@ -13,9 +13,9 @@ use Rattle.lj_book.specs.Variables.{Variables, renaming_of}
 abbrev pub joint_form : Variables → ℕ → Addition → Addition
 joint_form v seat a = record a { lemma = lemma_image (renaming_of v seat) a.lemma }
 
--- the entry with the call of this addition, as it was made
-abbrev pub with_call : Addition → Entry → Entry
-with_call a e = record e { call = calls.Add a.number a.lemma }
+-- the entry with this call in place of its own
+abbrev pub with_call : Call → Entry → Entry
+with_call call e = record e { call = call }
 
 -- whether each variable of the clause stays what it is
 abbrev pub is_unmoved : Renaming → LiteralSet → Bool

@@ -1,15 +1,10 @@
--- Whether a seat's clause is a joint one, and the entries of receipts.
-use Rattle.std.specs.Prelude.{ℕ, Bool, ◌&&◌, Some}
+-- Whether a seat's clause is a joint one.
+use Rattle.std.specs.Prelude.{ℕ, Bool, ◌&&◌}
 use Rattle.lj_clause.specs.LiteralSet.{LiteralSet}
 use Rattle.lj_clause.specs.ClauseMap.{ClauseMap}
 use Rattle.lj_clause.specs.Renaming.{Renaming, image, is_named}
-use Rattle.lj_text.specs.declared.line.Addition.{Addition}
-use Rattle.lj_text.specs.declared.step.Step.TheVariants as steps
 use Rattle.lj_hint.specs.declared.pair.Pair.{Pair}
-use Rattle.lj_hint.specs.Receipt.{ReceiptValue}
 use Rattle.lj_hint.specs.Images.{pair_image}
-use Rattle.lj_book.specs.declared.entry.Call.TheVariants as calls
-use Rattle.lj_book.specs.declared.entry.Entry.{Entry}
 use Rattle.lj_book.specs.Lookup.{is_same}
 use Rattle.lj_book.specs.Calls.{is_live_as}
 use Rattle.lj_book.specs.Variables.{Variables, renaming_of}
@@ -22,8 +17,3 @@ is_joint_form top v seat c d =
 -- whether the pair's clause has a joint form by the renaming, which lives under its number
 abbrev pub lives_in_form : ℕ → Renaming → ClauseMap → Pair → Bool
 lives_in_form top m p pair = is_named top m pair.clause && is_live_as p (pair_image m pair)
-
--- the entry of a receipt with this step
-abbrev pub entry_by : ReceiptValue → Addition → Entry
-entry_by r step = record
-    { seat = r.seat; call = calls.Add r.own r.lemma; step = Some (steps.Add step) }

@@ -1,5 +1,5 @@
 //! Own numbers that are bound to clauses which live already, or by clauses which do, as seats name them.
-ghost use Rattle.std.specs.Prelude.{◌≡◌, if◌then◌else◌, None, OnOk, OnErr, IfOk, IfErr, IfSome, IsOk, Err, true};
+ghost use Rattle.std.specs.Prelude.{◌≡◌, if◌then◌else◌, Some, None, OnOk, OnErr, IfOk, IfErr, IfSome, Err, true};
 ghost use Rattle.std.specs.FinMap as fin;
 ghost use Rattle.lj_clause.specs.ClauseMap.{names_up_to};
 ghost use Rattle.lj_clause.specs.Renaming.{is_named, image};
@@ -12,11 +12,10 @@ ghost use Rattle.lj_book.specs.NamedEntries.{named_import_entry};
 ghost use Rattle.lj_book.specs.NamedAlone.{clause_for};
 
 use crate::book::Book;
-use crate::entry::Imported;
+use crate::entry::{Entry, Imported};
 use crate::joint_book::laws::history_is_legal;
 use crate::refusal::Refusal;
 use lj_clause::Clause;
-use lj_text::Step;
 
 impl Book {
     /// The live clause of a joint number, in the seat's variables. Takes the time of [`Book::clause`], and time linear in its
@@ -87,48 +86,47 @@ impl Book {
             ≡ after_named self.old (named_import_entry self.old seat own clause.now)) }
         ensures err { OnErr result (self.new ≡ self.old) }
     {
-        match self.import_told(seat, own, clause, false) {
-            Ok((imported, _step)) => Ok(imported),
+        match self.import_with_entry(seat, own, clause, false) {
+            Ok((imported, _entry)) => Ok(imported),
             Err(refusal) => Err(refusal),
         }
     }
 
-    /// As [`Book::import`], with the step where `copies` asks for it.
+    /// As [`Book::import`], with a copy of the entry where it is wanted, which takes time linear in the entry.
     ///
     /// # Errors
     /// As [`Book::import`].
-    pub(super) fn import_told(
+    pub fn import_with_entry(
         &mut self,
         seat: u32,
         own: u64,
         clause: &Clause,
-        copies: bool,
-    ) -> Result<(Imported, Option<Step>), Refusal>
+        wanted: bool,
+    ) -> Result<(Imported, Option<Entry>), Refusal>
         ensures reply { IsReplyBy (λ told. told.0) result
             (named_import self.old seat own clause.now) }
         ensures refused { IfSome (import_refusal self.old seat own clause.now)
             (λ e. result ≡ Err e) }
         ensures within { names_up_to (top_of self.old) clause.now ≡ true
             → IfErr (named_import self.old seat own clause.now) (λ e. result ≡ Err e) }
-        ensures told { IfOk result (λ told. told.1 ≡ (if copies
-            then (named_import_entry self.old seat own clause.now).step
-            else None)) }
+        ensures told { IfOk result (λ told. told.1
+            ≡ (if wanted then Some (named_import_entry self.old seat own clause.now) else None)) }
         ensures ok { OnOk result (self.new
             ≡ after_named self.old (named_import_entry self.old seat own clause.now)) }
         ensures err { OnErr result (self.new ≡ self.old) }
     {
         if self.variables.is_within(clause) {
-            return self.import_joint(seat, own, clause, clause, copies);
+            return self.import_joint(seat, own, clause, clause, wanted);
         }
         if let Some(refusal) = self.import_refusal(seat, own, clause) {
             return Err(refusal);
         }
         let alloc = self.joint.allocator();
         let renamed = clause.renamed(alloc, &self.variables.to_joint(seat))?;
-        self.import_joint(seat, own, clause, &renamed, copies)
+        self.import_joint(seat, own, clause, &renamed, wanted)
     }
 
-    /// As [`Book::import_told`], by the clause in joint variables. The other one is told to the proof alone.
+    /// As [`Book::import_with_entry`], by the clause in joint variables too.
     ///
     /// # Errors
     /// As [`Book::import`].
@@ -138,25 +136,23 @@ impl Book {
         own: u64,
         clause: &Clause,
         joint: &Clause,
-        copies: bool,
-    ) -> Result<(Imported, Option<Step>), Refusal>
+        wanted: bool,
+    ) -> Result<(Imported, Option<Entry>), Refusal>
         requires named { is_named (top_of self.old) (names_of self.old seat) clause.now ≡ true }
         requires joint { image (names_of self.old seat) clause.now ≡ joint.now }
         ensures reply { IsReplyBy (λ told. told.0) result
             (named_import self.old seat own clause.now) }
         ensures refused { IfErr (named_import self.old seat own clause.now)
             (λ e. result ≡ Err e) }
-        ensures told { IfOk result (λ told. told.1 ≡ (if copies
-            then (named_import_entry self.old seat own clause.now).step
-            else None)) }
+        ensures told { IfOk result (λ told. told.1
+            ≡ (if wanted then Some (named_import_entry self.old seat own clause.now) else None)) }
         ensures ok { OnOk result (self.new
             ≡ after_named self.old (named_import_entry self.old seat own clause.now)) }
         ensures err { OnErr result (self.new ≡ self.old) }
     {
-        let _ = clause;
-        let imported = self.joint.import(seat, own, joint, copies);
+        let told = self.joint.import(seat, own, joint, wanted, clause);
         history_is_legal(&self.joint);
-        imported
+        told
     }
 
     /// Whether a clause lives under the joint number that names a variable above the formula's which the seat was not given.
@@ -167,23 +163,6 @@ impl Book {
             Some(clause) => !self.variables.is_own(seat, &clause),
             None => false,
         }
-    }
-
-    /// The refusal of an import that is found without renaming its clause, if there is one.
-    pub(super) fn known_refusal(&mut self, seat: u32, own: u64, clause: &Clause) -> Option<Refusal>
-        ensures reply { IfSome result (λ e. named_import self.old seat own clause.now ≡ Err e) }
-        ensures unrefused { result ≡ None → import_refusal self.old seat own clause.now ≡ None }
-        ensures within { result ≡ None → names_up_to (top_of self.old) clause.now ≡ true
-            → IsOk (named_import self.old seat own clause.now) }
-        ensures same { self.new ≡ self.old }
-    {
-        if let Some(refusal) = self.import_refusal(seat, own, clause) {
-            return Some(refusal);
-        }
-        if !self.variables.is_within(clause) {
-            return None;
-        }
-        self.joint.found_refusal(clause)
     }
 
     /// The first refusal of an import that holds before its clause is sought.

@@ -1,5 +1,5 @@
 //! Additions that are known to close by what their seats see, in their variables.
-ghost use Rattle.std.specs.Prelude.{◌≡◌, OnOk, OnErr, IfOk, IfErr, nat_lt, if◌then◌else◌};
+ghost use Rattle.std.specs.Prelude.{◌≡◌, Some, None, OnOk, OnErr, IfOk, IfErr, nat_lt, if◌then◌else◌};
 ghost use Rattle.lj_book.specs.declared.refusal.Refusal.TheVariants.{Full, NoVariableLeft};
 ghost use Rattle.lj_book.specs.State.{addition_count};
 ghost use Rattle.lj_book.specs.Calls.{IsReply, IsReplyBy};
@@ -14,7 +14,7 @@ use crate::book::Book;
 use crate::entry::{Added, Entry};
 use crate::joint_book::JointBook;
 use crate::joint_book::laws::history_is_legal;
-use crate::joint_forms::{close_joint_form, close_joint_form_with_entry};
+use crate::joint_forms::close_joint_form;
 use crate::refusal::Refusal;
 use crate::variable_table::VariableTable;
 use lj_text::Addition;
@@ -42,11 +42,14 @@ impl Book {
             (self.new ≡ after_named self.old (named_inside_entry self.old seat addition.now)) }
         ensures err { OnErr result (self.new ≡ self.old) }
     {
-        close_named(&mut self.joint, &mut self.variables, seat, addition, read)
+        match self.add_closed_with_entry(seat, addition, read, false) {
+            Ok((added, _entry)) => Ok(added),
+            Err(refusal) => Err(refusal),
+        }
     }
 
-    /// As [`Book::add_closed`], with a copy of the entry, whose call is in the seat's variables. Takes time linear in the
-    /// entry beside that.
+    /// As [`Book::add_closed`], with a copy of the entry where it is wanted: its call is in the seat's variables. The copy takes
+    /// time linear in the entry.
     ///
     /// # Errors
     /// As [`Book::add_closed`].
@@ -55,64 +58,20 @@ impl Book {
         seat: u32,
         addition: &Addition,
         read: usize,
-    ) -> Result<(Added, Entry), Refusal>
+        wanted: bool,
+    ) -> Result<(Added, Option<Entry>), Refusal>
         requires { IsClosedAlone (named_view self.old seat) seat addition.now read }
         ensures reply { IsReplyBy (λ told. told.0) result
             (named_inside self.old seat addition.now) }
         ensures refusal { IfErr result IsClosedRefusal }
-        ensures told { IfOk result
-            (λ told. told.1 ≡ named_inside_entry self.old seat addition.now) }
+        ensures told { IfOk result (λ told. told.1
+            ≡ (if wanted then Some (named_inside_entry self.old seat addition.now) else None)) }
         ensures ok { OnOk result
             (self.new ≡ after_named self.old (named_inside_entry self.old seat addition.now)) }
         ensures err { OnErr result (self.new ≡ self.old) }
     {
-        close_named_with_entry(&mut self.joint, &mut self.variables, seat, addition, read)
-    }
-}
-
-/// As [`Book::add_closed`], with the parts of a book.
-///
-/// # Errors
-/// As [`Book::add_closed`].
-fn close_named(
-    joint: &mut JointBook,
-    variables: &mut VariableTable,
-    seat: u32,
-    addition: &Addition,
-    read: usize,
-) -> Result<Added, Refusal>
-    requires over { IsOver joint.old variables.old }
-    requires closed { IsClosedAlone (named_view (named_over joint.old variables.old.variables) seat)
-        seat addition.now read }
-    ensures reply { IsReply result
-        (named_inside (named_over joint.old variables.old.variables) seat addition.now) }
-    ensures refusal { IfErr result IsClosedRefusal }
-    ensures ok { OnOk result (IsOverAfter (named_over joint.old variables.old.variables)
-        (named_inside_entry (named_over joint.old variables.old.variables) seat addition.now)
-        joint.new variables.new) }
-    ensures err { OnErr result ((joint.new ≡ joint.old) × (variables.new ≡ variables.old)) }
-{
-    let before = variables.next();
-    let clause = addition.lemma.clause();
-    let _ = joint.formula().variables();
-    if variables.is_settled(seat, clause) {
-        let added = joint.add_closed(seat, addition, read);
-        history_is_legal(joint);
-        return added;
-    }
-    let left = variables.give(seat, clause)?;
-    if !left {
-        return Err(refusal_of_closed(joint));
-    }
-    match close_joint_form(joint, variables, seat, addition, read) {
-        Ok(added) => {
-            history_is_legal(joint);
-            Ok(added)
-        }
-        Err(refusal) => {
-            variables.take_back(before);
-            Err(refusal)
-        }
+        let (joint, variables) = (&mut self.joint, &mut self.variables);
+        close_named(joint, variables, seat, addition, read, wanted)
     }
 }
 
@@ -120,21 +79,25 @@ fn close_named(
 ///
 /// # Errors
 /// As [`Book::add_closed`].
-fn close_named_with_entry(
+#[inline]
+fn close_named(
     joint: &mut JointBook,
     variables: &mut VariableTable,
     seat: u32,
     addition: &Addition,
     read: usize,
-) -> Result<(Added, Entry), Refusal>
+    wanted: bool,
+) -> Result<(Added, Option<Entry>), Refusal>
     requires over { IsOver joint.old variables.old }
     requires closed { IsClosedAlone (named_view (named_over joint.old variables.old.variables) seat)
         seat addition.now read }
     ensures reply { IsReplyBy (λ told. told.0) result
         (named_inside (named_over joint.old variables.old.variables) seat addition.now) }
     ensures refusal { IfErr result IsClosedRefusal }
-    ensures told { IfOk result (λ told. told.1 ≡ named_inside_entry
-        (named_over joint.old variables.old.variables) seat addition.now) }
+    ensures told { IfOk result (λ told. told.1 ≡ (if wanted
+        then Some (named_inside_entry (named_over joint.old variables.old.variables) seat
+        addition.now)
+        else None)) }
     ensures ok { OnOk result (IsOverAfter (named_over joint.old variables.old.variables)
         (named_inside_entry (named_over joint.old variables.old.variables) seat addition.now)
         joint.new variables.new) }
@@ -144,7 +107,7 @@ fn close_named_with_entry(
     let clause = addition.lemma.clause();
     let _ = joint.formula().variables();
     if variables.is_settled(seat, clause) {
-        let told = joint.add_closed_with_entry(seat, addition, read);
+        let told = joint.add_closed(seat, addition, read, wanted, &addition.lemma);
         history_is_legal(joint);
         return told;
     }
@@ -152,7 +115,7 @@ fn close_named_with_entry(
     if !left {
         return Err(refusal_of_closed(joint));
     }
-    match close_joint_form_with_entry(joint, variables, seat, addition, read) {
+    match close_joint_form(joint, variables, seat, addition, read, wanted) {
         Ok(told) => {
             history_is_legal(joint);
             Ok(told)

@@ -8,12 +8,12 @@ ghost use Rattle.lj_book.specs.Calls.{IsReply, IsReplyBy, answer_alone, commit_t
 ghost use Rattle.lj_book.specs.Named.{after_named};
 ghost use Rattle.lj_book.specs.NamedReplies.{named_first_stale, named_commit_refusal, named_commit};
 ghost use Rattle.lj_book.specs.NamedEntries.{receipt_step, receipt_entry, named_commit_entry};
-ghost use Rattle.lj_book.specs.inner.ReceiptForms.{lives_in_form, entry_by};
+ghost use Rattle.lj_book.specs.inner.ReceiptForms.{lives_in_form};
 ghost use Rattle.lj_book.specs.inner.JointLines.{line_entry};
 
 use super::Book;
 use crate::committing::numbers_of;
-use crate::entry::{Added, Call, Entry};
+use crate::entry::{Added, Entry};
 use crate::joint_book::JointBook;
 use crate::joint_book::laws::history_is_legal;
 use crate::lent_addition::LentAddition;
@@ -21,7 +21,7 @@ use crate::refusal::Refusal;
 use crate::variable_table::VariableTable;
 use lj_clause::NoMemory;
 use lj_hint::{Pair, Receipt};
-use lj_text::{Groups, Step};
+use lj_text::Groups;
 
 impl Book {
     /// Enters the lemma of a receipt, while the clauses that it lists still live in joint variables. The lemma's variables above
@@ -48,20 +48,20 @@ impl Book {
         }
     }
 
-    /// As [`Book::commit`], by a receipt that is lent, with a copy of the entry where `copies` asks for it.
+    /// As [`Book::commit`], by a receipt that is lent, with a copy of the entry where it is wanted.
     ///
     /// # Errors
     /// As [`Book::commit`], without the receipt.
     pub(super) fn enter_receipt(
         &mut self,
         receipt: &Receipt,
-        copies: bool,
+        wanted: bool,
     ) -> Result<(Added, Option<Entry>), Refusal>
         ensures reply { IsReplyBy (λ told. told.0) result (named_commit self.old receipt.now) }
         ensures refused { IfSome (named_commit_refusal self.old receipt.now)
             (λ e. result ≡ Err e) }
         ensures told { IfOk result (λ told. told.1
-            ≡ (if copies then Some (named_commit_entry self.old receipt.now) else None)) }
+            ≡ (if wanted then Some (named_commit_entry self.old receipt.now) else None)) }
         ensures ok { OnOk result
             (self.new ≡ after_named self.old (named_commit_entry self.old receipt.now)) }
         ensures err { OnErr result (self.new ≡ self.old) }
@@ -76,7 +76,7 @@ impl Book {
         if !left {
             return Err(Refusal::NoVariableLeft);
         }
-        match enter_joint(&mut self.joint, &self.variables, receipt, copies) {
+        match enter_joint(&mut self.joint, &self.variables, receipt, wanted) {
             Ok(told) => {
                 history_is_legal(&self.joint);
                 Ok(told)
@@ -135,7 +135,7 @@ fn lives_in_form(book: &JointBook, variables: &VariableTable, seat: u32, pair: &
     }
 }
 
-/// Enters the lemma of a receipt in joint variables, which it has, with a copy of the entry where `copies` asks for it.
+/// Enters the lemma of a receipt in joint variables, which it has, with a copy of the entry where it is wanted.
 ///
 /// # Errors
 /// [`NoMemory`] where a growth was refused.
@@ -143,7 +143,7 @@ fn enter_joint(
     book: &mut JointBook,
     variables: &VariableTable,
     receipt: &Receipt,
-    copies: bool,
+    wanted: bool,
 ) -> Result<(Added, Option<Entry>), NoMemory>
     requires named { is_named variables.now.top
         (renaming_of variables.now.variables receipt.now.seat) receipt.now.lemma.clause ≡ true }
@@ -151,7 +151,7 @@ fn enter_joint(
         (receipt_step (renaming_of variables.now.variables receipt.now.seat) (next book.old)
         receipt.now)) }
     ensures added { IfOk result (λ told. told.0 ≡ commit_told book.old) }
-    ensures told { IfOk result (λ told. told.1 ≡ (if copies
+    ensures told { IfOk result (λ told. told.1 ≡ (if wanted
         then Some (receipt_entry (renaming_of variables.now.variables receipt.now.seat)
         (next book.old) receipt.now)
         else None)) }
@@ -163,42 +163,17 @@ fn enter_joint(
 {
     let alloc = book.allocator();
     let seat = receipt.seat();
+    let own = receipt.own();
+    let named = receipt.lemma();
     let hints = numbers_of(alloc, receipt.listed())?;
     let groups = Groups::new(alloc);
-    match variables.joint_lemma(alloc, seat, receipt.lemma())? {
+    match variables.joint_lemma(alloc, seat, named)? {
         Some(lemma) => {
             let step = LentAddition::new(book.next(), &lemma, &hints, &groups);
-            let entry = entry_if(copies, receipt, &step)?;
-            let added = book.enter_legal(seat, receipt.own(), &step, false)?;
+            let entry = step.entry_if(wanted, seat, own, named)?;
+            let added = book.enter_legal(seat, own, &step, false)?;
             Ok((added, entry))
         }
         None => unreachable!(),
     }
-}
-
-/// The entry of a receipt with this step, where `copies` asks for it.
-///
-/// # Errors
-/// [`NoMemory`] where a growth was refused.
-fn entry_if(
-    copies: bool,
-    receipt: &Receipt,
-    step: &LentAddition<'_>,
-) -> Result<Option<Entry>, NoMemory>
-    ensures { IfOk result (λ entry. entry
-        ≡ (if copies then Some (entry_by receipt.now step.now) else None)) }
-{
-    if !copies {
-        return Ok(None);
-    }
-    let call = Call::Add {
-        own: receipt.own(),
-        lemma: receipt.lemma().try_clone()?,
-    };
-    let step = Some(Step::Add(step.try_clone()?));
-    Ok(Some(Entry {
-        seat: receipt.seat(),
-        call,
-        step,
-    }))
 }

@@ -1,5 +1,5 @@
 //! Additions that are tested and entered in one call, in their seats' variables.
-ghost use Rattle.std.specs.Prelude.{◌≡◌, None, OnOk, OnErr, IfOk, IfSome, Err};
+ghost use Rattle.std.specs.Prelude.{◌≡◌, if◌then◌else◌, Some, None, OnOk, OnErr, IfOk, IfSome, Err};
 ghost use Rattle.lj_book.specs.Calls.{IsReply, IsReplyBy, free_refusal};
 ghost use Rattle.lj_book.specs.Named.{beneath, named_over, after_named};
 ghost use Rattle.lj_book.specs.NamedReplies.{named_inside};
@@ -10,7 +10,7 @@ use crate::book::Book;
 use crate::entry::{Added, Entry};
 use crate::joint_book::JointBook;
 use crate::joint_book::laws::history_is_legal;
-use crate::joint_forms::{add_joint_form, add_joint_form_with_entry, refusal_at_limit};
+use crate::joint_forms::{add_joint_form, refusal_at_limit};
 use crate::refusal::Refusal;
 use crate::variable_table::VariableTable;
 use lj_hint::Propagator;
@@ -48,17 +48,14 @@ impl Book {
             (self.new ≡ after_named self.old (named_inside_entry self.old seat addition.now)) }
         ensures err { OnErr result (self.new ≡ self.old) }
     {
-        add_named(
-            &mut self.joint,
-            &mut self.variables,
-            seat,
-            addition,
-            propagator,
-        )
+        match self.add_inside_with_entry(seat, addition, propagator, false) {
+            Ok((added, _entry)) => Ok(added),
+            Err(refusal) => Err(refusal),
+        }
     }
 
-    /// As [`Book::add_inside`], with a copy of the entry, whose call is in the seat's variables. Takes time linear in the
-    /// entry beside that.
+    /// As [`Book::add_inside`], with a copy of the entry where it is wanted: its call is in the seat's variables. The copy takes
+    /// time linear in the entry.
     ///
     /// # Errors
     /// As [`Book::add_inside`].
@@ -67,72 +64,26 @@ impl Book {
         seat: u32,
         addition: &Addition,
         propagator: &mut Propagator,
-    ) -> Result<(Added, Entry), Refusal>
+        wanted: bool,
+    ) -> Result<(Added, Option<Entry>), Refusal>
         ensures reply { IsReplyBy (λ told. told.0) result
             (named_inside self.old seat addition.now) }
         ensures refused { IfSome (free_refusal (beneath self.old) seat addition.now.number)
             (λ e. result ≡ Err e) }
-        ensures told { IfOk result
-            (λ told. told.1 ≡ named_inside_entry self.old seat addition.now) }
+        ensures told { IfOk result (λ told. told.1
+            ≡ (if wanted then Some (named_inside_entry self.old seat addition.now) else None)) }
         ensures ok { OnOk result
             (self.new ≡ after_named self.old (named_inside_entry self.old seat addition.now)) }
         ensures err { OnErr result (self.new ≡ self.old) }
     {
-        add_named_with_entry(
+        add_named(
             &mut self.joint,
             &mut self.variables,
             seat,
             addition,
             propagator,
+            wanted,
         )
-    }
-}
-
-/// As [`Book::add_inside`], with the parts of a book.
-///
-/// # Errors
-/// As [`Book::add_inside`].
-fn add_named(
-    joint: &mut JointBook,
-    variables: &mut VariableTable,
-    seat: u32,
-    addition: &Addition,
-    propagator: &mut Propagator,
-) -> Result<Added, Refusal>
-    requires { IsOver joint.old variables.old }
-    ensures reply { IsReply result
-        (named_inside (named_over joint.old variables.old.variables) seat addition.now) }
-    ensures refused { IfSome (free_refusal joint.old seat addition.now.number)
-        (λ e. result ≡ Err e) }
-    ensures ok { OnOk result (IsOverAfter (named_over joint.old variables.old.variables)
-        (named_inside_entry (named_over joint.old variables.old.variables) seat addition.now)
-        joint.new variables.new) }
-    ensures err { OnErr result ((joint.new ≡ joint.old) × (variables.new ≡ variables.old)) }
-{
-    let before = variables.next();
-    let clause = addition.lemma.clause();
-    if variables.is_settled(seat, clause) {
-        let added = joint.add_inside(seat, addition, propagator);
-        history_is_legal(joint);
-        return added;
-    }
-    if let Some(refusal) = joint.free_refusal(seat, addition.number) {
-        return Err(refusal);
-    }
-    let left = variables.give(seat, clause)?;
-    if !left {
-        let _ = joint.formula().variables();
-        return Err(refusal_at_limit(joint, variables, seat, addition, propagator));
-    }
-    match add_joint_form(joint, variables, seat, addition, propagator) {
-        Ok(added) => {
-            history_is_legal(joint);
-            Ok(added)
-        }
-        Err(refusal) => {
-            variables.take_back(before);
-            Err(refusal)
-        }
     }
 }
 
@@ -140,20 +91,24 @@ fn add_named(
 ///
 /// # Errors
 /// As [`Book::add_inside`].
-fn add_named_with_entry(
+#[inline]
+fn add_named(
     joint: &mut JointBook,
     variables: &mut VariableTable,
     seat: u32,
     addition: &Addition,
     propagator: &mut Propagator,
-) -> Result<(Added, Entry), Refusal>
+    wanted: bool,
+) -> Result<(Added, Option<Entry>), Refusal>
     requires { IsOver joint.old variables.old }
     ensures reply { IsReplyBy (λ told. told.0) result
         (named_inside (named_over joint.old variables.old.variables) seat addition.now) }
     ensures refused { IfSome (free_refusal joint.old seat addition.now.number)
         (λ e. result ≡ Err e) }
-    ensures told { IfOk result (λ told. told.1 ≡ named_inside_entry
-        (named_over joint.old variables.old.variables) seat addition.now) }
+    ensures told { IfOk result (λ told. told.1 ≡ (if wanted
+        then Some (named_inside_entry (named_over joint.old variables.old.variables) seat
+        addition.now)
+        else None)) }
     ensures ok { OnOk result (IsOverAfter (named_over joint.old variables.old.variables)
         (named_inside_entry (named_over joint.old variables.old.variables) seat addition.now)
         joint.new variables.new) }
@@ -162,7 +117,7 @@ fn add_named_with_entry(
     let before = variables.next();
     let clause = addition.lemma.clause();
     if variables.is_settled(seat, clause) {
-        let told = joint.add_inside_with_entry(seat, addition, propagator);
+        let told = joint.add_inside(seat, addition, propagator, wanted, &addition.lemma);
         history_is_legal(joint);
         return told;
     }
@@ -174,7 +129,7 @@ fn add_named_with_entry(
         let _ = joint.formula().variables();
         return Err(refusal_at_limit(joint, variables, seat, addition, propagator));
     }
-    match add_joint_form_with_entry(joint, variables, seat, addition, propagator) {
+    match add_joint_form(joint, variables, seat, addition, propagator, wanted) {
         Ok(told) => {
             history_is_legal(joint);
             Ok(told)

@@ -1,17 +1,15 @@
 //! Calls that also tell the entry that they make: a copy, made before the book changes.
-ghost use Rattle.std.specs.Prelude.{◌≡◌, OnOk, OnErr, IfOk, IfErr, IfSome, Err, true};
-ghost use Rattle.lj_clause.specs.ClauseMap.{names_up_to};
+ghost use Rattle.std.specs.Prelude.{◌≡◌, if◌then◌else◌, Some, None, OnOk, OnErr, IfOk, IfErr, IfSome, Err};
 ghost use Rattle.lj_book.specs.Calls.{IsReplyBy, drop_entry, adopt_entry, leave_entry};
 ghost use Rattle.lj_book.specs.WithEntry.{without_receipt};
-ghost use Rattle.lj_book.specs.Named.{top_of, beneath, after_named};
-ghost use Rattle.lj_book.specs.NamedReplies.{named_commit_refusal, named_commit, named_drop, named_adopt, import_refusal, named_import, named_leave};
-ghost use Rattle.lj_book.specs.NamedEntries.{named_commit_entry, named_import_entry};
+ghost use Rattle.lj_book.specs.Named.{beneath, after_named};
+ghost use Rattle.lj_book.specs.NamedReplies.{named_commit_refusal, named_commit, named_drop, named_adopt, named_leave};
+ghost use Rattle.lj_book.specs.NamedEntries.{named_commit_entry};
 
 use super::Book;
-use crate::entry::{Added, Call, Dropped, Entry, Imported};
+use crate::entry::{Added, Call, Dropped, Entry};
 use crate::joint_book::laws::history_is_legal;
 use crate::refusal::Refusal;
-use lj_clause::Clause;
 use lj_hint::Receipt;
 use lj_text::Numbers;
 
@@ -41,7 +39,7 @@ impl Book {
         }
     }
 
-    /// As [`Book::drop_numbers`], with a copy of the entry. Takes time linear in the entry beside that.
+    /// As [`Book::drop_numbers`], with a copy of the entry where it is wanted, which takes time linear in the entry.
     ///
     /// # Errors
     /// As [`Book::drop_numbers`].
@@ -49,16 +47,17 @@ impl Book {
         &mut self,
         seat: u32,
         numbers: &Numbers,
-    ) -> Result<(Dropped, Entry), Refusal>
+        wanted: bool,
+    ) -> Result<(Dropped, Option<Entry>), Refusal>
         ensures reply { IsReplyBy (λ told. told.0) result (named_drop self.old seat numbers.now) }
         ensures refused { IfErr (named_drop self.old seat numbers.now) (λ e. result ≡ Err e) }
-        ensures told { IfOk result
-            (λ told. told.1 ≡ drop_entry (beneath self.old) seat numbers.now) }
+        ensures told { IfOk result (λ told. told.1
+            ≡ (if wanted then Some (drop_entry (beneath self.old) seat numbers.now) else None)) }
         ensures ok { OnOk result (self.new
             ≡ after_named self.old (drop_entry (beneath self.old) seat numbers.now)) }
         ensures err { OnErr result (self.new ≡ self.old) }
     {
-        let told = self.joint.drop_with_entry(seat, numbers);
+        let told = self.joint.drop_numbers(seat, numbers, wanted);
         history_is_legal(&self.joint);
         told
     }
@@ -87,42 +86,7 @@ impl Book {
         }
     }
 
-    /// As [`Book::import`], with a copy of the entry. Takes time linear in the entry beside that.
-    ///
-    /// # Errors
-    /// As [`Book::import`].
-    pub fn import_with_entry(
-        &mut self,
-        seat: u32,
-        own: u64,
-        clause: &Clause,
-    ) -> Result<(Imported, Entry), Refusal>
-        ensures reply { IsReplyBy (λ told. told.0) result
-            (named_import self.old seat own clause.now) }
-        ensures refused { IfSome (import_refusal self.old seat own clause.now)
-            (λ e. result ≡ Err e) }
-        ensures within { names_up_to (top_of self.old) clause.now ≡ true
-            → IfErr (named_import self.old seat own clause.now) (λ e. result ≡ Err e) }
-        ensures told { IfOk result
-            (λ told. told.1 ≡ named_import_entry self.old seat own clause.now) }
-        ensures ok { OnOk result (self.new
-            ≡ after_named self.old (named_import_entry self.old seat own clause.now)) }
-        ensures err { OnErr result (self.new ≡ self.old) }
-    {
-        if let Some(refusal) = self.known_refusal(seat, own, clause) {
-            return Err(refusal);
-        }
-        let call = Call::Import {
-            own,
-            clause: clause.try_clone()?,
-        };
-        match self.import_told(seat, own, clause, true) {
-            Ok((imported, step)) => Ok((imported, Entry { seat, call, step })),
-            Err(refusal) => Err(refusal),
-        }
-    }
-
-    /// As [`Book::leave`], with a copy of the entry. Takes time linear in the entry beside that.
+    /// As [`Book::leave`], with the entry.
     ///
     /// # Errors
     /// As [`Book::leave`].
@@ -134,7 +98,7 @@ impl Book {
             (self.new ≡ after_named self.old (leave_entry (beneath self.old) seat)) }
         ensures err { OnErr result (self.new ≡ self.old) }
     {
-        let told = self.joint.leave_with_entry(seat);
+        let told = self.joint.leave(seat);
         history_is_legal(&self.joint);
         told
     }

@@ -5,13 +5,15 @@ ghost use Rattle.lj_book.specs.Tables.{is_here, is_bound, with_binding};
 ghost use Rattle.lj_text.specs.declared.step.Step.TheVariants.{Add};
 ghost use Rattle.lj_book.specs.declared.found.Found.TheVariants.{Part};
 ghost use Rattle.lj_book.specs.State.{live};
-ghost use Rattle.lj_book.specs.Imports.{part_hints, found, import_step};
+ghost use Rattle.lj_book.specs.Imports.{part_hints, found};
 ghost use Rattle.lj_book.specs.History.{after_entry, tables_after, IsLegalCall};
-ghost use Rattle.lj_book.specs.inner.Records.{binding_call};
+ghost use Rattle.lj_book.specs.declared.entry.Call.TheVariants as calls;
+ghost use Rattle.lj_book.specs.inner.JointForms.{with_call};
+ghost use Rattle.lj_book.specs.inner.Records.{binding_call, entry_of};
 ghost use Rattle.lj_book.specs.Calls.{IsReply, IsReplyBy, free_refusal, binding_entry, adopt_entry, imported};
 ghost use Rattle.lj_book.specs.inner.Bindings.{adopt_reply, import_reply, import_entry};
 
-use crate::entry::Imported;
+use crate::entry::{Call, Entry, Imported};
 use crate::found::Found;
 use crate::joint_book::JointBook;
 use crate::lent_addition::LentAddition;
@@ -44,8 +46,8 @@ impl JointBook {
     }
 
     /// Binds the seat's own number to the least live number with exactly this clause, without a step. Where none lives, but a part
-    /// of the clause does, the clause enters under the next number, by the least such part. Tells the step where `copies` asks
-    /// for it.
+    /// of the clause does, the clause enters under the next number, by the least such part. Where the entry is wanted, gives a
+    /// copy, with the named clause in its call.
     ///
     /// # Errors
     /// [`Refusal::SeatGone`], [`Refusal::NumberTaken`], [`Refusal::NoSuchClause`] where no part of the clause lives,
@@ -55,13 +57,16 @@ impl JointBook {
         seat: u32,
         own: u64,
         clause: &Clause,
-        copies: bool,
-    ) -> Result<(Imported, Option<Step>), Refusal>
+        wanted: bool,
+        named: &Clause,
+    ) -> Result<(Imported, Option<Entry>), Refusal>
         ensures reply { IsReplyBy (λ told. told.0) result
             (import_reply self.old seat own clause.now) }
         ensures refused { IfErr (import_reply self.old seat own clause.now) (λ e. result ≡ Err e) }
-        ensures told { IfOk result (λ told. told.1
-            ≡ (if copies then import_step self.old clause.now else None)) }
+        ensures told { IfOk result (λ told. told.1 ≡ (if wanted
+            then Some (with_call (calls.Import own named.now)
+            (import_entry self.old seat own clause.now))
+            else None)) }
         ensures ok { OnOk result
             (self.new ≡ after_entry self.old (import_entry self.old seat own clause.now)) }
         ensures err { OnErr result (self.new ≡ self.old) }
@@ -71,10 +76,11 @@ impl JointBook {
         }
         match self.found(clause) {
             Found::Equal(joint) => {
+                let entry = entry_of_import(wanted, seat, own, named, None)?;
                 let place = self.bind_live(seat, own, joint, Some(clause))?;
-                Ok((Imported { place, joint }, None))
+                Ok((Imported { place, joint }, entry))
             }
-            Found::Part(part) => self.import_by_part(seat, own, clause, part, copies),
+            Found::Part(part) => self.import_by_part(seat, own, clause, part, wanted, named),
             Found::Neither => Err(Refusal::NoSuchClause),
         }
     }
@@ -89,14 +95,17 @@ impl JointBook {
         own: u64,
         clause: &Clause,
         part: u64,
-        copies: bool,
-    ) -> Result<(Imported, Option<Step>), Refusal>
+        wanted: bool,
+        named: &Clause,
+    ) -> Result<(Imported, Option<Entry>), Refusal>
         requires free { free_refusal self.old seat own ≡ None }
         requires found { found self.old clause.now ≡ Part part }
         ensures reply { IsReplyBy (λ told. told.0) result (imported self.old (Part part)) }
         ensures refused { IfErr (imported self.old (Part part)) (λ e. result ≡ Err e) }
-        ensures told { IfOk result (λ told. told.1
-            ≡ (if copies then import_step self.old clause.now else None)) }
+        ensures told { IfOk result (λ told. told.1 ≡ (if wanted
+            then Some (with_call (calls.Import own named.now)
+            (import_entry self.old seat own clause.now))
+            else None)) }
         ensures ok { OnOk result
             (self.new ≡ after_entry self.old (import_entry self.old seat own clause.now)) }
         ensures err { OnErr result (self.new ≡ self.old) }
@@ -109,25 +118,11 @@ impl JointBook {
         let hints = part_hints(alloc, clause, part)?;
         let groups = Groups::new(alloc);
         let step = LentAddition::new(self.next(), &lemma, &hints, &groups);
-        let told = step_if(copies, &step)?;
+        let copied = step_if(wanted, &step)?;
+        let entry = entry_of_import(wanted, seat, own, named, copied)?;
         let added = self.enter_legal(seat, own, &step, true)?;
         let (place, joint) = (added.place, added.joint);
-        Ok((Imported { place, joint }, told))
-    }
-
-    /// The refusal of an import of this clause whose number may be bound, if there is one. The book stays as it is.
-    pub(crate) fn found_refusal(&mut self, clause: &Clause) -> Option<Refusal>
-        ensures some { IfSome result
-            (λ e. imported self.old (found self.old clause.now) ≡ Err e) }
-        ensures none { result ≡ None → IsOk (imported self.old (found self.old clause.now)) }
-        ensures same { self.new ≡ self.old }
-    {
-        match self.found(clause) {
-            Found::Equal(_joint) => None,
-            Found::Part(_part) if self.is_full() => Some(Refusal::Full),
-            Found::Part(_part) => None,
-            Found::Neither => Some(Refusal::NoSuchClause),
-        }
+        Ok((Imported { place, joint }, entry))
     }
 
     /// What an import of this clause finds, for which the lists of the clauses are made. The book stays as it is.
@@ -202,15 +197,39 @@ fn part_hints(alloc: Global, clause: &Clause, part: u64) -> Result<Numbers, NoMe
     Ok(hints)
 }
 
-/// A copy of the step where `copies` asks for it.
+/// A copy of the step, where it is wanted.
 ///
 /// # Errors
 /// [`NoMemory`] where a growth was refused.
-fn step_if(copies: bool, step: &LentAddition<'_>) -> Result<Option<Step>, NoMemory>
-    ensures { IfOk result (λ told. told ≡ (if copies then Some (Add step.now) else None)) }
+fn step_if(wanted: bool, step: &LentAddition<'_>) -> Result<Option<Step>, NoMemory>
+    ensures { IfOk result (λ copied. copied ≡ (if wanted then Some (Add step.now) else None)) }
 {
-    if !copies {
+    if !wanted {
         return Ok(None);
     }
     Ok(Some(Step::Add(step.try_clone()?)))
+}
+
+/// The entry of a seat's import of this clause, by this step, where it is wanted.
+///
+/// # Errors
+/// [`NoMemory`] where a growth was refused.
+fn entry_of_import(
+    wanted: bool,
+    seat: u32,
+    own: u64,
+    clause: &Clause,
+    step: Option<Step>,
+) -> Result<Option<Entry>, NoMemory>
+    ensures { IfOk result (λ entry. entry
+        ≡ (if wanted then Some (entry_of seat (calls.Import own clause.now) step) else None)) }
+{
+    if !wanted {
+        return Ok(None);
+    }
+    let call = Call::Import {
+        own,
+        clause: clause.try_clone()?,
+    };
+    Ok(Some(Entry { seat, call, step }))
 }

@@ -1,25 +1,28 @@
 //! Additions that are known to close, which are entered without a test.
-ghost use Rattle.std.specs.Prelude.{◌≡◌, [], OnOk, OnErr, IfOk, IfErr};
+ghost use Rattle.std.specs.Prelude.{◌≡◌, [], if◌then◌else◌, Some, None, OnOk, OnErr, IfOk, IfErr};
 ghost use Rattle.lj_book.specs.State.{next};
 ghost use Rattle.lj_book.specs.History.{after_entry, IsReached};
-ghost use Rattle.lj_book.specs.Calls.{IsReply, IsReplyBy};
+ghost use Rattle.lj_book.specs.Calls.{IsReplyBy};
 ghost use Rattle.lj_book.specs.Inside.{inside_reply, inside_entry};
 ghost use Rattle.lj_book.specs.Solo.{view_of};
 ghost use Rattle.lj_book.specs.Views.{IsClosedAlone};
+ghost use Rattle.lj_book.specs.declared.entry.Call.TheVariants as calls;
+ghost use Rattle.lj_book.specs.inner.JointForms.{with_call};
 ghost use Rattle.lj_book.specs.inner.Views.{IsFullOrNoMemory};
 ghost use Rattle.lj_book.specs.inner.JointLines.{addition_of_parts, inside_line};
 
 use crate::entry::{Added, Entry};
 use crate::joint_book::JointBook;
-use crate::joint_book::with_entry::entry_of_line;
-use crate::joint_line::{clear, put_first};
+use crate::joint_line::put_first;
 use crate::lent_addition::LentAddition;
 use crate::refusal::Refusal;
+use lj_clause::Lemma;
 use lj_text::{Addition, Groups, Numbers};
+use std::mem::replace;
 
 impl JointBook {
     /// Enters a seat's addition that is known to close after so many of its hints, by what the seat sees. It isn't tested
-    /// again.
+    /// again. Where the entry is wanted, gives a copy, with the named lemma in its call.
     ///
     /// # Errors
     /// [`Refusal::Full`], and [`Refusal::NoMemory`] where a growth was refused.
@@ -28,50 +31,36 @@ impl JointBook {
         seat: u32,
         addition: &Addition,
         read: usize,
-    ) -> Result<Added, Refusal>
-        requires { IsClosedAlone (view_of self.old seat) seat addition.now read }
-        ensures reply { IsReply result (inside_reply self.old seat addition.now) }
-        ensures refusal { IfErr result IsFullOrNoMemory }
-        ensures ok { OnOk result
-            (self.new ≡ after_entry self.old (inside_entry self.old seat addition.now)) }
-        ensures err { OnErr result (self.new ≡ self.old) }
-    {
-        let (mut hints, mut groups) = self.lend_joints();
-        clear(&mut groups);
-        let added = self.enter_closed(seat, addition, read, &mut hints, &groups);
-        self.joints = hints;
-        self.joint_groups = groups;
-        added
-    }
-
-    /// As [`JointBook::add_closed`], with a copy of the entry. Takes time linear in the entry beside that.
-    ///
-    /// # Errors
-    /// As [`JointBook::add_closed`].
-    pub fn add_closed_with_entry(
-        &mut self,
-        seat: u32,
-        addition: &Addition,
-        read: usize,
-    ) -> Result<(Added, Entry), Refusal>
+        wanted: bool,
+        named: &Lemma,
+    ) -> Result<(Added, Option<Entry>), Refusal>
         requires { IsClosedAlone (view_of self.old seat) seat addition.now read }
         ensures reply { IsReplyBy (λ told. told.0) result
             (inside_reply self.old seat addition.now) }
         ensures refusal { IfErr result IsFullOrNoMemory }
-        ensures told { IfOk result (λ told. told.1 ≡ inside_entry self.old seat addition.now) }
+        ensures told { IfOk result (λ told. told.1 ≡ (if wanted
+            then Some (with_call (calls.Add addition.now.number named.now)
+            (inside_entry self.old seat addition.now))
+            else None)) }
         ensures ok { OnOk result
             (self.new ≡ after_entry self.old (inside_entry self.old seat addition.now)) }
         ensures err { OnErr result (self.new ≡ self.old) }
     {
-        let (mut hints, mut groups) = self.lend_joints();
-        clear(&mut groups);
-        let told = self.enter_closed_with_entry(seat, addition, read, &mut hints, &groups);
+        let mut hints = self.lend_joints();
+        let told = self.enter_closed(seat, addition, read, &mut hints, wanted, named);
         self.joints = hints;
-        self.joint_groups = groups;
         told
     }
 
-    /// As [`JointBook::add_closed`], with lists for the hints and the groups in joint numbers.
+    /// The room for joint hints, which has to come back.
+    fn lend_joints(&mut self) -> Numbers
+        ensures { self.new ≡ self.old }
+    {
+        let alloc = self.clause_log.allocator();
+        replace(&mut self.joints, Numbers::from_u32s(Vec::new(alloc)))
+    }
+
+    /// As [`JointBook::add_closed`], with a list for the hints in joint numbers.
     ///
     /// # Errors
     /// As [`JointBook::add_closed`].
@@ -81,44 +70,17 @@ impl JointBook {
         addition: &Addition,
         read: usize,
         hints: &mut Numbers,
-        groups: &Groups,
-    ) -> Result<Added, Refusal>
-        requires closed { IsClosedAlone (view_of self.old seat) seat addition.now read }
-        requires groups { groups.now ≡ [] }
-        ensures reply { IsReply result (inside_reply self.old seat addition.now) }
-        ensures refusal { IfErr result IsFullOrNoMemory }
-        ensures ok { OnOk result
-            (self.new ≡ after_entry self.old (inside_entry self.old seat addition.now)) }
-        ensures err { OnErr result (self.new ≡ self.old) }
-    {
-        if let Err(refusal) = self.closed_hints(seat, addition, read, hints) {
-            return Err(refusal);
-        }
-        let step = LentAddition::new(self.next(), &addition.lemma, hints, groups);
-        match self.enter_line(seat, addition, &step) {
-            Ok(added) => Ok(added),
-            Err(refused) => Err(Refusal::NoMemory(refused)),
-        }
-    }
-
-    /// As [`JointBook::add_closed_with_entry`], with lists for the hints and the groups in joint numbers.
-    ///
-    /// # Errors
-    /// As [`JointBook::add_closed`].
-    fn enter_closed_with_entry(
-        &mut self,
-        seat: u32,
-        addition: &Addition,
-        read: usize,
-        hints: &mut Numbers,
-        groups: &Groups,
-    ) -> Result<(Added, Entry), Refusal>
-        requires closed { IsClosedAlone (view_of self.old seat) seat addition.now read }
-        requires groups { groups.now ≡ [] }
+        wanted: bool,
+        named: &Lemma,
+    ) -> Result<(Added, Option<Entry>), Refusal>
+        requires { IsClosedAlone (view_of self.old seat) seat addition.now read }
         ensures reply { IsReplyBy (λ told. told.0) result
             (inside_reply self.old seat addition.now) }
         ensures refusal { IfErr result IsFullOrNoMemory }
-        ensures told { IfOk result (λ told. told.1 ≡ inside_entry self.old seat addition.now) }
+        ensures told { IfOk result (λ told. told.1 ≡ (if wanted
+            then Some (with_call (calls.Add addition.now.number named.now)
+            (inside_entry self.old seat addition.now))
+            else None)) }
         ensures ok { OnOk result
             (self.new ≡ after_entry self.old (inside_entry self.old seat addition.now)) }
         ensures err { OnErr result (self.new ≡ self.old) }
@@ -126,16 +88,11 @@ impl JointBook {
         if let Err(refusal) = self.closed_hints(seat, addition, read, hints) {
             return Err(refusal);
         }
-        let joint = self.next();
-        let step = LentAddition::new(joint, &addition.lemma, hints, groups);
-        let entry = match entry_of_line(seat, addition.number, &step) {
-            Ok(entry) => entry,
-            Err(refused) => return Err(Refusal::NoMemory(refused)),
-        };
-        match self.enter_line(seat, addition, &step) {
-            Ok(added) => Ok((added, entry)),
-            Err(refused) => Err(Refusal::NoMemory(refused)),
-        }
+        let groups = Groups::new(self.allocator());
+        let step = LentAddition::new(self.next(), &addition.lemma, hints, &groups);
+        let entry = step.entry_if(wanted, seat, addition.number, named)?;
+        let added = self.enter_line(seat, addition, &step)?;
+        Ok((added, entry))
     }
 
     /// Puts the hints that close a seat's addition, in joint numbers, into a list that was used before.

@@ -1,17 +1,19 @@
 //! Additions that are tested and entered in one call.
-ghost use Rattle.std.specs.Prelude.{◌≡◌, ◌==◌, ℕ, not, nat_lt, OnOk, OnErr, IfOk, IfSome, Ok, Err, true, false};
+ghost use Rattle.std.specs.Prelude.{◌≡◌, ◌==◌, ℕ, not, nat_lt, if◌then◌else◌, OnOk, OnErr, IfOk, IfSome, Some, None, Ok, Err, true, false};
 ghost use Rattle.lj_clause.specs.Literal.{variable_of};
 ghost use Rattle.lj_clause.specs.LiteralSet.{holds};
 ghost use Rattle.lj_book.specs.History.{after_entry, IsReached};
 ghost use Rattle.lj_book.specs.State.{addition_count, next};
 ghost use Rattle.lj_book.specs.Tables.{joint_of};
-ghost use Rattle.lj_book.specs.Calls.{IsReply, IsReplyBy, free_refusal, commit_told};
+ghost use Rattle.lj_book.specs.Calls.{IsReplyBy, free_refusal, commit_told};
 ghost use Rattle.lj_book.specs.Inside.{inside_reply, inside_entry};
+ghost use Rattle.lj_book.specs.declared.entry.Call.TheVariants as calls;
+ghost use Rattle.lj_book.specs.inner.JointForms.{with_call};
 ghost use Rattle.lj_book.specs.inner.JointLines.{addition_of_parts, joint_parts, tested_parts, inside_line, line_entry};
 
 use crate::clause_log::ClauseLog;
 use crate::committing::{enter_addition, refuted_at};
-use crate::entry::Added;
+use crate::entry::{Added, Entry};
 use crate::joint_book::JointBook;
 use crate::joint_line::{clear, joint_line};
 use crate::lent_addition::LentAddition;
@@ -21,11 +23,10 @@ use crate::seat_tables::SeatTables;
 use lj_clause::{Lemma, NoMemory};
 use lj_hint::Propagator;
 use lj_text::{Addition, Groups, Numbers};
-use std::mem::replace;
 
 impl JointBook {
     /// Tests a seat's addition over the live clauses, those of all seats, and enters it in recorded form. The propagator may
-    /// have served any propagation before.
+    /// have served any propagation before. Where the entry is wanted, gives a copy, with the named lemma in its call.
     ///
     /// # Errors
     /// The first that holds of [`Refusal::SeatGone`], [`Refusal::NumberTaken`], [`Refusal::UnknownNumber`],
@@ -37,10 +38,17 @@ impl JointBook {
         seat: u32,
         addition: &Addition,
         propagator: &mut Propagator,
-    ) -> Result<Added, Refusal>
-        ensures reply { IsReply result (inside_reply self.old seat addition.now) }
+        wanted: bool,
+        named: &Lemma,
+    ) -> Result<(Added, Option<Entry>), Refusal>
+        ensures reply { IsReplyBy (λ told. told.0) result
+            (inside_reply self.old seat addition.now) }
         ensures refused { IfSome (free_refusal self.old seat addition.now.number)
             (λ e. result ≡ Err e) }
+        ensures told { IfOk result (λ told. told.1 ≡ (if wanted
+            then Some (with_call (calls.Add addition.now.number named.now)
+            (inside_entry self.old seat addition.now))
+            else None)) }
         ensures ok { OnOk result
             (self.new ≡ after_entry self.old (inside_entry self.old seat addition.now)) }
         ensures err { OnErr result (self.new ≡ self.old) }
@@ -68,22 +76,13 @@ impl JointBook {
         }
         let _ = has_pivot(&addition.lemma);
         let step = LentAddition::new(joint, &addition.lemma, &self.joints, &self.joint_groups);
+        let entry = step.entry_if(wanted, seat, own, named)?;
         let place = self.clause_log.history().len();
         enter_addition(&mut self.clause_log, &mut self.tables, seat, own, &step)?;
         self.refuted = refuted_at(self.refuted, place, &step.clause);
         clear(&mut self.joint_groups);
         self.added += 1;
-        Ok(Added { place, joint })
-    }
-
-    /// The room for joint hints and groups, which has to come back.
-    pub(crate) fn lend_joints(&mut self) -> (Numbers, Groups)
-        ensures { self.new ≡ self.old }
-    {
-        let alloc = self.clause_log.allocator();
-        let hints = replace(&mut self.joints, Numbers::from_u32s(Vec::new(alloc)));
-        let groups = replace(&mut self.joint_groups, Groups::new(alloc));
-        (hints, groups)
+        Ok((Added { place, joint }, entry))
     }
 
     /// Whether the history holds as many additions as it may.

@@ -134,7 +134,7 @@ returns-in-Ok-clause-told c =
     c.in_ok-left.ensures.given
     ∙ ap (λ (b : Bool). cond b (variables_at t.top (given t.top t.variables c.seat.result c.clause.result.now)) t) c.if-not-left.false
     ∙ (λ i. variables_at t.top (given t.top t.variables (c.seat.ensures i) (clause i))) in
-    c.in-Ok.ensures.told ∙ ap (λ (e : Entry). if c.args.copies then Some e else None) (entry_then j t u r over free given ∙ ap (λ (s : NamedState). named_commit_entry s r) c.self.view_is)
+    c.in-Ok.ensures.told ∙ ap (λ (e : Entry). if c.args.wanted then Some e else None) (entry_then j t u r over free given ∙ ap (λ (s : NamedState). named_commit_entry s r) c.self.view_is)
 
 pub returns-in-Ok-clause-ok : goal.returns-in-Ok-clause-ok
 returns-in-Ok-clause-ok c =

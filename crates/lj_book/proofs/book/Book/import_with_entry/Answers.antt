@@ -1,22 +1,29 @@
-use Rattle.std.proofs.Common.{◌≡◌, ap, sym, ◌∙◌, subst}
-use Rattle.lj_book.specs.declared.entry.Call.TheVariants as calls
-use Rattle.lj_book.specs.Calls.{IsRefusal}
-use Rattle.lj_book.specs.Named.{NamedState, after_named}
-use Rattle.lj_book.specs.NamedReplies.{named_import}
-use Rattle.lj_book.specs.NamedEntries.{named_import_entry}
+use Rattle.std.proofs.Common.{ap, sym, ◌∙◌}
+use Rattle.lj_clause.specs.ClauseMap.{names_up_to}
+use Rattle.lj_clause.specs.Renaming.{image}
+use Rattle.lj_book.specs.Variables.{renaming_of}
+use Rattle.lj_book.specs.Named.{NamedState, names_of}
+use Rattle.lj_book.proofs.OverLaws.{within_named, unrefused_named, over_top, reached_over}
 use Rattle.lj_book.proofs.book.Book.import_with_entry.Goals as goal
 
-pub returns-in-Ok-clause-reply : goal.returns-in-Ok-clause-reply
-returns-in-Ok-clause-reply c = ap (λ (s : NamedState). named_import s c.args.seat c.args.own c.args.clause.now) (sym c.known_refusal.ensures.same) ∙ c.in-Ok.ensures.reply
+pub import_joint-requires-clause-named : goal.import_joint-requires-clause-named
+import_joint-requires-clause-named c =
+    let top = over_top c.self.inside.joint c.self.inside.variables c.args.self.now c.self.invariant c.self.view_is in
+    (within_named c.args.self.now c.args.seat c.args.own c.args.clause.now (reached_over c.self.inside.joint c.self.inside.variables c.args.self.now c.self.invariant c.self.view_is)
+    (ap (λ n. names_up_to n c.args.clause.now) (sym top) ∙ sym c.is_within.ensures.within ∙ c.if-is_within.true)).0
 
-pub returns-in-Ok-clause-ok : goal.returns-in-Ok-clause-ok
-returns-in-Ok-clause-ok c = c.in-Ok.ensures.ok ∙ ap (λ (s : NamedState). after_named s (named_import_entry s c.args.seat c.args.own c.args.clause.now)) c.known_refusal.ensures.same
+pub import_joint-requires-clause-joint : goal.import_joint-requires-clause-joint
+import_joint-requires-clause-joint c =
+    let top = over_top c.self.inside.joint c.self.inside.variables c.args.self.now c.self.invariant c.self.view_is in
+    (within_named c.args.self.now c.args.seat c.args.own c.args.clause.now (reached_over c.self.inside.joint c.self.inside.variables c.args.self.now c.self.invariant c.self.view_is)
+    (ap (λ n. names_up_to n c.args.clause.now) (sym top) ∙ sym c.is_within.ensures.within ∙ c.if-is_within.true)).1
 
-pub returns-in-Err-clause-reply : goal.returns-in-Err-clause-reply
-returns-in-Err-clause-reply c = subst (λ (s : NamedState). IsRefusal c.in-Err.refusal (named_import s c.args.seat c.args.own c.args.clause.now)) c.known_refusal.ensures.same c.in-Err.ensures.reply
+pub import_joint-requires-2-clause-named : goal.import_joint-requires-2-clause-named
+import_joint-requires-2-clause-named c =
+    unrefused_named c.args.self.now c.args.seat c.args.own c.args.clause.now (sym c.import_refusal.ensures ∙ c.in_default.is)
 
-pub returns-in-Ok-clause-told : goal.returns-in-Ok-clause-told
-returns-in-Ok-clause-told c =
-    let step : c.in-Ok.step ≡ (named_import_entry c.args.self.now c.args.seat c.args.own c.args.clause.now).step =
-    c.in-Ok.ensures.told ∙ ap (λ (s : NamedState). (named_import_entry s c.args.seat c.args.own c.args.clause.now).step) c.known_refusal.ensures.same in
-    λ i. record { seat = c.args.seat; call = calls.Import c.args.own (c.in_ok-try_clone.ensures i); step = step i }
+pub import_joint-requires-2-clause-joint : goal.import_joint-requires-2-clause-joint
+import_joint-requires-2-clause-joint c =
+    ap (λ (s : NamedState). image (names_of s c.args.seat) c.args.clause.now) (sym c.self.view_is)
+    ∙ (λ i. image (renaming_of (sym c.to_joint.ensures.0 i).variables (sym c.to_joint.ensures.1 i)) c.args.clause.now)
+    ∙ sym c.in_ok-renamed.ensures

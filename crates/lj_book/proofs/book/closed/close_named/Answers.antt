@@ -1,24 +1,25 @@
 use Rattle.std.proofs.Common.{◌≡◌, ap, sym, ◌∙◌, subst, ℕ, ◌+◌, ◌≤◌, true, arith}
-use Rattle.std.specs.Prelude.{Result}
+use Rattle.std.specs.Prelude.{if◌then◌else◌, Option, Some, None, Result, IfOk}
 use Rattle.std.proofs.lemmas.Result.{on_ok_weaker}
 use Rattle.lj_clause.specs.declared.lit.TheConstants.{MAX_VARIABLE}
 use Rattle.lj_clause.specs.Lemma.{IsLemma}
 use Rattle.lj_clause.specs.ClauseMap.{FormulaValue, IsFormula}
 use Rattle.lj_text.specs.declared.line.Addition.{Addition}
 use Rattle.lj_book.specs.declared.entry.Added.{Added}
+use Rattle.lj_book.specs.declared.entry.Entry.{Entry}
 use Rattle.lj_book.specs.declared.refusal.Refusal.{Refusal}
 use Rattle.lj_book.specs.Variables.{renaming_of}
 use Rattle.lj_book.specs.State.{State}
-use Rattle.lj_book.specs.Calls.{IsRefusal, IsReply}
+use Rattle.lj_book.specs.Calls.{IsRefusal, IsReplyBy}
 use Rattle.lj_book.specs.inner.JointForms.{is_settled}
 use Rattle.lj_book.specs.inner.VariableTables.{TopVariables}
 use Rattle.lj_book.proofs.GivenBack.{given_goes_on}
-use Rattle.lj_book.proofs.InsideOver.{settled_reply, settled_entered, given_out, none_given, given_reply, given_entered, taken_back}
+use Rattle.lj_book.proofs.InsideOver.{settled_reply, settled_entry, settled_entered, given_out, none_given, given_reply, given_entry, given_entered, taken_back}
 use Rattle.lj_book.proofs.ClosedOver.{closed_settled, closed_seat, closed_given, closed_limit}
 use Rattle.lj_book.proofs.book.closed.close_named.Goals as goal
 
-pub add_closed-added-requires : goal.add_closed-added-requires
-add_closed-added-requires c =
+pub add_closed-told-requires : goal.add_closed-told-requires
+add_closed-told-requires c =
     let j : State = c.args.joint.now in
     let t : TopVariables = c.args.variables.now in
     let a : Addition = c.args.addition.now in
@@ -35,7 +36,16 @@ returns-then-is_settled-clause-reply c =
     let lemma : IsLemma a.lemma = c.clause-clause.ensures.lemma in
     let settled : is_settled t.top (renaming_of t.variables c.args.seat) a.lemma.clause ≡ true = ap (is_settled t.top (renaming_of t.variables c.args.seat)) (sym c.clause-clause.ensures.clause) ∙ c.is_settled.ensures.settled c.if-is_settled.true in
     let few : t.variables.next ≤ MAX_VARIABLE + 1 = subst (λ (n : ℕ). n ≤ MAX_VARIABLE + 1) c.next-before.ensures.next c.next-before.ensures.in_range.1 in
-    subst (λ (r : Result Added Refusal). IsReply c.add_closed-added.result r) (settled_reply j t c.requires.over c.args.seat a lemma settled few) c.add_closed-added.ensures.reply
+    subst (λ (r : Result Added Refusal). IsReplyBy (λ (told : Added × Option Entry). told.0) c.add_closed-told.result r) (settled_reply j t c.requires.over c.args.seat a lemma settled few) c.add_closed-told.ensures.reply
+
+pub returns-then-is_settled-clause-told : goal.returns-then-is_settled-clause-told
+returns-then-is_settled-clause-told c =
+    let j : State = c.args.joint.now in
+    let t : TopVariables = c.args.variables.now in
+    let a : Addition = c.args.addition.now in
+    let lemma : IsLemma a.lemma = c.clause-clause.ensures.lemma in
+    let settled : is_settled t.top (renaming_of t.variables c.args.seat) a.lemma.clause ≡ true = ap (is_settled t.top (renaming_of t.variables c.args.seat)) (sym c.clause-clause.ensures.clause) ∙ c.is_settled.ensures.settled c.if-is_settled.true in
+    subst (λ (e : Entry). IfOk c.add_closed-told.result (λ told. told.1 ≡ (if c.args.wanted then Some e else None))) (settled_entry j t c.requires.over c.args.seat a lemma settled) c.add_closed-told.ensures.told
 
 pub returns-then-is_settled-clause-ok : goal.returns-then-is_settled-clause-ok
 returns-then-is_settled-clause-ok c =
@@ -45,7 +55,7 @@ returns-then-is_settled-clause-ok c =
     let lemma : IsLemma a.lemma = c.clause-clause.ensures.lemma in
     let settled : is_settled t.top (renaming_of t.variables c.args.seat) a.lemma.clause ≡ true = ap (is_settled t.top (renaming_of t.variables c.args.seat)) (sym c.clause-clause.ensures.clause) ∙ c.is_settled.ensures.settled c.if-is_settled.true in
     let few : t.variables.next ≤ MAX_VARIABLE + 1 = subst (λ (n : ℕ). n ≤ MAX_VARIABLE + 1) c.next-before.ensures.next c.next-before.ensures.in_range.1 in
-    on_ok_weaker c.add_closed-added.result (settled_entered j t c.requires.over c.args.seat a lemma c.add_closed-added.new.self settled few c.history_is_legal.ensures) c.add_closed-added.ensures.ok
+    on_ok_weaker c.add_closed-told.result (settled_entered j t c.requires.over c.args.seat a lemma c.add_closed-told.new.self settled few c.history_is_legal.ensures) c.add_closed-told.ensures.ok
 
 pub give-requires : goal.give-requires
 give-requires c =
@@ -86,6 +96,16 @@ returns-in-Ok-clause-reply c =
     let u : TopVariables = c.give.new.self in
     let gave = given_out j t c.requires.over c.args.seat a lemma u _ _ c.clause-clause.ensures.clause c.in_ok-left.ensures.left c.in_ok-left.ensures.given c.if-not-left.false in
     sym (given_reply j t c.requires.over c.args.seat a lemma u gave.0 gave.1) ∙ c.in-Ok.ensures.reply
+
+pub returns-in-Ok-clause-told : goal.returns-in-Ok-clause-told
+returns-in-Ok-clause-told c =
+    let j : State = c.args.joint.now in
+    let t : TopVariables = c.args.variables.now in
+    let a : Addition = c.args.addition.now in
+    let lemma : IsLemma a.lemma = c.clause-clause.ensures.lemma in
+    let u : TopVariables = c.give.new.self in
+    let gave = given_out j t c.requires.over c.args.seat a lemma u _ _ c.clause-clause.ensures.clause c.in_ok-left.ensures.left c.in_ok-left.ensures.given c.if-not-left.false in
+    c.in-Ok.ensures.told ∙ ap (λ (e : Entry). if c.args.wanted then Some e else None) (given_entry j t c.requires.over c.args.seat a lemma u gave.0 gave.1)
 
 pub returns-in-Ok-clause-ok : goal.returns-in-Ok-clause-ok
 returns-in-Ok-clause-ok c =

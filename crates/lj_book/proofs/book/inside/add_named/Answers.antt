@@ -1,15 +1,16 @@
 use Rattle.std.proofs.Common.{◌≡◌, ap, refl, sym, ◌∙◌, subst, ℕ, ◌+◌, ◌≤◌, true, arith}
-use Rattle.std.specs.Prelude.{Result}
+use Rattle.std.specs.Prelude.{if◌then◌else◌, Option, Some, None, Result, IfOk}
 use Rattle.std.proofs.lemmas.Result.{on_ok_weaker, on_err_weaker}
 use Rattle.lj_clause.specs.declared.lit.TheConstants.{MAX_VARIABLE}
 use Rattle.lj_clause.specs.Lemma.{IsLemma}
 use Rattle.lj_clause.specs.ClauseMap.{FormulaValue, IsFormula}
 use Rattle.lj_text.specs.declared.line.Addition.{Addition}
 use Rattle.lj_book.specs.declared.entry.Added.{Added}
+use Rattle.lj_book.specs.declared.entry.Entry.{Entry}
 use Rattle.lj_book.specs.declared.refusal.Refusal.{Refusal}
 use Rattle.lj_book.specs.Variables.{renaming_of}
 use Rattle.lj_book.specs.State.{State}
-use Rattle.lj_book.specs.Calls.{IsRefusal, IsReply}
+use Rattle.lj_book.specs.Calls.{IsRefusal, IsReplyBy}
 use Rattle.lj_book.specs.Named.{named_over}
 use Rattle.lj_book.specs.NamedReplies.{named_inside}
 use Rattle.lj_book.specs.inner.JointForms.{is_settled}
@@ -18,7 +19,7 @@ use Rattle.lj_book.specs.inner.Limits.{limit_reply}
 use Rattle.lj_book.proofs.GivenBack.{given_goes_on}
 use Rattle.lj_book.proofs.OverLaws.{is_refusal}
 use Rattle.lj_book.proofs.NamedCommits.{on_err as anyway}
-use Rattle.lj_book.proofs.InsideOver.{settled_reply, settled_entered, given_out, none_given, same_limit, given_reply, given_entered, taken_back, refused_at_once, seat_within}
+use Rattle.lj_book.proofs.InsideOver.{settled_reply, settled_entry, settled_entered, given_out, none_given, same_limit, given_reply, given_entry, given_entered, taken_back, refused_at_once, seat_within}
 use Rattle.lj_book.proofs.book.inside.add_named.Goals as goal
 
 pub returns-then-is_settled-clause-reply : goal.returns-then-is_settled-clause-reply
@@ -29,7 +30,16 @@ returns-then-is_settled-clause-reply c =
     let lemma : IsLemma a.lemma = c.clause-clause.ensures.lemma in
     let settled : is_settled t.top (renaming_of t.variables c.args.seat) a.lemma.clause ≡ true = ap (is_settled t.top (renaming_of t.variables c.args.seat)) (sym c.clause-clause.ensures.clause) ∙ c.is_settled.ensures.settled c.if-is_settled.true in
     let few : t.variables.next ≤ MAX_VARIABLE + 1 = subst (λ (n : ℕ). n ≤ MAX_VARIABLE + 1) c.next-before.ensures.next c.next-before.ensures.in_range.1 in
-    subst (λ (r : Result Added Refusal). IsReply c.add_inside-added.result r) (settled_reply j t c.requires c.args.seat a lemma settled few) c.add_inside-added.ensures.reply
+    subst (λ (r : Result Added Refusal). IsReplyBy (λ (told : Added × Option Entry). told.0) c.add_inside-told.result r) (settled_reply j t c.requires c.args.seat a lemma settled few) c.add_inside-told.ensures.reply
+
+pub returns-then-is_settled-clause-told : goal.returns-then-is_settled-clause-told
+returns-then-is_settled-clause-told c =
+    let j : State = c.args.joint.now in
+    let t : TopVariables = c.args.variables.now in
+    let a : Addition = c.args.addition.now in
+    let lemma : IsLemma a.lemma = c.clause-clause.ensures.lemma in
+    let settled : is_settled t.top (renaming_of t.variables c.args.seat) a.lemma.clause ≡ true = ap (is_settled t.top (renaming_of t.variables c.args.seat)) (sym c.clause-clause.ensures.clause) ∙ c.is_settled.ensures.settled c.if-is_settled.true in
+    subst (λ (e : Entry). IfOk c.add_inside-told.result (λ told. told.1 ≡ (if c.args.wanted then Some e else None))) (settled_entry j t c.requires c.args.seat a lemma settled) c.add_inside-told.ensures.told
 
 pub returns-then-is_settled-clause-ok : goal.returns-then-is_settled-clause-ok
 returns-then-is_settled-clause-ok c =
@@ -39,11 +49,11 @@ returns-then-is_settled-clause-ok c =
     let lemma : IsLemma a.lemma = c.clause-clause.ensures.lemma in
     let settled : is_settled t.top (renaming_of t.variables c.args.seat) a.lemma.clause ≡ true = ap (is_settled t.top (renaming_of t.variables c.args.seat)) (sym c.clause-clause.ensures.clause) ∙ c.is_settled.ensures.settled c.if-is_settled.true in
     let few : t.variables.next ≤ MAX_VARIABLE + 1 = subst (λ (n : ℕ). n ≤ MAX_VARIABLE + 1) c.next-before.ensures.next c.next-before.ensures.in_range.1 in
-    on_ok_weaker c.add_inside-added.result (settled_entered j t c.requires c.args.seat a lemma c.add_inside-added.new.self settled few c.history_is_legal.ensures) c.add_inside-added.ensures.ok
+    on_ok_weaker c.add_inside-told.result (settled_entered j t c.requires c.args.seat a lemma c.add_inside-told.new.self settled few c.history_is_legal.ensures) c.add_inside-told.ensures.ok
 
 pub returns-then-is_settled-clause-err : goal.returns-then-is_settled-clause-err
 returns-then-is_settled-clause-err c =
-    on_err_weaker c.add_inside-added.result (λ e. (e, refl)) c.add_inside-added.ensures.err
+    on_err_weaker c.add_inside-told.result (λ e. (e, refl)) c.add_inside-told.ensures.err
 
 pub returns-in-Some-clause-reply : goal.returns-in-Some-clause-reply
 returns-in-Some-clause-reply c =
@@ -89,6 +99,16 @@ returns-in-Ok-clause-reply c =
     let u : TopVariables = c.give.new.self in
     let gave = given_out j t c.requires c.args.seat a lemma u _ _ c.clause-clause.ensures.clause c.in_ok-left.ensures.left c.in_ok-left.ensures.given c.if-not-left.false in
     sym (given_reply j t c.requires c.args.seat a lemma u gave.0 gave.1) ∙ c.in-Ok.ensures.reply
+
+pub returns-in-Ok-clause-told : goal.returns-in-Ok-clause-told
+returns-in-Ok-clause-told c =
+    let j : State = c.args.joint.now in
+    let t : TopVariables = c.args.variables.now in
+    let a : Addition = c.args.addition.now in
+    let lemma : IsLemma a.lemma = c.clause-clause.ensures.lemma in
+    let u : TopVariables = c.give.new.self in
+    let gave = given_out j t c.requires c.args.seat a lemma u _ _ c.clause-clause.ensures.clause c.in_ok-left.ensures.left c.in_ok-left.ensures.given c.if-not-left.false in
+    c.in-Ok.ensures.told ∙ ap (λ (e : Entry). if c.args.wanted then Some e else None) (given_entry j t c.requires c.args.seat a lemma u gave.0 gave.1)
 
 pub returns-in-Ok-clause-ok : goal.returns-in-Ok-clause-ok
 returns-in-Ok-clause-ok c =

@@ -1,5 +1,5 @@
-use Rattle.std.proofs.Common.{◌≡◌, ap, refl, sym, ◌∙◌, subst, Bool, true, false}
-use Rattle.std.specs.Prelude.{Option, None, is_some, if◌then◌else◌, Result, Err, IfOk, IfErr, OnOk, OnErr}
+use Rattle.std.proofs.Common.{◌≡◌, ap, sym, ◌∙◌, subst, true}
+use Rattle.std.specs.Prelude.{Option, Some, None, is_some, if◌then◌else◌, Result, Err, IfOk, IfErr, OnOk, OnErr}
 use Rattle.std.proofs.lemmas.Bool.{false≢true}
 use Rattle.std.specs.FinMap as fin
 use Rattle.lj_clause.specs.LiteralSet.{LiteralSet}
@@ -9,9 +9,11 @@ use Rattle.lj_book.specs.declared.entry.Imported.{Imported}
 use Rattle.lj_book.specs.declared.found.Found.TheVariants.{Part}
 use Rattle.lj_book.specs.declared.refusal.Refusal.{Refusal}
 use Rattle.lj_book.specs.State.{State, live}
-use Rattle.lj_book.specs.Imports.{found, import_step}
+use Rattle.lj_book.specs.Imports.{found}
 use Rattle.lj_book.specs.Calls.{IsReplyBy, if_free, imported}
 use Rattle.lj_book.specs.inner.Bindings.{import_reply, import_entry}
+use Rattle.lj_book.specs.inner.JointForms.{with_call}
+use Rattle.lj_book.specs.inner.Records.{entry_of}
 use Rattle.lj_book.specs.History.{tables_after, with_found, after_entry, IsLegalCall}
 use Rattle.lj_book.specs.Tables.{with_binding}
 use Rattle.lj_book.proofs.BindingLaws.{can_bind}
@@ -42,16 +44,13 @@ bind_live-requires-clause-binds c =
     subst (λ (t : State). tables_after t c.args.seat (calls.Import c.args.own d) ≡ with_binding t.tables c.args.seat c.args.own c.in-Equal.joint) (sym c.found.ensures.same)
     (ap (with_found s.tables c.args.seat c.args.own) f.number)
 
-no_copy : (b : Bool) (o : Option Step) → o ≡ None → ◌≡◌ {A = Option Step} None (if b then o else None)
-no_copy true o e = sym e
-no_copy false o e = refl
-
 pub returns-in_ok-place-in-Equal-clause-told : goal.returns-in_ok-place-in-Equal-clause-told
 returns-in_ok-place-in-Equal-clause-told c =
     let s : State = c.args.self.now in
     let d : LiteralSet = c.args.clause.now in
     let f : FindsEqual s d c.in-Equal.joint = equal_found s d c.in-Equal.joint (sym c.found.ensures.found ∙ c.in-Equal.is) in
-    no_copy c.args.copies (import_step s d) f.step
+    c.in_ok-entry-in-Equal.ensures
+    ∙ ap (λ (o : Option Step). if c.args.wanted then Some (entry_of c.args.seat (calls.Import c.args.own c.args.named.now) o) else None) (sym f.step)
 
 pub returns-in_ok-place-in-Equal-clause-ok : goal.returns-in_ok-place-in-Equal-clause-ok
 returns-in_ok-place-in-Equal-clause-ok c =
@@ -83,7 +82,7 @@ returns-in-Part-clause-refused c =
 
 pub returns-in-Part-clause-told : goal.returns-in-Part-clause-told
 returns-in-Part-clause-told c =
-    subst (λ (t : State). IfOk c.import_by_part.result (λ told. told.1 ≡ (if c.args.copies then import_step t c.args.clause.now else None))) c.found.ensures.same c.import_by_part.ensures.told
+    subst (λ (t : State). IfOk c.import_by_part.result (λ told. told.1 ≡ (if c.args.wanted then Some (with_call (calls.Import c.args.own c.args.named.now) (import_entry t c.args.seat c.args.own c.args.clause.now)) else None))) c.found.ensures.same c.import_by_part.ensures.told
 
 pub returns-in-Part-clause-ok : goal.returns-in-Part-clause-ok
 returns-in-Part-clause-ok c =

@@ -1,4 +1,4 @@
-use Rattle.std.proofs.Common.{◌≡◌, ap, sym, ◌∙◌, subst, ℕ, ◌<◌, true, false, arith}
+use Rattle.std.proofs.Common.{◌≡◌, ap, refl, sym, ◌∙◌, subst, ℕ, ◌<◌, Bool, true, false, arith}
 use Rattle.std.specs.Prelude.{ℤ, nat_lt, not, List, Option, Some, None, is_some, length, if◌then◌else◌, slice_get, Ok, Err}
 use Rattle.std.proofs.lemmas.Bool.Decides.{nat_tests}
 use Rattle.lj_clause.specs.LiteralSet.{LiteralSet, literals, from_literals}
@@ -8,12 +8,13 @@ use Rattle.lj_text.specs.declared.line.Addition.{Addition}
 use Rattle.lj_text.specs.declared.step.Step.{Step}
 use Rattle.lj_text.specs.declared.step.Step.TheVariants.{Add}
 use Rattle.lj_book.specs.declared.entry.Call.TheVariants as calls
+use Rattle.lj_book.specs.declared.entry.Entry.{Entry}
 use Rattle.lj_book.specs.declared.refusal.Refusal.TheVariants.{Full}
 use Rattle.lj_book.specs.State.{State, addition_count, next}
 use Rattle.lj_book.specs.Imports.{clause_lemma, part_addition}
 use Rattle.lj_book.specs.History.{after_entry, IsLegal}
 use Rattle.lj_book.specs.inner.JointLines.{addition_of_parts}
-use Rattle.lj_book.specs.inner.Records.{entering_entry}
+use Rattle.lj_book.specs.inner.Records.{entry_of, entering_entry}
 use Rattle.lj_book.proofs.BindingLaws.{can_bind}
 use Rattle.lj_book.proofs.Parts.{FindsPart, part_found}
 use Rattle.lj_book.proofs.joint_book.JointBook.import_by_part.Goals as goal
@@ -46,6 +47,11 @@ returns-clause-reply c =
     ap (λ b. if b then Ok (record { place = length s.history; joint = next s }) else Err Full) fitting
     ∙ (λ i. Ok (record { place = (sym c.in_ok-added.ensures.told i).place; joint = (sym c.in_ok-added.ensures.told i).joint }))
 
+-- an entry whose step is copied where it is wanted too
+copied_if : (b : Bool) (f : Option Step → Entry) (o : Option Step) → ◌≡◌ {A = Option Entry} (if b then Some (f (if b then o else None)) else None) (if b then Some (f o) else None)
+copied_if true f o = refl
+copied_if false f o = refl
+
 pub returns-clause-told : goal.returns-clause-told
 returns-clause-told c =
     let s : State = c.args.self.now in
@@ -53,7 +59,11 @@ returns-clause-told c =
     let f : FindsPart s d c.args.part = part_found s d c.args.part c.requires.found in
     let step : c.new-step.result ≡ part_addition (next s) d c.args.part =
     c.new-step.ensures ∙ (λ i. addition_of_parts (c.next.ensures i) ((c.in_ok-lemma.ensures ∙ lemma_is _ d c.lits.ensures) i) (c.in_ok-hints.ensures i, c.new-groups.ensures i)) in
-    c.in_ok-told.ensures ∙ ap (λ (o : Option Step). if c.args.copies then o else None) (ap (λ (a : Addition). Some (Add a)) step ∙ sym f.step)
+    let entry : Option Step → Entry = entry_of c.args.seat (calls.Import c.args.own c.args.named.now) in
+    c.in_ok-entry.ensures
+    ∙ ap (λ (o : Option Step). if c.args.wanted then Some (entry o) else None) c.in_ok-copied.ensures
+    ∙ copied_if c.args.wanted entry (Some (Add c.new-step.result))
+    ∙ ap (λ (o : Option Step). if c.args.wanted then Some (entry o) else None) (ap (λ (a : Addition). Some (Add a)) step ∙ sym f.step)
 
 pub returns-clause-ok : goal.returns-clause-ok
 returns-clause-ok c =
