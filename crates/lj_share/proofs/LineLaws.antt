@@ -1,6 +1,6 @@
 -- What a seat's line leaves of its book and its seat, where it is accepted.
 use Rattle.std.proofs.Common.{◌≡◌, ℕ, Bool, true, false, refl, sym, ap, subst, ◌∙◌}
-use Rattle.std.specs.Prelude.{Option, Some, None, IsSomeAnd}
+use Rattle.std.specs.Prelude.{Option, Some, None, IsSomeAnd, if◌then◌else◌}
 use Rattle.lj_clause.specs.ClauseMap.{IsFormula}
 use Rattle.lj_text.specs.declared.line.Line.{Line}
 use Rattle.lj_text.specs.declared.line.Line.TheVariants as lines
@@ -15,7 +15,7 @@ use Rattle.lj_share.specs.Seats.{IsMaking, SeatValue, seat_of_book}
 use Rattle.lj_share.specs.inner.Lines.{IsJointOf, accepts_line, seat_line_entry}
 use Rattle.lj_share.specs.declared.seat.Unlocked.{Unlocked}
 use Rattle.lj_share.specs.inner.Seats.{IsTestedAs, view_behind}
-use Rattle.lj_share.specs.inner.WithEntry.{IsAsked, IsTokenOf}
+use Rattle.lj_share.specs.inner.WithEntry.{IsTokenOf}
 use Rattle.lj_share.proofs.FreeLaws.{free_added, free_bound, free_here}
 use Rattle.lj_share.proofs.Opened.{HasFound, added_in, dropped_in, imported_in, made_in}
 
@@ -42,7 +42,7 @@ line_tested s seat line unlocked v same is tested =
     subst (λ (n : ℕ). IsTestedAs (named_view s n) n line unlocked) (sym same) (subst (λ (w : SeatValue). IsTestedAs w.view w.number line unlocked) (sym is) tested)
 
 -- a copy that was asked for is a token's
-pub line_token : (asked : Bool) (s : NamedState) (seat number : ℕ) (line : Line) (told : Option Entry) → seat ≡ number → IsAsked asked (seat_line_entry s seat line) told → IsTokenOf asked number (call_of line) told
+pub line_token : (asked : Bool) (s : NamedState) (seat number : ℕ) (line : Line) (told : Option Entry) → seat ≡ number → told ≡ (if asked then Some (seat_line_entry s seat line) else None) → IsTokenOf asked number (call_of line) told
 line_token true s seat number line told same is =
     subst (λ (o : Option Entry). IsSomeAnd o (IsEntryOf number (call_of line))) (sym is) (record { seat_is = line_seat s seat line ∙ same; call_is = line_call s seat line })
 line_token false s seat number line told same is = is

@@ -1,12 +1,8 @@
 -- Entries that are told where they are asked for.
-use Rattle.std.specs.Prelude.{◌≡◌, ℕ, Bool, Option, None, Some, MatchBool, IsSomeAnd}
+use Rattle.std.specs.Prelude.{◌≡◌, ℕ, Bool, Option, None, MatchBool, IsSomeAnd}
 use Rattle.lj_book.specs.declared.entry.Call.{Call}
 use Rattle.lj_book.specs.declared.entry.Entry.{Entry}
 use Rattle.lj_share.specs.Entries.{IsEntryOf}
-
--- This entry is told if it is asked for, and else none.
-abbrev pub IsAsked : Bool → Entry → Option Entry → Type 0
-IsAsked with_entry e told = MatchBool with_entry (told ≡ Some e) (told ≡ None)
 
 -- A token of this seat and this call is told if it is asked for.
 abbrev pub IsTokenOf : Bool → ℕ → Call → Option Entry → Type 0

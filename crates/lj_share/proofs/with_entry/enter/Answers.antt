@@ -1,11 +1,10 @@
 use Rattle.std.proofs.Common.{◌≡◌, ap, true, subst, sym, ◌∙◌}
-use Rattle.std.specs.Prelude.{OnOk, IfOk, IfErr}
+use Rattle.std.specs.Prelude.{OnOk, IfOk, IfErr, Some, None, if◌then◌else◌}
 use Rattle.lj_text.specs.declared.line.Line.{Line}
 use Rattle.lj_text.specs.declared.line.Line.TheVariants as lines
 use Rattle.lj_book.specs.Named.{after_named}
 use Rattle.lj_share.specs.Refusals.{IsRefusedLine}
 use Rattle.lj_share.specs.inner.Lines.{accepts_line, seat_line_entry}
-use Rattle.lj_share.specs.inner.WithEntry.{IsAsked}
 use Rattle.lj_share.proofs.with_entry.enter.Goals as goal
 
 pub returns-in-Add-clause-ok : goal.returns-in-Add-clause-ok
@@ -16,17 +15,22 @@ returns-in-Add-clause-ok c =
 pub returns-in-Add-clause-told : goal.returns-in-Add-clause-told
 returns-in-Add-clause-told c =
     let line : c.args.line.now ≡ lines.Add c.deref.result.now = c.in-Add.is ∙ ap lines.Add (sym c.deref.ensures) in
-    subst (λ (l : Line). IfOk c.add.result (λ told. IsAsked c.args.with_entry (seat_line_entry c.args.book.now c.args.seat l) told.0)) (sym line) c.add.ensures.told
+    subst (λ (l : Line). IfOk c.add.result (λ told. told.0 ≡ (if c.args.with_entry then Some (seat_line_entry c.args.book.now c.args.seat l) else None))) (sym line) c.add.ensures.told
 
-pub returns-in-Ok-clause-told : goal.returns-in-Ok-clause-told
-returns-in-Ok-clause-told c =
+pub returns-in_ok-entry-in-Delete-clause-told : goal.returns-in_ok-entry-in-Delete-clause-told
+returns-in_ok-entry-in-Delete-clause-told c =
     let line : c.args.line.now ≡ lines.Delete c.deref-in-Delete.result.now = c.in-Delete.is ∙ ap lines.Delete (sym c.deref-in-Delete.ensures) in
-    subst (λ (l : Line). IsAsked c.args.with_entry (seat_line_entry c.args.book.now c.args.seat l) c.in-Ok.entry) (sym line) c.in-Ok.ensures.told
+    subst (λ (l : Line). c.in_ok-entry-in-Delete.entry ≡ (if c.args.with_entry then Some (seat_line_entry c.args.book.now c.args.seat l) else None)) (sym line) c.in_ok-entry-in-Delete.ensures.told
 
 pub returns-in-Import-clause-ok : goal.returns-in-Import-clause-ok
 returns-in-Import-clause-ok c =
     let line : c.args.line.now ≡ lines.Import c.in-Import.number c.deref-in-Import.result.now = c.in-Import.is ∙ ap (lines.Import c.in-Import.number) (sym c.deref-in-Import.ensures) in
     subst (λ (l : Line). OnOk c.import.result (c.import.new.book ≡ after_named c.args.book.now (seat_line_entry c.args.book.now c.args.seat l))) (sym line) c.import.ensures.ok
+
+pub returns-in-Import-clause-told : goal.returns-in-Import-clause-told
+returns-in-Import-clause-told c =
+    let line : c.args.line.now ≡ lines.Import c.in-Import.number c.deref-in-Import.result.now = c.in-Import.is ∙ ap (lines.Import c.in-Import.number) (sym c.deref-in-Import.ensures) in
+    subst (λ (l : Line). IfOk c.import.result (λ told. told.0 ≡ (if c.args.with_entry then Some (seat_line_entry c.args.book.now c.args.seat l) else None))) (sym line) c.import.ensures.told
 
 pub returns-in-Import-clause-accepted : goal.returns-in-Import-clause-accepted
 returns-in-Import-clause-accepted c =
