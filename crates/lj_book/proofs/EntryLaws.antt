@@ -16,7 +16,7 @@ use Rattle.lj_book.specs.declared.entry.Entry.{Entry}
 use Rattle.lj_book.specs.State.{State, opening}
 use Rattle.lj_book.specs.History.{after_entry, IsLegal, AreLegal}
 use Rattle.lj_book.specs.Calls.{binding_entry}
-use Rattle.lj_book.specs.Variables.{Variables, IsVariables, renaming_of, is_own}
+use Rattle.lj_book.specs.Variables.{IsVariables, renaming_of, is_own}
 use Rattle.lj_book.specs.Named.{NamedState, top_of, own_entry, joint_entry, beneath, named_over, IsNamedReached}
 use Rattle.lj_book.specs.inner.JointLines.{line_entry}
 use Rattle.lj_book.specs.inner.Records.{entering_entry}

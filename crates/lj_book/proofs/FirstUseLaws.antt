@@ -1,10 +1,10 @@
 -- First uses of variables, as clauses come and go.
-use Rattle.std.proofs.Common.{◌≡◌, ap, refl, sym, ◌∙◌, subst, ℕ, zero, suc, ◌+◌, ◌<◌, ◌≤◌, ◌*◌, ◌-◌, arith, get_or, length}
+use Rattle.std.proofs.Common.{◌≡◌, ap, refl, sym, ◌∙◌, subst, ℕ, zero, suc, ◌+◌, ◌<◌, ◌≤◌, ◌*◌, ◌-◌, arith, length}
 use Rattle.std.proofs.lemmas.Bool.{false≢true, or_cases}
 use Rattle.std.proofs.lemmas.Bool.Decides.{nat_tests}
 use Rattle.std.specs.declared.cmp.Ordering.TheVariants.{Less}
 use Rattle.std.specs.List.Sorted.{IsStrictlySortedBy}
-use Rattle.std.specs.Prelude.{ℤ, pos, negsuc, Bool, true, false, cond, List, [], ◌∷◌, ◌++◌, None, Some, is_some, slice_get, nat_le, ◌⊎◌, ◌&&◌}
+use Rattle.std.specs.Prelude.{ℤ, pos, negsuc, Bool, true, false, cond, List, [], ◌∷◌, None, Some, is_some, slice_get, nat_le, ◌⊎◌, ◌&&◌}
 use Rattle.std.proofs.Common.{inl, inr}
 use Rattle.std.specs.List.{AllByRecursion, list_any, list_all}
 use Rattle.std.specs.Ordering.{nat_cmp, eq_by_cmp}

@@ -1,5 +1,5 @@
 -- How an import is refused, whatever it finds.
-use Rattle.std.specs.Prelude.{Bool, true, false, nat_lt, if◌then◌else◌, length, Result, Ok, Err, IfErr}
+use Rattle.std.specs.Prelude.{Bool, true, false, nat_lt, if◌then◌else◌, length, Ok, Err, IfErr}
 use Rattle.lj_clause.specs.LiteralSet.{LiteralSet}
 use Rattle.lj_book.specs.declared.entry.Imported.{Imported}
 use Rattle.lj_book.specs.declared.found.Found.{Found}

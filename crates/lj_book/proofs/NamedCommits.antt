@@ -24,7 +24,7 @@ use Rattle.lj_book.specs.declared.refusal.Refusal.TheVariants.{SeatGone, NumberT
 use Rattle.lj_book.specs.declared.entry.Call.TheVariants as calls
 use Rattle.lj_book.specs.declared.entry.Entry.{Entry}
 use Rattle.lj_book.specs.Tables.{is_here, is_bound}
-use Rattle.lj_book.specs.State.{State, steps_of, addition_count, next, live, is_refutation, verdict_from}
+use Rattle.lj_book.specs.State.{State, steps_of, addition_count, next, live}
 use Rattle.lj_book.specs.History.{after_entry, IsLegal, IsReached}
 use Rattle.lj_book.specs.Calls.{IsRefusal, free_refusal, if_free, is_live_as, stale_or, commit_told}
 use Rattle.lj_book.specs.inner.Commits.{first_stale, commit_entry}

@@ -1,9 +1,8 @@
 -- Books whose seats name variables as they like: what is read of them, and what a call of the book beneath leaves.
-use Rattle.std.proofs.Common.{◌≡◌, ap, refl, sym, ◌∙◌, subst, ℕ, zero, suc, ◌+◌, ◌<◌, Bool, cond, true, false}
-use Rattle.std.specs.Prelude.{List, [], ◌∷◌, map, length, Option, Some, None, is_some, option_map, unwrap_or, slice_get, not, if◌then◌else◌, Result, Ok, Err, OnOk, OnErr, IfErr, IfSome, IsErrAnd}
+use Rattle.std.proofs.Common.{◌≡◌, ap, refl, sym, ◌∙◌, subst, ℕ, zero, suc, ◌+◌, ◌<◌, Bool, true, false}
+use Rattle.std.specs.Prelude.{List, [], ◌∷◌, map, length, Option, Some, None, is_some, option_map, slice_get, not, if◌then◌else◌, Result, Ok, Err, OnOk, OnErr, IsErrAnd}
 use Rattle.std.specs.List.{cons_option}
 use Rattle.std.proofs.lemmas.Bool.{false≢true}
-use Rattle.std.proofs.lemmas.List.{length-map}
 use Rattle.std.proofs.lemmas.Result.{on_ok_weaker}
 use Rattle.std.specs.FinMap as fin
 use Rattle.lj_clause.specs.LiteralSet.{LiteralSet}
@@ -27,7 +26,7 @@ use Rattle.lj_book.specs.Variables.{Variables, renaming_of, no_variables, is_own
 use Rattle.lj_book.specs.Named.{NamedState, top_of, names_of, own_entry, beneath, named_over, variables_behind, entry_beneath, after_named, IsOwnLive, NamesRightly, named_opening, IsNamedReached}
 use Rattle.lj_book.specs.NamedViews.{take_image, named_take}
 use Rattle.lj_book.specs.NamedEntries.{named_import_entry}
-use Rattle.lj_book.specs.NamedReplies.{adopted, named_adopt, or_private, import_refusal, named_import}
+use Rattle.lj_book.specs.NamedReplies.{or_private, import_refusal, named_import}
 use Rattle.lj_book.specs.inner.VariableTables.{TopVariables, variables_at}
 use Rattle.lj_book.specs.inner.Over.{IsOver, is_private}
 use Rattle.lj_book.proofs.NamedLaws.{rules_reached}

@@ -1,20 +1,12 @@
 -- Maps that are looked through from their first entry.
-use Rattle.std.proofs.Common.{◌≡◌, ap, sym, ◌∙◌, subst, ℕ, Bool, cond, true, false, arith}
-use Rattle.std.specs.Prelude.{T, List, [], ◌∷◌, ◌++◌, map, filter, Some, None, ◌==◌, ◌||◌, slice_get}
-use Rattle.std.proofs.lemmas.Bool.{or_left, or_right}
-use Rattle.std.proofs.lemmas.Bool.Decides.{nat_tests}
+use Rattle.std.proofs.Common.{◌≡◌, ap, sym, ◌∙◌, subst, ℕ, Bool, cond, true}
+use Rattle.std.specs.Prelude.{T, List, [], ◌∷◌, map, filter, Some, None, slice_get}
 use Rattle.std.specs.List.Sorted.{IsStrictlySortedBy}
-use Rattle.std.proofs.lemmas.List.{append-nil, append_assoc}
 use Rattle.std.specs.Ordering.{nat_cmp}
 use Rattle.std.specs.Cmp.{nat_cmp_total}
 use Rattle.std.specs.FinMap as fin
 use Rattle.std.specs.FinMap.{nat_cmp-IsAntisymmetric}
 use Rattle.std.specs.FinMap.Entries.{same_entries}
-use Rattle.lj_clause.specs.LiteralSet.{LiteralSet}
-use Rattle.lj_clause.specs.ClauseMap.{ClauseMap}
-use Rattle.lj_book.specs.Tables.{is_among}
-use Rattle.lj_book.specs.Lookup.{is_same, least_number}
-use Rattle.lj_book.proofs.HistoryLaws.{among-keys}
 use Rattle.lj_book.proofs.DropLaws.{sorted-keys, Rises-sorted}
 
 -- the entries of the map that a sorted list makes are that list

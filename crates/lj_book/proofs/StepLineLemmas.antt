@@ -19,7 +19,7 @@ use Rattle.lj_text.specs.StepText.{text_after, written_literals, deletion_text}
 use Rattle.lj_text.specs.Needed.{up_to_empty, if_some}
 use Rattle.lj_text.specs.Writing.{IsCutShort, spaced_token}
 use Rattle.lj_text.specs.inner.Writing.{spaced_tokens}
-use Rattle.lj_text.specs.TokenWriting.{TokenState, MayBeGiven, WasGiven}
+use Rattle.lj_text.specs.TokenWriting.{TokenState, WasGiven}
 use Rattle.lj_text.proofs.WritingLemmas.{beginning-self, beginning-trans}
 use Rattle.lj_book.specs.inner.Encoding.{number_in, many_in}
 use Rattle.lj_book.specs.inner.Records.{lemma_lits, kind_in, step_in}

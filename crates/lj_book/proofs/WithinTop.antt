@@ -9,20 +9,15 @@ use Rattle.lj_clause.specs.Literal.{variable_of}
 use Rattle.lj_clause.specs.LiteralSet.{LiteralSet, literals, holds}
 use Rattle.lj_clause.specs.Lemma.{LemmaValue, IsLemma}
 use Rattle.lj_clause.specs.ClauseMap.{names_up_to}
-use Rattle.lj_clause.specs.Renaming.{image, lemma_image, literal_image, renamed, is_named, IsOneToOne}
+use Rattle.lj_clause.specs.Renaming.{lemma_image, literal_image, renamed, is_named, IsOneToOne}
 use Rattle.lj_clause.proofs.Renaming.{renaming_laws, all_known}
 use Rattle.lj_book.specs.Variables.{Variables, IsVariables, renaming_of, given}
 use Rattle.lj_book.specs.inner.JointForms.{is_unmoved, is_settled}
-use Rattle.lj_book.specs.inner.VariableTables.{as_joint, lemma_as_joint}
+use Rattle.lj_book.specs.inner.VariableTables.{lemma_as_joint}
 use Rattle.lj_book.proofs.VariableLaws.{none_is_some}
 use Rattle.lj_book.proofs.GivenLaws.{named_gives_nothing}
 
 module _ (top : ℕ) (v : Variables) (seat : ℕ) (is : IsVariables top v) where
-  pub within_as_joint : (c : LiteralSet) → names_up_to top c ≡ true → Some c ≡ as_joint top v seat c
-  within_as_joint c h =
-      let same = renaming_laws.unmoved top (renaming_of v seat) c (is.one_to_one seat) h in
-      sym (ap (λ b. cond b (Some (image (renaming_of v seat) c)) None) same.0 ∙ ap Some same.1)
-
   pub within_given : (c : LiteralSet) → names_up_to top c ≡ true → given top v seat c ≡ v
   within_given c h = named_gives_nothing top v seat c (renaming_laws.unmoved top (renaming_of v seat) c (is.one_to_one seat) h).0
 

@@ -1,6 +1,6 @@
 -- What is written as words is read again.
 use Rattle.std.proofs.Common.{◌≡◌, ap, refl, sym, ◌∙◌, ◌+◌, ◌*◌, ◌%◌, ◌/◌, ◌<◌, arith, append_assoc}
-use Rattle.std.specs.Prelude.{ℕ, zero, suc, true, false, List, [], ◌∷◌, ◌++◌, length, flat_map, drop, nat_lt, get_or, ◌==◌, if◌then◌else◌}
+use Rattle.std.specs.Prelude.{ℕ, zero, suc, true, false, List, [], ◌∷◌, ◌++◌, length, flat_map, nat_lt, get_or, ◌==◌, if◌then◌else◌}
 use Rattle.std.specs.List.{list_any}
 use Rattle.std.proofs.lemmas.Bool.{or_parts}
 use Rattle.std.proofs.lemmas.Bool.Decides.{nat_tests}

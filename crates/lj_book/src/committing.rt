@@ -1,11 +1,9 @@
 //! What an addition that enters changes.
-ghost use Rattle.std.specs.Prelude.{◌≡◌, ◌++◌, ◌∷◌, [], OnOk, OnErr, IfOk, Some, true, false};
+ghost use Rattle.std.specs.Prelude.{◌≡◌, ◌++◌, ◌∷◌, [], OnOk, OnErr, IfOk, true, false};
 ghost use Rattle.std.specs.FinMap as fin;
 ghost use Rattle.lj_hint.specs.Hints.{numbers};
-ghost use Rattle.lj_text.specs.declared.step.Step.TheVariants.{Add};
-ghost use Rattle.lj_book.specs.declared.entry.Call.TheVariants as calls;
 ghost use Rattle.lj_book.specs.Tables.{is_here, is_bound, has_holder, with_table};
-ghost use Rattle.lj_book.specs.inner.Records.{entry_of, entering_entry};
+ghost use Rattle.lj_book.specs.inner.Records.{entering_entry};
 ghost use Rattle.lj_book.specs.inner.Kept.{refuted_after};
 
 use crate::clause_log::ClauseLog;
@@ -27,35 +25,8 @@ pub(crate) fn numbers_of(alloc: Global, pairs: &[Pair]) -> Result<Numbers, NoMem
     Ok(list)
 }
 
-/// Enters a seat's addition under the new number of its step, and binds the seat's own number to it: both, or neither.
-///
-/// # Errors
-/// [`NoMemory`] where a growth was refused.
-pub(crate) fn enter_addition(
-    clause_log: &mut ClauseLog,
-    tables: &mut SeatTables,
-    seat: u32,
-    own: u64,
-    step: &LentAddition<'_>,
-) -> Result<(), NoMemory>
-    requires here { is_here tables.old seat ≡ true }
-    requires unbound { is_bound tables.old seat own ≡ false }
-    requires no_holder { has_holder tables.old step.now.number ≡ false }
-    ensures entries { OnOk result (clause_log.new.history.entries ≡ clause_log.old.history.entries
-        ++ entry_of seat (calls.Add own step.now.lemma) (Some (Add step.now)) ∷ []) }
-    ensures live { OnOk result
-        (clause_log.new.live ≡ fin.insert clause_log.old.live step.now.number
-        step.now.lemma.clause) }
-    ensures tables { OnOk result (tables.new
-        ≡ with_table (λ t. fin.insert t own step.now.number) tables.old seat) }
-    ensures same { OnErr result (clause_log.new.history.entries ≡ clause_log.old.history.entries) }
-    ensures err { OnErr result
-        ((clause_log.new.live ≡ clause_log.old.live) × (tables.new ≡ tables.old)) }
-{
-    enter_step(clause_log, tables, seat, own, step, false)
-}
-
-/// The same for a seat's addition, or for an import that adds its clause.
+/// Enters a seat's addition, or an import that adds its clause, under the new number of its step, and binds the seat's own
+/// number to it: both, or neither.
 ///
 /// # Errors
 /// [`NoMemory`] where a growth was refused.

@@ -6,7 +6,7 @@ ghost use Rattle.lj_clause.specs.ClauseMap.{names_up_to};
 ghost use Rattle.lj_clause.specs.Renaming.{is_named, inverse, renamed, literal_image};
 ghost use Rattle.lj_book.specs.Variables.{renaming_of, no_variables, with_variable, given, is_own, IsVariables};
 ghost use Rattle.lj_book.specs.inner.JointForms.{is_unmoved, is_settled};
-ghost use Rattle.lj_book.specs.inner.VariableTables.{variables_at, variables_before, are_left, seat_names, as_joint, lemma_as_joint, as_own, lemma_as_own};
+ghost use Rattle.lj_book.specs.inner.VariableTables.{variables_at, variables_before, are_left, seat_names, lemma_as_joint, as_own, lemma_as_own};
 
 mod forms;
 
@@ -216,32 +216,9 @@ impl VariableTable {
         }
     }
 
-    /// The clause in joint variables: None where one of its variables has no joint one. It shares the literals where none
-    /// changes. Takes constant time where the clause has no variable above the formula's; otherwise the time of
+    /// The lemma in joint variables: None where one of its variables has no joint one. It shares the literals where none
+    /// changes. Takes constant time where the lemma has no variable above the formula's; otherwise the time of
     /// [`VariableTable::joint`] for each literal, and O(n log n) time for n of them.
-    ///
-    /// # Errors
-    /// [`NoMemory`] where a growth was refused.
-    pub(crate) fn joint_clause(
-        &self,
-        alloc: Global,
-        seat: u32,
-        clause: &Clause,
-    ) -> Result<Option<Clause>, NoMemory>
-        ensures { IfOk result
-            (λ joint. joint ≡ as_joint self.now.top self.now.variables seat clause.now) }
-    {
-        if self.is_within(clause) {
-            return Ok(Some(clause.try_clone()?));
-        }
-        if !self.is_named(seat, clause) {
-            return Ok(None);
-        }
-        Ok(Some(clause.renamed(alloc, &self.to_joint(seat))?))
-    }
-
-    /// The lemma in joint variables: None where one of its variables has no joint one. Takes the time of
-    /// [`VariableTable::joint_clause`].
     ///
     /// # Errors
     /// [`NoMemory`] where a growth was refused.

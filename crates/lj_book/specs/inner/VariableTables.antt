@@ -62,12 +62,7 @@ variables_before n v = record { of_seats = map (renaming_below n) v.of_seats; ne
 abbrev pub are_left : ℕ → Variables → ℕ → LiteralSet → Bool
 are_left top v seat c = nat_le (given top v seat c).next (MAX_VARIABLE + 1)
 
--- a seat's clause in joint variables, where each of its variables has one
-abbrev pub as_joint : ℕ → Variables → ℕ → LiteralSet → Option LiteralSet
-as_joint top v seat c =
-    if is_named top (renaming_of v seat) c then Some (image (renaming_of v seat) c) else None
-
--- a lemma, likewise
+-- a seat's lemma in joint variables, where each of its variables has one
 abbrev pub lemma_as_joint : ℕ → Variables → ℕ → LemmaValue → Option LemmaValue
 lemma_as_joint top v seat lemma = if is_named top (renaming_of v seat) lemma.clause
     then Some (lemma_image (renaming_of v seat) lemma)

@@ -13,6 +13,7 @@ ghost use Rattle.lj_book.specs.inner.JointLines.{addition_of_parts, inside_line}
 
 use crate::entry::{Added, Entry};
 use crate::joint_book::JointBook;
+use crate::joint_book::inside::has_pivot;
 use crate::joint_line::put_first;
 use crate::lent_addition::LentAddition;
 use crate::refusal::Refusal;
@@ -88,10 +89,12 @@ impl JointBook {
         if let Err(refusal) = self.closed_hints(seat, addition, read, hints) {
             return Err(refusal);
         }
+        let _ = has_pivot(&addition.lemma);
+        let own = addition.number;
         let groups = Groups::new(self.allocator());
         let step = LentAddition::new(self.next(), &addition.lemma, hints, &groups);
-        let entry = step.entry_if(wanted, seat, addition.number, named)?;
-        let added = self.enter_line(seat, addition, &step)?;
+        let entry = step.entry_if(wanted, seat, own, named)?;
+        let added = self.enter_legal(seat, own, &step, false)?;
         Ok((added, entry))
     }
 

@@ -1,18 +1,18 @@
 //! Additions that are tested and entered in one call.
-ghost use Rattle.std.specs.Prelude.{◌≡◌, ◌==◌, ℕ, not, nat_lt, if◌then◌else◌, OnOk, OnErr, IfOk, IfSome, Some, None, Ok, Err, true, false};
+ghost use Rattle.std.specs.Prelude.{◌≡◌, ◌==◌, ℕ, not, nat_lt, if◌then◌else◌, OnOk, OnErr, IfOk, IfSome, Some, None, Err, true, false};
 ghost use Rattle.lj_clause.specs.Literal.{variable_of};
 ghost use Rattle.lj_clause.specs.LiteralSet.{holds};
 ghost use Rattle.lj_book.specs.History.{after_entry, IsReached};
 ghost use Rattle.lj_book.specs.State.{addition_count, next};
 ghost use Rattle.lj_book.specs.Tables.{joint_of};
-ghost use Rattle.lj_book.specs.Calls.{IsReplyBy, free_refusal, commit_told};
+ghost use Rattle.lj_book.specs.Calls.{IsReplyBy, free_refusal};
 ghost use Rattle.lj_book.specs.Inside.{inside_reply, inside_entry};
 ghost use Rattle.lj_book.specs.declared.entry.Call.TheVariants as calls;
 ghost use Rattle.lj_book.specs.inner.JointForms.{with_call};
-ghost use Rattle.lj_book.specs.inner.JointLines.{addition_of_parts, joint_parts, tested_parts, inside_line, line_entry};
+ghost use Rattle.lj_book.specs.inner.JointLines.{addition_of_parts, joint_parts, tested_parts, inside_line};
 
 use crate::clause_log::ClauseLog;
-use crate::committing::{enter_addition, refuted_at};
+use crate::committing::{enter_step, refuted_at};
 use crate::entry::{Added, Entry};
 use crate::joint_book::JointBook;
 use crate::joint_line::{clear, joint_line};
@@ -20,7 +20,7 @@ use crate::lent_addition::LentAddition;
 use crate::line_tests::tested_line;
 use crate::refusal::Refusal;
 use crate::seat_tables::SeatTables;
-use lj_clause::{Lemma, NoMemory};
+use lj_clause::Lemma;
 use lj_hint::Propagator;
 use lj_text::{Addition, Groups, Numbers};
 
@@ -78,7 +78,8 @@ impl JointBook {
         let step = LentAddition::new(joint, &addition.lemma, &self.joints, &self.joint_groups);
         let entry = step.entry_if(wanted, seat, own, named)?;
         let place = self.clause_log.history().len();
-        enter_addition(&mut self.clause_log, &mut self.tables, seat, own, &step)?;
+        let (clause_log, tables) = (&mut self.clause_log, &mut self.tables);
+        enter_step(clause_log, tables, seat, own, &step, false)?;
         self.refuted = refuted_at(self.refuted, place, &step.clause);
         clear(&mut self.joint_groups);
         self.added += 1;
@@ -144,32 +145,6 @@ impl JointBook {
         }
         Ok(())
     }
-
-    /// Enters an addition with the step that was found for it.
-    ///
-    /// # Errors
-    /// [`NoMemory`] where a growth was refused.
-    pub(crate) fn enter_line(
-        &mut self,
-        seat: u32,
-        addition: &Addition,
-        step: &LentAddition<'_>,
-    ) -> Result<Added, NoMemory>
-        requires { inside_line self.old seat addition.now ≡ Ok step.now }
-        ensures told { IfOk result (λ added. added ≡ commit_told self.old) }
-        ensures ok { OnOk result
-            (self.new ≡ after_entry self.old (line_entry seat addition.now.number step.now)) }
-        ensures err { OnErr result (self.new ≡ self.old) }
-    {
-        let _ = has_pivot(&addition.lemma);
-        let own = addition.number;
-        let joint = step.number;
-        let place = self.clause_log.history().len();
-        enter_addition(&mut self.clause_log, &mut self.tables, seat, own, step)?;
-        self.refuted = refuted_at(self.refuted, place, &step.clause);
-        self.added += 1;
-        Ok(Added { place, joint })
-    }
 }
 
 /// Puts the hints and the groups of a seat's addition, in recorded form, into lists that were used before. The clauses stay as they
@@ -208,7 +183,7 @@ fn recorded_line(
 }
 
 /// Whether the lemma has a pivot, which then is a literal of its clause.
-fn has_pivot(lemma: &Lemma) -> bool
+pub(super) fn has_pivot(lemma: &Lemma) -> bool
     ensures literal { IfSome lemma.now.pivot (λ q. (variable_of q == 0) ≡ false) }
     ensures there { IfSome lemma.now.pivot (λ q. holds lemma.now.clause q ≡ true) }
 {

@@ -2,7 +2,6 @@ use Rattle.std.proofs.Common.{◌≡◌, ap, sym, ◌∙◌, subst}
 use Rattle.std.specs.Prelude.{if◌then◌else◌, Some, None}
 use Rattle.lj_clause.specs.Renaming.{lemma_image}
 use Rattle.lj_hint.specs.Hints.{numbers}
-use Rattle.lj_text.specs.declared.line.Addition.{Addition}
 use Rattle.lj_text.specs.declared.step.Step.TheVariants as steps
 use Rattle.lj_book.specs.declared.entry.Call.TheVariants as calls
 use Rattle.lj_book.specs.declared.entry.Entry.{Entry}

@@ -40,8 +40,8 @@ returns-then-self-clause-reply c =
     ap (λ (t : State). inside_reply t seat a) (sym c.self.view_is)
     ∙ inside_refused s seat a Full sound (parts_full c.self.inside.clause_log.live s seat a tested c.self.invariant.lives free (c.in_default-recorded_line.ensures.reply (next s)) full)
 
-pub enter_addition-requires-clause-no_holder : goal.enter_addition-requires-clause-no_holder
-enter_addition-requires-clause-no_holder c =
+pub enter_step-requires-clause-no_holder : goal.enter_step-requires-clause-no_holder
+enter_step-requires-clause-no_holder c =
     let s : State = record { formula = c.self.inside.formula; max_steps = c.self.inside.max_steps; tables = c.self.inside.tables; history = c.self.inside.clause_log.history.entries } in
     let seat = c.args.seat in
     let a = c.args.addition.now in
@@ -68,11 +68,11 @@ invariant_of-self-2 c =
     let passed : inside_line s seat a ≡ Ok step = parts_passed c.self.inside.clause_log.live s seat a step c.self.invariant.lives free (c.in_default-recorded_line.ensures.reply (next s) ∙ ap Ok (sym lent)) capacity in
     let place : c.len-place.result ≡ length s.history = c.len-place.ensures.len ∙ ap (λ h. length h.entries) c.history.ensures ∙ (λ i. length (c.in_default-recorded_line.ensures.same i).history.entries) in
     let pivot : IsPivot a.lemma = record { literal = c.has_pivot.ensures.literal; there = c.has_pivot.ensures.there } in
-    let pushed : c.enter_addition.new.clause_log.history.entries ≡ s.history ++ line_entry seat a.number step ∷ [] = c.in_ok-enter_addition.ensures.entries ∙ (λ i. (c.in_default-recorded_line.ensures.same i).history.entries ++ line_entry seat a.number step ∷ []) in
-    let lives : c.enter_addition.new.clause_log.live ≡ fin.insert c.self.inside.clause_log.live step.number step.lemma.clause = c.in_ok-enter_addition.ensures.live ∙ (λ i. fin.insert (c.in_default-recorded_line.ensures.same i).live step.number step.lemma.clause) in
+    let pushed : c.enter_step.new.clause_log.history.entries ≡ s.history ++ line_entry seat a.number step ∷ [] = c.in_ok-enter_step.ensures.entries ∙ (λ i. (c.in_default-recorded_line.ensures.same i).history.entries ++ line_entry seat a.number step ∷ []) in
+    let lives : c.enter_step.new.clause_log.live ≡ fin.insert c.self.inside.clause_log.live step.number step.lemma.clause = c.in_ok-enter_step.ensures.live ∙ (λ i. fin.insert (c.in_default-recorded_line.ensures.same i).live step.number step.lemma.clause) in
     let clause : c.step.inside.clause ≡ step.lemma.clause = c.step.invariant ∙ ap (λ (x : Addition). x.lemma.clause) c.step.view_is in
     let refuted = c.refuted_at-self-inside.ensures ∙ (λ i. refuted_after c.self.inside.refuted (place i) (clause i)) in
-    let made = line_made s seat a step c.self.inside.clause_log.live c.enter_addition.new.clause_log.live c.self.inside.added c.self.inside.refuted c.refuted_at-self-inside.result c.enter_addition.new.tables c.enter_addition.new.clause_log.history.entries c.self.invariant pivot passed c.in_ok-enter_addition.ensures.tables pushed lives refuted in
+    let made = line_made s seat a step c.self.inside.clause_log.live c.enter_step.new.clause_log.live c.self.inside.added c.self.inside.refuted c.refuted_at-self-inside.result c.enter_step.new.tables c.enter_step.new.clause_log.history.entries c.self.invariant pivot passed c.in_ok-enter_step.ensures.tables pushed lives refuted in
     made.0
 
 pub returns-clause-told : goal.returns-clause-told
@@ -122,11 +122,11 @@ returns-clause-ok c =
     let passed : inside_line s seat a ≡ Ok step = parts_passed c.self.inside.clause_log.live s seat a step c.self.invariant.lives free (c.in_default-recorded_line.ensures.reply (next s) ∙ ap Ok (sym lent)) capacity in
     let place : c.len-place.result ≡ length s.history = c.len-place.ensures.len ∙ ap (λ h. length h.entries) c.history.ensures ∙ (λ i. length (c.in_default-recorded_line.ensures.same i).history.entries) in
     let pivot : IsPivot a.lemma = record { literal = c.has_pivot.ensures.literal; there = c.has_pivot.ensures.there } in
-    let pushed : c.enter_addition.new.clause_log.history.entries ≡ s.history ++ line_entry seat a.number step ∷ [] = c.in_ok-enter_addition.ensures.entries ∙ (λ i. (c.in_default-recorded_line.ensures.same i).history.entries ++ line_entry seat a.number step ∷ []) in
-    let lives : c.enter_addition.new.clause_log.live ≡ fin.insert c.self.inside.clause_log.live step.number step.lemma.clause = c.in_ok-enter_addition.ensures.live ∙ (λ i. fin.insert (c.in_default-recorded_line.ensures.same i).live step.number step.lemma.clause) in
+    let pushed : c.enter_step.new.clause_log.history.entries ≡ s.history ++ line_entry seat a.number step ∷ [] = c.in_ok-enter_step.ensures.entries ∙ (λ i. (c.in_default-recorded_line.ensures.same i).history.entries ++ line_entry seat a.number step ∷ []) in
+    let lives : c.enter_step.new.clause_log.live ≡ fin.insert c.self.inside.clause_log.live step.number step.lemma.clause = c.in_ok-enter_step.ensures.live ∙ (λ i. fin.insert (c.in_default-recorded_line.ensures.same i).live step.number step.lemma.clause) in
     let clause : c.step.inside.clause ≡ step.lemma.clause = c.step.invariant ∙ ap (λ (x : Addition). x.lemma.clause) c.step.view_is in
     let refuted = c.refuted_at-self-inside.ensures ∙ (λ i. refuted_after c.self.inside.refuted (place i) (clause i)) in
-    let made = line_made s seat a step c.self.inside.clause_log.live c.enter_addition.new.clause_log.live c.self.inside.added c.self.inside.refuted c.refuted_at-self-inside.result c.enter_addition.new.tables c.enter_addition.new.clause_log.history.entries c.self.invariant pivot passed c.in_ok-enter_addition.ensures.tables pushed lives refuted in
+    let made = line_made s seat a step c.self.inside.clause_log.live c.enter_step.new.clause_log.live c.self.inside.added c.self.inside.refuted c.refuted_at-self-inside.result c.enter_step.new.tables c.enter_step.new.clause_log.history.entries c.self.invariant pivot passed c.in_ok-enter_step.ensures.tables pushed lives refuted in
     made.1
     ∙ ap (after_entry s) (sym (line_entered s seat a step sound passed))
     ∙ ap (λ (t : State). after_entry t (inside_entry t seat a)) c.self.view_is
