@@ -33,7 +33,8 @@ pub(crate) fn joint_line(
     ensures { IsReplyBy (λ _. (hints.new, joints.new)) result
         (joint_parts (joint_of tables.now seat) addition.now) }
 {
-    if let Err(refusal) = put_joints(tables, seat, &addition.hints, hints) {
+    hints.clear();
+    if let Err(refusal) = put_joints(tables, seat, addition.hints.iter(), hints) {
         return Err(refusal);
     }
     clear(joints);
@@ -109,7 +110,7 @@ fn are_rising(groups: &Groups) -> bool
     true
 }
 
-/// Puts the joint numbers of these own numbers into a list, in place of what it has.
+/// Puts the joint numbers of these own numbers into a list that has none.
 ///
 /// # Errors
 /// [`Refusal::UnknownNumber`] of the first that the seat doesn't hold, and [`Refusal::NoMemory`] where a growth was
@@ -118,21 +119,19 @@ fn are_rising(groups: &Groups) -> bool
 fn put_joints(
     tables: &SeatTables,
     seat: u32,
-    numbers: &Numbers,
+    numbers: NumbersIter<'_>,
     joints: &mut Numbers,
 ) -> Result<(), Refusal>
+    requires { joints.old ≡ [] }
     ensures { IsReplyBy (λ _. joints.new) result
-        (joints_in (joint_of tables.now seat) numbers.now) }
+        (joints_in (joint_of tables.now seat) numbers.entry) }
 {
     match tables.table(seat) {
         Some(table) => put_each(table, numbers, joints),
-        None => {
-            joints.clear();
-            match numbers.get(0) {
-                Some(own) => Err(Refusal::UnknownNumber(own)),
-                None => Ok(()),
-            }
-        }
+        None => match numbers.get(0) {
+            Some(own) => Err(Refusal::UnknownNumber(own)),
+            None => Ok(()),
+        },
     }
 }
 
@@ -141,11 +140,15 @@ fn put_joints(
 /// # Errors
 /// As [`put_joints`].
 #[inline(never)]
-fn put_each(table: &SeatTable, numbers: &Numbers, joints: &mut Numbers) -> Result<(), Refusal>
-    ensures { IsReplyBy (λ _. joints.new) result (joints_in (fin.get table.now) numbers.now) }
+fn put_each(
+    table: &SeatTable,
+    numbers: NumbersIter<'_>,
+    joints: &mut Numbers,
+) -> Result<(), Refusal>
+    requires { joints.old ≡ [] }
+    ensures { IsReplyBy (λ _. joints.new) result (joints_in (fin.get table.now) numbers.entry) }
 {
-    joints.clear();
-    for own in numbers.iter() {
+    for own in numbers {
         let Some(joint) = table.get(own) else {
             return Err(Refusal::UnknownNumber(own));
         };
@@ -154,8 +157,8 @@ fn put_each(table: &SeatTable, numbers: &Numbers, joints: &mut Numbers) -> Resul
     Ok(())
 }
 
-/// The same of so many first numbers alone. Takes constant time for each of these, amortized, or O(log n) for numbers beyond
-/// the slots.
+/// The same of so many first numbers alone, in place of what the list has. Takes constant time for each of these, amortized,
+/// or O(log n) for numbers beyond the slots.
 ///
 /// # Errors
 /// As [`put_joints`].
@@ -169,41 +172,7 @@ pub(crate) fn put_first(
         (joints_in (fin.get table.now) (take count numbers.now)) }
 {
     joints.clear();
-    let mut left = count;
-    for own in numbers.iter() {
-        if left == 0 {
-            return Ok(());
-        }
-        match table.get(own) {
-            Some(joint) => joints.push(joint)?,
-            None => return Err(Refusal::UnknownNumber(own)),
-        }
-        left -= 1;
-    }
-    Ok(())
-}
-
-/// Puts the joint numbers of the own numbers that are still to come into a list that has none.
-///
-/// # Errors
-/// As [`put_joints`].
-fn put_held(
-    tables: &SeatTables,
-    seat: u32,
-    numbers: NumbersIter<'_>,
-    joints: &mut Numbers,
-) -> Result<(), Refusal>
-    requires { joints.old ≡ [] }
-    ensures { IsReplyBy (λ _. joints.new) result
-        (joints_in (joint_of tables.now seat) numbers.entry) }
-{
-    for own in numbers {
-        let Some(joint) = tables.joint(seat, own) else {
-            return Err(Refusal::UnknownNumber(own));
-        };
-        joints.push(joint)?;
-    }
-    Ok(())
+    put_each(table, numbers.iter().first(count), joints)
 }
 
 /// Puts the groups in joint numbers into a list.
@@ -227,7 +196,7 @@ fn put_joint_groups(
             return Err(Refusal::UnknownNumber(group.candidate));
         };
         hints.clear();
-        match put_held(tables, seat, group.hints, &mut hints) {
+        match put_joints(tables, seat, group.hints, &mut hints) {
             Ok(()) => joints.push(candidate, hints.iter())?,
             Err(refusal) => return Err(refusal),
         }
