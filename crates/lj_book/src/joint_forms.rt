@@ -19,7 +19,7 @@ use crate::refusal::Refusal;
 use crate::variable_table::VariableTable;
 use lj_clause::{Clause, Lemma, Lit, NoMemory};
 use lj_hint::Propagator;
-use lj_text::{Addition, Groups, Numbers};
+use lj_text::{Addition, Boxed, Groups, Numbers};
 use std::alloc::Global;
 
 /// Adds a seat's addition in joint variables, as [`JointBook::add_inside`]. Each of its variables has a joint one. It is copied only
@@ -34,7 +34,7 @@ pub(crate) fn add_joint_form(
     addition: &Addition,
     propagator: &mut Propagator,
     wanted: bool,
-) -> Result<(Added, Option<Entry>), Refusal>
+) -> Result<(Added, Option<Boxed<Entry>>), Refusal>
     ensures reply { IsReplyBy (λ told. told.0) result (inside_reply joint.old seat
         (joint_form variables.now.variables seat addition.now)) }
     ensures told { IfOk result (λ told. told.1 ≡ (if wanted
@@ -66,7 +66,7 @@ pub(crate) fn close_joint_form(
     addition: &Addition,
     read: usize,
     wanted: bool,
-) -> Result<(Added, Option<Entry>), Refusal>
+) -> Result<(Added, Option<Boxed<Entry>>), Refusal>
     requires { IsClosedAlone (view_of joint.old seat) seat
         (joint_form variables.now.variables seat addition.now) read }
     ensures reply { IsReplyBy (λ told. told.0) result (inside_reply joint.old seat

@@ -7,7 +7,7 @@ ghost use Rattle.lj_book.specs.inner.Records.{entry_of};
 
 use crate::entry::{Call, Entry};
 use lj_clause::{ClauseView, Lemma, NoMemory};
-use lj_text::{Addition, Groups, Numbers, Step};
+use lj_text::{Addition, Boxed, Groups, Numbers, Step};
 use std::alloc::Global;
 use std::marker::Model;
 
@@ -85,11 +85,12 @@ impl<'a> LentAddition<'a> {
     #[inline]
     pub(crate) fn entry_if(
         &self,
+        alloc: Global,
         wanted: bool,
         seat: u32,
         own: u64,
         lemma: &Lemma,
-    ) -> Result<Option<Entry>, NoMemory>
+    ) -> Result<Option<Boxed<Entry>>, NoMemory>
         ensures { IfOk result (λ entry. entry ≡ (if wanted
             then Some (entry_of seat (calls.Add own lemma.now) (Some (steps.Add self.now)))
             else None)) }
@@ -102,6 +103,6 @@ impl<'a> LentAddition<'a> {
             lemma: lemma.try_clone()?,
         };
         let step = Some(Step::Add(self.try_clone()?));
-        Ok(Some(Entry { seat, call, step }))
+        Ok(Some(Boxed::new(alloc, Entry { seat, call, step })?))
     }
 }

@@ -129,6 +129,7 @@ impl<L: BookId> LockedBook<L> {
         match book.commit_with_entry(receipt) {
             Ok((added, entry)) => {
                 account.count_one(entries, lists, book);
+                let entry = entry.into_inner();
                 Ok((Told { entry }, added.joint))
             }
             Err(refused) => Err(refused),

@@ -18,7 +18,7 @@ use crate::seat::Unlocked;
 use lj_book::{Book, Entry, Refusal};
 use lj_clause::Clause;
 use lj_hint::Propagator;
-use lj_text::{Addition, Line};
+use lj_text::{Addition, Boxed, Line};
 
 /// Enters a seat's line, with a copy of its entry where one is asked for; gives the joint number that a number of the line is
 /// bound to. An addition is tested here, unless what the seat sees decided it.
@@ -79,14 +79,24 @@ fn add(
     match unlocked {
         Unlocked::Closed(read) => {
             let (added, entry) = book.add_closed_with_entry(seat, addition, read, with_entry)?;
-            Ok((entry, added.joint))
+            Ok((unboxed(entry), added.joint))
         }
         Unlocked::Open => {
             let (added, entry) = book.add_inside_with_entry(
                 seat, addition, propagator, with_entry,
             )?;
-            Ok((entry, added.joint))
+            Ok((unboxed(entry), added.joint))
         }
+    }
+}
+
+/// The entry by value, if there is one.
+fn unboxed(entry: Option<Boxed<Entry>>) -> Option<Entry>
+    ensures { result ≡ entry }
+{
+    match entry {
+        Some(entry) => Some(entry.into_inner()),
+        None => None,
     }
 }
 

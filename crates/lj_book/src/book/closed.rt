@@ -17,7 +17,7 @@ use crate::joint_book::laws::history_is_legal;
 use crate::joint_forms::close_joint_form;
 use crate::refusal::Refusal;
 use crate::variable_table::VariableTable;
-use lj_text::Addition;
+use lj_text::{Addition, Boxed};
 
 impl Book {
     /// Enters a seat's addition that is known to close after so many of its hints, by what the seat sees. It isn't tested
@@ -59,7 +59,7 @@ impl Book {
         addition: &Addition,
         read: usize,
         wanted: bool,
-    ) -> Result<(Added, Option<Entry>), Refusal>
+    ) -> Result<(Added, Option<Boxed<Entry>>), Refusal>
         requires { IsClosedAlone (named_view self.old seat) seat addition.now read }
         ensures reply { IsReplyBy (λ told. told.0) result
             (named_inside self.old seat addition.now) }
@@ -87,7 +87,7 @@ fn close_named(
     addition: &Addition,
     read: usize,
     wanted: bool,
-) -> Result<(Added, Option<Entry>), Refusal>
+) -> Result<(Added, Option<Boxed<Entry>>), Refusal>
     requires over { IsOver joint.old variables.old }
     requires closed { IsClosedAlone (named_view (named_over joint.old variables.old.variables) seat)
         seat addition.now read }

@@ -21,7 +21,7 @@ use crate::refusal::Refusal;
 use crate::variable_table::VariableTable;
 use lj_clause::NoMemory;
 use lj_hint::{Pair, Receipt};
-use lj_text::Groups;
+use lj_text::{Boxed, Groups};
 
 impl Book {
     /// Enters the lemma of a receipt, while the clauses that it lists still live in joint variables. The lemma's variables above
@@ -56,7 +56,7 @@ impl Book {
         &mut self,
         receipt: &Receipt,
         wanted: bool,
-    ) -> Result<(Added, Option<Entry>), Refusal>
+    ) -> Result<(Added, Option<Boxed<Entry>>), Refusal>
         ensures reply { IsReplyBy (λ told. told.0) result (named_commit self.old receipt.now) }
         ensures refused { IfSome (named_commit_refusal self.old receipt.now)
             (λ e. result ≡ Err e) }
@@ -144,7 +144,7 @@ fn enter_joint(
     variables: &VariableTable,
     receipt: &Receipt,
     wanted: bool,
-) -> Result<(Added, Option<Entry>), NoMemory>
+) -> Result<(Added, Option<Boxed<Entry>>), NoMemory>
     requires named { is_named variables.now.top
         (renaming_of variables.now.variables receipt.now.seat) receipt.now.lemma.clause ≡ true }
     requires legal { IsLegal book.old (line_entry receipt.now.seat receipt.now.own
@@ -170,7 +170,7 @@ fn enter_joint(
     match variables.joint_lemma(alloc, seat, named)? {
         Some(lemma) => {
             let step = LentAddition::new(book.next(), &lemma, &hints, &groups);
-            let entry = step.entry_if(wanted, seat, own, named)?;
+            let entry = step.entry_if(alloc, wanted, seat, own, named)?;
             let added = book.enter_legal(seat, own, &step, false)?;
             Ok((added, entry))
         }

@@ -14,7 +14,7 @@ use crate::joint_forms::{add_joint_form, refusal_at_limit};
 use crate::refusal::Refusal;
 use crate::variable_table::VariableTable;
 use lj_hint::Propagator;
-use lj_text::Addition;
+use lj_text::{Addition, Boxed};
 
 impl Book {
     /// Tests a seat's addition over the live clauses, those of all seats, and enters it in recorded form: by hinted
@@ -65,7 +65,7 @@ impl Book {
         addition: &Addition,
         propagator: &mut Propagator,
         wanted: bool,
-    ) -> Result<(Added, Option<Entry>), Refusal>
+    ) -> Result<(Added, Option<Boxed<Entry>>), Refusal>
         ensures reply { IsReplyBy (λ told. told.0) result
             (named_inside self.old seat addition.now) }
         ensures refused { IfSome (free_refusal (beneath self.old) seat addition.now.number)
@@ -99,7 +99,7 @@ fn add_named(
     addition: &Addition,
     propagator: &mut Propagator,
     wanted: bool,
-) -> Result<(Added, Option<Entry>), Refusal>
+) -> Result<(Added, Option<Boxed<Entry>>), Refusal>
     requires { IsOver joint.old variables.old }
     ensures reply { IsReplyBy (λ told. told.0) result
         (named_inside (named_over joint.old variables.old.variables) seat addition.now) }

@@ -11,7 +11,7 @@ use crate::entry::{Added, Call, Dropped, Entry};
 use crate::joint_book::laws::history_is_legal;
 use crate::refusal::Refusal;
 use lj_hint::Receipt;
-use lj_text::Numbers;
+use lj_text::{Boxed, Numbers};
 
 impl Book {
     /// As [`Book::commit`], with a copy of the entry. Takes time linear in the entry beside that.
@@ -21,7 +21,7 @@ impl Book {
     pub fn commit_with_entry(
         &mut self,
         receipt: Receipt,
-    ) -> Result<(Added, Entry), (Refusal, Receipt)>
+    ) -> Result<(Added, Boxed<Entry>), (Refusal, Receipt)>
         ensures reply { IsReplyBy (λ told. told.0) (without_receipt result)
             (named_commit self.old receipt) }
         ensures refused { IfSome (named_commit_refusal self.old receipt)

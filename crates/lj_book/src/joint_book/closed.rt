@@ -18,7 +18,7 @@ use crate::joint_line::put_first;
 use crate::lent_addition::LentAddition;
 use crate::refusal::Refusal;
 use lj_clause::Lemma;
-use lj_text::{Addition, Groups, Numbers};
+use lj_text::{Addition, Boxed, Groups, Numbers};
 use std::mem::replace;
 
 impl JointBook {
@@ -34,7 +34,7 @@ impl JointBook {
         read: usize,
         wanted: bool,
         named: &Lemma,
-    ) -> Result<(Added, Option<Entry>), Refusal>
+    ) -> Result<(Added, Option<Boxed<Entry>>), Refusal>
         requires { IsClosedAlone (view_of self.old seat) seat addition.now read }
         ensures reply { IsReplyBy (λ told. told.0) result
             (inside_reply self.old seat addition.now) }
@@ -73,7 +73,7 @@ impl JointBook {
         hints: &mut Numbers,
         wanted: bool,
         named: &Lemma,
-    ) -> Result<(Added, Option<Entry>), Refusal>
+    ) -> Result<(Added, Option<Boxed<Entry>>), Refusal>
         requires { IsClosedAlone (view_of self.old seat) seat addition.now read }
         ensures reply { IsReplyBy (λ told. told.0) result
             (inside_reply self.old seat addition.now) }
@@ -93,7 +93,7 @@ impl JointBook {
         let own = addition.number;
         let groups = Groups::new(self.allocator());
         let step = LentAddition::new(self.next(), &addition.lemma, hints, &groups);
-        let entry = step.entry_if(wanted, seat, own, named)?;
+        let entry = step.entry_if(self.clause_log.allocator(), wanted, seat, own, named)?;
         let added = self.enter_legal(seat, own, &step, false)?;
         Ok((added, entry))
     }

@@ -22,7 +22,7 @@ use crate::refusal::Refusal;
 use crate::seat_tables::SeatTables;
 use lj_clause::Lemma;
 use lj_hint::Propagator;
-use lj_text::{Addition, Groups, Numbers};
+use lj_text::{Addition, Boxed, Groups, Numbers};
 
 impl JointBook {
     /// Tests a seat's addition over the live clauses, those of all seats, and enters it in recorded form. The propagator may
@@ -40,7 +40,7 @@ impl JointBook {
         propagator: &mut Propagator,
         wanted: bool,
         named: &Lemma,
-    ) -> Result<(Added, Option<Entry>), Refusal>
+    ) -> Result<(Added, Option<Boxed<Entry>>), Refusal>
         ensures reply { IsReplyBy (λ told. told.0) result
             (inside_reply self.old seat addition.now) }
         ensures refused { IfSome (free_refusal self.old seat addition.now.number)
@@ -76,7 +76,7 @@ impl JointBook {
         }
         let _ = has_pivot(&addition.lemma);
         let step = LentAddition::new(joint, &addition.lemma, &self.joints, &self.joint_groups);
-        let entry = step.entry_if(wanted, seat, own, named)?;
+        let entry = step.entry_if(self.clause_log.allocator(), wanted, seat, own, named)?;
         let place = self.clause_log.history().len();
         let (clause_log, tables) = (&mut self.clause_log, &mut self.tables);
         enter_step(clause_log, tables, seat, own, &step, false)?;
