@@ -1,7 +1,7 @@
 -- What a seat decides by what it sees.
 use Rattle.std.proofs.Common.{◌≡◌, ap, refl, sym, ◌∙◌, ℕ, zero, suc, ◌+◌, ◌-◌, ◌≤◌, Bool, cond, true, false, arith}
-use Rattle.std.specs.Prelude.{◌==◌, ℤ, List, [], ◌∷◌, map, length, drop, slice_get, Option, Some, None, option_map, is_some, if◌then◌else◌, Result, Ok, Err, IsSome}
-use Rattle.std.proofs.lemmas.Bool.{false≢true, eqb-true}
+use Rattle.std.specs.Prelude.{ℤ, List, [], ◌∷◌, map, length, drop, slice_get, Option, Some, None, option_map, is_some, if◌then◌else◌, Result, Ok, Err, IsSome}
+use Rattle.std.proofs.lemmas.Bool.{false≢true}
 use Rattle.std.specs.Ordering.{nat_cmp, eq_by_cmp}
 use Rattle.std.specs.Cmp.{nat_cmp_total}
 use Rattle.std.specs.FinMap as fin

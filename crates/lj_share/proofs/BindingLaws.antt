@@ -1,13 +1,12 @@
 -- Clauses under numbers, each with its joint number.
 use Rattle.std.proofs.Common.{◌≡◌, ap, refl, sym, ◌∙◌, ℕ, Bool, cond, true, false}
-use Rattle.std.specs.Prelude.{◌==◌, Option, Some, None, is_some, option_map, Result, Ok, Err, OnOk, OnErr}
+use Rattle.std.specs.Prelude.{◌==◌, Option, Some, None, is_some, Result, Ok, Err, OnOk, OnErr}
 use Rattle.std.specs.Ordering.{nat_cmp}
 use Rattle.std.specs.Cmp.{nat_cmp_total, unsigned_tied}
 use Rattle.std.specs.FinMap as fin
 use Rattle.std.proofs.lemmas.Bool.{eqb-true, false≢true}
 use Rattle.lj_clause.specs.LiteralSet.{LiteralSet}
 use Rattle.lj_clause.specs.ClauseMap.{ClauseMap}
-use Rattle.lj_hint.specs.declared.pair.Pair.{Pair}
 use Rattle.lj_share.specs.inner.Bindings.{BindingsValue, AreAlike, IsSet, bound_at, pair_of, under_joint}
 
 abbrev pub Joints : Type 0

@@ -1,6 +1,6 @@
 -- What the test of a case tells of its addition.
 use Rattle.std.proofs.Common.{◌≡◌, ap, refl, sym, ◌∙◌, ℕ, zero, suc}
-use Rattle.std.specs.Prelude.{List, [], ◌∷◌, length, map, take, Some, Ok}
+use Rattle.std.specs.Prelude.{List, [], ◌∷◌, length, map, take, Ok}
 use Rattle.lj_clause.specs.LiteralSet.{negations}
 use Rattle.lj_clause.specs.Propagation as propagations
 use Rattle.lj_clause.proofs.PropagationLaws.{used-numbers}
@@ -15,7 +15,7 @@ use Rattle.lj_book.specs.declared.refusal.Refusal.{Refusal}
 use Rattle.lj_book.specs.declared.refusal.Refusal.TheVariants.{SeatGone, NumberTaken, UnknownNumber, GroupRepeated, HintNotUnit, EmptyOpen, MissingGroup, GroupStuck, GroupOpen, PrivateVariable, NoSuchClause, Stale, Full, NoVariableLeft, NoMemory}
 use Rattle.lj_book.specs.Calls.{IsRefusal}
 use Rattle.lj_book.specs.Solo.{View, solo_take}
-use Rattle.lj_book.specs.Views.{IsClosedAlone, decided_by, decided_refusal, stuck_refusal}
+use Rattle.lj_book.specs.Views.{IsClosedAlone, decided_by, decided_refusal}
 use Rattle.lj_share.specs.Refusals.{IsDecided}
 
 -- the refusal of a take is decided

@@ -1,12 +1,15 @@
 -- Own numbers that deletions of a run name.
-use Rattle.std.proofs.Common.{◌≡◌, ap, refl, sym, ◌∙◌, ℕ, Bool, cond, true, false}
-use Rattle.std.specs.Prelude.{◌==◌, ◌||◌, List, [], ◌∷◌, ◌++◌, Some, None, is_some}
+use Rattle.std.proofs.Common.{◌≡◌, ap, refl, sym, ◌∙◌, subst, ℕ, ◌%◌, Bool, cond, true, false, arith}
+use Rattle.std.specs.Prelude.{◌==◌, ◌||◌, List, [], ◌∷◌, ◌++◌, length, Some, None, is_some, slice_get, slice_set}
+use Rattle.std.proofs.lemmas.Bool.{eqb-true, eq-eqb, false≢true}
+use Rattle.std.proofs.lemmas.Option.{slice_get_within}
 use Rattle.std.specs.Ordering.{nat_cmp}
 use Rattle.std.specs.Cmp.{nat_cmp_total, unsigned_tied}
 use Rattle.std.specs.FinMap as fin
 use Rattle.lj_clause.proofs.Tests.{turned}
 use Rattle.lj_book.specs.Tables.{is_among}
-use Rattle.lj_share.specs.inner.Dead.{AreNone, AreWith, AreWithout, DeadValue}
+use Rattle.lj_share.specs.inner.Dead.{AreNone, AreWith, AreWithout, DeadValue, HaveMarks}
+use Rattle.lj_share.proofs.OwnLaws.{set_at, set_apart}
 
 pub none_dead : (d : DeadValue) → d ≡ fin.empty → AreNone d
 none_dead d is n = ap (λ (k : DeadValue). fin.contains_key k n) is ∙ ap is_some (fin.get-empty nat_cmp n)
@@ -59,3 +62,26 @@ without_more ns own d e g are is n =
     around : (a b c : Bool) → cond a false (cond b false c) ≡ cond (a || b) false c
     around true b c = refl
     around false b c = refl
+
+-- ---- marks
+
+pub none_marked : (marks : List Bool) (d : DeadValue) → d ≡ fin.empty → HaveMarks marks d
+none_marked marks d is n has = absurd (false≢true (sym (none_dead d is n) ∙ has))
+
+-- a mark stays where another is made
+still_marked : (marks : List Bool) (i k : ℕ) → slice_get marks k ≡ Some true → slice_get (slice_set marks i true) k ≡ Some true
+still_marked marks i k is = by (k == i) refl
+  where
+    by : (b : Bool) → (k == i) ≡ b → slice_get (slice_set marks i true) k ≡ Some true
+    by true e = subst (λ (j : ℕ). slice_get (slice_set marks j true) k ≡ Some true) (eqb-true k i e) (set_at marks k true (slice_get_within marks k true is))
+    by false e = set_apart marks i k true (λ same. false≢true (sym e ∙ eq-eqb k i same)) ∙ is
+
+pub marked_more : (marks : List Bool) (own i : ℕ) (d e : DeadValue) → i ≡ own % 4096 → length marks ≡ 4096 → HaveMarks marks d → e ≡ fin.insert d own tt → HaveMarks (slice_set marks i true) e
+marked_more marks own i d e at many are is n has = by (n == own) refl
+  where
+    there : ((n == own) || fin.contains_key d n) ≡ true
+    there = sym (put_at d own n) ∙ sym (ap (λ (k : DeadValue). fin.contains_key k n) is) ∙ has
+
+    by : (b : Bool) → (n == own) ≡ b → slice_get (slice_set marks i true) (n % 4096) ≡ Some true
+    by true e = subst (λ (k : ℕ). slice_get (slice_set marks i true) k ≡ Some true) (at ∙ ap (λ (m : ℕ). m % 4096) (sym (eqb-true n own e))) (set_at marks i true (omega (arith, at, many)))
+    by false e = still_marked marks i (n % 4096) (are n (sym (ap (λ b. b || fin.contains_key d n) e) ∙ there))

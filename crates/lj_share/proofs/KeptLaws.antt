@@ -23,7 +23,7 @@ use Rattle.lj_share.specs.Refusals.{IsDecided, line_refusal}
 use Rattle.lj_share.specs.Seats.{SeatValue, with_bound}
 use Rattle.lj_share.specs.inner.Dead.{AreNone, DeadValue}
 use Rattle.lj_share.specs.inner.Ahead.{AreKept}
-use Rattle.lj_share.specs.inner.Seats.{OwnValue, Pairs, AreEqual, IsOwnOf, IsKeptAs, IsLineBegun, IsBoundAhead, IsFinished, IsFresh, IsTakenBack, begun, case_by, clauses_seen, finished, first_pair, kept_refusal, number_refusal, own_clause, own_pair, pairs_kept, pairs_seen, taken_back, view_behind}
+use Rattle.lj_share.specs.inner.Seats.{OwnValue, Pairs, AreEqual, IsOwnOf, IsLineBegun, IsBoundAhead, IsFinished, IsFresh, IsTakenBack, begun, case_by, clauses_seen, finished, first_pair, kept_refusal, number_refusal, own_clause, own_pair, pairs_kept, pairs_seen, taken_back, view_behind}
 use Rattle.lj_share.proofs.AloneLaws.{get-seen}
 
 abbrev pub pair_of : ℕ → LiteralSet → Pair

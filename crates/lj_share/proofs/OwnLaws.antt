@@ -11,7 +11,7 @@ use Rattle.lj_clause.specs.ClauseMap.{FormulaValue, formula_map}
 use Rattle.lj_clause.proofs.Formulas.{clause_at, clause_zero}
 use Rattle.lj_hint.specs.declared.pair.Pair.{Pair}
 use Rattle.lj_share.specs.inner.Bindings.{BindingsValue, IsSet, bound_at, under_joint}
-use Rattle.lj_share.specs.inner.Seats.{OwnValue, own_pair, own_clause, first_pair, early_pair, unless_given_up, IsUpdated, IsJointSet}
+use Rattle.lj_share.specs.inner.Seats.{OwnValue, own_pair, first_pair, early_pair, IsUpdated, IsJointSet}
 use Rattle.lj_share.proofs.Confirming.{is_other}
 
 pub err_then : {T E : Type 0} (r : Result T E) {P Q : Type 0} → OnErr r P → (P → Q) → OnErr r Q
@@ -101,14 +101,6 @@ set_elsewhere o p own c set n other = set n ∙ ap (λ b. cond b c (bound_at o n
 pub late_set : (o p : OwnValue) (own : ℕ) (c : Option Pair) → length o.given_up ≤ own → p.given_up ≡ o.given_up → p.rebound ≡ o.rebound → IsSet o.late (own - length o.given_up) c p.late → IsUpdated o own c p
 late_set o p own c behind gone rebound late = late_kept o p own c behind gone rebound late
 
--- where a number of the opening was bound
-pub early_put : (o p : OwnValue) (own : ℕ) (c : Pair) → own < length o.given_up → p.given_up ≡ o.given_up → p.late ≡ o.late → IsSet o.rebound own (Some c) p.rebound → IsUpdated o own (Some c) p
-early_put o p own c within gone late set f =
-    early_kept f o p own (Some c) within (ap length gone) late
-    (ap (λ (x : Option Pair). early_pair x (slice_get p.given_up own) (first_pair f own)) (set_here o.rebound p.rebound own (Some c) set))
-    (set_elsewhere o.rebound p.rebound own (Some c) set)
-    (λ n other. ap (λ (bs : List Bool). slice_get bs n) gone)
-
 pub set_at : {A : Type 0} (xs : List A) (i : ℕ) (x : A) → i < length xs → slice_get (slice_set xs i x) i ≡ Some x
 set_at [] i x h = absurd (omega arith)
 set_at (y ∷ xs) zero x h = refl
@@ -121,13 +113,13 @@ set_apart (y ∷ xs) zero (suc k) x h = refl
 set_apart (y ∷ xs) (suc i) zero x h = refl
 set_apart (y ∷ xs) (suc i) (suc k) x h = set_apart xs i k x (λ e. h (ap suc e))
 
--- where a number of the opening was taken out
-pub early_taken : (o p : OwnValue) (own : ℕ) → own < length o.given_up → p.given_up ≡ slice_set o.given_up own true → p.late ≡ o.late → IsSet o.rebound own None p.rebound → IsUpdated o own None p
-early_taken o p own within gone late set f =
-    early_kept f o p own None within (ap length gone ∙ length-set o.given_up own true) late
-    (ap (λ (x : Option Pair). early_pair x (slice_get p.given_up own) (first_pair f own)) (set_here o.rebound p.rebound own None set)
-    ∙ ap (λ (x : Option Bool). unless_given_up x (first_pair f own)) (ap (λ (bs : List Bool). slice_get bs own) gone ∙ set_at o.given_up own true within))
-    (set_elsewhere o.rebound p.rebound own None set)
+-- where a number of the opening was bound or taken out
+pub early_set : (o p : OwnValue) (own : ℕ) (c : Option Pair) → own < length o.given_up → p.given_up ≡ slice_set o.given_up own true → p.late ≡ o.late → IsSet o.rebound own c p.rebound → IsUpdated o own c p
+early_set o p own c within gone late set f =
+    early_kept f o p own c within (ap length gone ∙ length-set o.given_up own true) late
+    (ap (λ (x : Option Bool). early_pair (bound_at p.rebound own) x (first_pair f own)) (ap (λ (bs : List Bool). slice_get bs own) gone ∙ set_at o.given_up own true within)
+    ∙ set_here o.rebound p.rebound own c set)
+    (set_elsewhere o.rebound p.rebound own c set)
     (λ n other. ap (λ (bs : List Bool). slice_get bs n) gone ∙ set_apart o.given_up own n true other)
 
 -- ---- where the joint number was set
@@ -155,17 +147,17 @@ no_zero f own c is = go (fin.get (formula_map f) own) refl is
         false≢true (ap is_some (sym (clause_zero f own (omega (arith, nought))) ∙ at))
 
 -- a number of the opening that has the joint number 0 was bound later
-bound_later : (f : FormulaValue) (own j : ℕ) (c : LiteralSet) (later : Option Pair) (given : Option Bool) (again : Option Bool) → early_pair later given (first_pair f own) ≡ Some (record { joint = 0; clause = c }) → early_pair (under_joint j later) again (first_pair f own) ≡ Some (record { joint = j; clause = c })
-bound_later f own j c (Some p) given again is = ap (under_joint j) is
-bound_later f own j c None (Some false) again is = absurd (no_zero f own c is)
-bound_later f own j c None (Some true) again is = absurd (false≢true (ap is_some is))
-bound_later f own j c None None again is = absurd (false≢true (ap is_some is))
+bound_later : (f : FormulaValue) (own j : ℕ) (c : LiteralSet) (later : Option Pair) (given : Option Bool) → early_pair later given (first_pair f own) ≡ Some (record { joint = 0; clause = c }) → early_pair (under_joint j later) given (first_pair f own) ≡ Some (record { joint = j; clause = c })
+bound_later f own j c later (Some false) is = absurd (no_zero f own c is)
+bound_later f own j c later (Some true) is = ap (under_joint j) is
+bound_later f own j c later None is = ap (under_joint j) is
 
 pub early_joint : (o p : OwnValue) (own j : ℕ) → own < length o.given_up → p.given_up ≡ o.given_up → p.late ≡ o.late → IsSet o.rebound own (under_joint j (bound_at o.rebound own)) p.rebound → IsJointSet o own j p
 early_joint o p own j within gone late set f c is =
     early_kept f o p own (Some (record { joint = j; clause = c })) within (ap length gone) late
     (ap (λ (x : Option Pair). early_pair x (slice_get p.given_up own) (first_pair f own)) (set_here o.rebound p.rebound own _ set)
-    ∙ bound_later f own j c (bound_at o.rebound own) (slice_get o.given_up own) (slice_get p.given_up own) (sym (early_is f o own within) ∙ is))
+    ∙ ap (λ (bs : List Bool). early_pair (under_joint j (bound_at o.rebound own)) (slice_get bs own) (first_pair f own)) gone
+    ∙ bound_later f own j c (bound_at o.rebound own) (slice_get o.given_up own) (sym (early_is f o own within) ∙ is))
     (set_elsewhere o.rebound p.rebound own _ set)
     (λ n other. ap (λ (bs : List Bool). slice_get bs n) gone)
 
@@ -186,15 +178,13 @@ early_same o p gone late rebound f n =
 -- ---- what is read
 
 -- one that is bound since the opening
-pub read_first : (f : FormulaValue) (o : OwnValue) (n : ℕ) → n < length o.given_up → bound_at o.rebound n ≡ None → slice_get o.given_up n ≡ Some false → first_pair f n ≡ own_pair f o n
-read_first f o n within none gone =
-    sym (early_is f o n within
-    ∙ ap (λ (x : Option Pair). early_pair x (slice_get o.given_up n) (first_pair f n)) none
-    ∙ ap (λ (x : Option Bool). unless_given_up x (first_pair f n)) gone)
+read_first : (f : FormulaValue) (o : OwnValue) (n : ℕ) → n < length o.given_up → slice_get o.given_up n ≡ Some false → first_pair f n ≡ own_pair f o n
+read_first f o n within gone =
+    sym (early_is f o n within ∙ ap (λ (x : Option Bool). early_pair (bound_at o.rebound n) x (first_pair f n)) gone)
 
 -- at the opening
-pub new_clauses : (f : FormulaValue) (o : OwnValue) → o.given_up ≡ replicate (length f.clauses + 1) false → ((n : ℕ) → bound_at o.rebound n ≡ None) → ((n : ℕ) → bound_at o.late n ≡ None) → (n : ℕ) → own_pair f o n ≡ first_pair f n
-new_clauses f o gone rebound late n = by (nat_lt n (length o.given_up)) refl
+pub new_clauses : (f : FormulaValue) (o : OwnValue) → o.given_up ≡ replicate (length f.clauses + 1) false → ((n : ℕ) → bound_at o.late n ≡ None) → (n : ℕ) → own_pair f o n ≡ first_pair f n
+new_clauses f o gone late n = by (nat_lt n (length o.given_up)) refl
   where
     many : length o.given_up ≡ length f.clauses + 1
     many = ap length gone ∙ length-replicate (length f.clauses + 1) false
@@ -207,7 +197,7 @@ new_clauses f o gone rebound late n = by (nat_lt n (length o.given_up)) refl
     by true e =
         let less = ltb-true n (length o.given_up) e in
         let first : slice_get o.given_up n ≡ Some false = ap (λ (bs : List Bool). slice_get bs n) gone ∙ slice_get-get_or (replicate (length f.clauses + 1) false) n true (subst (λ bs. n < length bs) gone less) ∙ ap Some (get_or-replicate (length f.clauses + 1) n false true (omega (arith, less, many))) in
-        sym (read_first f o n less (rebound n) first)
+        sym (read_first f o n less first)
     by false e =
         let more = ltb-false n (length o.given_up) e in
         late_is f o n more

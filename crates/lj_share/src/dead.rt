@@ -1,7 +1,7 @@
 //! Own numbers that the deletions of a run name.
-ghost use Rattle.std.specs.Prelude.{◌≡◌, OnOk, OnErr, true, false};
+ghost use Rattle.std.specs.Prelude.{◌≡◌, ◌%◌, length, OnOk, OnErr};
 ghost use Rattle.std.specs.FinMap as fin;
-ghost use Rattle.lj_share.specs.inner.Dead.{AreDeleted, AreNone, AreWith, AreWithout};
+ghost use Rattle.lj_share.specs.inner.Dead.{AreDeleted, AreNone, AreWith, AreWithout, HaveMarks};
 
 use crate::numbered::Numbered;
 use lj_book::OwnMap;
@@ -11,20 +11,23 @@ use lj_text::{Line, Numbers};
 use std::alloc::Global;
 use std::marker::Model;
 
+/// How many marks there are.
+const MARKS: usize = 4096;
+
 /// The own numbers that the deletions of a run name so far: the seat keeps their clauses yet, but its lines behind don't see them.
 ///
-/// A call takes the time of [`OwnMap`]'s for each number.
+/// A call takes the time of [`OwnMap`]'s for each number; for most numbers that aren't there, a look at a mark tells so.
 #[derive(Drop)]
 pub(crate) struct Dead {
     numbers: OwnMap<()>,
-    /// Whether there may be some.
-    some: bool,
+    /// Whether a number with this remainder may be there; empty where none is.
+    marks: Vec<bool>,
     alloc: Global,
 }
 
 impl Model for Dead {
-    ghost use Rattle.std.specs.Prelude.{◌≡◌, false};
-    ghost use Rattle.lj_share.specs.inner.Dead.{AreNone, DeadValue};
+    ghost use Rattle.std.specs.Prelude.{◌≡◌, ◌<◌, length};
+    ghost use Rattle.lj_share.specs.inner.Dead.{DeadValue, HaveMarks};
     ghost use Rattle.lj_share.specs.inner.OwnCode.{dead_code};
 
     ghost Value = { DeadValue };
@@ -33,7 +36,8 @@ impl Model for Dead {
 
     ghost view = { λ d. d.numbers };
 
-    ghost invariant = { λ d. d.some ≡ false → AreNone d.numbers };
+    ghost invariant = { λ d. (0 < length d.marks.items → length d.marks.items ≡ 4096)
+        × HaveMarks d.marks.items d.numbers };
 }
 
 impl Dead {
@@ -43,17 +47,20 @@ impl Dead {
     {
         Dead {
             numbers: OwnMap::new(alloc),
-            some: false,
+            marks: Vec::new(alloc),
             alloc,
         }
     }
 
     /// Whether a number is among them.
-    #[inline]
+    #[inline(always)]
     pub(crate) fn has(&self, own: u64) -> bool
         ensures { result ≡ fin.contains_key self.now own }
     {
-        self.some && self.numbers.contains_key(own)
+        match self.marks.get(mark_of(own)) {
+            Some(marked) => *marked && self.numbers.contains_key(own),
+            None => false,
+        }
     }
 
     /// Puts these numbers to them. Where a growth is refused, there are none.
@@ -64,8 +71,10 @@ impl Dead {
         ensures ok { OnOk result (AreWith numbers.now self.old self.new) }
         ensures err { OnErr result (AreNone self.new) }
     {
-        self.some = true;
-        match put_all(&mut self.numbers, numbers) {
+        if self.marks.is_empty() {
+            self.marks.resize(MARKS, false)?;
+        }
+        match put_all(&mut self.numbers, &mut self.marks, numbers) {
             Ok(()) => Ok(()),
             Err(refused) => {
                 self.numbers = OwnMap::new(self.alloc);
@@ -79,21 +88,34 @@ impl Dead {
         requires { AreDeleted run.now self.old }
         ensures { AreNone self.new }
     {
-        if self.some {
+        if !self.marks.is_empty() {
             take_named(&mut self.numbers, run);
-            self.some = false;
+            self.marks.clear();
         }
     }
 }
 
-/// Puts these numbers into the set.
+/// The place of a number's mark.
+#[inline(always)]
+fn mark_of(own: u64) -> usize
+    ensures { result ≡ own % 4096 }
+{
+    (own % MARKS as u64) as usize
+}
+
+/// Puts these numbers into the set, and marks them.
 ///
 /// # Errors
 /// [`NoMemory`] where a growth was refused.
-fn put_all(set: &mut OwnMap<()>, numbers: &Numbers) -> Result<(), NoMemory>
-    ensures { OnOk result (AreWith numbers.now set.old set.new) }
+fn put_all(set: &mut OwnMap<()>, marks: &mut Vec<bool>, numbers: &Numbers) -> Result<(), NoMemory>
+    requires marks { length marks.old.items ≡ 4096 }
+    requires marked { HaveMarks marks.old.items set.old }
+    ensures put { OnOk result (AreWith numbers.now set.old set.new) }
+    ensures marked { OnOk result (HaveMarks marks.new.items set.new) }
+    ensures marks { length marks.new.items ≡ 4096 }
 {
     for own in numbers.iter() {
+        marks[mark_of(own)] = true;
         set.insert(own, ())?;
     }
     Ok(())

@@ -16,9 +16,9 @@ use std::marker::Model;
 /// A call takes constant time for a number up to a bound that follows how many there are, and O(log n) time for others.
 #[derive(Drop)]
 pub(crate) struct OwnClauses {
-    /// Whether each number of the opening was given up.
+    /// Whether each number of the opening was given up or bound anew.
     given_up: Vec<bool>,
-    /// Numbers of the opening that were bound anew.
+    /// Those of them that are bound anew.
     rebound: Bindings,
     /// The numbers behind those of the opening, counted from there.
     late: Bindings,
@@ -54,7 +54,7 @@ impl OwnClauses {
     }
 
     /// The clause of an own number, where the opening's formula is this one.
-    #[inline]
+    #[inline(always)]
     pub(crate) fn clause<'a>(&'a self, formula: &'a Formula, own: u64) -> Option<&'a Clause>
         ensures { option_copied result ≡ own_clause formula.now self.now own }
     {
@@ -62,15 +62,14 @@ impl OwnClauses {
         if own >= end {
             return self.late.clause(own - end);
         }
-        match self.rebound.clause(own) {
-            Some(clause) => Some(clause),
-            None if self.given_up[own as usize] => None,
-            None => formula.clause(own),
+        if self.given_up[own as usize] {
+            return self.rebound.clause(own);
         }
+        formula.clause(own)
     }
 
     /// The same, as a view.
-    #[inline]
+    #[inline(always)]
     pub(crate) fn get<'a>(&'a self, formula: &'a Formula, own: u64) -> Option<ClauseView<'a>>
         ensures { result ≡ own_clause formula.now self.now own }
     {
@@ -91,11 +90,8 @@ impl OwnClauses {
         if own >= end {
             return self.late.pair(own - end);
         }
-        if let Some(pair) = self.rebound.pair(own)? {
-            return Ok(Some(pair));
-        }
         if self.given_up[own as usize] {
-            return Ok(None);
+            return self.rebound.pair(own);
         }
         first_pair(formula, own)
     }
@@ -114,7 +110,9 @@ impl OwnClauses {
         if own >= end {
             return self.late.insert(own - end, clause);
         }
-        self.rebound.insert(own, clause)
+        self.rebound.insert(own, clause)?;
+        self.given_up[own as usize] = true;
+        Ok(())
     }
 
     /// Sets the joint number of an own number that was bound under the joint number 0.

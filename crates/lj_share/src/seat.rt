@@ -315,7 +315,7 @@ impl<'a, L: BookId> Model for SeenClauses<'a, L> {
 impl<L: BookId> Clauses for SeenClauses<'_, L> {
     ghost clauses = { λ s. s };
 
-    #[inline]
+    #[inline(always)]
     fn clause(&self, own: u64) -> Option<ClauseView<'_>> {
         if self.dead.has(own) {
             return None;

@@ -1,5 +1,5 @@
 -- Own numbers that deletions of a run name.
-use Rattle.std.specs.Prelude.{◌≡◌, ◌||◌, ℕ, Bool, true, false, if◌then◌else◌, List, [], ◌∷◌}
+use Rattle.std.specs.Prelude.{◌≡◌, ◌%◌, ◌||◌, ℕ, Bool, true, false, if◌then◌else◌, List, [], ◌∷◌, Some, slice_get}
 use Rattle.std.specs.Ordering.{nat_cmp}
 use Rattle.std.specs.FinMap as fin
 use Rattle.lj_book.specs.Tables.{is_among}
@@ -14,6 +14,10 @@ DeadValue = fin.FinMap nat_cmp (Unit {0})
 -- There is none.
 abbrev pub AreNone : DeadValue → Type 0
 AreNone d = (n : ℕ) → fin.contains_key d n ≡ false
+
+-- Each number that is there has its mark, which others may share.
+abbrev pub HaveMarks : List Bool → DeadValue → Type 0
+HaveMarks marks d = (n : ℕ) → fin.contains_key d n ≡ true → slice_get marks (n % 4096) ≡ Some true
 
 -- These numbers are there too.
 abbrev pub AreWith : List ℕ → DeadValue → DeadValue → Type 0

@@ -1,5 +1,5 @@
 -- What the lock keeps, and what a seat keeps of what it sees.
-use Rattle.std.specs.Prelude.{◌≡◌, ◌==◌, ◌-◌, ℕ, nat_lt, Bool, false, if◌then◌else◌, List, [], length, Result, Option, None, Some, slice_get, IsSome, is_some, option_map, map}
+use Rattle.std.specs.Prelude.{◌≡◌, ◌==◌, ◌-◌, ℕ, nat_lt, Bool, true, false, if◌then◌else◌, List, [], length, Result, Option, None, Some, slice_get, IsSome, is_some, option_map, map}
 use Rattle.std.specs.FinMap as fin
 use Rattle.lj_clause.specs.LiteralSet.{LiteralSet}
 use Rattle.lj_clause.specs.ClauseMap.{ClauseMap, FormulaValue, formula_map}
@@ -54,8 +54,8 @@ clauses_seen (Some h) = fin.from_entries (map (λ e. (e.0, e.1.clause)) (fin.ent
 
 -- ---- what a seat keeps
 
--- Which numbers of the opening a seat gave up, and what it bound numbers of the opening and those behind them to, which are counted
--- from there.
+-- Which numbers of the opening a seat gave up or bound anew, and what it bound numbers of the opening and those behind them to, which
+-- are counted from there.
 pub record OwnValue : Type 0 where
   pub given_up : List Bool
   pub rebound : BindingsValue
@@ -65,15 +65,11 @@ pub record OwnValue : Type 0 where
 abbrev pub first_pair : FormulaValue → ℕ → Option Pair
 first_pair f own = option_map (λ c. record { joint = own; clause = c }) (fin.get (formula_map f) own)
 
--- what a number of the opening was bound to there, unless it was given up, or is none of the opening's
-abbrev pub unless_given_up : Option Bool → Option Pair → Option Pair
-unless_given_up (Some false) pair = pair
-unless_given_up _ pair = None
-
--- what a number of the opening is bound to: a later binding stands before that of the opening
+-- what a number of the opening is bound to: what it was bound to there, unless it was given up since, or bound anew
 abbrev pub early_pair : Option Pair → Option Bool → Option Pair → Option Pair
-early_pair (Some pair) given_up first = Some pair
-early_pair None given_up first = unless_given_up given_up first
+early_pair later (Some false) first = first
+early_pair later (Some true) first = later
+early_pair later None first = later
 
 -- what an own number is bound to
 abbrev pub own_pair : FormulaValue → OwnValue → ℕ → Option Pair

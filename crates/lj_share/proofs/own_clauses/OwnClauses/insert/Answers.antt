@@ -1,9 +1,10 @@
-use Rattle.std.proofs.Common.{◌≡◌, refl, ◌∙◌, subst, ◌-◌, ◌≤◌, ◌<◌, length, ℕ, Some}
+use Rattle.std.proofs.Common.{◌≡◌, refl, ◌∙◌, subst, ◌-◌, ◌≤◌, ◌<◌, length, ℕ, Some, true}
+use Rattle.std.specs.Prelude.{slice_set}
 use Rattle.lj_clause.specs.LiteralSet.{LiteralSet}
 use Rattle.lj_book.proofs.TableLaws.{ok_then}
 use Rattle.lj_share.specs.inner.Bindings.{IsSet}
 use Rattle.lj_share.specs.inner.Seats.{OwnValue, IsUpdated, AreSamePairs}
-use Rattle.lj_share.proofs.OwnLaws.{late_set, early_put, late_same, early_same, err_then}
+use Rattle.lj_share.proofs.OwnLaws.{late_set, early_set, late_same, err_then}
 use Rattle.lj_share.proofs.own_clauses.OwnClauses.insert.Goals as goal
 
 pub returns-then-own-end-clause-ok : goal.returns-then-own-end-clause-ok
@@ -26,16 +27,9 @@ returns-then-own-end-clause-err c =
 pub returns-clause-ok : goal.returns-clause-ok
 returns-clause-ok c =
     let o : OwnValue = record { given_up = c.self.inside.given_up.items; rebound = c.self.inside.rebound; late = c.self.inside.late } in
-    let p : OwnValue = record { given_up = c.self.inside.given_up.items; rebound = c.insert-2.new.self; late = c.self.inside.late } in
+    let p : OwnValue = record { given_up = slice_set o.given_up c.args.own true; rebound = c.insert-2.new.self; late = c.self.inside.late } in
     let end : c.len-end.result ≡ length o.given_up = c.len-end.ensures ∙ c.self.inside.given_up.ok.0 in
     let within : c.args.own < length o.given_up = subst (λ (n : ℕ). c.args.own < n) end c.if-own-end.false in
-    ok_then c.insert-2.result c.insert-2.ensures.ok (λ set.
     subst (λ (x : OwnValue). IsUpdated x c.args.own (Some (record { joint = 0; clause = c.args.clause.now })) p) c.self.view_is
-    (early_put o p c.args.own (record { joint = 0; clause = c.args.clause.now }) within refl refl
-    (subst (λ (x : LiteralSet). IsSet o.rebound c.args.own (Some (record { joint = 0; clause = x })) p.rebound) c.in_ok-clause.ensures set)))
-
-pub returns-clause-err : goal.returns-clause-err
-returns-clause-err c =
-    let o : OwnValue = record { given_up = c.self.inside.given_up.items; rebound = c.self.inside.rebound; late = c.self.inside.late } in
-    let p : OwnValue = record { given_up = c.self.inside.given_up.items; rebound = c.insert-2.new.self; late = c.self.inside.late } in
-    err_then c.insert-2.result c.insert-2.ensures.err (λ same. subst (λ (x : OwnValue). AreSamePairs x p) c.self.view_is (early_same o p refl refl same))
+    (early_set o p c.args.own (Some (record { joint = 0; clause = c.args.clause.now })) within refl refl
+    (subst (λ (x : LiteralSet). IsSet o.rebound c.args.own (Some (record { joint = 0; clause = x })) p.rebound) c.in_ok-clause.ensures c.in_ok-insert.ensures.ok))

@@ -6,4 +6,4 @@ use Rattle.lj_share.proofs.own_clauses.OwnClauses.new.Goals as goal
 pub returns : goal.returns
 returns c = new_clauses c.args.formula.now _
     (c.in_ok-from_elem.ensures.items_if_clones_equal (λ y e. e) ∙ ap (λ (n : ℕ). replicate (n + 1) false) c.len.ensures.len)
-    c.new.ensures c.new-2.ensures
+    c.new-2.ensures

@@ -2,7 +2,7 @@ use Rattle.std.proofs.Common.{◌≡◌, refl, ◌∙◌, subst, ◌-◌, ◌≤
 use Rattle.std.specs.Prelude.{slice_set}
 use Rattle.lj_share.specs.inner.Bindings.{IsSet}
 use Rattle.lj_share.specs.inner.Seats.{OwnValue, IsUpdated}
-use Rattle.lj_share.proofs.OwnLaws.{late_set, early_taken}
+use Rattle.lj_share.proofs.OwnLaws.{late_set, early_set}
 use Rattle.lj_share.proofs.own_clauses.OwnClauses.remove.Goals as goal
 
 pub returns-then-own-end : goal.returns-then-own-end
@@ -21,4 +21,4 @@ returns c =
     let end : c.len-end.result ≡ length o.given_up = c.len-end.ensures ∙ c.self.inside.given_up.ok.0 in
     let within : c.args.own < length o.given_up = subst (λ (n : ℕ). c.args.own < n) end c.if-own-end.false in
     subst (λ (x : OwnValue). IsUpdated x c.args.own None p) c.self.view_is
-    (early_taken o p c.args.own within refl refl c.remove-2.ensures)
+    (early_set o p c.args.own None within refl refl c.remove-2.ensures)
