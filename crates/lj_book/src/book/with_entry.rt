@@ -1,4 +1,4 @@
-//! Calls that also tell the entry that they make: a copy, made before the book changes.
+//! Calls that also give a copy of the entry that they make.
 ghost use Rattle.std.specs.Prelude.{◌≡◌, if◌then◌else◌, Some, None, OnOk, OnErr, IfOk, IfErr, IfSome, Err};
 ghost use Rattle.lj_book.specs.Calls.{IsReplyBy, drop_entry, adopt_entry, leave_entry};
 ghost use Rattle.lj_book.specs.WithEntry.{without_receipt};

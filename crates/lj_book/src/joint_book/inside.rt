@@ -69,9 +69,11 @@ impl JointBook {
             joints,
             propagator,
         ) {
+            clear(&mut self.joint_groups);
             return Err(refusal);
         }
         if self.added >= self.max_steps {
+            clear(&mut self.joint_groups);
             return Err(Refusal::Full);
         }
         let _ = has_pivot(&addition.lemma);
