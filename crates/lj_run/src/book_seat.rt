@@ -69,8 +69,8 @@ impl Entering for BookSeat {
     ghost use Rattle.lj_run.specs.Run.{has_verdict};
     ghost use Rattle.lj_run.specs.inner.BookSeat.{LeadsOn, no_lead, leads_further};
 
-    /// A line's memory is used again for the next one.
-    const BLOCK: usize = 1;
+    /// Few, so that the memory of their lines, which is used again for the next ones, stays near.
+    const BLOCK: usize = 16;
 
     ghost entered = { λ from lines to. LeadsOn from.number from.book lines to.number to.book };
 
