@@ -8,7 +8,7 @@ use Rattle.std.specs.Cmp.{nat_cmp_total, unsigned_tied}
 use Rattle.std.specs.FinMap as fin
 use Rattle.lj_clause.proofs.Tests.{turned}
 use Rattle.lj_book.specs.Tables.{is_among}
-use Rattle.lj_share.specs.inner.Dead.{AreNone, AreWith, AreWithout, DeadValue, HaveMarks}
+use Rattle.lj_share.specs.inner.Dead.{AreNone, AreWith, AreWithout, DeadValue, AreFlagged}
 use Rattle.lj_share.proofs.OwnLaws.{set_at, set_apart}
 
 pub none_dead : (d : DeadValue) → d ≡ fin.empty → AreNone d
@@ -63,25 +63,25 @@ without_more ns own d e g are is n =
     around true b c = refl
     around false b c = refl
 
--- ---- marks
+-- ---- flags
 
-pub none_marked : (marks : List Bool) (d : DeadValue) → d ≡ fin.empty → HaveMarks marks d
-none_marked marks d is n has = absurd (false≢true (sym (none_dead d is n) ∙ has))
+pub none_flagged : (flags : List Bool) (d : DeadValue) → d ≡ fin.empty → AreFlagged flags d
+none_flagged flags d is n has = absurd (false≢true (sym (none_dead d is n) ∙ has))
 
--- a mark stays where another is made
-still_marked : (marks : List Bool) (i k : ℕ) → slice_get marks k ≡ Some true → slice_get (slice_set marks i true) k ≡ Some true
-still_marked marks i k is = by (k == i) refl
+-- a flag stays where another is made
+still_flagged : (flags : List Bool) (i k : ℕ) → slice_get flags k ≡ Some true → slice_get (slice_set flags i true) k ≡ Some true
+still_flagged flags i k is = by (k == i) refl
   where
-    by : (b : Bool) → (k == i) ≡ b → slice_get (slice_set marks i true) k ≡ Some true
-    by true e = subst (λ (j : ℕ). slice_get (slice_set marks j true) k ≡ Some true) (eqb-true k i e) (set_at marks k true (slice_get_within marks k true is))
-    by false e = set_apart marks i k true (λ same. false≢true (sym e ∙ eq-eqb k i same)) ∙ is
+    by : (b : Bool) → (k == i) ≡ b → slice_get (slice_set flags i true) k ≡ Some true
+    by true e = subst (λ (j : ℕ). slice_get (slice_set flags j true) k ≡ Some true) (eqb-true k i e) (set_at flags k true (slice_get_within flags k true is))
+    by false e = set_apart flags i k true (λ same. false≢true (sym e ∙ eq-eqb k i same)) ∙ is
 
-pub marked_more : (marks : List Bool) (own i : ℕ) (d e : DeadValue) → i ≡ own % 4096 → length marks ≡ 4096 → HaveMarks marks d → e ≡ fin.insert d own tt → HaveMarks (slice_set marks i true) e
-marked_more marks own i d e at many are is n has = by (n == own) refl
+pub flagged_more : (flags : List Bool) (own i : ℕ) (d e : DeadValue) → i ≡ own % 4096 → length flags ≡ 4096 → AreFlagged flags d → e ≡ fin.insert d own tt → AreFlagged (slice_set flags i true) e
+flagged_more flags own i d e at many are is n has = by (n == own) refl
   where
     there : ((n == own) || fin.contains_key d n) ≡ true
     there = sym (put_at d own n) ∙ sym (ap (λ (k : DeadValue). fin.contains_key k n) is) ∙ has
 
-    by : (b : Bool) → (n == own) ≡ b → slice_get (slice_set marks i true) (n % 4096) ≡ Some true
-    by true e = subst (λ (k : ℕ). slice_get (slice_set marks i true) k ≡ Some true) (at ∙ ap (λ (m : ℕ). m % 4096) (sym (eqb-true n own e))) (set_at marks i true (omega (arith, at, many)))
-    by false e = still_marked marks i (n % 4096) (are n (sym (ap (λ b. b || fin.contains_key d n) e) ∙ there))
+    by : (b : Bool) → (n == own) ≡ b → slice_get (slice_set flags i true) (n % 4096) ≡ Some true
+    by true e = subst (λ (k : ℕ). slice_get (slice_set flags i true) k ≡ Some true) (at ∙ ap (λ (m : ℕ). m % 4096) (sym (eqb-true n own e))) (set_at flags i true (omega (arith, at, many)))
+    by false e = still_flagged flags i (n % 4096) (are n (sym (ap (λ b. b || fin.contains_key d n) e) ∙ there))

@@ -1,7 +1,7 @@
 //! Own numbers that the deletions of a run name.
 ghost use Rattle.std.specs.Prelude.{◌≡◌, ◌%◌, length, OnOk, OnErr};
 ghost use Rattle.std.specs.FinMap as fin;
-ghost use Rattle.lj_share.specs.inner.Dead.{AreDeleted, AreNone, AreWith, AreWithout, HaveMarks};
+ghost use Rattle.lj_share.specs.inner.Dead.{AreDeleted, AreNone, AreWith, AreWithout, AreFlagged};
 
 use crate::numbered::Numbered;
 use lj_book::OwnMap;
@@ -11,23 +11,23 @@ use lj_text::{Line, Numbers};
 use std::alloc::Global;
 use std::marker::Model;
 
-/// How many marks there are.
-const MARKS: usize = 4096;
+/// How many flags there are.
+const FLAGS: usize = 4096;
 
 /// The own numbers that the deletions of a run name so far: the seat keeps their clauses yet, but its lines behind don't see them.
 ///
-/// A call takes the time of [`OwnMap`]'s for each number; for most numbers that aren't there, a look at a mark tells so.
+/// A call takes the time of [`OwnMap`]'s for each number; for most numbers that aren't there, a look at a flag tells so.
 #[derive(Drop)]
 pub(crate) struct Dead {
     numbers: OwnMap<()>,
     /// Whether a number with this remainder may be there; empty where none is.
-    marks: Vec<bool>,
+    flags: Vec<bool>,
     alloc: Global,
 }
 
 impl Model for Dead {
     ghost use Rattle.std.specs.Prelude.{◌≡◌, ◌<◌, length};
-    ghost use Rattle.lj_share.specs.inner.Dead.{DeadValue, HaveMarks};
+    ghost use Rattle.lj_share.specs.inner.Dead.{DeadValue, AreFlagged};
     ghost use Rattle.lj_share.specs.inner.OwnCode.{dead_code};
 
     ghost Value = { DeadValue };
@@ -36,8 +36,8 @@ impl Model for Dead {
 
     ghost view = { λ d. d.numbers };
 
-    ghost invariant = { λ d. (0 < length d.marks.items → length d.marks.items ≡ 4096)
-        × HaveMarks d.marks.items d.numbers };
+    ghost invariant = { λ d. (0 < length d.flags.items → length d.flags.items ≡ 4096)
+        × AreFlagged d.flags.items d.numbers };
 }
 
 impl Dead {
@@ -47,7 +47,7 @@ impl Dead {
     {
         Dead {
             numbers: OwnMap::new(alloc),
-            marks: Vec::new(alloc),
+            flags: Vec::new(alloc),
             alloc,
         }
     }
@@ -57,8 +57,8 @@ impl Dead {
     pub(crate) fn has(&self, own: u64) -> bool
         ensures { result ≡ fin.contains_key self.now own }
     {
-        match self.marks.get(mark_of(own)) {
-            Some(marked) => *marked && self.numbers.contains_key(own),
+        match self.flags.get(flag_of(own)) {
+            Some(flagged) => *flagged && self.numbers.contains_key(own),
             None => false,
         }
     }
@@ -71,10 +71,10 @@ impl Dead {
         ensures ok { OnOk result (AreWith numbers.now self.old self.new) }
         ensures err { OnErr result (AreNone self.new) }
     {
-        if self.marks.is_empty() {
-            self.marks.resize(MARKS, false)?;
+        if self.flags.is_empty() {
+            self.flags.resize(FLAGS, false)?;
         }
-        match put_all(&mut self.numbers, &mut self.marks, numbers) {
+        match put_all(&mut self.numbers, &mut self.flags, numbers) {
             Ok(()) => Ok(()),
             Err(refused) => {
                 self.numbers = OwnMap::new(self.alloc);
@@ -88,34 +88,34 @@ impl Dead {
         requires { AreDeleted run.now self.old }
         ensures { AreNone self.new }
     {
-        if !self.marks.is_empty() {
+        if !self.flags.is_empty() {
             take_named(&mut self.numbers, run);
-            self.marks.clear();
+            self.flags.clear();
         }
     }
 }
 
-/// The place of a number's mark.
+/// The place of a number's flag.
 #[inline(always)]
-fn mark_of(own: u64) -> usize
+fn flag_of(own: u64) -> usize
     ensures { result ≡ own % 4096 }
 {
-    (own % MARKS as u64) as usize
+    (own % FLAGS as u64) as usize
 }
 
-/// Puts these numbers into the set, and marks them.
+/// Puts these numbers into the set, and flags them.
 ///
 /// # Errors
 /// [`NoMemory`] where a growth was refused.
-fn put_all(set: &mut OwnMap<()>, marks: &mut Vec<bool>, numbers: &Numbers) -> Result<(), NoMemory>
-    requires marks { length marks.old.items ≡ 4096 }
-    requires marked { HaveMarks marks.old.items set.old }
+fn put_all(set: &mut OwnMap<()>, flags: &mut Vec<bool>, numbers: &Numbers) -> Result<(), NoMemory>
+    requires flags { length flags.old.items ≡ 4096 }
+    requires flagged { AreFlagged flags.old.items set.old }
     ensures put { OnOk result (AreWith numbers.now set.old set.new) }
-    ensures marked { OnOk result (HaveMarks marks.new.items set.new) }
-    ensures marks { length marks.new.items ≡ 4096 }
+    ensures flagged { OnOk result (AreFlagged flags.new.items set.new) }
+    ensures flags { length flags.new.items ≡ 4096 }
 {
     for own in numbers.iter() {
-        marks[mark_of(own)] = true;
+        flags[flag_of(own)] = true;
         set.insert(own, ())?;
     }
     Ok(())

@@ -15,9 +15,9 @@ DeadValue = fin.FinMap nat_cmp (Unit {0})
 abbrev pub AreNone : DeadValue → Type 0
 AreNone d = (n : ℕ) → fin.contains_key d n ≡ false
 
--- Each number that is there has its mark, which others may share.
-abbrev pub HaveMarks : List Bool → DeadValue → Type 0
-HaveMarks marks d = (n : ℕ) → fin.contains_key d n ≡ true → slice_get marks (n % 4096) ≡ Some true
+-- Each number that is there has its flag, which others may share.
+abbrev pub AreFlagged : List Bool → DeadValue → Type 0
+AreFlagged flags d = (n : ℕ) → fin.contains_key d n ≡ true → slice_get flags (n % 4096) ≡ Some true
 
 -- These numbers are there too.
 abbrev pub AreWith : List ℕ → DeadValue → DeadValue → Type 0
