@@ -1,5 +1,5 @@
 -- What a seat's line leaves of its book and its seat, where it is accepted.
-use Rattle.std.proofs.Common.{◌≡◌, ℕ, Bool, true, false, refl, sym, ap, subst, ◌∙◌}
+use Rattle.std.proofs.Common.{◌≡◌, ℕ, Bool, true, false, refl, sym, subst, ◌∙◌}
 use Rattle.std.specs.Prelude.{Option, Some, None, IsSomeAnd, if◌then◌else◌}
 use Rattle.lj_clause.specs.ClauseMap.{IsFormula}
 use Rattle.lj_text.specs.declared.line.Line.{Line}
