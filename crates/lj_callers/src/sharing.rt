@@ -36,6 +36,7 @@ fn prove_beside<L: BookId + Send + Sync, R: Threads + Wait + Sync>(
     requires name { opening_parts.name ≡ L.name }
     requires parts { (opening_parts.parts ≡ L.parts) × (opening_parts.parts ≡ 2) }
     requires lists { opening_parts.lists ≡ L.lists }
+    requires log { opening_parts.log ≡ L.log }
     requires opening { (formula ≡ L.formula) × (L.seats ≡ 2) × (L.max_steps ≡ 4294967295) }
     ensures { IfOk result (λ yes. yes ≡ true → IsUnsatisfiable formula) }
 {

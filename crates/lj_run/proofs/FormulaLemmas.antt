@@ -12,7 +12,7 @@ use Rattle.lj_run.specs.inner.FormulaReading.{FormulaReadOn, IsFaultAtEnd}
 use Rattle.lj_run.specs.FormulaReading.{FailedReading, IsFormulaFault, GaveAll, GaveFormula}
 use Rattle.lj_run.specs.Joint.{IsJointFault}
 use Rattle.lj_clause.specs.declared.memory.NoMemory.{NoMemory as Want}
-use Rattle.lj_run.proofs.GivenLemmas.{given_failed, given_none, given_on}
+use Rattle.lj_run.proofs.GivenLemmas.{given_failed, given_on}
 use Rattle.lj_clause.specs.declared.lit.TheConstants.{MAX_VARIABLE}
 
 -- one more pull of what was read on

@@ -17,23 +17,23 @@ use std::sync::Wait;
 
 /// What stands of a seat's calls: what is pending, and its tokens, each with the greatest number before its entry.
 #[derive(Drop)]
-struct Caller {
+struct Caller<L: BookId> {
     pending: Pending,
-    told: Vec<Told>,
+    told: Vec<Told<L>>,
     greatest: Vec<u64>,
 }
 
 /// What stands of all calls: the callers, the room of their tests, and the greatest joint number so far.
 #[derive(Drop)]
-struct Callers {
+struct Callers<L: BookId> {
     alloc: Global,
-    all: Vec<Caller>,
+    all: Vec<Caller<L>>,
     propagator: Propagator,
     greatest: u64,
 }
 
-impl Callers {
-    fn new(alloc: Global, seats: usize, greatest: u64) -> Result<Callers, NoMemory> {
+impl<L: BookId> Callers<L> {
+    fn new(alloc: Global, seats: usize, greatest: u64) -> Result<Callers<L>, NoMemory> {
         let mut all = Vec::new(alloc);
         for _ in 0..seats {
             all.push(Caller {
@@ -68,7 +68,7 @@ impl Callers {
     }
 
     /// Keeps a token.
-    fn keep(&mut self, seat: usize, told: Told, greatest: u64) -> Result<(), NoMemory> {
+    fn keep(&mut self, seat: usize, told: Told<L>, greatest: u64) -> Result<(), NoMemory> {
         if let Some(caller) = self.all.get_mut(seat) {
             caller.told.push(told)?;
             caller.greatest.push(greatest)?;
@@ -95,14 +95,14 @@ impl Callers {
 
 /// What came of a call: a token, behind a word; that a line was entered, which is an addition or isn't; or a reply.
 #[derive(Drop)]
-enum Answer {
-    Told(&'static str, Told),
+enum Answer<L: BookId> {
+    Told(&'static str, Told<L>),
     Entered(bool),
     Reply(Reply),
 }
 
-impl Answer {
-    fn of(word: &'static str, answer: Result<Told, Refusal>) -> Answer {
+impl<L: BookId> Answer<L> {
+    fn of(word: &'static str, answer: Result<Told<L>, Refusal>) -> Answer<L> {
         match answer {
             Ok(told) => Answer::Told(word, told),
             Err(refusal) => Answer::Reply(Reply::Refused(refusal)),
@@ -131,6 +131,7 @@ pub fn play_shared<L: BookId, R: Wait>(
     requires name { opening_parts.name ≡ L.name }
     requires parts { (opening_parts.parts ≡ L.parts) × (opening_parts.parts ≡ number) }
     requires lists { opening_parts.lists ≡ L.lists }
+    requires log { opening_parts.log ≡ L.log }
     requires formula { formula ≡ L.formula }
     requires seats { (0 < number) × (number ≡ L.seats) }
     requires limit { limit ≡ L.max_steps }
@@ -149,7 +150,7 @@ fn make_calls<L: BookId, R: Wait>(
     rt: &R,
     shared: &Shared<L>,
     seats: &mut [Seat<L>],
-    callers: &mut Callers,
+    callers: &mut Callers<L>,
     script: &mut Script<'_>,
     out: &mut Out,
 ) -> Result<bool, Stop> {
@@ -173,7 +174,7 @@ fn make_call<L: BookId, R: Wait>(
     rt: &R,
     shared: &Shared<L>,
     seats: &mut [Seat<L>],
-    callers: &mut Callers,
+    callers: &mut Callers<L>,
     line: &str,
     out: &mut Out,
 ) -> Result<(), Stop> {
@@ -206,10 +207,10 @@ fn call<L: BookId, R: Wait>(
     rt: &R,
     shared: &Shared<L>,
     seat: &mut Seat<L>,
-    callers: &mut Callers,
+    callers: &mut Callers<L>,
     word: &str,
     rest: &str,
-) -> Result<Answer, Stop> {
+) -> Result<Answer<L>, Stop> {
     let answer = call_once(rt, shared, seat, callers, word, rest)?;
     if answer.is_no_memory() {
         return call_once(rt, shared, seat, callers, word, rest);
@@ -221,10 +222,10 @@ fn call_once<L: BookId, R: Wait>(
     rt: &R,
     shared: &Shared<L>,
     seat: &mut Seat<L>,
-    callers: &mut Callers,
+    callers: &mut Callers<L>,
     word: &str,
     rest: &str,
-) -> Result<Answer, Stop> {
+) -> Result<Answer<L>, Stop> {
     match word {
         "submit" => submit(rt, shared, seat, &line_of(callers.alloc, rest)?),
         "enter" => enter(rt, shared, seat, &line_of(callers.alloc, rest)?),
@@ -240,9 +241,9 @@ fn call_once<L: BookId, R: Wait>(
 /// Prints what came of a call: a token by its entry, and keeps it.
 fn show<L: BookId>(
     shared: &Shared<L>,
-    callers: &mut Callers,
+    callers: &mut Callers<L>,
     seat: usize,
-    answer: Answer,
+    answer: Answer<L>,
     out: &mut Out,
 ) -> Result<(), NoMemory> {
     match answer {
@@ -264,7 +265,7 @@ fn show<L: BookId>(
 /// Prints the entry that a token shows. The answer is the greatest number behind it.
 fn show_entry<L: BookId>(
     shared: &Shared<L>,
-    told: &Told,
+    told: &Told<L>,
     greatest: u64,
     out: &mut Out,
 ) -> Result<u64, NoMemory> {
@@ -278,7 +279,7 @@ fn submit<L: BookId, R: Wait>(
     shared: &Shared<L>,
     seat: &mut Seat<L>,
     line: &Line,
-) -> Result<Answer, Stop> {
+) -> Result<Answer<L>, Stop> {
     let word = match line {
         Line::Add(_) => "Added",
         Line::Delete(_) => "Dropped",
@@ -292,7 +293,7 @@ fn enter<L: BookId, R: Wait>(
     shared: &Shared<L>,
     seat: &mut Seat<L>,
     line: &Line,
-) -> Result<Answer, Stop> {
+) -> Result<Answer<L>, Stop> {
     Ok(match shared.enter_at(rt, seat, line, 1, &NoGate) {
         Ok(()) => Answer::Entered(is_addition(line)),
         Err(refusal) => Answer::Reply(Reply::Refused(refusal)),
@@ -309,9 +310,9 @@ fn is_addition(line: &Line) -> bool {
 fn take<L: BookId>(
     shared: &Shared<L>,
     seat: &mut Seat<L>,
-    callers: &mut Callers,
+    callers: &mut Callers<L>,
     rest: &str,
-) -> Result<Answer, Stop> {
+) -> Result<Answer<L>, Stop> {
     let addition = addition_of(callers.alloc, rest)?;
     let (reply, pending) = match shared.take(seat, &addition) {
         Ok(case) => (Reply::Taken, Pending::Case(case)),
@@ -325,8 +326,8 @@ fn commit<L: BookId, R: Wait>(
     rt: &R,
     shared: &Shared<L>,
     seat: &mut Seat<L>,
-    callers: &mut Callers,
-) -> Answer {
+    callers: &mut Callers<L>,
+) -> Answer<L> {
     let number = seat.number() as usize;
     match callers.take_receipt(number) {
         Some(receipt) if receipt.seat() == seat.number() => {
@@ -347,7 +348,7 @@ fn adopt<L: BookId, R: Wait>(
     shared: &Shared<L>,
     seat: &mut Seat<L>,
     rest: &str,
-) -> Result<Answer, Stop> {
+) -> Result<Answer<L>, Stop> {
     let (own, rest) = split_number(rest)?;
     let joint = only_number(rest)?;
     Ok(Answer::of("Adopted", shared.adopt(rt, seat, own, joint)))
@@ -363,7 +364,7 @@ fn show_count(count: u64, out: &mut Out) -> Result<(), NoMemory> {
 /// The entries that a seat's tokens show.
 fn show_told<L: BookId>(
     shared: &Shared<L>,
-    callers: &Callers,
+    callers: &Callers<L>,
     seat: usize,
     out: &mut Out,
 ) -> Result<(), NoMemory> {
@@ -379,7 +380,7 @@ fn show_told<L: BookId>(
 fn close<L: BookId>(
     shared: Shared<L>,
     seats: Vec<Seat<L>>,
-    callers: &Callers,
+    callers: &Callers<L>,
     out: &mut Out,
 ) -> Result<Option<Book>, Stop>
     requires { L.parts ≡ L.seats }
@@ -393,7 +394,7 @@ fn close<L: BookId>(
 
 fn confirm_all<L: BookId>(
     closed: &Closed<L>,
-    callers: &Callers,
+    callers: &Callers<L>,
     out: &mut Out,
 ) -> Result<(), NoMemory> {
     for (seat, caller) in (0..u32::MAX).zip(&callers.all) {

@@ -1,6 +1,6 @@
 -- What a seat keeps is what it sees.
 use Rattle.std.proofs.Common.{◌≡◌, ap, refl, sym, ◌∙◌, subst, ℕ, Bool, cond, true, false}
-use Rattle.std.specs.Prelude.{◌==◌, not, List, Option, Some, None, is_some, option_map, if◌then◌else◌, IsSome, Result, Ok, Err, IfSome, OnOk}
+use Rattle.std.specs.Prelude.{◌==◌, not, List, Option, Some, None, is_some, option_map, if◌then◌else◌, IsSome, Result, Err, IfSome}
 use Rattle.std.specs.declared.cmp.Ordering.TheVariants.{Equal}
 use Rattle.std.specs.Ordering.{nat_cmp}
 use Rattle.std.specs.Cmp.{nat_cmp_total, unsigned_tied}
@@ -242,11 +242,6 @@ whether_kept f o n clause found b looked is known = by (own_pair f o n) ∙ ap i
     by : (x : Option Pair) → is_some x ≡ is_some (option_map (λ (p : Pair). p.clause) x)
     by None = refl
     by (Some p) = refl
-
--- what holds anyhow holds where the answer is no refusal
-pub ok_by : {T E : Type 0} (r : Result T E) {P : Type 0} → P → OnOk r P
-ok_by (Ok x) p = p
-ok_by (Err e) p = tt
 
 -- ---- clauses
 

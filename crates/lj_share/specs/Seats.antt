@@ -2,6 +2,7 @@
 use Rattle.std.specs.Prelude.{◌≡◌, ◌<◌, ℕ, zero, suc, ◌+◌, Bool, true, false, List, [], ◌∷◌, ◌++◌, length, All, Option, None, Some, option_map, IfSome}
 use Rattle.std.specs.FinMap as fin
 use Rattle.std.specs.List.{list_any}
+use Rattle.boxcar.specs.Table.{Shelves}
 use Rattle.lj_clause.specs.LiteralSet.{LiteralSet}
 use Rattle.lj_clause.specs.ClauseMap.{FormulaValue}
 use Rattle.lj_book.specs.declared.entry.Call.{Call}
@@ -93,12 +94,13 @@ pub record IsOpenedAs (formula : FormulaValue) (seats max_steps : ℕ)
   pub seats_are : length book.tables ≡ seats
   pub limit_is : book.max_steps ≡ max_steps
 
--- What a new opening is made of: the name of its ledger, into how many parts that is cut, and the names of its seats' halves, by
--- seat.
+-- What a new opening is made of: the name of its ledger, into how many parts that is cut, the names of its seats' halves, by seat,
+-- and the shelves of its log.
 pub record OpeningPartsValue : Type 0 where
   pub name : ℕ
   pub parts : ℕ
   pub lists : List ℕ
+  pub log : Shelves
 
 -- What a reader's note knows: which book's verdict it is for, by the name of its cell, and the place of the verdict that it has seen.
 pub record NoteValue : Type 0 where

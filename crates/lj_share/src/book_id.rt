@@ -7,6 +7,7 @@ use std::sync::ledger::Ledger;
 /// generic over it, and is called with [`Brand`].
 pub trait BookId: Ledger {
     ghost use Rattle.std.specs.Prelude.{ℕ, List};
+    ghost use Rattle.boxcar.specs.Table.{Shelves};
     ghost use Rattle.lj_clause.specs.ClauseMap.{FormulaValue};
 
     ghost formula: { FormulaValue };
@@ -17,6 +18,9 @@ pub trait BookId: Ledger {
 
     // The names of the lists of its seats' calls, by seat.
     ghost lists: { List ℕ };
+
+    // The names of the shelves of its log.
+    ghost log: { Shelves };
 }
 
 impl BookId for Brand {
@@ -29,4 +33,6 @@ impl BookId for Brand {
     ghost max_steps = { 0 };
 
     ghost lists = { [] };
+
+    ghost log = { record { tag = []; buckets = [] } };
 }

@@ -4,6 +4,7 @@ ghost use Rattle.lj_share.specs.Entries.{entries_of};
 ghost use Rattle.lj_share.specs.Seats.{IsOpenedAs};
 
 use crate::book_id::BookId;
+use crate::entry_log::EntryLog;
 use crate::told::Told;
 use lj_book::Book;
 use std::marker::{Model, PhantomData};
@@ -12,6 +13,7 @@ use std::marker::{Model, PhantomData};
 #[derive(Drop)]
 pub struct Closed<L: BookId> {
     book: Book,
+    log: EntryLog<L>,
     opening: PhantomData<L>,
 }
 
@@ -30,13 +32,14 @@ impl<L: BookId> Model for Closed<L> {
 }
 
 impl<L: BookId> Closed<L> {
-    /// The closed book of this one.
-    pub(crate) fn new(book: Book) -> Closed<L>
+    /// The closed book of this one, with the log of its opening.
+    pub(crate) fn new(book: Book, log: EntryLog<L>) -> Closed<L>
         requires { IsOpenedAs L.formula L.seats L.max_steps book }
         ensures { result ≡ book }
     {
         Closed {
             book,
+            log,
             opening: PhantomData,
         }
     }
@@ -59,15 +62,16 @@ impl<L: BookId> Closed<L> {
 
     /// Whether the seat's entries in the history are exactly those of these tokens, in this order. Takes no memory, and
     /// time linear in the history and in the contents of the seat's entries.
-    pub fn confirm(&self, seat: u32, told: &[Told]) -> bool
+    pub fn confirm(&self, seat: u32, told: &[Told<L>]) -> bool
         ensures { IsTrue result ↔ (entries_of seat self.now.history ≡ told.now) }
     {
+        let log = &self.log;
         let mut rest = told;
         for position in 0..self.book.history_len() {
             if let Some(by) = self.book.seat_at(position) {
                 if by == seat {
                     match rest.split_first() {
-                        Some((first, others)) if self.book.is_entry(position, &first.entry) => {
+                        Some((first, others)) if self.book.is_entry(position, log.entry(first)) => {
                             rest = others;
                         }
                         _ => return false,

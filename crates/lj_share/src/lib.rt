@@ -9,6 +9,7 @@ mod book_id;
 mod closed;
 mod copies;
 mod dead;
+mod entry_log;
 mod gate;
 mod kept;
 pub mod laws;

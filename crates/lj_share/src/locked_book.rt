@@ -20,7 +20,6 @@ use crate::lists::Lists;
 use crate::numbered::Numbered;
 use crate::own_clauses::OwnClauses;
 use crate::seat::Unlocked;
-use crate::told::Told;
 use crate::verdict::Verdict;
 use crate::with_entry;
 use lj_book::{Book, Entry, Refusal};
@@ -100,12 +99,12 @@ impl<L: BookId> LockedBook<L> {
         (book, entries, lists, rest)
     }
 
-    /// Commits a receipt of the seat; gives its token, and the joint number of its lemma.
+    /// Commits a receipt of the seat; gives its entry, and the joint number of its lemma.
     pub(crate) fn commit(
         &mut self,
         account: &mut Account<L>,
         receipt: Receipt,
-    ) -> Result<(Told, u64), (Refusal, Receipt)>
+    ) -> Result<(Entry, u64), (Refusal, Receipt)>
         requires { receipt.seat ≡ account.old.number }
         ensures told { IfOk result
             (λ done. IsEntryOf account.old.number (calls.Add receipt.own receipt.lemma) done.0) }
@@ -129,14 +128,13 @@ impl<L: BookId> LockedBook<L> {
         match book.commit_with_entry(receipt) {
             Ok((added, entry)) => {
                 account.count_one(entries, lists, book);
-                let entry = entry.into_inner();
-                Ok((Told { entry }, added.joint))
+                Ok((entry.into_inner(), added.joint))
             }
             Err(refused) => Err(refused),
         }
     }
 
-    /// Enters a line of the seat; gives its token where one is asked for, and the joint number that a number of the line is bound to.
+    /// Enters a line of the seat; gives its entry where it is asked for, and the joint number that a number of the line is bound to.
     /// An addition is tested here, unless what the seat sees decided it.
     pub(crate) fn enter(
         &mut self,
@@ -144,7 +142,7 @@ impl<L: BookId> LockedBook<L> {
         line: &Line,
         unlocked: Unlocked,
         with_entry: bool,
-    ) -> Result<(Option<Told>, u64), Refusal>
+    ) -> Result<(Option<Entry>, u64), Refusal>
         requires { IsTestedAs account.old.view account.old.number line.now unlocked }
         ensures told { IfOk result
             (λ done. IsTokenOf with_entry account.old.number (call_of line.now) done.0) }
@@ -174,7 +172,7 @@ impl<L: BookId> LockedBook<L> {
         ) {
             Ok((entry, joint)) => {
                 account.count_one(entries, lists, book);
-                Ok((token(entry), joint))
+                Ok((entry, joint))
             }
             Err(refusal) => Err(refusal),
         }
@@ -225,7 +223,7 @@ impl<L: BookId> LockedBook<L> {
         kept: &mut Option<OwnClauses>,
         own: u64,
         joint: u64,
-    ) -> Result<Told, Refusal>
+    ) -> Result<Entry, Refusal>
         requires formula { formula.now ≡ L.formula }
         requires own { IsOwnOf L.formula kept.old account.old.view }
         requires free { solo_refusal account.old.view own ≡ None }
@@ -256,7 +254,7 @@ impl<L: BookId> LockedBook<L> {
             Ok((_, entry)) => {
                 account.count_one(entries, lists, book);
                 settle(kept, own, joint);
-                Ok(Told { entry })
+                Ok(entry)
             }
             Err(refusal) => {
                 unbind(kept, own);
@@ -266,7 +264,7 @@ impl<L: BookId> LockedBook<L> {
     }
 
     /// Ends the seat's bindings in the book.
-    pub(crate) fn leave(&mut self, account: &mut Account<L>) -> Result<Told, Refusal>
+    pub(crate) fn leave(&mut self, account: &mut Account<L>) -> Result<Entry, Refusal>
         ensures told { IfOk result (IsEntryOf account.old.number calls.Leave) }
         ensures made { OnOk result (IsMaking calls.Leave account.old account.new) }
         ensures free { OnOk result (gone_refusal account.old.view ≡ None) }
@@ -284,19 +282,9 @@ impl<L: BookId> LockedBook<L> {
         match book.leave_with_entry(account.number()) {
             Ok((_, entry)) => {
                 account.count_one(entries, lists, book);
-                Ok(Told { entry })
+                Ok(entry)
             }
             Err(refusal) => Err(refusal),
         }
-    }
-}
-
-/// The token of an entry, if there is one.
-fn token(entry: Option<Entry>) -> Option<Told>
-    ensures { result ≡ entry }
-{
-    match entry {
-        Some(entry) => Some(Told { entry }),
-        None => None,
     }
 }

@@ -2,17 +2,19 @@
 ghost use Rattle.std.specs.Prelude.{◌≡◌, IfOk};
 
 use crate::copies::{BookCopy, SeatCopy, new_copies};
+use lj_book::Entry;
 use lj_clause::NoMemory;
 use std::alloc::Global;
 use std::marker::Model;
 use std::sync::ledger;
 
-/// What a new opening is made of: a ledger with a part for each seat, and two copies of each seat.
+/// What a new opening is made of: a ledger with a part for each seat, two copies of each seat, and an empty log.
 #[derive(Drop)]
 pub struct OpeningParts {
     pub(crate) ledger: ledger::Blank,
     pub(crate) locked_book: Vec<BookCopy>,
     pub(crate) seats: Vec<SeatCopy>,
+    pub(crate) log: boxcar::Vec<Entry>,
 }
 
 impl Model for OpeningParts {
@@ -28,6 +30,7 @@ impl Model for OpeningParts {
       name = b.ledger.name;
       parts = b.ledger.parts;
       lists = map (λ c. c.name) b.seats.items;
+      log = b.log;
     } };
 
     ghost invariant = { λ b. (map (λ c. c.name) b.locked_book.items
@@ -54,6 +57,7 @@ impl OpeningParts {
             ledger: ledger::Blank::new(u64::from(seats)),
             locked_book,
             seats: copies,
+            log: boxcar::Vec::new(alloc)?,
         })
     }
 }

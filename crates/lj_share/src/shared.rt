@@ -19,6 +19,7 @@ use crate::account::Account;
 use crate::book_id::BookId;
 use crate::closed::Closed;
 use crate::copies::SeatCopy;
+use crate::entry_log::EntryLog;
 use crate::gate::{Gate, NoGate};
 use crate::kept::{begin, bind_ahead, finish, free, settle, take_back, unbind};
 use crate::lists::Lists;
@@ -57,6 +58,8 @@ pub struct Shared<L: BookId> {
     locked_book: Mutex<LockedBook<L>>,
     /// The verdict, once an entry has added the empty clause and it was published.
     verdict: OnceBox<Verdict<L>>,
+    /// The entries of the tokens, which are read without the lock. Only a call that holds the lock adds to them.
+    log: EntryLog<L>,
     seats: u32,
     /// The formula once more, so that its clauses are read without the lock.
     formula: Formula,
@@ -98,6 +101,7 @@ impl<L: BookId> Shared<L> {
         requires name { opening_parts.name ≡ L.name }
         requires parts { (opening_parts.parts ≡ L.parts) × (opening_parts.parts ≡ seats) }
         requires lists { opening_parts.lists ≡ L.lists }
+        requires log { opening_parts.log ≡ L.log }
         requires formula { formula ≡ L.formula }
         requires seats { (0 < seats) × (seats ≡ L.seats) }
         requires limit { max_steps ≡ L.max_steps }
@@ -109,6 +113,7 @@ impl<L: BookId> Shared<L> {
             ledger,
             locked_book,
             seats: copies,
+            log,
         } = opening_parts;
         let (entries, mut rest) = ledger.open::<L>();
         let mut lists = Lists::new(locked_book);
@@ -116,6 +121,7 @@ impl<L: BookId> Shared<L> {
         let shared = Shared {
             locked_book: Mutex::new(LockedBook::new(alloc, book, entries, lists, rest)),
             verdict: OnceBox::new(alloc),
+            log: EntryLog::new(log),
             seats,
             formula: shown,
             alloc,
@@ -131,7 +137,12 @@ impl<L: BookId> Shared<L> {
     ///
     /// # Errors
     /// The refusals of [`Book`]'s calls.
-    pub fn submit<R: Wait>(&self, rt: &R, seat: &mut Seat<L>, line: &Line) -> Result<Told, Refusal>
+    pub fn submit<R: Wait>(
+        &self,
+        rt: &R,
+        seat: &mut Seat<L>,
+        line: &Line,
+    ) -> Result<Told<L>, Refusal>
         ensures told { IfOk result (λ told. IsEntryOf seat.old.number (call_of line.now) told) }
         ensures made { OnOk result (IsMaking (call_of line.now) seat.old seat.new) }
         ensures free { OnOk result (line_refusal seat.old line.now ≡ None) }
@@ -157,7 +168,7 @@ impl<L: BookId> Shared<L> {
         line: &Line,
         at: u64,
         gate: &G,
-    ) -> Result<Told, Refusal>
+    ) -> Result<Told<L>, Refusal>
         ensures told { IfOk result (λ told. IsEntryOf seat.old.number (call_of line.now) told) }
         ensures made { OnOk result (IsMaking (call_of line.now) seat.old seat.new) }
         ensures free { OnOk result (line_refusal seat.old line.now ≡ None) }
@@ -354,7 +365,7 @@ impl<L: BookId> Shared<L> {
         at: u64,
         gate: &G,
         with_entry: bool,
-    ) -> Result<Option<Told>, Refusal>
+    ) -> Result<Option<Told<L>>, Refusal>
         ensures told { IfOk result (IsTokenOf with_entry seat.old.number (call_of line.now)) }
         ensures made { OnOk result (IsMaking (call_of line.now) seat.old seat.new) }
         ensures free { OnOk result (line_refusal seat.old line.now ≡ None) }
@@ -380,7 +391,7 @@ impl<L: BookId> Shared<L> {
         at: u64,
         gate: &G,
         with_entry: bool,
-    ) -> Result<Option<Told>, Refusal>
+    ) -> Result<Option<Told<L>>, Refusal>
         ensures told { IfOk result (IsTokenOf with_entry seat.old.number (call_of line.now)) }
         ensures made { OnOk result (IsMaking (call_of line.now) seat.old seat.new) }
         ensures free { OnOk result (line_refusal seat.old line.now ≡ None) }
@@ -402,7 +413,7 @@ impl<L: BookId> Shared<L> {
         gate: &G,
         unlocked: Unlocked,
         with_entry: bool,
-    ) -> Result<Option<Told>, Refusal>
+    ) -> Result<Option<Told<L>>, Refusal>
         requires { IsTestedAs seat.old.view seat.old.number line.now unlocked }
         ensures told { IfOk result (IsTokenOf with_entry seat.old.number (call_of line.now)) }
         ensures made { OnOk result (IsMaking (call_of line.now) seat.old seat.new) }
@@ -423,7 +434,9 @@ impl<L: BookId> Shared<L> {
         gate.pass(number, at);
         let mut locked_book = self.locked_book(rt);
         gate.locked(number, at);
-        let answer = locked_book.enter(account, line, unlocked, with_entry);
+        let answer = self
+            .log
+            .enter(rt, &mut locked_book, account, line, unlocked, with_entry);
         self.release(locked_book);
         gate.answered(number, at);
         match answer {
@@ -469,7 +482,7 @@ impl<L: BookId> Shared<L> {
         rt: &R,
         seat: &mut Seat<L>,
         receipt: Receipt,
-    ) -> Result<Told, (Refusal, Receipt)>
+    ) -> Result<Told<L>, (Refusal, Receipt)>
         requires { receipt.seat ≡ seat.old.number }
         ensures told { IfOk result
             (IsEntryOf seat.old.number (calls.Add receipt.own receipt.lemma)) }
@@ -491,14 +504,18 @@ impl<L: BookId> Shared<L> {
             return Err((refusal, receipt));
         }
         let mut locked_book = self.locked_book.lock(rt);
-        let answer = locked_book.commit(account, receipt);
-        self.release(locked_book);
-        match answer {
-            Ok((told, joint)) => {
+        if let Err(refused) = self.log.reserve() {
+            unbind(kept, own);
+            return Err((refused.into(), receipt));
+        }
+        match locked_book.commit(account, receipt) {
+            Ok((entry, joint)) => {
+                let told = self.keep(rt, locked_book, entry);
                 settle(kept, own, joint);
                 Ok(told)
             }
             Err(refused) => {
+                self.release(locked_book);
                 unbind(kept, own);
                 Err(refused)
             }
@@ -516,7 +533,7 @@ impl<L: BookId> Shared<L> {
         seat: &mut Seat<L>,
         own: u64,
         joint: u64,
-    ) -> Result<Told, Refusal>
+    ) -> Result<Told<L>, Refusal>
         ensures told { IfOk result (IsEntryOf seat.old.number (calls.Adopt own joint)) }
         ensures made { OnOk result (IsMaking (calls.Adopt own joint) seat.old seat.new) }
         ensures free { OnOk result (solo_refusal seat.old.view own ≡ None) }
@@ -533,9 +550,9 @@ impl<L: BookId> Shared<L> {
             return Err(refusal);
         }
         let mut locked_book = self.locked_book.lock(rt);
-        let told = locked_book.adopt(&self.formula, account, kept, own, joint);
-        self.release(locked_book);
-        told
+        self.log.reserve()?;
+        let entry = locked_book.adopt(&self.formula, account, kept, own, joint)?;
+        Ok(self.keep(rt, locked_book, entry))
     }
 
     /// Ends the seat's bindings. Its later calls are refused. Takes the time of [`Book::leave`], and time linear in what the
@@ -543,7 +560,7 @@ impl<L: BookId> Shared<L> {
     ///
     /// # Errors
     /// As [`Book::leave`].
-    pub fn leave<R: Wait>(&self, rt: &R, seat: &mut Seat<L>) -> Result<Told, Refusal>
+    pub fn leave<R: Wait>(&self, rt: &R, seat: &mut Seat<L>) -> Result<Told<L>, Refusal>
         ensures told { IfOk result (IsEntryOf seat.old.number calls.Leave) }
         ensures made { OnOk result (IsMaking calls.Leave seat.old seat.new) }
         ensures free { OnOk result (gone_refusal seat.old.view ≡ None) }
@@ -557,19 +574,19 @@ impl<L: BookId> Shared<L> {
             scratch: _,
         } = seat;
         let mut locked_book = self.locked_book.lock(rt);
-        let told = locked_book.leave(account);
-        self.release(locked_book);
-        if told.is_ok() {
-            *own = None;
-        }
-        told
+        account.has_state();
+        self.log.reserve()?;
+        let entry = locked_book.leave(account)?;
+        let told = self.keep(rt, locked_book, entry);
+        *own = None;
+        Ok(told)
     }
 
-    /// The entry that a token of this book stands for, the same one for good. Waits for nobody. Takes constant time.
-    pub fn told<'a>(&'a self, told: &'a Told) -> &'a Entry
+    /// The entry that a token of this book stands for, the same one for good. Waits for nobody. Takes constant time, and no memory.
+    pub fn told<'a>(&'a self, told: &Told<L>) -> &'a Entry
         ensures { result.now ≡ told.now }
     {
-        &told.entry
+        self.log.entry(told)
     }
 
     /// The place of the first entry that adds the empty clause, if there is one by now: then no assignment satisfies the formula
@@ -625,6 +642,20 @@ impl<L: BookId> Shared<L> {
         }
     }
 
+    /// Keeps the entry of a call, for which a place was reserved under this hold of the lock, and gives the lock back.
+    fn keep<R: Wait>(
+        &self,
+        rt: &R,
+        locked_book: MutexGuard<'_, LockedBook<L>>,
+        entry: Entry,
+    ) -> Told<L>
+        ensures { result ≡ entry }
+    {
+        let told = self.log.keep(rt, entry);
+        self.release(locked_book);
+        told
+    }
+
     /// Gives the lock back, and then lets all see the verdict of the book, if it has one. Where memory for it is refused, the next
     /// call that makes an entry tries again.
     fn release(&self, locked_book: MutexGuard<'_, LockedBook<L>>) {
@@ -661,7 +692,7 @@ impl<L: BookId> Shared<L> {
         let mut all = gathered(&book, &mut lists, rest, seats);
         entries.audit(&mut all);
         history_is_legal(&book);
-        Ok(Closed::new(book))
+        Ok(Closed::new(book, self.log))
     }
 }
 

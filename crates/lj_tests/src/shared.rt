@@ -33,6 +33,7 @@ fn prove_beside<L: BookId + Send + Sync, R: Threads + Wait + Abort + Sync>(
     requires name { opening_parts.name ≡ L.name }
     requires parts { (opening_parts.parts ≡ L.parts) × (opening_parts.parts ≡ 2) }
     requires lists { opening_parts.lists ≡ L.lists }
+    requires log { opening_parts.log ≡ L.log }
     requires formula { formula ≡ L.formula }
     requires seats { L.seats ≡ 2 }
     requires limit { L.max_steps ≡ 9 }
@@ -59,7 +60,7 @@ fn submit_both<L: BookId + Send + Sync, R: Threads + Wait + Sync>(
     shared: &Shared<L>,
     first: &mut Seat<L>,
     second: &mut Seat<L>,
-) -> Result<(Vec<Told>, Vec<Told>), Fail> {
+) -> Result<(Vec<Told<L>>, Vec<Told<L>>), Fail> {
     let line = addition(alloc, 5, &[2], &[1, 2])?;
     let other = addition(alloc, 5, &[-2], &[3, 4])?;
     let (one, two) = join(
@@ -80,7 +81,7 @@ fn assert_seen<L: BookId, R: Wait + Abort>(
     alloc: Global,
     shared: &Shared<L>,
     seat: &mut Seat<L>,
-    tokens: &mut Vec<Told>,
+    tokens: &mut Vec<Told<L>>,
 ) -> Result<(), Fail> {
     let import = Line::Import {
         number: 6,
@@ -116,8 +117,8 @@ fn assert_closed<L: BookId>(
     rt: &impl Abort,
     shared: Shared<L>,
     seats: Vec<Seat<L>>,
-    of_first: &[Told],
-    of_second: &[Told],
+    of_first: &[Told<L>],
+    of_second: &[Told<L>],
 )
     requires { L.parts ≡ L.seats }
 {

@@ -88,7 +88,7 @@ fn answers<L: BookId, R: Wait>(
     alloc: Global,
     shared: &Shared<L>,
     seat: &mut Seat<L>,
-    told: &Told,
+    told: &Told<L>,
     gate: &Locked,
 ) -> Result<bool, NoMemory> {
     if !is_set_in_time(&gate.locked) {
@@ -105,7 +105,7 @@ fn answers_then_done<L: BookId, R: Wait>(
     alloc: Global,
     shared: &Shared<L>,
     seat: &mut Seat<L>,
-    told: &Told,
+    told: &Told<L>,
     gate: &Locked,
 ) -> Result<bool, NoMemory> {
     let answer = answers(rt, alloc, shared, seat, told, gate);
@@ -121,7 +121,9 @@ fn assert_answers<L: BookId + Send + Sync, R: Threads + Wait + Abort + Sync>(
     first: &mut Seat<L>,
     second: &mut Seat<L>,
 ) -> Result<(), Fail> {
-    let told = shared.submit(rt, second, &line(alloc, 5, &[-2], &[3, 4])?)?;
+    let told = shared
+        .submit(rt, second, &line(alloc, 5, &[-2], &[3, 4])?)?
+        .again();
     let holding = line(alloc, 5, &[2], &[1, 2])?;
     let gate = Locked {
         locked: AtomicBool::new(false),
@@ -147,6 +149,7 @@ fn wait_beside<L: BookId + Send + Sync, R: Threads + Wait + Abort + Sync>(
     requires name { opening_parts.name ≡ L.name }
     requires parts { (opening_parts.parts ≡ L.parts) × (opening_parts.parts ≡ 2) }
     requires lists { opening_parts.lists ≡ L.lists }
+    requires log { opening_parts.log ≡ L.log }
     requires formula { formula ≡ L.formula }
     requires seats { L.seats ≡ 2 }
     requires limit { L.max_steps ≡ 9 }

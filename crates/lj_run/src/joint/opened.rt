@@ -45,6 +45,7 @@ pub(crate) fn run_opened<
     requires parts { (opening_parts.parts ≡ L.parts)
         × (opening_parts.parts ≡ length (streams_by_seat streams.items closing)) }
     requires lists { opening_parts.lists ≡ L.lists }
+    requires log { opening_parts.log ≡ L.log }
     requires formula { formula ≡ L.formula }
     requires seats { L.seats ≡ length (streams_by_seat streams.items closing) }
     requires limit { max_steps ≡ L.max_steps }

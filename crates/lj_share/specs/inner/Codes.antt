@@ -2,6 +2,7 @@
 use Rattle.std.specs.Prelude.{ℕ, List, Option, refl}
 use Rattle.std.specs.Coded.{Coded, code_by, coded×, coded_list, coded_option, coded_ℕ}
 use Rattle.std.specs.FinMap as fin
+use Rattle.boxcar.specs.Table.{Shelves, shelves_coded}
 use Rattle.lj_hint.specs.inner.Codes.{pair_code}
 use Rattle.lj_book.specs.declared.entry.Call.{Call}
 use Rattle.lj_book.specs.inner.Codes.{call_code}
@@ -20,9 +21,10 @@ seat_code = code_by (ℕ × (List Call × View)) (coded× coded_ℕ (coded× (co
 
 -- how a proof stores what an opening is made of
 abbrev pub opening_parts_code : Coded OpeningPartsValue
-opening_parts_code = code_by (ℕ × (ℕ × List ℕ))
-    (coded× coded_ℕ (coded× coded_ℕ (coded_list coded_ℕ)))
-    (λ b. (b.name, (b.parts, b.lists))) (λ p. record { name = p.0; parts = p.1.0; lists = p.1.1 }) (λ _. refl)
+opening_parts_code = code_by (ℕ × (ℕ × (List ℕ × Shelves)))
+    (coded× coded_ℕ (coded× coded_ℕ (coded× (coded_list coded_ℕ) shelves_coded)))
+    (λ b. (b.name, (b.parts, (b.lists, b.log))))
+    (λ p. record { name = p.0; parts = p.1.0; lists = p.1.1.0; log = p.1.1.1 }) (λ _. refl)
 
 -- how a proof stores a note
 abbrev pub note_code : Coded NoteValue

@@ -1,4 +1,4 @@
-use Rattle.std.proofs.Common.{◌≡◌, subst}
+use Rattle.std.proofs.Common.{◌≡◌, ◌∙◌, refl, rules, subst}
 use Rattle.std.specs.Prelude.{IfSome}
 use Rattle.lj_clause.specs.ClauseMap.{FormulaValue}
 use Rattle.lj_text.specs.Streams.{source_state}
@@ -6,7 +6,7 @@ use Rattle.lj_run.specs.InTurn.{streams_by_seat}
 use Rattle.lj_run.specs.Proof.{sink_state}
 use Rattle.lj_run.specs.declared.outcome.Outcome.{Outcome}
 use Rattle.lj_run.specs.declared.outcome.Way.TheVariants.{OnThreads}
-use Rattle.lj_run.proofs.JointRunLemmas.{joint_outcome_is}
+use Rattle.lj_run.proofs.JointRunLemmas.{joint_outcome_is, streams_counted}
 use Rattle.lj_run.proofs.WayLemmas.{answer_by}
 use Rattle.lj_run.proofs.FormulaLemmas.{joint_want_told}
 use Rattle.lj_run.proofs.joint.run_joint.Goals as goal
@@ -29,3 +29,8 @@ returns-clause-outcome g c =
 pub returns-in_err-verified-clause-fault : goal.returns-in_err-verified-clause-fault
 returns-in_err-verified-clause-fault g c =
     joint_want_told c.from_residual-in_err-verified.result _ _ _ _ _ _ c.in_err-verified.field-0.0 c.in_ok-formula.ensures.formula.all c.from_residual-in_err-verified.ensures.1
+
+pub run_opened-requires-clause-parts : goal.run_opened-requires-clause-parts
+run_opened-requires-clause-parts g c κs within =
+    let many = streams_counted c.args.streams.items c.args.closing c.len.result c.from.result (search rules) (search rules) in
+    (refl, c.in_ok-opening_parts.ensures ∙ many)

@@ -16,7 +16,7 @@ returns-in_default-split_first g c =
       λ whole.
           let first = is_first es c.args.seat position there.0 c.loop-position.rest.now c.loop-position.invariant there.1.0 (there.1.1 ∙ c.if-by-seat.true) whole in
           let equal = same_first _ _ _ _ (sym first ∙ c.in-Some-split_first.ensures.cases.0) in
-          sym c.if-is_entry.false ∙ c.is_entry.ensures.1 (ap (λ (s : NamedState). slice_get s.history position) c.self.view_is ∙ there.1.0 ∙ ap Some (equal ∙ sym c.first.view_is)),
+          sym c.if-is_entry.false ∙ c.is_entry.ensures.1 (ap (λ (s : NamedState). slice_get s.history position) c.self.view_is ∙ there.1.0 ∙ ap Some (equal ∙ sym c.entry.ensures)),
     )
 
 pub returns-in_default-split_first-2 : goal.returns-in_default-split_first-2
@@ -38,7 +38,7 @@ loop-position-preserved g c =
       | in-Some+then-by-seat+in-Some-split_first w ↦ (
           let there = entry_there es position w.in-Some.by (ap (λ (s : NamedState). option_map (λ (e : Entry). e.seat) (slice_get s.history position)) (sym c.self.view_is) ∙ sym c.seat_at.ensures ∙ w.in-Some.is) in
           let told = ap (λ (s : NamedState). slice_get s.history position) (sym c.self.view_is) ∙ w.is_entry.ensures.0 w.if-is_entry.true in
-          let equal = some_same _ _ (sym there.1.0 ∙ told) ∙ w.first.view_is in
+          let equal = some_same _ _ (sym there.1.0 ∙ told) ∙ w.entry.ensures in
           matched es c.args.seat position there.0 w.in-Some-split_first.first.now c.loop-position.rest.now w.in-Some-split_first.others.now c.match-seat_at.rest.now c.loop-position.invariant there.1.0 (there.1.1 ∙ w.if-by-seat.true) equal w.in-Some-split_first.ensures.cases.0 (ap (λ r. r.now) w.rest-is))
       | in-Some+else-by-seat w ↦ (
           let there = entry_there es position w.in-Some.by (ap (λ (s : NamedState). option_map (λ (e : Entry). e.seat) (slice_get s.history position)) (sym c.self.view_is) ∙ sym c.seat_at.ensures ∙ w.in-Some.is) in

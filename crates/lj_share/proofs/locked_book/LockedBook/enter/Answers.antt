@@ -1,9 +1,7 @@
-use Rattle.std.proofs.Common.{ℕ, ap, subst, sym, ◌∙◌}
+use Rattle.std.proofs.Common.{ℕ, ap, subst, ◌∙◌}
 use Rattle.lj_share.specs.Refusals.{IsRefusedLine}
 use Rattle.lj_share.specs.Seats.{SeatValue}
-use Rattle.lj_share.specs.Entries.{call_of}
 use Rattle.lj_share.specs.inner.Lines.{seat_line_entry}
-use Rattle.lj_share.specs.inner.WithEntry.{IsTokenOf}
 use Rattle.lj_share.proofs.LineLaws.{line_free, line_made, line_seat, line_tested, line_token, line_view}
 use Rattle.lj_share.proofs.Opened.{locked_book_in, locked_book_agreed, opened_on}
 use Rattle.lj_share.proofs.locked_book.LockedBook.enter.Goals.{in-Ok, in-Err}
@@ -22,7 +20,7 @@ returns-clause-made g c =
 pub returns-clause-told : goal.returns-clause-told
 returns-clause-told g c =
     elim c.match-enter.branch [
-      | in-Ok w ↦ rw w.result-is (subst (IsTokenOf c.args.with_entry c.args.account.now.number (call_of c.args.line.now)) (sym w.token.ensures) (line_token c.args.with_entry c.self.inside.book c.number.result c.args.account.now.number c.args.line.now w.in-Ok.entry (c.number.ensures ∙ ap (λ (s : SeatValue). s.number) c.agree.ensures.kept) w.in-Ok.ensures.told))
+      | in-Ok w ↦ rw w.result-is (line_token c.args.with_entry c.self.inside.book c.number.result c.args.account.now.number c.args.line.now w.in-Ok.entry (c.number.ensures ∙ ap (λ (s : SeatValue). s.number) c.agree.ensures.kept) w.in-Ok.ensures.told)
       | in-Err w ↦ rw w.result-is tt
     ]
 

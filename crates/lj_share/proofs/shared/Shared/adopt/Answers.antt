@@ -4,7 +4,7 @@ use Rattle.lj_book.specs.Solo.{solo_refusal}
 use Rattle.lj_share.specs.Refusals.{IsDecided}
 use Rattle.lj_share.specs.Seats.{SeatValue}
 use Rattle.lj_share.specs.inner.Seats.{IsOwnOf}
-use Rattle.lj_share.proofs.KeptLaws.{decided_as, kept_refused, ok_by}
+use Rattle.lj_share.proofs.KeptLaws.{decided_as, kept_refused}
 use Rattle.lj_share.proofs.shared.Shared.adopt.Goals as goal
 
 pub returns-in-Err-clause-refusal : goal.returns-in-Err-clause-refusal
@@ -15,8 +15,8 @@ returns-in-Err-clause-refusal g c =
     let is = decided_as (solo_refusal view c.args.own) c.in-Err.refusal (sym (kept_refused c.self.inside.formula k view c.args.own are) ∙ c.in-Err.ensures.refusal) in
     inr (subst (λ (s : SeatValue). IsDecided (solo_refusal s.view c.args.own) c.in-Err.refusal) c.seat.view_is is)
 
-pub adopt-told-requires-clause-free : goal.adopt-told-requires-clause-free
-adopt-told-requires-clause-free g c =
+pub adopt-requires-clause-free : goal.adopt-requires-clause-free
+adopt-requires-clause-free g c =
     let k = c.seat.inside.own in
     let view = c.seat.inside.account.view in
     let are = subst (λ (f : FormulaValue). IsOwnOf f k view) (sym c.self.invariant.1) c.seat.invariant in
@@ -27,4 +27,4 @@ returns-clause-free g c =
     let k = c.seat.inside.own in
     let view = c.seat.inside.account.view in
     let are = subst (λ (f : FormulaValue). IsOwnOf f k view) (sym c.self.invariant.1) c.seat.invariant in
-    ok_by c.adopt-told.result (subst (λ (s : SeatValue). solo_refusal s.view c.args.own ≡ None) c.seat.view_is (sym (kept_refused c.self.inside.formula k view c.args.own are) ∙ c.in_default.ensures.free))
+    subst (λ (s : SeatValue). solo_refusal s.view c.args.own ≡ None) c.seat.view_is (sym (kept_refused c.self.inside.formula k view c.args.own are) ∙ c.in_default.ensures.free)

@@ -7,7 +7,7 @@ use Rattle.lj_share.specs.Refusals.{IsDecided}
 use Rattle.lj_share.specs.Seats.{SeatValue}
 use Rattle.lj_share.specs.inner.Seats.{IsLineBegun, IsFinished, IsOwnOf, IsTakenBack}
 use Rattle.lj_share.proofs.KeptLaws.{own_decided, own_finished, own_taken_back}
-use Rattle.lj_share.proofs.shared.Shared.commit.Goals.{in-Ok, in-Err-answer}
+use Rattle.lj_share.proofs.shared.Shared.commit.Goals.{in-Ok, in-Err-commit}
 use Rattle.lj_share.proofs.shared.Shared.commit.Goals as goal
 
 pub returns-in-Err-clause-refusal : goal.returns-in-Err-clause-refusal
@@ -30,7 +30,18 @@ invariant_of-seat-2 g c =
     let clause_is = c.clause.ensures.clause ∙ ap (λ l. l.clause) c.lemma.ensures.lemma in
     let same : first ≡ line = λ i. lines.Import (c.own-own.ensures i) (clause_is i) in
     let begun = subst (λ (x : Line). IsLineBegun f x k l) same (subst (λ (x : FormulaValue). IsLineBegun x first k l) c.self.invariant.1 c.in_default.ensures.begun) in
-    elim c.match-answer.branch [
-      | in-Ok w ↦ rw w.seat-inside-is (own_finished f k l w.settle.new.kept view c.commit-answer.new.account.view line w.in-Ok.joint c.seat.invariant begun (subst (λ (x : Line). IsFinished x w.in-Ok.joint l w.settle.new.kept) same (w.settle.ensures clause)) w.in-Ok.ensures.view)
-      | in-Err-answer w ↦ rw w.seat-inside-is (subst (λ (s : SeatValue). IsOwnOf f w.unbind.new.kept s.view) (sym w.in-Err-answer.ensures.kept) (own_taken_back f k l w.unbind.new.kept view line c.seat.invariant begun (subst (λ (x : Line). IsTakenBack x l w.unbind.new.kept) same (w.unbind.ensures clause))))
+    elim c.match-commit.branch [
+      | in-Ok w ↦ rw w.seat-inside-is (own_finished f k l w.settle.new.kept view c.commit.new.account.view line w.in-Ok.joint c.seat.invariant begun (subst (λ (x : Line). IsFinished x w.in-Ok.joint l w.settle.new.kept) same (w.settle.ensures clause)) w.in-Ok.ensures.view)
+      | in-Err-commit w ↦ rw w.seat-inside-is (subst (λ (s : SeatValue). IsOwnOf f w.unbind-in-Err-commit.new.kept s.view) (sym w.in-Err-commit.ensures.kept) (own_taken_back f k l w.unbind-in-Err-commit.new.kept view line c.seat.invariant begun (subst (λ (x : Line). IsTakenBack x l w.unbind-in-Err-commit.new.kept) same (w.unbind-in-Err-commit.ensures clause))))
     ]
+
+pub invariant_of-seat-in-Err-reserve : goal.invariant_of-seat-in-Err-reserve
+invariant_of-seat-in-Err-reserve g c =
+    let f = g.L.BookId.formula in
+    let k = c.seat.inside.own in
+    let l = c.bind_ahead.new.kept in
+    let view = c.seat.inside.account.view in
+    let clause = c.clause.result.now in
+    let first : Line = lines.Import c.own-own.result clause in
+    let begun = subst (λ (x : FormulaValue). IsLineBegun x first k l) c.self.invariant.1 c.in_default.ensures.begun in
+    own_taken_back f k l c.unbind.new.kept view first c.seat.invariant begun (c.unbind.ensures clause)
