@@ -95,7 +95,7 @@ where
     ///
     /// # Errors
     /// [`NoMemory`] where a growth was refused.
-    #[inline]
+    #[inline(always)]
     pub(crate) fn insert(&mut self, key: u64, value: S::Value) -> Result<(), NoMemory>
         ensures ok { OnOk result (self.new ≡ fin.insert self.old key value) }
         ensures err { OnErr result (self.new ≡ self.old) }
