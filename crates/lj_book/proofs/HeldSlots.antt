@@ -15,14 +15,14 @@ mapped_at held (x ∷ xs) (suc k) d o h = mapped_at held xs k d o (grind arith)
 pub within : {S V : Type 0} (held : S → Option V) (xs : List S) (k : ℕ) → k < length xs → k < length (map held xs)
 within held xs k h = let e = length-map xs held in omega arith
 
-pub held_at : {S V : Type 0} (held : S → Option V) (xs : List S) (k : ℕ) (d : S) → k < length xs → fin.get (held_map held xs) k ≡ held (slice_index_or xs k d)
-held_at held xs k d h =
+pub get_held : {S V : Type 0} (held : S → Option V) (xs : List S) (k : ℕ) (d : S) → k < length xs → fin.get (held_map held xs) k ≡ held (slice_index_or xs k d)
+get_held held xs k d h =
     get_slot (map held xs) k
     ∙ slot_within (map held xs) k None (within held xs k h)
     ∙ mapped_at held xs k d None h
 
-pub held_past : {S V : Type 0} (held : S → Option V) (xs : List S) (k : ℕ) → length xs ≤ k → fin.get (held_map held xs) k ≡ None
-held_past held xs k h = get_slot (map held xs) k ∙ slot_past (map held xs) k (let e = length-map xs held in omega arith)
+pub get_held_past : {S V : Type 0} (held : S → Option V) (xs : List S) (k : ℕ) → length xs ≤ k → fin.get (held_map held xs) k ≡ None
+get_held_past held xs k h = get_slot (map held xs) k ∙ slot_past (map held xs) k (let e = length-map xs held in omega arith)
 
 -- a slot that is set, emptied, or put behind the others
 pub held_set : {S V : Type 0} (held : S → Option V) (xs : List S) (k : ℕ) (x : S) (v : V) → k < length xs → held x ≡ Some v → held_map held (slice_set xs k x) ≡ fin.insert (held_map held xs) k v

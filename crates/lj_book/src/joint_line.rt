@@ -142,10 +142,10 @@ fn put_u32s(table: &SeatTable, owns: &[u32], joints: &mut Numbers) -> Result<(),
 {
     for own in owns {
         let own = u64::from(*own);
-        let Some(joint) = table.get(own) else {
-            return Err(Refusal::UnknownNumber(own));
-        };
-        joints.push(joint)?;
+        match table.get(own) {
+            Some(joint) => joints.push(joint)?,
+            None => return Err(Refusal::UnknownNumber(own)),
+        }
     }
     Ok(())
 }
