@@ -13,7 +13,7 @@ use Rattle.lj_book.specs.declared.entry.Call.TheVariants as calls
 use Rattle.lj_book.specs.declared.entry.Entry.{Entry}
 use Rattle.lj_book.specs.Tables.{Table, Tables, table_of, is_here, joint_of, has_holder, holds_joint, is_among, with_table, without_keys, without_seat}
 use Rattle.lj_book.specs.inner.Tables.{own_numbers}
-use Rattle.lj_book.specs.inner.Holders.{AreHolders, holders_of}
+use Rattle.lj_book.specs.inner.Holders.{Counted, AreHolders, holders_of}
 use Rattle.lj_book.specs.State.{State, steps_of, live}
 use Rattle.lj_book.specs.History.{dead_numbers, after_entry}
 use Rattle.lj_book.specs.Calls.{leave_entry}
@@ -45,7 +45,7 @@ holders-without_seat (Some u ∷ ts) zero q h =
     subst (λ (w : Table). 0 + holders_of ts q ≡ holders_of (Some w ∷ ts) q) (sym is) (omega arith)
 holders-without_seat (t ∷ ts) (suc seat) q h = let rest = holders-without_seat ts seat q h in omega arith
 
-pub AreHolders-without_seat : (ts : Tables) (seat : ℕ) (m : Table) → table_of ts seat ≡ Some fin.empty → AreHolders ts m → AreHolders (set ts seat None) m
+pub AreHolders-without_seat : (ts : Tables) (seat : ℕ) (m : Counted) → table_of ts seat ≡ Some fin.empty → AreHolders ts m → AreHolders (set ts seat None) m
 AreHolders-without_seat ts seat m h holders = λ q. holders q ∙ sym (holders-without_seat ts seat q h) ∙ ap (λ (us : Tables). holders_of us q) (sym (set-none ts seat))
 
 -- a table without its own keys

@@ -78,3 +78,5 @@ pub mod WordLaws
 pub mod RecordLaws
 pub mod StepLineLemmas
 mod RisingGroups
+pub mod HeldSlots
+pub mod CountLaws

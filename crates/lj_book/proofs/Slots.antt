@@ -239,6 +239,33 @@ remove_sparse dense sparse k h = same_map _ _ (λ q.
     ∙ ap (cond (eq_by_cmp nat_cmp q k) None) (sym (get_joined dense sparse q))
     ∙ sym (fin.get-remove nat_cmp_total (joined_map dense sparse) k q))
 
+pub remove_both : {V : Type 0} (dense sparse : Numbered V) (k : ℕ) → joined_map (fin.remove dense k) (fin.remove sparse k) ≡ fin.remove (joined_map dense sparse) k
+remove_both dense sparse k = same_map _ _ (λ q.
+    get_joined (fin.remove dense k) (fin.remove sparse k) q
+    ∙ ap (λ o. option_or o (fin.get (fin.remove sparse k) q)) (fin.get-remove nat_cmp_total dense k q)
+    ∙ ap (option_or (cond (eq_by_cmp nat_cmp q k) None (fin.get dense q))) (fin.get-remove nat_cmp_total sparse k q)
+    ∙ cut_both (eq_by_cmp nat_cmp q k) (fin.get dense q) (fin.get sparse q)
+    ∙ ap (cond (eq_by_cmp nat_cmp q k) None) (sym (get_joined dense sparse q))
+    ∙ sym (fin.get-remove nat_cmp_total (joined_map dense sparse) k q))
+  where
+    cut_both : {V : Type 0} (b : Bool) (o p : Option V) → option_or (cond b None o) (cond b None p) ≡ cond b None (option_or o p)
+    cut_both true o p = refl
+    cut_both false o p = refl
+
+-- what is set in the second map is taken out of the first
+pub insert_beside : {V : Type 0} (dense sparse : Numbered V) (k : ℕ) (v : V) → joined_map (fin.remove dense k) (fin.insert sparse k v) ≡ fin.insert (joined_map dense sparse) k v
+insert_beside dense sparse k v = same_map _ _ (λ q.
+    get_joined (fin.remove dense k) (fin.insert sparse k v) q
+    ∙ ap (λ o. option_or o (fin.get (fin.insert sparse k v) q)) (fin.get-remove nat_cmp_total dense k q)
+    ∙ ap (option_or (cond (eq_by_cmp nat_cmp q k) None (fin.get dense q))) (fin.get-insert nat_cmp_total sparse k v q)
+    ∙ put_beside (eq_by_cmp nat_cmp q k) v (fin.get dense q) (fin.get sparse q)
+    ∙ ap (cond (eq_by_cmp nat_cmp q k) (Some v)) (sym (get_joined dense sparse q))
+    ∙ sym (fin.get-insert nat_cmp_total (joined_map dense sparse) k v q))
+  where
+    put_beside : {V : Type 0} (b : Bool) (v : V) (o p : Option V) → option_or (cond b None o) (cond b (Some v) p) ≡ cond b (Some v) (option_or o p)
+    put_beside true v o p = refl
+    put_beside false v o p = refl
+
 not_some : {V : Type 0} (o : Option V) → o ≡ None → is_some o ≡ true → ⊥
 not_some o h e = distinct (ap is_some (sym h) ∙ e)
   where

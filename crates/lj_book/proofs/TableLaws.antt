@@ -15,7 +15,7 @@ use Rattle.lj_clause.proofs.Tests.{turned}
 use Rattle.std.specs.FinMap.Entries.{find, put, by_order}
 use Rattle.std.specs.FinMap.{nat_cmp-IsAntisymmetric}
 use Rattle.lj_book.specs.Tables.{Table, Tables, table_of, is_here, joint_of, is_bound, with_table, is_among, without_keys, holds_joint, has_holder, up_to, keys_lost}
-use Rattle.lj_book.specs.inner.Holders.{occurrences, count_in, holders_of, count_or_none, count_at, AreHolders, one_if_at, all_up_to}
+use Rattle.lj_book.specs.inner.Holders.{Counted, occurrences, count_in, holders_of, count_or_none, slot_count, count_beyond, count_at, AreHolders, one_if_at, all_up_to}
 use Rattle.lj_book.proofs.NumberMaps.{same_map, entries-retain_keys}
 
 pub among_occurs : (ms : List ℕ) (n : ℕ) → is_among ms n ≡ nat_lt 0 (occurrences ms n)
@@ -184,41 +184,29 @@ joint_in_table ts seat own t at = ap (option_and_then (λ (u : Table). fin.get u
 pub set-same : (ts : Tables) (seat : ℕ) (t : Table) → table_of ts seat ≡ Some t → set ts seat (Some t) ≡ ts
 set-same ts seat t at = with_table-set (λ u. u) ts seat t at ∙ with_table-id (λ u. u) ts seat t at refl
 
-pub AreHolders-with_table : (change : Table → Table) (ts : Tables) (seat : ℕ) (t m n : Table) → table_of ts seat ≡ Some t → AreHolders ts m → ((q : ℕ) → count_at n q + count_in (Some t) q ≡ count_at m q + count_in (Some (change t)) q) → AreHolders (with_table change ts seat) n
+pub AreHolders-with_table : (change : Table → Table) (ts : Tables) (seat : ℕ) (t : Table) (m n : Counted) → table_of ts seat ≡ Some t → AreHolders ts m → ((q : ℕ) → count_at n q + count_in (Some t) q ≡ count_at m q + count_in (Some (change t)) q) → AreHolders (with_table change ts seat) n
 AreHolders-with_table change ts seat t m n at holders changes = λ q.
     let a = holders-with_table change ts seat t q at in
     let b = holders q in
     let c = changes q in
     omega arith
 
-count_at-insert : (m : Table) (j n q : ℕ) → count_at (fin.insert m j n) q ≡ cond (j == q) n (count_at m q)
-count_at-insert m j n q =
-    ap count_or_none (fin.get-insert nat_cmp_total m j n q)
-    ∙ ap (λ b. count_or_none (cond b (Some n) (fin.get m q))) (unsigned_tied q j ∙ turned q j)
-    ∙ elim (j == q) as (λ b. count_or_none (cond b (Some n) (fin.get m q)) ≡ cond b n (count_at m q)) [ true ↦ refl | false ↦ refl ]
-
 pub same_here : (j q : ℕ) → (j == q) ≡ true → j ≡ q
 same_here j q e = grind (arith, nat_tests)
 
-bound_counts : (t m : Table) (own joint q : ℕ) → fin.get t own ≡ None → count_at (fin.insert m joint (count_at m joint + 1)) q + count_in (Some t) q ≡ count_at m q + count_in (Some (fin.insert t own joint)) q
-bound_counts t m own joint q free =
-    let a = count_at-insert m joint (count_at m joint + 1) q in
-    let b = count-insert t own joint q free in
-    elim (joint == q) as (λ b. (joint == q) ≡ b → count_at (fin.insert m joint (count_at m joint + 1)) q ≡ cond b (count_at m joint + 1) (count_at m q) → count_in (Some (fin.insert t own joint)) q ≡ (if b then 1 else 0) + count_in (Some t) q → count_at (fin.insert m joint (count_at m joint + 1)) q + count_in (Some t) q ≡ count_at m q + count_in (Some (fin.insert t own joint)) q) [
-      | true ↦ λ e f g. let h = ap (count_at m) (same_here joint q e) in omega arith
-      | false ↦ λ e f g. omega arith
-    ] refl a b
+bound_counts : (t : Table) (m n : Counted) (own joint q : ℕ) → fin.get t own ≡ None → count_at n q ≡ one_if_at (Some joint) q + count_at m q → count_at n q + count_in (Some t) q ≡ count_at m q + count_in (Some (fin.insert t own joint)) q
+bound_counts t m n own joint q free more = let a = count-insert t own joint q free in omega arith
 
-pub AreHolders-bind : (ts : Tables) (seat own joint : ℕ) (t m : Table) → table_of ts seat ≡ Some t → AreHolders ts m → fin.get t own ≡ None → AreHolders (set ts seat (Some (fin.insert t own joint))) (fin.insert m joint (count_at m joint + 1))
-AreHolders-bind ts seat own joint t m at holders free =
-    subst (λ (us : Tables). AreHolders us (fin.insert m joint (count_at m joint + 1))) (sym (with_table-set (λ u. fin.insert u own joint) ts seat t at))
-    (AreHolders-with_table (λ u. fin.insert u own joint) ts seat t m _ at holders (λ q. bound_counts t m own joint q free))
+AreHolders-bind : (ts : Tables) (seat own joint : ℕ) (t : Table) (m n : Counted) → table_of ts seat ≡ Some t → AreHolders ts m → fin.get t own ≡ None → ((q : ℕ) → count_at n q ≡ one_if_at (Some joint) q + count_at m q) → AreHolders (set ts seat (Some (fin.insert t own joint))) n
+AreHolders-bind ts seat own joint t m n at holders free more =
+    subst (λ (us : Tables). AreHolders us n) (sym (with_table-set (λ u. fin.insert u own joint) ts seat t at))
+    (AreHolders-with_table (λ u. fin.insert u own joint) ts seat t m n at holders (λ q. bound_counts t m n own joint q free (more q)))
 
 pub count_removed : (t : Table) (own q : ℕ) (o : Option ℕ) → fin.get t own ≡ o → count_in (Some t) q ≡ one_if_at o q + count_in (Some (fin.remove t own)) q
 count_removed t own q None e = let same = ap (λ (u : Table). count_in (Some u) q) (sym (remove-absent t own e)) in omega arith
 count_removed t own q (Some j) e = count-remove t own j q e
 
-pub AreHolders-unbind : (ts : Tables) (seat own : ℕ) (t m n : Table) → table_of ts seat ≡ Some t → AreHolders ts m → ((q : ℕ) → count_at m q ≡ one_if_at (fin.get t own) q + count_at n q) → AreHolders (set ts seat (Some (fin.remove t own))) n
+pub AreHolders-unbind : (ts : Tables) (seat own : ℕ) (t : Table) (m n : Counted) → table_of ts seat ≡ Some t → AreHolders ts m → ((q : ℕ) → count_at m q ≡ one_if_at (fin.get t own) q + count_at n q) → AreHolders (set ts seat (Some (fin.remove t own))) n
 AreHolders-unbind ts seat own t m n at holders less =
     subst (λ (us : Tables). AreHolders us n) (sym (with_table-set (λ u. fin.remove u own) ts seat t at))
     (AreHolders-with_table (λ u. fin.remove u own) ts seat t m n at holders (λ q.
@@ -241,7 +229,7 @@ pub self_counts : (j n : ℕ) → (if j == j then 1 else 0) + n ≡ 1 + n
 self_counts j n = ap (λ b. (if b then 1 else 0) + n) (self_tied j)
 
 -- a joint number to which an own number is bound is counted
-pub bound_is_counted : (ts : Tables) (seat own joint : ℕ) (t m : Table) → table_of ts seat ≡ Some t → AreHolders ts m → fin.get t own ≡ Some joint → 0 < count_at m joint
+pub bound_is_counted : (ts : Tables) (seat own joint : ℕ) (t : Table) (m : Counted) → table_of ts seat ≡ Some t → AreHolders ts m → fin.get t own ≡ Some joint → 0 < count_at m joint
 bound_is_counted ts seat own joint t m at holders here =
     let a = count-remove t own joint joint here in
     let b = self_counts joint (count_in (Some (fin.remove t own)) joint) in
@@ -249,26 +237,14 @@ bound_is_counted ts seat own joint t m at holders here =
     let d = holders_at_least ts seat joint t at in
     omega arith
 
--- one from a count that is there
-pub one_less : (m n : Table) (j q : ℕ) (r : Result (Unit {0}) NoMemory) → 0 < count_at m j → OnOk r (n ≡ fin.insert m j (count_at m j - 1)) → OnErr r (count_at m j ≤ count_at m j - 1) → count_at m q ≡ one_if_at (Some j) q + count_at n q
-one_less m n j q (Ok u) some ok err =
-    let a = count_at-insert m j (count_at m j - 1) q in
-    let b = ap (λ (k : Table). count_at k q) ok in
-    elim (j == q) as (λ b. (j == q) ≡ b → count_at (fin.insert m j (count_at m j - 1)) q ≡ cond b (count_at m j - 1) (count_at m q) → count_at m q ≡ (if b then 1 else 0) + count_at n q) [
-      | true ↦ λ e f. let h = ap (count_at m) (same_here j q e) in omega arith
-      | false ↦ λ e f. omega arith
-    ] refl a
-one_less m n j q (Err e) some ok err = absurd (omega (arith, some, err))
-
 -- ---- what the code's steps leave
 
-pub invariant-bind : (ts : Tables) (seat own joint k : ℕ) (t u m n : Table) (r : Result (Unit {0}) NoMemory) → table_of ts seat ≡ Some t → AreHolders ts m → fin.get t own ≡ None → k ≡ count_at m joint + 1 → OnOk r (u ≡ fin.insert t own joint) → OnOk r (n ≡ fin.insert m joint k) → OnErr r ((u ≡ t) × (n ≡ m)) → AreHolders (set ts seat (Some u)) n
-invariant-bind ts seat own joint k t u m n (Ok x) at holders free is a b e =
-    subst (λ (w : Table). AreHolders (set ts seat (Some w)) n) (sym a)
-    (subst (λ (w : Table). AreHolders (set ts seat (Some (fin.insert t own joint))) w) (sym (b ∙ ap (fin.insert m joint) is)) (AreHolders-bind ts seat own joint t m at holders free))
-invariant-bind ts seat own joint k t u m n (Err x) at holders free is a b e =
+pub invariant-bind : (ts : Tables) (seat own joint : ℕ) (t u : Table) (m n : Counted) (r : Result (Unit {0}) NoMemory) → table_of ts seat ≡ Some t → AreHolders ts m → fin.get t own ≡ None → OnOk r (u ≡ fin.insert t own joint) → OnOk r ((q : ℕ) → count_at n q ≡ one_if_at (Some joint) q + count_at m q) → OnErr r ((u ≡ t) × ((q : ℕ) → count_at n q ≡ count_at m q)) → AreHolders (set ts seat (Some u)) n
+invariant-bind ts seat own joint t u m n (Ok x) at holders free a b e =
+    subst (λ (w : Table). AreHolders (set ts seat (Some w)) n) (sym a) (AreHolders-bind ts seat own joint t m n at holders free b)
+invariant-bind ts seat own joint t u m n (Err x) at holders free a b e =
     subst (λ (w : Table). AreHolders (set ts seat (Some w)) n) (sym e.0)
-    (subst (λ (w : Table). AreHolders (set ts seat (Some t)) w) (sym e.1) (subst (λ (us : Tables). AreHolders us m) (sym (set-same ts seat t at)) holders))
+    (subst (λ (us : Tables). AreHolders us n) (sym (set-same ts seat t at)) (λ q. e.1 q ∙ holders q))
 
 pub ok_then : {T E : Type 0} (r : Result T E) {P Q : Type 0} → OnOk r P → (P → Q) → OnOk r Q
 ok_then (Ok x) p f = f p
@@ -414,29 +390,47 @@ holders-replicate (suc n) t q = let rest = holders-replicate n t q in let law = 
     suc_times : (n m : ℕ) → suc n * m ≡ m + n * m
     suc_times n m = grind arith
 
-counts-up_to : (k n q : ℕ) → count_at (all_up_to k n) q ≡ n * count_in (Some (up_to k)) q
-counts-up_to zero n q = ap count_or_none (fin.get-empty nat_cmp q) ∙ sym (ap (λ (m : ℕ). n * m) (count-empty q) ∙ nothing n)
+counts-same : (k n q : ℕ) → slot_count (replicate k n) q ≡ n * one_if (nat_lt q k)
+counts-same zero n q = sym (nothing n) ∙ ap (λ (b : Bool). n * one_if b) (none q)
   where
     nothing : (n : ℕ) → n * 0 ≡ 0
     nothing n = grind arith
-counts-up_to (suc k) n q =
-    let a = count_at-insert (all_up_to k n) (suc k) n q in
-    let b = counts-up_to k n q in
-    let c = count-insert (up_to k) (suc k) (suc k) q (up_to-above k (suc k) (omega arith)) in
-    let d = count-up_to k q in
-    elim (suc k == q) as (λ b. (suc k == q) ≡ b → count_at (all_up_to (suc k) n) q ≡ cond b n (count_at (all_up_to k n) q) → count_in (Some (up_to (suc k))) q ≡ one_if b + count_in (Some (up_to k)) q → count_at (all_up_to (suc k) n) q ≡ n * count_in (Some (up_to (suc k))) q) [
-      | true ↦ λ e f g. f ∙ sym (ap (λ (m : ℕ). n * m) (g ∙ ap (λ (m : ℕ). 1 + m) (d ∙ zero_above k q e)) ∙ once n)
-      | false ↦ λ e f g. f ∙ b ∙ sym (ap (λ (m : ℕ). n * m) (g ∙ none_more (count_in (Some (up_to k)) q)))
-    ] refl a c
-  where
-    zero_above : (k q : ℕ) → (suc k == q) ≡ true → one_if (nat_lt 0 q && nat_le q k) ≡ 0
-    zero_above k q e = grind (arith, nat_tests)
 
-    once : (n : ℕ) → n * (1 + 0) ≡ n
+    none : (q : ℕ) → false ≡ nat_lt q 0
+    none q = grind (arith, nat_tests)
+counts-same (suc k) n zero = sym (once n) ∙ ap (λ (b : Bool). n * one_if b) (first k)
+  where
+    once : (n : ℕ) → n * 1 ≡ n
     once n = omega arith
 
-    none_more : (m : ℕ) → 0 + m ≡ m
-    none_more m = omega arith
+    first : (k : ℕ) → true ≡ nat_lt 0 (suc k)
+    first k = grind (arith, nat_tests)
+counts-same (suc k) n (suc q) = counts-same k n q ∙ ap (λ (b : Bool). n * one_if b) (both k q)
+  where
+    both : (k q : ℕ) → nat_lt q k ≡ nat_lt (suc q) (suc k)
+    both k q = grind (arith, nat_tests)
+
+counts-opened : (k n q : ℕ) → slot_count (0 ∷ replicate k n) q ≡ n * one_if (nat_lt 0 q && nat_le q k)
+counts-opened k n zero = sym (nothing n) ∙ ap (λ (b : Bool). n * one_if b) (none k)
+  where
+    nothing : (n : ℕ) → n * 0 ≡ 0
+    nothing n = grind arith
+
+    none : (k : ℕ) → false ≡ (nat_lt 0 0 && nat_le 0 k)
+    none k = grind (arith, nat_tests)
+counts-opened k n (suc q) = counts-same k n q ∙ ap (λ (b : Bool). n * one_if b) (behind k q)
+  where
+    behind : (k q : ℕ) → nat_lt q k ≡ (nat_lt 0 (suc q) && nat_le (suc q) k)
+    behind k q = grind (arith, nat_tests)
+
+counts-up_to : (k n q : ℕ) → count_at (all_up_to k n) q ≡ n * count_in (Some (up_to k)) q
+counts-up_to k n q =
+    none_more (slot_count (0 ∷ replicate k n) q) (count_beyond fin.empty q) (ap count_or_none (fin.get-empty nat_cmp q))
+    ∙ counts-opened k n q
+    ∙ ap (λ (m : ℕ). n * m) (sym (count-up_to k q))
+  where
+    none_more : (m z : ℕ) → z ≡ 0 → m + z ≡ m
+    none_more m z e = omega (arith, e)
 
 -- counts and tables agree at the opening
 pub AreHolders-opening : (seats clauses : ℕ) → AreHolders (replicate seats (Some (up_to clauses))) (all_up_to clauses seats)

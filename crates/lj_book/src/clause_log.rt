@@ -17,9 +17,9 @@ use crate::first_uses::FirstUses;
 use crate::history::History;
 use crate::lent_addition::LentAddition;
 use crate::lent_clauses::LentClauses;
-use crate::lit_range::{LitRange, clause_at};
+use crate::lit_range::{LitRange, U32Range, clause_at};
 use crate::occurrence_lists::{EMPTY_KEY, OccurrenceLists};
-use crate::own_map::OwnMap;
+use crate::slot_map::SlotMap;
 use crate::stored_clauses::clauses_of;
 use lj_clause::{Clause, ClauseView, Formula, Lemma, Lit, NoMemory};
 use lj_text::Numbers;
@@ -35,7 +35,7 @@ const MOST_ONE_BY_ONE: u64 = 64;
 pub(crate) struct ClauseLog {
     history: History,
     /// Where the literals of each live clause stand.
-    ranges: OwnMap<LitRange>,
+    ranges: SlotMap<U32Range>,
     /// `None` where they aren't made yet, or a growth was refused: then all clauses are looked through.
     lists: Option<OccurrenceLists>,
     /// The literal whose candidates were looked up, where its list wasn't tended since.
@@ -114,7 +114,7 @@ impl ClauseLog {
         ensures { result ≡ fin.get self.now.live number }
     {
         match self.ranges.get(number) {
-            Some(range) => Some(clause_at(self.history.lits(), *range)),
+            Some(range) => Some(clause_at(self.history.lits(), range)),
             None => None,
         }
     }

@@ -21,7 +21,7 @@ const MANY_GROUPS: usize = 1024;
 ///
 /// # Errors
 /// [`Refusal::UnknownNumber`], [`Refusal::GroupRepeated`], and [`Refusal::NoMemory`] where a growth was refused.
-#[inline]
+#[inline(always)]
 pub(crate) fn joint_line(
     alloc: Global,
     tables: &SeatTables,
@@ -34,7 +34,7 @@ pub(crate) fn joint_line(
         (joint_parts (joint_of tables.now seat) addition.now) }
 {
     hints.clear();
-    if let Err(refusal) = put_joints(tables, seat, addition.hints.iter(), hints) {
+    if let Err(refusal) = put_hints(tables, seat, &addition.hints, hints) {
         return Err(refusal);
     }
     clear(joints);
@@ -108,6 +108,46 @@ fn are_rising(groups: &Groups) -> bool
         last = group.candidate;
     }
     true
+}
+
+/// Puts the joint numbers of a line's hints into a list that has none, by a loop over numbers of four bytes where they are.
+///
+/// # Errors
+/// As [`put_joints`].
+#[inline(always)]
+fn put_hints(
+    tables: &SeatTables,
+    seat: u32,
+    numbers: &Numbers,
+    joints: &mut Numbers,
+) -> Result<(), Refusal>
+    requires { joints.old ≡ [] }
+    ensures { IsReplyBy (λ _. joints.new) result
+        (joints_in (joint_of tables.now seat) numbers.now) }
+{
+    match (tables.table(seat), numbers.as_u32s()) {
+        (Some(table), Some(owns)) => put_u32s(table, owns, joints),
+        _ => put_joints(tables, seat, numbers.iter(), joints),
+    }
+}
+
+/// The same by the table of their seat.
+///
+/// # Errors
+/// As [`put_joints`].
+#[inline(never)]
+fn put_u32s(table: &SeatTable, owns: &[u32], joints: &mut Numbers) -> Result<(), Refusal>
+    requires { joints.old ≡ [] }
+    ensures { IsReplyBy (λ _. joints.new) result (joints_in (fin.get table.now) owns.now) }
+{
+    for own in owns {
+        let own = u64::from(*own);
+        match table.get(own) {
+            Some(joint) => joints.push(joint)?,
+            None => return Err(Refusal::UnknownNumber(own)),
+        }
+    }
+    Ok(())
 }
 
 /// Puts the joint numbers of these own numbers into a list that has none.

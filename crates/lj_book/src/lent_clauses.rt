@@ -5,9 +5,9 @@ ghost use Rattle.lj_book.specs.Lookup.{numbers_holding, least_number, least_part
 ghost use Rattle.lj_book.specs.inner.FirstUses.{IsSince};
 ghost use Rattle.lj_book.specs.inner.Ranges.{stored, AreRanges};
 
-use crate::lit_range::{LitRange, clause_at};
-use crate::own_map::OwnMap;
+use crate::lit_range::{U32Range, clause_at};
 use crate::part::is_part;
+use crate::slot_map::SlotMap;
 use lj_clause::{Clause, ClauseView, Lit, NoMemory};
 use std::alloc::Global;
 use std::marker::Model;
@@ -16,7 +16,7 @@ use std::marker::Model;
 #[derive(Drop)]
 pub(crate) struct LentClauses<'a> {
     lits: &'a [Lit],
-    ranges: &'a OwnMap<LitRange>,
+    ranges: &'a SlotMap<U32Range>,
 }
 
 impl<'a> Model for LentClauses<'a> {
@@ -36,7 +36,7 @@ impl<'a> Model for LentClauses<'a> {
 impl<'a> LentClauses<'a> {
     /// The clauses at these places.
     #[inline]
-    pub(crate) fn new(lits: &'a [Lit], ranges: &'a OwnMap<LitRange>) -> LentClauses<'a>
+    pub(crate) fn new(lits: &'a [Lit], ranges: &'a SlotMap<U32Range>) -> LentClauses<'a>
         requires { AreRanges lits.now ranges.now }
         ensures { result ≡ stored lits.now ranges.now }
     {
@@ -49,7 +49,7 @@ impl<'a> LentClauses<'a> {
         ensures { result ≡ fin.get self.now number }
     {
         match self.ranges.get(number) {
-            Some(range) => Some(clause_at(self.lits, *range)),
+            Some(range) => Some(clause_at(self.lits, range)),
             None => None,
         }
     }

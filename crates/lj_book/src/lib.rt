@@ -6,6 +6,7 @@
 mod book;
 mod clause_log;
 mod committing;
+mod counts;
 mod dying;
 mod early_table;
 mod encoding;
@@ -33,6 +34,7 @@ mod refusal;
 mod same;
 mod seat_table;
 mod seat_tables;
+mod slot_map;
 mod steps;
 mod stored_clauses;
 mod taking;

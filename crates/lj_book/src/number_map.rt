@@ -1,7 +1,7 @@
 //! Maps from numbers.
-ghost use Rattle.std.specs.Prelude.{◌≡◌, ◌<◌, ◌≤◌, OnOk, OnErr, IfOk, option_copied, length, None, true};
+ghost use Rattle.std.specs.Prelude.{◌≡◌, ◌<◌, ◌≤◌, OnOk, OnErr, option_copied, length, None};
 ghost use Rattle.std.specs.FinMap as fin;
-ghost use Rattle.lj_book.specs.inner.Slots.{slot_map, slot_numbers};
+ghost use Rattle.lj_book.specs.inner.Slots.{slot_map};
 
 use lj_clause::NoMemory;
 use std::alloc::Global;
@@ -71,16 +71,6 @@ impl<V: Drop> NumberMap<V> {
         Ok(())
     }
 
-    /// The keys, rising. Takes time linear in the slots.
-    ///
-    /// # Errors
-    /// [`NoMemory`] where a growth was refused.
-    pub(crate) fn keys(&self, alloc: Global) -> Result<Vec<u64>, NoMemory>
-        ensures { IfOk result (λ keys. keys.items ≡ fin.keys self.now) }
-    {
-        keys_of(alloc, &self.slots)
-    }
-
     /// Takes the key out, and gives back the value that was there.
     pub(crate) fn remove(&mut self, key: u64) -> Option<V>
         ensures before { result ≡ fin.get self.old key }
@@ -93,19 +83,6 @@ impl<V: Drop> NumberMap<V> {
             None
         }
     }
-}
-
-/// The numbers of the slots that hold something.
-fn keys_of<V>(alloc: Global, slots: &[Option<V>]) -> Result<Vec<u64>, NoMemory>
-    ensures { IfOk result (λ keys. keys.items ≡ slot_numbers (λ _. true) 0 slots.now) }
-{
-    let mut keys = Vec::new(alloc);
-    for at in 0..slots.len() {
-        if slots[at].is_some() {
-            keys.push(at as u64)?;
-        }
-    }
-    Ok(keys)
 }
 
 /// Adds empty slots, so that there is one at this place.

@@ -9,8 +9,8 @@ ghost use Rattle.lj_book.specs.inner.Occurrences.{AreOccurrences, list_at, keys_
 ghost use Rattle.lj_book.specs.inner.Chains.{AreChains, AreLinked, chain, last_at, with_list};
 
 use crate::lent_clauses::LentClauses;
-use crate::own_map::OwnMap;
 use crate::part::is_part;
+use crate::slot_map::SlotMap;
 use lj_clause::{Clause, ClauseView, Lit, NoMemory};
 use std::alloc::Global;
 use std::marker::Model;
@@ -40,13 +40,13 @@ struct Link {
 /// For each literal the numbers that were given to clauses which hold it, under its place, and for the empty clauses
 /// theirs. A clause that dies stays listed: its number is taken out when the list is next swept.
 ///
-/// Each number takes eight bytes, and putting it there the time of [`OwnMap::set`].
+/// Each number takes eight bytes, and putting it there the time of [`SlotMap::insert`].
 #[derive(Drop)]
 pub(crate) struct OccurrenceLists {
     alloc: Global,
     links: Vec<Link>,
     /// The last link of each list.
-    lasts: OwnMap<u64>,
+    lasts: SlotMap<u32>,
 }
 
 impl Model for OccurrenceLists {
@@ -75,12 +75,12 @@ impl OccurrenceLists {
         Ok(OccurrenceLists {
             alloc,
             links: Vec::with_capacity(alloc, FIRST_LINKS)?,
-            lasts: OwnMap::new(alloc),
+            lasts: SlotMap::new(alloc),
         })
     }
 
     /// Puts the number of a clause at the end of its lists. Answers whether it could be put there: where a growth was
-    /// refused or there are too many numbers, the lists are of no use. Takes the time of [`OwnMap::set`] for each literal,
+    /// refused or there are too many numbers, the lists are of no use. Takes the time of [`SlotMap::insert`] for each literal,
     /// amortized.
     #[inline(always)]
     pub(crate) fn add_clause(&mut self, number: u32, clause: &ClauseView<'_>) -> bool
@@ -112,7 +112,7 @@ impl OccurrenceLists {
         if self.links.push(Link { number, before }).is_err() {
             return false;
         }
-        self.lasts.set(key, count as u64 + 1).is_ok()
+        self.lasts.insert(key, count as u64 + 1).is_ok()
     }
 
     /// The numbers under a place that have a clause. Takes time linear in the numbers there.
@@ -266,11 +266,11 @@ fn first_key(first: &Option<Lit>) -> u64
 
 /// The last link under a place, and 0 where there is none.
 #[inline]
-fn last_of(lasts: &OwnMap<u64>, key: u64) -> u64
+fn last_of(lasts: &SlotMap<u32>, key: u64) -> u64
     ensures { result ≡ last_at lasts.now key }
 {
     match lasts.get(key) {
-        Some(last) => *last,
+        Some(last) => last,
         None => 0,
     }
 }

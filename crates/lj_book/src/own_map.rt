@@ -1,9 +1,8 @@
 //! Maps from a seat's own numbers.
-ghost use Rattle.std.specs.Prelude.{◌≡◌, OnOk, OnErr, IfOk, option_copied, None, true, false};
+ghost use Rattle.std.specs.Prelude.{◌≡◌, OnOk, OnErr, option_copied, None, true, false};
 ghost use Rattle.std.specs.FinMap as fin;
 ghost use Rattle.lj_book.specs.inner.Slots.{AreDisjoint};
 
-use crate::dying::rising;
 use crate::number_map::NumberMap;
 use crate::tree_map::TreeMap;
 use lj_clause::NoMemory;
@@ -81,52 +80,10 @@ impl<V: Drop> OwnMap<V> {
         ensures absent { OnErr result (fin.get self.old key ≡ None) }
     {
         self.set = self.set.saturating_add(1);
-        self.put(key, value)
-    }
-
-    /// Sets the value at the key, as [`OwnMap::insert`] does, but where the key was taken out before, so that it has been
-    /// counted.
-    ///
-    /// # Errors
-    /// [`NoMemory`] where a growth was refused.
-    pub(crate) fn put(&mut self, key: u64, value: V) -> Result<(), NoMemory>
-        ensures ok { OnOk result (self.new ≡ fin.insert self.old key value) }
-        ensures err { OnErr result (self.new ≡ self.old) }
-        ensures absent { OnErr result (fin.get self.old key ≡ None) }
-    {
         if is_sparse(&self.dense, &self.sparse, self.set, key) {
             return self.sparse.insert(key, value);
         }
         self.dense.insert(key, value)
-    }
-
-    /// Sets the value at the key, as [`OwnMap::insert`] does, but moves it into a slot where it has one by now. Where a growth
-    /// was refused, the key is taken out.
-    ///
-    /// # Errors
-    /// [`NoMemory`] where a growth was refused.
-    pub(crate) fn set(&mut self, key: u64, value: V) -> Result<(), NoMemory>
-        ensures ok { OnOk result (self.new ≡ fin.insert self.old key value) }
-        ensures err { OnErr result (self.new ≡ fin.remove self.old key) }
-    {
-        if self.dense.contains_key(key) {
-            return self.dense.insert(key, value);
-        }
-        let _ = self.remove(key);
-        self.insert(key, value)
-    }
-
-    /// The keys, rising. Takes O(n log n) time for n of them, and time linear in the slots.
-    ///
-    /// # Errors
-    /// [`NoMemory`] where a growth was refused.
-    pub(crate) fn keys(&self, alloc: Global) -> Result<Vec<u64>, NoMemory>
-        ensures { IfOk result (λ keys. keys.items ≡ fin.keys self.now) }
-    {
-        let mut keys = self.dense.keys(alloc)?;
-        let sparse = self.sparse.keys(alloc)?;
-        keys.extend_from_slice(&sparse)?;
-        Ok(rising(keys))
     }
 
     /// Takes the key out, and gives back the value that was there. Takes the time of [`OwnMap::get`].

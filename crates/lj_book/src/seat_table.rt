@@ -6,7 +6,7 @@ ghost use Rattle.lj_book.specs.Tables.{up_to};
 
 use crate::dying::rising;
 use crate::early_table::EarlyTable;
-use crate::own_map::OwnMap;
+use crate::slot_map::SlotMap;
 use lj_clause::NoMemory;
 use std::alloc::Global;
 use std::marker::Model;
@@ -20,7 +20,7 @@ use std::marker::Model;
 #[derive(Drop)]
 pub(crate) struct SeatTable {
     early: EarlyTable,
-    late: OwnMap<u64>,
+    late: SlotMap<u32>,
     /// The first number behind those of the opening.
     end: u64,
 }
@@ -53,7 +53,7 @@ impl SeatTable {
         let early = EarlyTable::up_to(alloc, last)?;
         Ok(SeatTable {
             early,
-            late: OwnMap::new(alloc),
+            late: SlotMap::new(alloc),
             end: last + 1,
         })
     }
@@ -64,7 +64,7 @@ impl SeatTable {
         ensures { result ≡ fin.get self.now own }
     {
         if own >= self.end {
-            return self.late.get(own - self.end).copied();
+            return self.late.get(own - self.end);
         }
         self.early.get(own)
     }

@@ -3,10 +3,10 @@ ghost use Rattle.std.specs.Prelude.{◌≡◌, ℕ, ◌+◌, ◌^◌, ◌<◌, �
 ghost use Rattle.std.specs.FinMap as fin;
 ghost use Rattle.lj_book.specs.Tables.{up_to, table_of, is_here, joint_of, is_bound, with_table, without_keys, without_seat, is_among, has_holder, keys_lost};
 ghost use Rattle.lj_book.specs.inner.Tables.{own_numbers};
-ghost use Rattle.lj_book.specs.inner.Holders.{count_in, count_at, holders_of, one_if_at, all_up_to};
+ghost use Rattle.lj_book.specs.inner.Holders.{count_in, count_at, holders_of, one_if_at};
 
+use crate::counts::Counts;
 use crate::dying::rising;
-use crate::own_map::OwnMap;
 use crate::seat_table::SeatTable;
 use lj_clause::NoMemory;
 use lj_text::Numbers;
@@ -24,7 +24,7 @@ const FIRST_JOINTS: usize = 1_024;
 pub(crate) struct SeatTables {
     seats: Vec<Option<SeatTable>>,
     /// How many own numbers of all seats are bound to each joint number, so that none has to be looked for.
-    holders: OwnMap<u64>,
+    holders: Counts,
 }
 
 impl Model for SeatTables {
@@ -54,7 +54,7 @@ impl SeatTables {
     {
         Ok(SeatTables {
             seats: same_tables(alloc, seats, clauses)?,
-            holders: counts_up_to(alloc, clauses, u64::from(seats))?,
+            holders: Counts::up_to(alloc, clauses, seats)?,
         })
     }
 
@@ -99,7 +99,7 @@ impl SeatTables {
     pub(crate) fn has_holder(&self, joint: u64) -> bool
         ensures { result ≡ has_holder self.now joint }
     {
-        count(&self.holders, joint) > 0
+        self.holders.is_counted(joint)
     }
 
     /// Binds an own number that isn't bound to a joint number.
@@ -116,9 +116,8 @@ impl SeatTables {
         ensures err { OnErr result (self.new ≡ self.old) }
     {
         let at = seat as usize;
-        let holder_count = count(&self.holders, joint) + 1;
         match &mut self.seats[at] {
-            Some(table) => bind_in(table, &mut self.holders, own, joint, holder_count),
+            Some(table) => bind_in(table, &mut self.holders, own, joint),
             None => Ok(()),
         }
     }
@@ -250,34 +249,24 @@ fn same_tables(alloc: Global, seats: u32, clauses: u64) -> Result<Vec<Option<Sea
     Ok(tables)
 }
 
-/// The same count at each number from 1 to this one.
-fn counts_up_to(alloc: Global, last: u64, count: u64) -> Result<OwnMap<u64>, NoMemory>
-    requires { last < 2 ^ 63 }
-    ensures { IfOk result (λ counts. counts ≡ all_up_to last count) }
-{
-    let mut counts = OwnMap::new(alloc);
-    for number in 0..last {
-        counts.insert(number + 1, count)?;
-    }
-    Ok(counts)
-}
-
-/// Binds the own number in the table, and sets the count of the joint number: both, or neither.
+/// Binds the own number in the table, and counts the joint number once more: both, or neither.
 #[inline(always)]
 fn bind_in(
     table: &mut SeatTable,
-    holders: &mut OwnMap<u64>,
+    holders: &mut Counts,
     own: u64,
     joint: u64,
-    holder_count: u64,
 ) -> Result<(), NoMemory>
-    requires { fin.get table.old own ≡ None }
+    requires unbound { fin.get table.old own ≡ None }
+    requires capacity { count_at holders.old joint + 1 < 2 ^ 64 }
     ensures table { OnOk result (table.new ≡ fin.insert table.old own joint) }
-    ensures holders { OnOk result (holders.new ≡ fin.insert holders.old joint holder_count) }
-    ensures err { OnErr result ((table.new ≡ table.old) × (holders.new ≡ holders.old)) }
+    ensures holders { OnOk result ((q : ℕ) → count_at holders.new q
+        ≡ one_if_at (Some joint) q + count_at holders.old q) }
+    ensures err { OnErr result ((table.new ≡ table.old)
+        × ((q : ℕ) → count_at holders.new q ≡ count_at holders.old q)) }
 {
     table.insert(own, joint)?;
-    if let Err(e) = holders.insert(joint, holder_count) {
+    if let Err(e) = holders.add_one(joint) {
         table.remove(own);
         return Err(e);
     }
@@ -286,7 +275,7 @@ fn bind_in(
 
 /// Takes the own number out of the table, and one from the count of its joint number. Answers whether it was there.
 #[inline(always)]
-fn unbind_in(table: &mut SeatTable, holders: &mut OwnMap<u64>, own: u64) -> bool
+fn unbind_in(table: &mut SeatTable, holders: &mut Counts, own: u64) -> bool
     requires { (joint : ℕ) → fin.get table.old own ≡ Some joint → 0 < count_at holders.old joint }
     ensures bound { result ≡ fin.contains_key table.old own }
     ensures table { table.new ≡ fin.remove table.old own }
@@ -296,14 +285,13 @@ fn unbind_in(table: &mut SeatTable, holders: &mut OwnMap<u64>, own: u64) -> bool
     let Some(joint) = table.remove(own) else {
         return false;
     };
-    let holder_count = count(holders, joint);
-    let _ = holders.insert(joint, holder_count - 1);
+    holders.take_one(joint);
     true
 }
 
 /// Takes the own numbers out of the table, and for each that was there one from the count of its joint number. Answers how
 /// many were there.
-fn unbind_all_in(table: &mut SeatTable, holders: &mut OwnMap<u64>, owns: &[u32]) -> u64
+fn unbind_all_in(table: &mut SeatTable, holders: &mut Counts, owns: &[u32]) -> u64
     requires { (joint : ℕ) → count_in (Some table.old) joint ≤ count_at holders.old joint }
     ensures count { result ≡ keys_lost owns.now (Some table.old) }
     ensures table { table.new ≡ without_keys owns.now table.old }
@@ -393,12 +381,4 @@ fn table_in(seats: &[Option<SeatTable>], seat: u32) -> Option<&SeatTable>
         Some(table) => table.as_ref(),
         None => None,
     }
-}
-
-/// The count at a number, which is 0 where there is none.
-#[inline]
-fn count(counts: &OwnMap<u64>, number: u64) -> u64
-    ensures { result ≡ count_at counts.now number }
-{
-    counts.get(number).copied().unwrap_or(0)
 }

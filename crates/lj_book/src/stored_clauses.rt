@@ -4,8 +4,8 @@ ghost use Rattle.std.specs.FinMap as fin;
 ghost use Rattle.lj_clause.specs.ClauseMap.{formula_map};
 ghost use Rattle.lj_book.specs.inner.Ranges.{stored, AreRanges};
 
-use crate::lit_range::LitRange;
-use crate::own_map::OwnMap;
+use crate::lit_range::{LitRange, U32Range};
+use crate::slot_map::SlotMap;
 use lj_clause::{Clause, Formula, Lit, NoMemory};
 use std::alloc::Global;
 use std::marker::Model;
@@ -14,7 +14,7 @@ use std::marker::Model;
 #[derive(Drop)]
 struct StoredClauses {
     lits: Vec<Lit>,
-    ranges: OwnMap<LitRange>,
+    ranges: SlotMap<U32Range>,
 }
 
 impl Model for StoredClauses {
@@ -38,7 +38,7 @@ impl StoredClauses {
     {
         StoredClauses {
             lits: Vec::new(alloc),
-            ranges: OwnMap::new(alloc),
+            ranges: SlotMap::new(alloc),
         }
     }
 
@@ -56,7 +56,7 @@ impl StoredClauses {
     }
 
     /// The literals, and where in them each clause stands.
-    fn into_parts(self) -> (Vec<Lit>, OwnMap<LitRange>)
+    fn into_parts(self) -> (Vec<Lit>, SlotMap<U32Range>)
         ensures clauses { stored result.0.items result.1 ≡ self }
         ensures ranges { AreRanges result.0.items result.1 }
     {
@@ -71,7 +71,7 @@ impl StoredClauses {
 pub(crate) fn clauses_of(
     alloc: Global,
     formula: &Formula,
-) -> Result<(Vec<Lit>, OwnMap<LitRange>), NoMemory>
+) -> Result<(Vec<Lit>, SlotMap<U32Range>), NoMemory>
     ensures clauses { IfOk result
         (λ parts. stored parts.0.items parts.1 ≡ formula_map formula.now) }
     ensures ranges { IfOk result (λ parts. AreRanges parts.0.items parts.1) }

@@ -309,6 +309,7 @@ impl VariableTable {
 
     /// Whether each variable of the clause is the formula's, or is given and is its own joint one. Takes constant time where none
     /// is above the formula's, and for each literal otherwise.
+    #[inline(always)]
     pub(crate) fn is_settled(&self, seat: u32, clause: &Clause) -> bool
         ensures settled { result ≡ true → is_settled self.now.top
             (renaming_of self.now.variables seat) clause.now ≡ true }

@@ -1,5 +1,5 @@
 -- How often a joint number is held.
-use Rattle.std.specs.Prelude.{◌≡◌, ℕ, zero, suc, ◌+◌, ◌==◌, List, [], ◌∷◌, Option, Some, None, if◌then◌else◌}
+use Rattle.std.specs.Prelude.{◌≡◌, ℕ, zero, suc, ◌+◌, ◌==◌, List, [], ◌∷◌, replicate, Option, Some, None, if◌then◌else◌}
 use Rattle.std.specs.FinMap as fin
 use Rattle.lj_book.specs.Tables.{Table, Tables}
 
@@ -23,12 +23,25 @@ abbrev pub count_or_none : Option ℕ → ℕ
 count_or_none None = 0
 count_or_none (Some n) = n
 
-abbrev pub count_at : Table → ℕ → ℕ
-count_at m n = count_or_none (fin.get m n)
+-- counts in slots, and in a map what goes beyond these
+abbrev pub Counted : Type 0
+Counted = List ℕ × Table
+
+-- what stands in a slot: none behind the last one
+abbrev pub slot_count : List ℕ → ℕ → ℕ
+slot_count [] n = 0
+slot_count (c ∷ cs) zero = c
+slot_count (c ∷ cs) (suc n) = slot_count cs n
+
+abbrev pub count_beyond : Table → ℕ → ℕ
+count_beyond m n = count_or_none (fin.get m n)
+
+abbrev pub count_at : Counted → ℕ → ℕ
+count_at counts n = slot_count counts.0 n + count_beyond counts.1 n
 
 -- each count is that of the tables
-abbrev pub AreHolders : Tables → Table → Type 0
-AreHolders tables m = (joint : ℕ) → count_at m joint ≡ holders_of tables joint
+abbrev pub AreHolders : Tables → Counted → Type 0
+AreHolders tables counts = (joint : ℕ) → count_at counts joint ≡ holders_of tables joint
 
 -- one for the joint number that is there, and none for others
 abbrev pub one_if_at : Option ℕ → ℕ → ℕ
@@ -36,6 +49,5 @@ one_if_at None joint = 0
 one_if_at (Some n) joint = if n == joint then 1 else 0
 
 -- the same count at each number from 1 to this one
-abbrev pub all_up_to : ℕ → ℕ → Table
-all_up_to zero count = fin.empty
-all_up_to (suc n) count = fin.insert (all_up_to n count) (suc n) count
+abbrev pub all_up_to : ℕ → ℕ → Counted
+all_up_to last count = (0 ∷ replicate last count, fin.empty)

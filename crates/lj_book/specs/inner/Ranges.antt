@@ -1,5 +1,5 @@
 -- Clauses whose literals stand in one list.
-use Rattle.std.specs.Prelude.{◌≡◌, ℕ, ◌+◌, ◌≤◌, ℤ, List, map, length, Option, Some, None}
+use Rattle.std.specs.Prelude.{◌≡◌, ℕ, ◌+◌, ◌≤◌, ◌==◌, ℤ, List, map, length, Option, Some, None, if◌then◌else◌}
 use Rattle.std.specs.List.Sorted.{IsStrictlySortedBy}
 use Rattle.std.specs.Ordering.{nat_cmp}
 use Rattle.std.specs.FinMap as fin
@@ -7,10 +7,15 @@ use Rattle.lj_clause.specs.Literal.{lit_cmp}
 use Rattle.lj_clause.specs.LiteralSet.{LiteralSet, from_literals}
 use Rattle.lj_clause.specs.ClauseMap.{ClauseMap}
 use Rattle.lj_book.specs.declared.lit_range.LitRange.{LitRange}
+use Rattle.lj_book.specs.declared.lit_range.U32Range.{U32Range}
 use Rattle.lj_book.specs.inner.Records.{some_lits, Entries}
 use Rattle.lj_book.specs.declared.first_uses.FirstUses.{FirstUses}
 use Rattle.lj_book.specs.inner.FirstUses.{AreFirstUses}
 use Rattle.lj_book.specs.inner.Occurrences.{Lists, AreIndexed}
+
+-- the range that one in four bytes each stands for: none where its count is the greatest
+abbrev pub u32_range : U32Range → Option LitRange
+u32_range r = if r.count == 4294967295 then None else Some (record { start = r.start; count = r.count })
 
 -- places under numbers
 abbrev pub Ranges : Type 0

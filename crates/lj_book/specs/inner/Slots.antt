@@ -1,5 +1,5 @@
 -- How a map from numbers is kept: in slots by number, and in a tree beside them.
-use Rattle.std.specs.Prelude.{◌≡◌, ◌≤◌, ℕ, suc, Bool, true, if◌then◌else◌, List, [], ◌∷◌, ◌++◌, ◌+◌, map, Option, Some, None, is_some}
+use Rattle.std.specs.Prelude.{◌≡◌, ◌≤◌, ℕ, suc, Bool, true, if◌then◌else◌, List, [], ◌∷◌, ◌++◌, ◌+◌, ◌==◌, map, Option, Some, None, is_some}
 use Rattle.std.specs.Ordering.{nat_cmp}
 use Rattle.std.specs.FinMap as fin
 
@@ -12,6 +12,14 @@ slot_entries n (Some v ∷ slots) = (n, v) ∷ slot_entries (suc n) slots
 -- the map that slots from 0 on make
 abbrev pub slot_map : {V : Type 0} → List (Option V) → fin.FinMap nat_cmp V
 slot_map slots = fin.from_entries (slot_entries 0 slots)
+
+-- the map of the values that slots hold
+abbrev pub held_map : {S V : Type 0} → (S → Option V) → List S → fin.FinMap nat_cmp V
+held_map held slots = slot_map (map held slots)
+
+-- the number that one of four bytes stands for: none where it is 0
+abbrev pub u32_held : ℕ → Option ℕ
+u32_held n = if n == 0 then None else Some n
 
 -- the entries of two maps in one
 abbrev pub joined_map : {V : Type 0} → fin.FinMap nat_cmp V → fin.FinMap nat_cmp V

@@ -72,7 +72,7 @@ fn put_each(encoding: &mut Vec<u32>, numbers: &[u32])
 }
 
 /// Puts a list of numbers behind the words, which have room for it.
-#[inline]
+#[inline(always)]
 pub(crate) fn put_list(encoding: &mut Vec<u32>, numbers: &Numbers)
     requires { vec_len encoding.old + 3 * (1 + length numbers.now) ≤ vec_capacity encoding.old }
     ensures encoding { encoding.new.items ≡ encoding.old.items ++ list_encoding numbers.now }

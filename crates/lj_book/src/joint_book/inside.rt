@@ -33,6 +33,7 @@ impl JointBook {
     /// [`Refusal::GroupRepeated`], [`Refusal::HintNotUnit`], [`Refusal::EmptyOpen`], [`Refusal::MissingGroup`],
     /// [`Refusal::GroupStuck`], [`Refusal::GroupOpen`] and [`Refusal::Full`]; and [`Refusal::NoMemory`] where a growth
     /// was refused.
+    #[inline(always)]
     pub fn add_inside(
         &mut self,
         seat: u32,

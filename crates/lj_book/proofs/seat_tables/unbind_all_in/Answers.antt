@@ -4,7 +4,7 @@ use Rattle.std.specs.FinMap as fin
 use Rattle.std.proofs.lemmas.Bool.{false≢true}
 use Rattle.std.proofs.lemmas.List.{take_more}
 use Rattle.lj_book.specs.Tables.{Table, without_keys, keys_lost}
-use Rattle.lj_book.specs.inner.Holders.{count_in, count_at, one_if_at}
+use Rattle.lj_book.specs.inner.Holders.{Counted, count_in, count_at, one_if_at}
 use Rattle.lj_book.proofs.TableLaws.{without_keys-none, keys_lost-none, without_keys-push, keys_lost-push, count-remove, count_removed, self_counts}
 use Rattle.lj_book.proofs.seat_tables.unbind_all_in.Goals as goal
 use Rattle.lj_book.proofs.seat_tables.unbind_all_in.Goals.{then-unbind_in, else-unbind_in}
@@ -49,7 +49,7 @@ lost_at ns n t u b count now is bound before e =
     (keys_lost-push ns n (Some t) ∙ ap (λ (x : Bool). keys_lost ns (Some t) + (if x then 1 else 0)) (sym (bound ∙ ap (λ (m : Table). fin.contains_key m n) is)))
     before e
 
-held_after : (t u v m0 m n : Table) (own joint : ℕ) → v ≡ fin.remove u own → count_at m joint ≡ one_if_at (fin.get u own) joint + count_at n joint → count_at m joint + count_in (Some t) joint ≡ count_at m0 joint + count_in (Some u) joint → count_at n joint + count_in (Some t) joint ≡ count_at m0 joint + count_in (Some v) joint
+held_after : (t u v : Table) (m0 m n : Counted) (own joint : ℕ) → v ≡ fin.remove u own → count_at m joint ≡ one_if_at (fin.get u own) joint + count_at n joint → count_at m joint + count_in (Some t) joint ≡ count_at m0 joint + count_in (Some u) joint → count_at n joint + count_in (Some t) joint ≡ count_at m0 joint + count_in (Some v) joint
 held_after t u v m0 m n own joint is less before =
     let a = count_removed u own joint (fin.get u own) refl in
     let b = ap (λ (w : Table). count_in (Some w) joint) is in

@@ -8,7 +8,7 @@ use Rattle.lj_book.specs.declared.occurrence_lists.Link.{Link}
 use Rattle.lj_book.specs.inner.Occurrences.{Lists, with_number}
 use Rattle.lj_book.specs.inner.Chains.{AreChains, chained}
 use Rattle.lj_book.proofs.Slots.{either_way}
-use Rattle.lj_book.proofs.Chains.{last_there, chains_pushed, chains_set, chains_unset, number_linked}
+use Rattle.lj_book.proofs.Chains.{last_there, chains_pushed, chains_set, number_linked}
 use Rattle.lj_book.proofs.occurrence_lists.OccurrenceLists.add.Goals as goal
 
 went_well : {T E : Type 0} (r : Result T E) (P : Type 0) → is_ok r ≡ true → OnOk r P → P
@@ -29,14 +29,14 @@ invariant_of-self-2 c =
     let more : List Link = c.self.inside.links.items ++ link c ∷ [] in
     let are : AreChains more c.self.inside.lasts = chains_pushed c.self.inside.links.items (link c) c.self.inside.lasts c.self.invariant (there c) in
     let n : length more ≡ length c.self.inside.links.items + 1 = length-append c.self.inside.links.items (link c ∷ []) in
-    subst (λ (xs : List Link). AreChains xs c.set.new.self) (sym (pushed c))
-    (either_way c.set.result _ _ _ c.set.ensures.ok c.set.ensures.err
+    subst (λ (xs : List Link). AreChains xs c.insert.new.self) (sym (pushed c))
+    (either_way c.insert.result _ _ _ c.insert.ensures.ok c.insert.ensures.err
     (λ e. subst (AreChains more) (sym e) (chains_set more c.self.inside.lasts c.args.key (c.len-count.result + 1) are (let l = c.len-count.ensures in omega (arith, n, l))))
-    (λ e. subst (AreChains more) (sym e) (chains_unset more c.self.inside.lasts c.args.key are)))
+    (λ e. subst (AreChains more) (sym e) are))
 
 pub returns : goal.returns
 returns c = λ ok.
-    let done = went_well c.set.result _ (sym c.is_ok.ensures.value ∙ ok) c.set.ensures.ok in
+    let done = went_well c.insert.result _ (sym c.is_ok.ensures.value ∙ ok) c.insert.ensures.ok in
     let l = c.len-count.ensures in
     let count : c.len-count.result ≡ length c.self.inside.links.items = omega (arith, l) in
     (λ i. chained (pushed c i) (done i))

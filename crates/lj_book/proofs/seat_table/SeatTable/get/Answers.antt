@@ -5,7 +5,7 @@ use Rattle.lj_book.proofs.seat_table.SeatTable.get.Goals as goal
 
 pub returns-then-own-self : goal.returns-then-own-self
 returns-then-own-self c =
-    c.copied.ensures ∙ c.get.ensures
+    c.get.ensures
     ∙ sym (late_get c.self.inside.end c.args.own c.self.inside.early c.self.inside.late c.self.invariant.0 c.if-own-self.true)
     ∙ ap (λ m. fin.get m c.args.own) c.self.view_is
 

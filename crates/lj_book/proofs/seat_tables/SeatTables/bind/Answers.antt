@@ -1,7 +1,8 @@
-use Rattle.std.proofs.Common.{ap, sym, ◌∙◌, arith, ◌<◌, ℕ, ◌+◌}
+use Rattle.std.proofs.Common.{ap, sym, ◌∙◌, arith, ◌<◌}
 use Rattle.std.specs.Prelude.{length, Some}
 use Rattle.std.specs.FinMap as fin
 use Rattle.lj_book.specs.Tables.{Tables, is_here, is_bound, with_table}
+use Rattle.lj_book.specs.inner.Holders.{holders_of}
 use Rattle.lj_book.proofs.TableLaws.{here_in_range, table_of-at, free_in_table, invariant-bind, ok_then, with_table-set, no_table}
 use Rattle.std.proofs.Math.ListN.{set}
 use Rattle.lj_book.proofs.seat_tables.SeatTables.bind.Goals as goal
@@ -17,7 +18,15 @@ bind_in-requires c =
     let ts = c.self.inside.seats.items in
     let lt = here_in_range ts c.args.seat (ap (λ (us : Tables). is_here us c.args.seat) c.self.view_is ∙ c.requires.here) in
     let at = table_of-at ts c.args.seat c.index_mut.result.now lt ∙ sym c.index_mut.ensures.value ∙ c.in-Some.is in
-    free_in_table ts c.args.seat c.args.own c.in-Some.table at (ap (λ (us : Tables). is_bound us c.args.seat c.args.own) c.self.view_is ∙ c.requires.unbound)
+    record {
+      unbound = free_in_table ts c.args.seat c.args.own c.in-Some.table at (ap (λ (us : Tables). is_bound us c.args.seat c.args.own) c.self.view_is ∙ c.requires.unbound);
+      capacity =
+          let some = c.requires.capacity in
+          let all = c.self.invariant c.args.joint in
+          let same = ap (λ (us : Tables). holders_of us c.args.joint) c.self.view_is in
+          let many = ap (λ (us : Tables). length us) c.self.view_is in
+          omega (arith, c.self.inside.seats.ok.0, c.self.inside.seats.ok.1, c.self.inside.seats.small);
+    }
 
 pub invariant_of-self : goal.invariant_of-self
 invariant_of-self c =
@@ -25,7 +34,7 @@ invariant_of-self c =
     let lt = here_in_range ts c.args.seat (ap (λ (us : Tables). is_here us c.args.seat) c.self.view_is ∙ c.requires.here) in
     let at = table_of-at ts c.args.seat c.index_mut.result.now lt ∙ sym c.index_mut.ensures.value ∙ c.in-Some.is in
     let free = free_in_table ts c.args.seat c.args.own c.in-Some.table at (ap (λ (us : Tables). is_bound us c.args.seat c.args.own) c.self.view_is ∙ c.requires.unbound) in
-    invariant-bind ts c.args.seat c.args.own c.args.joint (c.count-holder_count.result + 1) c.in-Some.table c.bind_in.new.table c.self.inside.holders c.bind_in.new.holders c.bind_in.result at c.self.invariant free (ap (λ (k : ℕ). k + 1) c.count-holder_count.ensures) c.bind_in.ensures.table c.bind_in.ensures.holders c.bind_in.ensures.err
+    invariant-bind ts c.args.seat c.args.own c.args.joint c.in-Some.table c.bind_in.new.table c.self.inside.holders c.bind_in.new.holders c.bind_in.result at c.self.invariant free c.bind_in.ensures.table c.bind_in.ensures.holders c.bind_in.ensures.err
 
 pub returns-in-Some-clause-ok : goal.returns-in-Some-clause-ok
 returns-in-Some-clause-ok c =

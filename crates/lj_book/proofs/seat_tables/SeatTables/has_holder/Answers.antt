@@ -6,6 +6,6 @@ use Rattle.lj_book.proofs.seat_tables.SeatTables.has_holder.Goals as goal
 
 pub returns : goal.returns
 returns c =
-    ap (nat_lt 0) (c.count.ensures ∙ c.self.invariant c.args.joint)
+    c.is_counted.ensures ∙ ap (nat_lt 0) (c.self.invariant c.args.joint)
     ∙ sym (held_counts c.self.inside.seats.items c.args.joint)
     ∙ ap (λ ts. has_holder ts c.args.joint) c.self.view_is

@@ -2,7 +2,7 @@ use Rattle.std.proofs.Common.{ap, sym, ◌∙◌, subst}
 use Rattle.std.specs.FinMap as fin
 use Rattle.lj_book.specs.inner.Slots.{joined_map, AreDisjoint}
 use Rattle.lj_book.proofs.Slots.{joined_sparse, insert_dense, insert_sparse, apart-insert_dense, apart-insert_sparse, either_way, ok_then, err_then}
-use Rattle.lj_book.proofs.own_map.OwnMap.put.Goals as goal
+use Rattle.lj_book.proofs.own_map.OwnMap.insert.Goals as goal
 
 pub invariant_of-self : goal.invariant_of-self
 invariant_of-self g c =
