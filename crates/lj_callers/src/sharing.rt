@@ -38,7 +38,7 @@ fn prove_beside<L: BookId + Send + Sync, R: Threads + Wait + Sync>(
     requires lists { opening_parts.lists ≡ L.lists }
     requires log { opening_parts.log ≡ L.log }
     requires opening { (formula ≡ L.formula) × (L.seats ≡ 2) × (L.max_steps ≡ 4294967295) }
-    ensures { IfOk result (λ yes. yes ≡ true → IsUnsatisfiable formula) }
+    ensures { IfOk result (λ yes. yes ≡ true → IsUnsatisfiable L.formula) }
 {
     let (shared, mut seats) = Shared::<L>::open(alloc, opening_parts, formula, 2, u32::MAX)?;
     if let [first, second] = seats.as_mut_slice() {
